@@ -1,0 +1,4 @@
+pub mod FloorLemmas
+pub mod FoldLemmas
+pub mod LaneOps
+pub mod Ring

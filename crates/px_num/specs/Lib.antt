@@ -1,0 +1,4 @@
+pub mod Floor
+pub mod Fold
+pub mod Lanes
+pub mod Number

@@ -1,0 +1,41 @@
+-- Video memory as the list of its cells, row by row (psx-spx, "GPU Video Memory (VRAM)").
+use Rattle.std.specs.Prelude.{◌≡◌, ◌≢◌, ◌<◌, ◌≤◌, ◌/◌, ◌%◌, ◌^◌, ◌⊎◌, ℕ, List, ◌+◌, ◌*◌, length, slice_index, slice_set, replicate}
+
+-- how many rows of 1024 cells there are
+abbrev pub height_of : List ℕ → ℕ
+height_of m = length m / 1024
+
+-- the cell at a column and a row
+abbrev pub at : List ℕ → ℕ → ℕ → ℕ
+at m x y = slice_index m (1024 * y + x)
+
+-- the cells with one of them changed
+abbrev pub set : List ℕ → ℕ → ℕ → ℕ → List ℕ
+set m x y h = slice_set m (1024 * y + x) h
+
+-- so many cells, each of them 0; no proof computes it
+unfoldable pub zeros : ℕ → List ℕ
+zeros n = replicate n 0
+
+-- the first video memory (our own rule: it starts as zeros)
+unfoldable pub blank : List ℕ
+blank = zeros 524288
+
+-- sixteen lanes: n cells from number start on, and then 0
+pub record IsLoaded (m : List ℕ) (start n : ℕ) (lanes : List ℕ) : Type 0 where
+  pub count : length lanes ≡ 16
+  pub in_cells : start + n ≤ length m
+  pub cells : (j : ℕ) → j < n → slice_index lanes j ≡ slice_index m (start + j)
+  pub others : (j : ℕ) → n ≤ j → slice_index lanes j ≡ 0
+
+-- bit j of a number
+abbrev pub bit : ℕ → ℕ → ℕ
+bit number j = number / 2 ^ j % 2
+
+-- of n cells from number start on those have become their lanes whose bit of the mask is 1, and all others stayed
+pub record IsStored (old : List ℕ) (start n : ℕ) (lanes : List ℕ) (mask : ℕ) (new : List ℕ) : Type 0 where
+  pub count : length new ≡ length old
+  pub in_cells : start + n ≤ length old
+  pub written : (j : ℕ) → j < n → bit mask j ≡ 1 → slice_index new (start + j) ≡ slice_index lanes j
+  pub masked : (j : ℕ) → j < n → bit mask j ≢ 1 → slice_index new (start + j) ≡ slice_index old (start + j)
+  pub others : (k : ℕ) → (k < start) ⊎ (start + n ≤ k) → slice_index new k ≡ slice_index old k

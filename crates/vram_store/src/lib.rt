@@ -1,0 +1,43 @@
+//! Video memory: its cells, alone and sixteen at a time, and a count of every access.
+//!
+//! A cell is a halfword: red in bits 0 to 4, green in 5 to 9, blue in 10 to 14, and the mask bit in 15
+//! (psx-spx, "GPU Video Memory (VRAM)"). Cell (x, y) is number `1024 * y + x`. A store step is one call
+//! of `get`, `put`, `load16` or `store16`; no other call reaches a cell.
+#![tactic(auto)]
+
+pub mod mask;
+mod steps;
+mod vram;
+
+pub use steps::Steps;
+pub use vram::Vram;
+
+#[cfg(test)]
+mod tests {
+    use super::*;
+    use std::alloc::Global;
+    use std::marker::Brand;
+    use std::simd::prelude::*;
+    use std::sync::ledger::{Blank, Ledger};
+    use std::test::Fail;
+
+    // The cells (1008..1023, 511) after a store of its first three lanes, of which the second is masked.
+    fn corner<L: Ledger>(alloc: Global, blank: Blank) -> Result<[u16; 16], Fail>
+        requires name { blank.name ≡ L.name }
+        requires parts { blank.parts ≡ L.parts }
+        requires some { 0 < blank.parts }
+    {
+        let mut steps = Steps::<L>::new(blank);
+        let mut vram = Vram::new(alloc)?;
+        vram.put(1009, 511, 5, &mut steps);
+        vram.store16(1008, 511, 3, u16x16::splat(9), 0b1101, &mut steps);
+        Ok(vram.load16(1008, 511, 16, &mut steps).to_array())
+    }
+
+    #[test]
+    fn the_last_cells_are_stored_under_their_mask(rt: HostRuntime) -> Result<(), Fail> {
+        let cells = corner::<Brand>(rt.alloc(), Blank::new(1))?;
+        assert_eq!(rt; cells, [9, 5, 9, 0, 0, 0, 0, 0, 0, 0, 0, 0, 0, 0, 0, 0]);
+        Ok(())
+    }
+}
