@@ -1,0 +1,43 @@
+-- A source in memory that gives its bytes in pieces and fails where it is told to (our own rule).
+use Rattle.std.specs.Prelude.{◌+◌, ◌-◌, ◌^◌, ◌==◌, List, ℕ, Option, Some, None, max, min, drop, length, slice_get, if◌then◌else◌}
+
+-- the bytes left, the greatest sizes of the pieces, the calls that gave a byte, the calls that fail, all calls, and the failed ones
+pub record CutState : Type 0 where
+  pub left : List ℕ
+  pub pieces : List ℕ
+  pub given : ℕ
+  pub fails : List ℕ
+  pub calls : ℕ
+  pub faults : ℕ
+
+-- a bound of 0 counts as 1, and where there is none, any number may be given
+abbrev pub bound_of : Option ℕ → ℕ
+bound_of None = 2 ^ 64 - 1
+bound_of (Some n) = max n 1
+
+-- the most that the next call gives
+abbrev pub most_of : List ℕ → ℕ → ℕ
+most_of pieces given = bound_of (slice_get pieces given)
+
+-- how much the next call gives to a buffer of this length
+abbrev pub gives_now : CutState → ℕ → ℕ
+gives_now s asked = min (min asked (length s.left)) (most_of s.pieces s.given)
+
+-- one more, up to 2^64 - 1
+abbrev pub one_more : ℕ → ℕ
+one_more n = min (n + 1) (2 ^ 64 - 1)
+
+-- after a call that gave so many bytes
+abbrev pub after_giving : CutState → ℕ → CutState
+after_giving s n = record {
+  left = drop n s.left;
+  pieces = s.pieces;
+  given = if n == 0 then s.given else s.given + 1;
+  fails = s.fails;
+  calls = one_more s.calls;
+  faults = s.faults;
+}
+
+-- after a call that failed
+abbrev pub after_failing : CutState → CutState
+after_failing s = record s { calls = one_more s.calls; faults = one_more s.faults }

@@ -1,0 +1,38 @@
+-- What the calls of a source and a sink do (our own rules). Where bytes are told, they are a list; where they are not, None.
+use Rattle.std.specs.Prelude.{◌≡◌, ◌≤◌, ◌<◌, ◌+◌, ◌-◌, ◌^◌, ◌++◌, List, [], ℕ, Option, None, Some, length, take, min}
+
+-- a count of faults rose, or stands at its end, 2^64 - 1
+abbrev pub Rose : ℕ → ℕ → Type 0
+Rose before now = min (before + 1) (2 ^ 64 - 1) ≤ now
+
+-- what was left before these bytes were taken
+abbrev pub prepended : List ℕ → Option (List ℕ) → Option (List ℕ)
+prepended bytes None = None
+prepended bytes (Some left) = Some (bytes ++ left)
+
+-- a source gave the first n bytes of the buffer
+pub record Gives (before now : Option (List ℕ)) (buf : List ℕ) (n : ℕ) : Type 0 where
+  pub fits : n ≤ length buf
+  pub bytes : before ≡ prepended (take n buf) now
+
+-- no byte is left
+abbrev pub IsAtEnd : Option (List ℕ) → Type 0
+IsAtEnd None = Unit {0}
+IsAtEnd (Some left) = left ≡ []
+
+-- what is held after these bytes were appended
+abbrev pub appended : Option (List ℕ) → List ℕ → Option (List ℕ)
+appended None bytes = None
+appended (Some held) bytes = Some (held ++ bytes)
+
+-- a sink took the first n bytes of the piece, at least one where there is one
+pub record Accepts (before now : Option (List ℕ)) (piece : List ℕ) (n : ℕ) : Type 0 where
+  pub fits : n ≤ length piece
+  pub some : 0 < length piece → 0 < n
+  pub held : now ≡ appended before (take n piece)
+
+-- a proper prefix of these bytes was appended
+pub record AppendsPart (before now : Option (List ℕ)) (piece : List ℕ) : Type 0 where
+  pub count : ℕ
+  pub part : count < length piece
+  pub held : now ≡ appended before (take count piece)

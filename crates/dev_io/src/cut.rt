@@ -1,0 +1,114 @@
+// A source in memory that gives its bytes in pieces, and fails where it is told to.
+ghost use Rattle.std.specs.Prelude.{◌≡◌, ◌≤◌, ◌<◌, ◌↔◌, List, ℕ, Some, drop, length, Contains, IfOk, IsErr, OnErr, MatchResult};
+ghost use Rattle.std.specs.Vec.{vec_len};
+ghost use Rattle.dev_io.specs.Cut.{CutState, most_of, gives_now, after_giving, after_failing};
+ghost use Rattle.dev_io.specs.Device.{Rose, Gives, IsAtEnd};
+
+use crate::device::{Failed, Source};
+use std::marker::Model;
+
+/// A source in memory that gives its bytes in pieces and fails where it is told to.
+///
+/// The calls that give a byte are numbered from 0, and call k of these gives at most `pieces[k]` bytes: 0 counts as
+/// 1, and where there is no entry there is no bound. For `fails` all calls are numbered from 0, and those that are
+/// named there fail and take nothing. The count of faults is the number of failed calls.
+#[derive(Drop)]
+pub struct CutSource {
+    bytes: Vec<u8>,
+    at: usize,
+    pieces: Vec<u32>,
+    given: usize,
+    fails: Vec<u64>,
+    calls: u64,
+    faults: u64,
+}
+
+impl Model for CutSource {
+    ghost Value = { CutState };
+
+    ghost view = { λ s. record {
+      left = drop s.at s.bytes.items;
+      pieces = s.pieces.items;
+      given = s.given;
+      fails = s.fails.items;
+      calls = s.calls;
+      faults = s.faults;
+    } };
+
+    ghost invariant = { λ s. (s.at ≤ vec_len s.bytes) × (s.given ≤ s.at) };
+}
+
+impl CutSource {
+    /// A source that has these bytes left, the greatest sizes of its pieces, and the numbers of the calls that fail.
+    pub fn new(bytes: Vec<u8>, pieces: Vec<u32>, fails: Vec<u64>) -> Self
+        ensures { result ≡ record {
+          left = bytes.items;
+          pieces = pieces.items;
+          given = 0;
+          fails = fails.items;
+          calls = 0;
+          faults = 0;
+        } }
+    {
+        CutSource {
+            bytes,
+            at: 0,
+            pieces,
+            given: 0,
+            fails,
+            calls: 0,
+            faults: 0,
+        }
+    }
+
+    /// The bytes left.
+    pub fn left(&self) -> &[u8]
+        ensures { result.now ≡ self.now.left }
+    {
+        &self.bytes[self.at..]
+    }
+}
+
+impl Source for CutSource {
+    ghost left = { λ s. Some s.left };
+
+    ghost faults = { λ s. s.faults };
+
+    fn read(&mut self, buf: &mut [u8]) -> Result<usize, Failed>
+        ensures ok { IfOk result (λ n. Gives (Some self.old.left) (Some self.new.left) buf.new n) }
+        ensures end { IfOk result (λ n. n ≡ 0 → 0 < length buf.new → IsAtEnd (Some self.new.left)) }
+        ensures failed { OnErr result (self.new.left ≡ self.old.left) }
+        ensures cause { OnErr result (Rose self.old.faults self.new.faults) }
+        ensures faults { self.old.faults ≤ self.new.faults }
+
+        // It fails exactly at the calls that it was told, and gives as much as it may.
+        ensures fails { IsErr result ↔ Contains self.old.fails self.old.calls }
+        ensures count { IfOk result (λ n. n ≡ gives_now self.old (length buf.old)) }
+        ensures state { MatchResult result (λ n. self.new ≡ after_giving self.old n) (λ _. self.new ≡ after_failing self.old) }
+    {
+        let call = self.calls;
+        self.calls = call.saturating_add(1);
+        if self.fails.contains(&call) {
+            self.faults = self.faults.saturating_add(1);
+            return Err(Failed);
+        }
+        let most = most(&self.pieces, self.given);
+        let n = buf.len().min(self.bytes.len() - self.at).min(most);
+        buf[..n].copy_from_slice(&self.bytes[self.at..self.at + n]);
+        self.at += n;
+        if n > 0 {
+            self.given += 1;
+        }
+        Ok(n)
+    }
+}
+
+/// How many bytes a call may give.
+fn most(pieces: &[u32], given: usize) -> usize
+    ensures { result ≡ most_of pieces.now given }
+{
+    match pieces.get(given) {
+        Some(n) => (*n).max(1) as usize,
+        None => usize::MAX,
+    }
+}
