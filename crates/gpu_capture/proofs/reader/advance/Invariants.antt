@@ -1,0 +1,15 @@
+use Rattle.std.proofs.Common.{◌≡◌, ◌≤◌, [], true}
+use Rattle.gpu_capture.specs.Reader.{IsProgress, Takes, work_left}
+use Rattle.gpu_capture.proofs.reader.advance.Given as goal
+
+abbrev pub invariant-words : goal.invariant-words
+invariant-words g l = record {
+  takes : Takes l.fn.progress l.progress (g.S.Source.left l.fn.source) (g.S.Source.left l.source) [];
+  started : l.progress.started ≡ true;
+  bounds : IsProgress l.progress;
+  forward : work_left l.progress ≤ work_left l.fn.progress;
+  faults : g.S.Source.faults l.fn.source ≤ g.S.Source.faults l.source;
+}
+
+abbrev pub decreases-words : goal.decreases-words
+decreases-words g l = work_left l.progress

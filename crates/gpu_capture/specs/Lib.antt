@@ -1,0 +1,4 @@
+pub mod Capture
+pub mod Reader
+pub mod Record
+pub mod State

@@ -1,0 +1,78 @@
+-- What the steps of a reader take from its source, and what the format says of that.
+use Rattle.std.specs.Prelude.{◌≡◌, ◌<◌, ◌≤◌, ℕ, List, [], ◌∷◌, ◌++◌, ◌+◌, ◌-◌, ◌*◌, ◌^◌, Bool, true, false, Option, length, replicate, if◌then◌else◌}
+use Rattle.byteorder.specs.Endian.{little_number}
+use Rattle.dev_io.specs.Device.{prepended, IsAtEnd}
+use Rattle.gpu_capture.specs.Record.{IsDue}
+use Rattle.gpu_capture.specs.Capture.{Captured, ended, then_events, records, capture, limit}
+use Rattle.gpu_capture.specs.declared.event.Event.{Event}
+use Rattle.gpu_capture.specs.declared.event.Event.TheVariants.{Read}
+use Rattle.gpu_capture.specs.declared.event.Stop.{Stop}
+use Rattle.gpu_capture.specs.declared.event.Stop.TheVariants.{TooLong, Truncated, ReadFault}
+use Rattle.gpu_capture.specs.declared.progress.Progress.{Progress}
+
+-- a word was taken
+pub record IsWord (before now : Option (List ℕ)) (place word : ℕ) : Type 0 where
+  pub below_limit : place < limit
+  pub a : ℕ
+  pub b : ℕ
+  pub c : ℕ
+  pub d : ℕ
+  pub bytes : before ≡ prepended (a ∷ b ∷ c ∷ d ∷ []) now
+  pub word_is : word ≡ little_number 4 (a ∷ b ∷ c ∷ d ∷ [])
+
+abbrev pub IsReadFault : Stop → Type 0
+IsReadFault (ReadFault byte) = Unit {0}
+IsReadFault stop = ⊥
+
+-- the stop where a word that is due can't be had, after these bytes of it
+abbrev pub SaysNoWord : Stop → ℕ → List ℕ → Option (List ℕ) → Type 0
+SaysNoWord (TooLong byte) place taken now = (byte ≡ limit) × (limit ≤ place) × (taken ≡ [])
+SaysNoWord (Truncated byte) place taken now = (place < limit) × (length taken < 4) × (byte ≡ place + length taken) × IsAtEnd now
+SaysNoWord (ReadFault byte) place taken now = (place < limit) × (length taken < 4) × (byte ≡ place + length taken)
+SaysNoWord stop place taken now = ⊥
+
+-- no word was had
+pub record EndsWord (before now : Option (List ℕ)) (place : ℕ) (stop : Stop) : Type 0 where
+  pub taken : List ℕ
+  pub bytes : before ≡ prepended taken now
+  pub says : SaysNoWord stop place taken now
+
+-- the bounds that a reader keeps
+pub record IsProgress (p : Progress) : Type 0 where
+  pub due : IsDue p.due
+  pub place : p.place < 2 ^ 31
+  pub reads : p.reads < 2 ^ 18
+  pub start : p.started ≡ false → p.place ≡ 0
+
+-- what the bytes from a reader's place on say
+abbrev pub capture_from : Progress → List ℕ → Captured
+capture_from p bytes = if p.started then then_events (replicate p.reads Read) (records p.due p.place bytes) else capture bytes
+
+-- a bound on the events and words that are still to come; each of them lowers it
+unfoldable pub work_left : Progress → ℕ
+work_left p = (2 ^ 31 - p.place) * 2 ^ 19 + p.reads
+
+-- bytes were taken and events were given: what the format says of those bytes and any rest is these events, and then what it says
+-- of the rest from the new place on
+pub record Takes (old new : Progress) (before now : Option (List ℕ)) (events : List Event) : Type 0 where
+  pub taken : List ℕ
+  pub bytes : before ≡ prepended taken now
+  pub says : (rest : List ℕ) → capture_from old (taken ++ rest) ≡ then_events events (capture_from new rest)
+
+-- What the format says of the bytes taken where a reader stops. No byte is taken past those that decide it. Where the source failed,
+-- the bytes taken were not enough.
+abbrev pub SaysStop : Stop → Progress → List ℕ → Option (List ℕ) → Type 0
+SaysStop (ReadFault byte) old taken now = capture_from old taken ≡ ended (Truncated byte) []
+SaysStop (Truncated byte) old taken now = (capture_from old taken ≡ ended (Truncated byte) []) × IsAtEnd now
+SaysStop stop old taken now = (rest : List ℕ) → capture_from old (taken ++ rest) ≡ ended stop rest
+
+pub record StopsAt (old : Progress) (before now : Option (List ℕ)) (stop : Stop) : Type 0 where
+  pub taken : List ℕ
+  pub bytes : before ≡ prepended taken now
+  pub says : SaysStop stop old taken now
+
+-- where a new reader stands
+pub record IsStart (p : Progress) : Type 0 where
+  pub started : p.started ≡ false
+  pub place : p.place ≡ 0
+  pub reads : p.reads ≡ 0

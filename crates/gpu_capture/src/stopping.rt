@@ -1,0 +1,85 @@
+// A reader that keeps the stop that it has answered.
+ghost use Rattle.std.specs.Prelude.{◌≡◌, ◌≤◌, ◌<◌, ◌+◌, ◌^◌, [], ◌∷◌, None, Some, IfSome, IfOk, IfErr, OnOk, Err};
+ghost use Rattle.dev_io.specs.Device.{Rose};
+ghost use Rattle.gpu_capture.specs.Record.{IsEvent};
+ghost use Rattle.gpu_capture.specs.Reader.{StopsAt, Takes, IsReadFault, IsStart, work_left};
+ghost use Rattle.gpu_capture.specs.State.{ReaderState};
+
+use crate::event::{Event, Stop};
+use crate::progress::Progress;
+use crate::reader::advance;
+use crate::record::Due;
+use dev_io::Source;
+use std::marker::Model;
+
+/// The events of a capture, one after another.
+///
+/// Contracts see how far it has come and the stop that it has answered. What the format says of the bytes that were taken
+/// and of any rest is the events given, and then what it says of the rest from the reader's place on.
+#[derive(Drop)]
+pub struct EventReader {
+    progress: Progress,
+    stop: Option<Stop>,
+}
+
+impl Model for EventReader {
+    ghost use Rattle.gpu_capture.specs.Reader.{IsProgress};
+    ghost use Rattle.gpu_capture.specs.State.{ReaderState};
+
+    ghost Value = { ReaderState };
+
+    ghost view = { λ r. record { progress = r.progress; stop = r.stop } };
+
+    ghost invariant = { λ r. IsProgress r.progress };
+}
+
+impl EventReader {
+    /// A reader at the beginning of a capture. It takes no memory.
+    #[tactic(auto, unfolding(crate::specs::Reader::work_left))]
+    pub fn new() -> Self
+        ensures start { IsStart result.progress }
+        ensures work { work_left result.progress < 2 ^ 51 }
+        ensures stop { result.stop ≡ None }
+    {
+        EventReader {
+            progress: Progress {
+                started: false,
+                place: 0,
+                due: Due::Tag,
+                reads: 0,
+            },
+            stop: None,
+        }
+    }
+
+    /// The next event. It takes no byte past those that the event or the stop needs. After a stop it answers the same
+    /// stop, and takes nothing.
+    pub fn next<S: Source>(&mut self, source: &mut S) -> Result<Event, Stop>
+        ensures takes { IfOk result (λ event.
+            Takes self.old.progress self.new.progress (S.left source.old) (S.left source.new) (event ∷ [])) }
+        ensures event { IfOk result IsEvent }
+        ensures forward { OnOk result (work_left self.new.progress < work_left self.old.progress) }
+        ensures running { OnOk result (self.old.stop ≡ None) }
+        ensures runs_on { OnOk result (self.new.stop ≡ None) }
+        ensures stop { self.old.stop ≡ None → IfErr result (λ stop.
+            StopsAt self.old.progress (S.left source.old) (S.left source.new) stop) }
+        ensures kept { IfErr result (λ stop. self.new.stop ≡ Some stop) }
+
+        // A stop that was answered before is answered again.
+        ensures again { IfSome self.old.stop (λ stop.
+            (result ≡ Err stop) × (self.new ≡ self.old) × (S.left source.new ≡ S.left source.old)) }
+        ensures cause { self.old.stop ≡ None → IfErr result (λ stop. IsReadFault stop → Rose (S.faults source.old) (S.faults source.new)) }
+        ensures faults { S.faults source.old ≤ S.faults source.new }
+    {
+        if let Some(stop) = self.stop {
+            return Err(stop);
+        }
+        match advance(&mut self.progress, source) {
+            Ok(event) => Ok(event),
+            Err(stop) => {
+                self.stop = Some(stop);
+                Err(stop)
+            }
+        }
+    }
+}
