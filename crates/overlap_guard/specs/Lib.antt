@@ -1,0 +1,2 @@
+pub mod Hazard
+pub mod Laws
