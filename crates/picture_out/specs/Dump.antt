@@ -1,0 +1,14 @@
+-- Video memory as bytes (our own rule): the cells row by row, each low byte first.
+use Rattle.std.specs.Prelude.{ℕ, List, [], ◌∷◌, ◌*◌, ◌/◌, ◌%◌, flat_map}
+use Rattle.vram_store.specs.Vram.{height_of}
+
+-- the low byte first
+abbrev pub cell_bytes : ℕ → List ℕ
+cell_bytes cell = cell % 256 ∷ cell / 256 ∷ []
+
+abbrev pub dump : List ℕ → List ℕ
+dump m = flat_map cell_bytes m
+
+-- the store steps of a dump, sixteen cells each
+abbrev pub dump_cost : List ℕ → ℕ
+dump_cost m = 64 * height_of m

@@ -1,0 +1,58 @@
+// The bytes of video memory.
+ghost use Rattle.std.specs.Prelude.{◌≡◌, ◌<◌, ◌≤◌, ◌+◌, ◌*◌, length, slice_range, OnOk, OnErr};
+ghost use Rattle.dev_io.specs.Device.{Rose, AppendsPart, appended};
+ghost use Rattle.vram_store.specs.Vram.{height_of};
+ghost use Rattle.picture_out.specs.Dump.{dump, dump_cost};
+
+use dev_io::{Failed, Sink, write_all};
+use std::sync::ledger::Ledger;
+use vram_store::{Steps, Vram};
+
+/// Writes the cells in order, row by row, each low byte first: 2,048 bytes and 64 store steps a row.
+///
+/// It fails only where the sink does, and then a proper prefix of these bytes was written.
+pub fn write_vram<K: Sink, L: Ledger>(
+    vram: &Vram,
+    out: &mut K,
+    steps: &mut Steps<L>,
+) -> Result<(), Failed>
+    ensures ok { OnOk result (K.held out.new ≡ appended (K.held out.old) (dump vram.now)) }
+    ensures failed { OnErr result (AppendsPart (K.held out.old) (K.held out.new) (dump vram.now)) }
+    ensures cause { OnErr result (Rose (K.faults out.old) (K.faults out.new)) }
+    ensures faults { K.faults out.old ≤ K.faults out.new }
+    ensures cost { OnOk result (steps.new ≡ steps.old + dump_cost vram.now) }
+    ensures cost_at_most { steps.new ≤ steps.old + dump_cost vram.now }
+{
+    for y in 0..vram.height() {
+        let bytes = row_bytes(vram, y, steps);
+        write_all(out, &bytes)?;
+    }
+    Ok(())
+}
+
+/// The bytes of a row.
+fn row_bytes<L: Ledger>(vram: &Vram, y: u16, steps: &mut Steps<L>) -> [u8; 2048]
+    requires { y < height_of vram.now }
+    ensures bytes { result ≡ dump (slice_range vram.now (1024 * y) (1024 * y + 1024)) }
+    ensures cost { steps.new ≡ steps.old + 64 }
+{
+    let mut bytes = [0u8; 2048];
+    for k in 0..64 {
+        let lanes = vram.load16(16 * k, y, 16, steps).to_array();
+        let at = 32 * k as usize;
+        put_lanes(&lanes, &mut bytes[at..at + 32]);
+    }
+    bytes
+}
+
+fn put_lanes(lanes: &[u16; 16], bytes: &mut [u8])
+    requires { length bytes.old ≡ 32 }
+    ensures lanes { bytes.new ≡ dump lanes.now }
+    ensures count { length bytes.new ≡ 32 }
+{
+    for j in 0..16 {
+        let lane = lanes[j];
+        bytes[2 * j] = (lane % 256) as u8;
+        bytes[2 * j + 1] = (lane / 256) as u8;
+    }
+}
