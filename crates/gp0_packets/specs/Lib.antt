@@ -1,0 +1,4 @@
+pub mod Fields
+pub mod Notes
+pub mod Packets
+pub mod Ranges

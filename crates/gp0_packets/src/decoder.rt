@@ -1,0 +1,95 @@
+// The packet that an item is.
+ghost use Rattle.std.specs.Prelude.{◌≡◌, ◌<◌, length, slice_index};
+ghost use Rattle.gp0_words.specs.Kinds.{class_of, opcode_of, first_len_of};
+ghost use Rattle.gp0_packets.specs.Packets.{environment_of, other_of, whole_of, packet_of};
+ghost use Rattle.gp0_packets.specs.Ranges.{IsInRange};
+
+use crate::field::low24;
+use crate::line::{line, segment};
+use crate::packet::Packet;
+use crate::polygon::polygon;
+use crate::rectangle::rectangle;
+use crate::transfer::{copy, fill, load, store};
+use gp0_words::{Item, first_len};
+
+/// A word of class 7: a register is set, or nothing happens.
+#[tactic(auto, unfolding(crate::specs::Packets::environment_of))]
+fn environment(word: u32) -> Packet
+    ensures value { result ≡ environment_of word }
+    ensures ranges { IsInRange result }
+{
+    let opcode = word >> 24;
+    if 0xe1 <= opcode && opcode <= 0xe6 {
+        Packet::Env {
+            index: (opcode - 0xe0) as u8,
+            value: low24(word),
+        }
+    } else {
+        Packet::Nop
+    }
+}
+
+/// A packet of class 0: a fill, an interrupt, or nothing.
+#[tactic(auto, unfolding(crate::specs::Packets::other_of))]
+fn other(words: &[u32]) -> Packet
+    requires some { 0 < length words.now }
+    requires fill { opcode_of (slice_index words.now 0) ≡ 0x02 → length words.now ≡ 3 }
+    ensures value { result ≡ other_of words.now }
+    ensures ranges { IsInRange result }
+{
+    match words[0] >> 24 {
+        0x02 => fill(words),
+        0x1f => Packet::Irq,
+        _ => Packet::Nop,
+    }
+}
+
+/// The packet of a whole item, with as many words as its first word asks for.
+#[tactic(auto, unfolding(crate::specs::Packets::whole_of))]
+fn whole(words: &[u32]) -> Packet
+    requires some { 0 < length words.now }
+    requires len { length words.now ≡ first_len_of (slice_index words.now 0) }
+    ensures value { result ≡ whole_of words.now }
+    ensures ranges { IsInRange result }
+{
+    let command = words[0];
+    match command >> 29 {
+        1 => polygon(words),
+        2 => line(words),
+        3 => rectangle(words),
+        4 => copy(words),
+        5 => load(words),
+        6 => store(words),
+        7 => environment(command),
+        _ => other(words),
+    }
+}
+
+/// The packet that an item is. It is total: a `Whole` whose number of words is not the one that its first word
+/// asks for, which no splitter gives, is `Nop`.
+pub fn decode(item: &Item) -> Packet
+    ensures value { result ≡ packet_of item.now }
+    ensures ranges { IsInRange result }
+{
+    match item {
+        Item::Whole { words } => {
+            let words = words.as_slice();
+            if words.is_empty() {
+                Packet::Nop
+            } else if words.len() == first_len(words[0]) {
+                whole(words)
+            } else {
+                Packet::Nop
+            }
+        }
+        Item::Joint {
+            command,
+            from_color,
+            from_vertex,
+            to_color,
+            to_vertex,
+        } => segment(*command, *from_color, *from_vertex, *to_color, *to_vertex),
+        Item::Finish { .. } => Packet::Finish,
+        Item::Pixels { word } => Packet::Pixels { word: *word },
+    }
+}

@@ -1,0 +1,52 @@
+// Fields that several packets have.
+ghost use Rattle.std.specs.Prelude.{◌≡◌, ◌<◌, ◌^◌, if◌then◌else◌, IsTrue, length, slice_index};
+ghost use Rattle.gp0_words.specs.Kinds.{is_set};
+ghost use Rattle.gp0_packets.specs.Fields.{vertex_of, low_24, high_half};
+ghost use Rattle.gp0_packets.specs.Ranges.{IsVertexInRange};
+
+use px_num::{Vertex, sign11};
+
+/// Whether bit `k` of a word is 1.
+pub fn bit(word: u32, k: u32) -> bool
+    requires { k < 32 }
+    ensures { result ≡ is_set word k }
+{
+    word >> k & 1 == 1
+}
+
+/// The low 24 bits of a word, which are a colour or a register's value.
+pub fn low24(word: u32) -> u32
+    ensures value { result ≡ low_24 word }
+    ensures fits { result < 2 ^ 24 }
+{
+    word & 0xff_ffff
+}
+
+/// The attribute of a texcoord word.
+pub fn attribute(texcoord: u32) -> u16
+    ensures { result ≡ high_half texcoord }
+{
+    (texcoord >> 16) as u16
+}
+
+/// A vertex by its vertex word, its colour word and its texcoord word.
+pub fn vertex_at(place: u32, color: u32, texcoord: u32) -> Vertex
+    ensures value { result ≡ vertex_of place color texcoord }
+    ensures ranges { IsVertexInRange result }
+{
+    Vertex {
+        x: sign11(place),
+        y: sign11(place >> 16),
+        color: low24(color),
+        u: (texcoord & 0xff) as u8,
+        v: (texcoord >> 8 & 0xff) as u8,
+    }
+}
+
+/// The word at a place, where there is one, else another word.
+pub fn word_where(words: &[u32], set: bool, at: usize, otherwise: u32) -> u32
+    requires { IsTrue set → at < length words.now }
+    ensures { result ≡ (if set then slice_index words.now at else otherwise) }
+{
+    if set { words[at] } else { otherwise }
+}

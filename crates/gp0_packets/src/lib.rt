@@ -1,0 +1,20 @@
+//! The fields of GP0 packets (psx-spx, "GPU Render Polygon Commands", "GPU Render Line Commands", "GPU Render
+//! Rectangle Commands", "GPU Rendering Attributes" and "GPU Memory Transfer Commands"), and the note that an
+//! item gives.
+//!
+//! `decode` reads an item's fields and changes nothing: coordinates are without the drawing offset, and masks
+//! and wraps that do not hang on a register are done.
+#![tactic(auto)]
+
+mod decoder;
+mod field;
+mod line;
+mod note;
+mod packet;
+mod polygon;
+mod rectangle;
+mod transfer;
+
+pub use decoder::decode;
+pub use note::{Note, class_of, head_of};
+pub use packet::Packet;

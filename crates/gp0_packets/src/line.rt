@@ -1,0 +1,41 @@
+// Lines and the first segments of polylines.
+ghost use Rattle.std.specs.Prelude.{◌≡◌, ◌+◌, length, slice_index};
+ghost use Rattle.std.specs.Int.{bit_at};
+ghost use Rattle.gp0_packets.specs.Packets.{line_of, segment_of};
+ghost use Rattle.gp0_packets.specs.Ranges.{IsInRange};
+
+use crate::field::{bit, vertex_at};
+use crate::packet::Packet;
+
+/// The segment from a vertex to another, each with its colour word.
+pub fn segment(
+    command: u32,
+    from_color: u32,
+    from_vertex: u32,
+    to_color: u32,
+    to_vertex: u32,
+) -> Packet
+    ensures value { result ≡ segment_of command from_color from_vertex to_color to_vertex }
+    ensures ranges { IsInRange result }
+{
+    Packet::Segment {
+        a: vertex_at(from_vertex, from_color, 0),
+        b: vertex_at(to_vertex, to_color, 0),
+        semi: bit(command, 25),
+    }
+}
+
+/// A line, or the first segment of a polyline, by its words.
+#[tactic(auto, unfolding(crate::specs::Packets::line_of))]
+pub fn line(words: &[u32]) -> Packet
+    requires { length words.now ≡ 3 + bit_at (slice_index words.now 0) 28 }
+    ensures value { result ≡ line_of words.now }
+    ensures ranges { IsInRange result }
+{
+    let command = words[0];
+    if bit(command, 28) {
+        segment(command, command, words[1], words[2], words[3])
+    } else {
+        segment(command, command, words[1], command, words[2])
+    }
+}

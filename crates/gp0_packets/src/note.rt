@@ -1,0 +1,46 @@
+// What is told of an item.
+ghost use Rattle.std.specs.Prelude.{◌≡◌, ◌≤◌};
+ghost use Rattle.gp0_packets.specs.Notes.{class_of_item, head_of_item};
+
+use gp0_words::Item;
+use px_num::Box2;
+
+/// What is told of an item when it has taken effect (this project's own).
+#[derive(Clone, Copy, Debug, PartialEq, Eq)]
+pub struct Note {
+    /// The number of the event that completed the item.
+    pub event: u64,
+    /// 0 to 7 by the top three bits of the command, 8 for the end of a polyline, 9 for two pixels of a load.
+    pub class: u8,
+    /// The command, the end word or the data word.
+    pub head: u32,
+    /// The cells that the item may change, or None where it has no area.
+    pub area: Option<Box2>,
+}
+
+/// The class of an item's note, 0 to 9.
+pub fn class_of(item: &Item) -> u8
+    ensures value { result ≡ class_of_item item.now }
+    ensures at_most_nine { result ≤ 9 }
+{
+    match item {
+        Item::Whole { .. } => (head_of(item) >> 29) as u8,
+        Item::Joint { .. } => 2,
+        Item::Finish { .. } => 8,
+        Item::Pixels { .. } => 9,
+    }
+}
+
+/// The head of an item's note.
+pub fn head_of(item: &Item) -> u32
+    ensures { result ≡ head_of_item item.now }
+{
+    match item {
+        Item::Whole { words } => {
+            let words = words.as_slice();
+            if words.is_empty() { 0 } else { words[0] }
+        }
+        Item::Joint { command, .. } => *command,
+        Item::Finish { word } | Item::Pixels { word } => *word,
+    }
+}

@@ -1,0 +1,64 @@
+// Rectangles.
+ghost use Rattle.std.specs.Prelude.{◌≡◌, ◌/◌, ◌%◌, ◌^◌, ◌<◌, length, slice_index};
+ghost use Rattle.gp0_words.specs.Kinds.{rectangle_len_of};
+ghost use Rattle.gp0_packets.specs.Packets.{size_code_of, side_of, size_word_of, rectangle_of};
+ghost use Rattle.gp0_packets.specs.Ranges.{IsInRange};
+
+use crate::field::{attribute, bit, vertex_at, word_where};
+use crate::packet::Packet;
+
+/// The width and height by the size code; those of code 0 stand in the size word.
+fn sides(code: u32, size: u32) -> (u16, u16)
+    ensures width { result.0 ≡ side_of code (size % 2 ^ 10) }
+    ensures height { result.1 ≡ side_of code (size / 2 ^ 16 % 2 ^ 9) }
+    ensures width_range { result.0 < 1024 }
+    ensures height_range { result.1 < 512 }
+{
+    match code {
+        0 => ((size & 0x3ff) as u16, (size >> 16 & 0x1ff) as u16),
+        1 => (1, 1),
+        2 => (8, 8),
+        _ => (16, 16),
+    }
+}
+
+/// The width and height of a rectangle by its words.
+fn rectangle_sides(words: &[u32]) -> (u16, u16)
+    requires { length words.now ≡ rectangle_len_of (slice_index words.now 0) }
+    ensures width { result.0 ≡ side_of (size_code_of words.now) (size_word_of words.now % 2 ^ 10) }
+    ensures height { result.1 ≡ side_of (size_code_of words.now) (size_word_of words.now / 2 ^ 16 % 2 ^ 9) }
+    ensures width_range { result.0 < 1024 }
+    ensures height_range { result.1 < 512 }
+{
+    let command = words[0];
+    let code = command >> 27 & 3;
+    let size = word_where(words, code == 0, 2 + (command >> 26 & 1) as usize, 0);
+    sides(code, size)
+}
+
+/// A rectangle by its words.
+#[tactic(auto, unfolding(crate::specs::Packets::rectangle_of))]
+pub fn rectangle(words: &[u32]) -> Packet
+    requires { length words.now ≡ rectangle_len_of (slice_index words.now 0) }
+    ensures value { result ≡ rectangle_of words.now }
+    ensures ranges { IsInRange result }
+{
+    let command = words[0];
+    let textured = bit(command, 26);
+    let texcoord = word_where(words, textured, 2, 0);
+    let first = vertex_at(words[1], command, texcoord);
+    let (w, h) = rectangle_sides(words);
+    Packet::Rect {
+        x: first.x,
+        y: first.y,
+        w,
+        h,
+        color: first.color,
+        textured,
+        semi: bit(command, 25),
+        raw: bit(command, 24) && textured,
+        u: first.u,
+        v: first.v,
+        clut: attribute(texcoord),
+    }
+}

@@ -1,0 +1,110 @@
+// Fills, copies, loads and stores.
+ghost use Rattle.std.specs.Prelude.{◌≡◌, ◌<◌, ◌≤◌, length};
+ghost use Rattle.gp0_packets.specs.Fields.{rows, cell_of, width_of, height_of};
+ghost use Rattle.gp0_packets.specs.Packets.{fill_of, copy_of, load_of, store_of};
+ghost use Rattle.gp0_packets.specs.Ranges.{IsInRange};
+
+use crate::packet::Packet;
+use px_num::{Cell, wrap_at, wrap_x};
+
+/// The rows of video memory.
+const ROWS: u16 = 512;
+
+/// The cell that a corner word names.
+fn cell_at(corner: u32) -> Cell
+    ensures value { result ≡ cell_of corner }
+    ensures column { result.x < 1024 }
+    ensures row { result.y < rows }
+{
+    Cell {
+        x: wrap_x(corner),
+        y: wrap_at(corner >> 16, ROWS),
+    }
+}
+
+/// The width of a size word, where 0 stands for 1024.
+fn width(size: u32) -> u16
+    ensures value { result ≡ width_of size }
+    ensures some { 1 ≤ result }
+    ensures most { result ≤ 1024 }
+{
+    (((size & 0xffff) + 0x3ff & 0x3ff) + 1) as u16
+}
+
+/// The height of a size word, where 0 stands for 512.
+fn height(size: u32) -> u16
+    ensures value { result ≡ height_of size }
+    ensures some { 1 ≤ result }
+    ensures most { result ≤ 512 }
+{
+    (((size >> 16) + 0x1ff & 0x1ff) + 1) as u16
+}
+
+/// A fill by its words.
+#[tactic(auto, unfolding(crate::specs::Packets::fill_of))]
+pub fn fill(words: &[u32]) -> Packet
+    requires { length words.now ≡ 3 }
+    ensures value { result ≡ fill_of words.now }
+    ensures ranges { IsInRange result }
+{
+    let command = words[0];
+    let corner = words[1];
+    let size = words[2];
+    Packet::Fill {
+        color: (command >> 3 & 31 | (command >> 11 & 31) << 5 | (command >> 19 & 31) << 10) as u16,
+        x: (corner & 0x3ff & !0xf) as u16,
+        y: wrap_at(corner >> 16, ROWS),
+        w: ((size & 0x3ff) + 0xf & !0xf) as u16,
+        h: (size >> 16 & 0x1ff) as u16,
+    }
+}
+
+/// A copy by its words.
+#[tactic(auto, unfolding(crate::specs::Packets::copy_of))]
+pub fn copy(words: &[u32]) -> Packet
+    requires { length words.now ≡ 4 }
+    ensures value { result ≡ copy_of words.now }
+    ensures ranges { IsInRange result }
+{
+    let size = words[3];
+    Packet::Copy {
+        from: cell_at(words[1]),
+        to: cell_at(words[2]),
+        w: width(size),
+        h: height(size),
+    }
+}
+
+/// A load by its words, without its data.
+#[tactic(auto, unfolding(crate::specs::Packets::load_of))]
+pub fn load(words: &[u32]) -> Packet
+    requires { length words.now ≡ 3 }
+    ensures value { result ≡ load_of words.now }
+    ensures ranges { IsInRange result }
+{
+    let Cell { x, y } = cell_at(words[1]);
+    let size = words[2];
+    Packet::Load {
+        x,
+        y,
+        w: width(size),
+        h: height(size),
+    }
+}
+
+/// A store by its words.
+#[tactic(auto, unfolding(crate::specs::Packets::store_of))]
+pub fn store(words: &[u32]) -> Packet
+    requires { length words.now ≡ 3 }
+    ensures value { result ≡ store_of words.now }
+    ensures ranges { IsInRange result }
+{
+    let Cell { x, y } = cell_at(words[1]);
+    let size = words[2];
+    Packet::Store {
+        x,
+        y,
+        w: width(size),
+        h: height(size),
+    }
+}

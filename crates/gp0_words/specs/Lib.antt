@@ -1,0 +1,4 @@
+pub mod Cutting
+pub mod Items
+pub mod Kinds
+pub mod Next

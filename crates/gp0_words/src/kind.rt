@@ -1,0 +1,111 @@
+// How a packet goes on, by its first word.
+ghost use Rattle.std.specs.Prelude.{◌≡◌, ◌<◌};
+ghost use Rattle.gp0_words.specs.Kinds.{kind_of, start_len, first_len_of, polygon_len_of, rectangle_len_of, line_kind_of, data_words_of, is_end, is_set};
+
+/// How a packet goes on, by its first word.
+#[derive(Clone, Copy)]
+pub enum Kind {
+    /// So many words, and no more.
+    Plain { len: usize },
+    /// Three words, and then the data words.
+    Load,
+    /// The first two vertices of a polyline, and then joints up to an end word.
+    Polyline { shaded: bool },
+}
+
+/// Whether bit `k` of a word is 1.
+pub fn bit(word: u32, k: u32) -> bool
+    requires { k < 32 }
+    ensures { result ≡ is_set word k }
+{
+    word >> k & 1 == 1
+}
+
+fn polygon_len(word: u32) -> usize
+    ensures { result ≡ polygon_len_of word }
+{
+    let vertices = if bit(word, 27) { 4 } else { 3 };
+    let textured = usize::from(bit(word, 26));
+    if bit(word, 28) {
+        vertices * (2 + textured)
+    } else {
+        vertices * (1 + textured) + 1
+    }
+}
+
+fn rectangle_len(word: u32) -> usize
+    ensures { result ≡ rectangle_len_of word }
+{
+    let textured = usize::from(bit(word, 26));
+    let sized = usize::from(word >> 27 & 3 == 0);
+    2 + textured + sized
+}
+
+fn line_kind(word: u32) -> Kind
+    ensures { result ≡ line_kind_of word }
+{
+    let shaded = bit(word, 28);
+    if bit(word, 27) {
+        Kind::Polyline { shaded }
+    } else if shaded {
+        Kind::Plain { len: 4 }
+    } else {
+        Kind::Plain { len: 3 }
+    }
+}
+
+/// How the packet goes on whose first word this is.
+pub fn read_kind(word: u32) -> Kind
+    ensures { result ≡ kind_of word }
+{
+    match word >> 29 {
+        1 => Kind::Plain {
+            len: polygon_len(word),
+        },
+        2 => line_kind(word),
+        3 => Kind::Plain {
+            len: rectangle_len(word),
+        },
+        4 => Kind::Plain { len: 4 },
+        5 => Kind::Load,
+        6 => Kind::Plain { len: 3 },
+        _ => Kind::Plain {
+            len: if word >> 24 == 2 { 3 } else { 1 },
+        },
+    }
+}
+
+/// How many words the first item of a packet of this kind has.
+pub fn start_count(kind: Kind) -> usize
+    ensures { result ≡ start_len kind }
+{
+    match kind {
+        Kind::Plain { len } => len,
+        Kind::Load => 3,
+        Kind::Polyline { shaded } => if shaded { 4 } else { 3 },
+    }
+}
+
+/// How many words the item has whose first word this is: the whole of a plain packet, the three words of a
+/// load before its data, and the first two vertices of a polyline. It is 1 to 12.
+pub fn first_len(word: u32) -> usize
+    ensures { result ≡ first_len_of word }
+{
+    start_count(read_kind(word))
+}
+
+/// How many data words the load with this size word has, two pixels in each.
+pub fn data_count(size: u32) -> u32
+    ensures { result ≡ data_words_of size }
+{
+    let width = ((size & 0xffff) + 1023) % 1024 + 1;
+    let height = ((size >> 16) + 511) % 512 + 1;
+    (width * height + 1) / 2
+}
+
+/// Whether a word ends a polyline, where it stands in place of a vertex's first word.
+pub fn ends_polyline(word: u32) -> bool
+    ensures { result ≡ is_end word }
+{
+    word & 0xf000_f000 == 0x5000_5000
+}

@@ -1,0 +1,10 @@
+//! What holds of every list of words. No code runs here: each law is the contract of an empty function.
+ghost use Rattle.gp0_words.specs.Cutting.{PacketsAreCut, IsPrefixFree};
+
+/// A packet at the front of a list of words is cut off it whole: its items come first, and what is pending
+/// is up to the words behind it. No packet is a proper prefix of another, so a list of words is cut in one
+/// way only.
+pub fn packets_are_cut()
+    ensures cut { PacketsAreCut }
+    ensures prefix { IsPrefixFree }
+{}

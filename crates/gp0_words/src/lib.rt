@@ -1,0 +1,21 @@
+//! Cuts the stream of command words (psx-spx, "GPU I/O Ports, DMA Channels, Commands, VRAM", port GP0)
+//! into items.
+//!
+//! A packet is the words of one command. A plain packet has a length that its first word gives, at most
+//! twelve words, and is one item. A load is three words, which are one item, and then its data words, each
+//! an item. A polyline is its first two vertices, which are one item, then joints, each an item, and an end
+//! word, which is an item. The stream has no other mark: where a packet ends, the next one begins.
+#![tactic(auto)]
+
+mod item;
+mod kind;
+pub mod laws;
+mod pending;
+mod splitter;
+mod words;
+
+pub use item::Item;
+pub use kind::first_len;
+pub use pending::Pending;
+pub use splitter::Splitter;
+pub use words::Words;

@@ -1,0 +1,167 @@
+// One word more, on what is pending.
+ghost use Rattle.std.specs.Prelude.{◌≡◌, ◌<◌, ◌≤◌, None, Some, length, slice_index};
+ghost use Rattle.gp0_words.specs.Kinds.{kind_of, start_len};
+ghost use Rattle.gp0_words.specs.Next.{next_pending, next_item, pending_behind, collected_pending, collected_item, IsPending};
+
+use crate::item::Item;
+use crate::kind::{Kind, bit, data_count, ends_polyline, read_kind, start_count};
+use crate::words::Words;
+
+/// What a stream of words leaves behind its last whole packet.
+///
+/// It is all that a splitter holds of the words that came.
+#[derive(Drop)]
+pub enum Pending {
+    /// Nothing: every packet is whole.
+    Idle,
+    /// The words so far of an item that is not whole, which is the first of its packet.
+    Packet {
+        /// The words, the command first.
+        words: Words,
+    },
+    /// A load that still wants data words.
+    Pixels {
+        /// How many, 1 to 262,144.
+        left: u32,
+    },
+    /// A polyline that has not ended.
+    Poly {
+        /// Its command word.
+        command: u32,
+        /// The colour word of its last vertex; the command where it is not shaded.
+        color: u32,
+        /// The vertex word of its last vertex.
+        vertex: u32,
+        /// The colour word of a joint that has begun.
+        half: Option<u32>,
+    },
+}
+
+/// What is pending behind the whole first item of a packet.
+fn pending_after(kind: Kind, words: &[u32]) -> Pending
+    requires { start_len kind ≤ length words.now }
+    ensures { result ≡ pending_behind kind words.now }
+{
+    match kind {
+        Kind::Plain { .. } => Pending::Idle,
+        Kind::Load => Pending::Pixels {
+            left: data_count(words[2]),
+        },
+        Kind::Polyline { shaded } => {
+            if shaded {
+                Pending::Poly {
+                    command: words[0],
+                    color: words[2],
+                    vertex: words[3],
+                    half: None,
+                }
+            } else {
+                Pending::Poly {
+                    command: words[0],
+                    color: words[0],
+                    vertex: words[2],
+                    half: None,
+                }
+            }
+        }
+    }
+}
+
+/// The first words of a packet, which may be its whole first item.
+fn collect(words: Words) -> (Pending, Option<Item>)
+    requires { 0 < length words }
+    ensures pending { result.0 ≡ collected_pending (kind_of (slice_index words 0)) words }
+    ensures item { result.1 ≡ collected_item (kind_of (slice_index words 0)) words }
+{
+    let slice = words.as_slice();
+    let kind = read_kind(slice[0]);
+    if slice.len() < start_count(kind) {
+        (Pending::Packet { words }, None)
+    } else {
+        let pending = pending_after(kind, slice);
+        (pending, Some(Item::Whole { words }))
+    }
+}
+
+/// A segment from the last vertex to a new one, which is then the last.
+fn joint(
+    command: u32,
+    from_color: u32,
+    from_vertex: u32,
+    to_color: u32,
+    to_vertex: u32,
+) -> (Pending, Option<Item>)
+    ensures pending { result.0 ≡ Pending.Poly command to_color to_vertex None }
+    ensures item { result.1 ≡ Some (Item.Joint command from_color from_vertex to_color to_vertex) }
+{
+    let pending = Pending::Poly {
+        command,
+        color: to_color,
+        vertex: to_vertex,
+        half: None,
+    };
+    let item = Item::Joint {
+        command,
+        from_color,
+        from_vertex,
+        to_color,
+        to_vertex,
+    };
+    (pending, Some(item))
+}
+
+/// A word in place of the first word of a polyline's next vertex.
+fn next_vertex(command: u32, color: u32, vertex: u32, word: u32) -> (Pending, Option<Item>)
+    ensures pending { result.0 ≡ next_pending (Pending.Poly command color vertex None) word }
+    ensures item { result.1 ≡ next_item (Pending.Poly command color vertex None) word }
+{
+    if ends_polyline(word) {
+        (Pending::Idle, Some(Item::Finish { word }))
+    } else if bit(command, 28) {
+        let pending = Pending::Poly {
+            command,
+            color,
+            vertex,
+            half: Some(word),
+        };
+        (pending, None)
+    } else {
+        joint(command, color, vertex, command, word)
+    }
+}
+
+/// One word more: what is pending after it, and the item that it completes.
+pub fn take_word(pending: Pending, word: u32) -> (Pending, Option<Item>)
+    requires { IsPending pending }
+    ensures pending { result.0 ≡ next_pending pending word }
+    ensures item { result.1 ≡ next_item pending word }
+{
+    match pending {
+        Pending::Idle => {
+            let mut words = Words::new();
+            words.push(word);
+            collect(words)
+        }
+        Pending::Packet { mut words } => {
+            words.push(word);
+            collect(words)
+        }
+        Pending::Pixels { left } => {
+            let pending = if left > 1 {
+                Pending::Pixels { left: left - 1 }
+            } else {
+                Pending::Idle
+            };
+            (pending, Some(Item::Pixels { word }))
+        }
+        Pending::Poly {
+            command,
+            color,
+            vertex,
+            half,
+        } => match half {
+            None => next_vertex(command, color, vertex, word),
+            Some(half) => joint(command, color, vertex, half, word),
+        },
+    }
+}

@@ -1,0 +1,79 @@
+// The stream, cut word by word.
+ghost use Rattle.std.specs.Prelude.{◌≡◌, ◌↔◌, ℕ, List, [], ◌∷◌, ◌++◌, IsTrue, option_to_list};
+ghost use Rattle.gp0_words.specs.Items.{Items, Rest, IsIdle};
+ghost use Rattle.gp0_words.specs.Next.{next_pending, next_item, IsPending};
+
+use crate::item::Item;
+use crate::pending::{Pending, take_word};
+use std::marker::Model;
+use std::mem;
+
+/// Cuts a stream of words into items, word by word.
+///
+/// It keeps no list of what came, only what is pending. So it stands for each list of words whose `Rest` is
+/// what it holds, and contracts see it as that.
+#[derive(Drop)]
+pub struct Splitter {
+    pending: Pending,
+}
+
+impl Model for Splitter {
+    ghost use Rattle.gp0_words.specs.declared.pending.Pending.{Pending};
+    ghost use Rattle.gp0_words.specs.Next.{IsPending};
+
+    ghost Value = { Pending };
+
+    ghost view = { λ s. s.pending };
+
+    ghost invariant = { λ s. IsPending s.pending };
+}
+
+impl Splitter {
+    /// Nothing is pending: it stands for the empty list.
+    #[tactic(auto, unfolding(crate::specs::Items::Rest))]
+    pub fn new() -> Splitter
+        ensures { result ≡ Rest [] }
+    {
+        Splitter {
+            pending: Pending::Idle,
+        }
+    }
+
+    /// Takes the next word, and answers the item that it completes.
+    ///
+    /// None is answered exactly where the words since the last item are a proper prefix of an item.
+    pub fn push(&mut self, word: u32) -> Option<Item>
+        // For every list for which the splitter stands: the items with this word are those without it and
+        // the answer, and the splitter then stands for the list with this word.
+        ensures item { (words : List ℕ) → Rest words ≡ self.old →
+            Items (words ++ word ∷ []) ≡ Items words ++ option_to_list result }
+        ensures stands { (words : List ℕ) → Rest words ≡ self.old → Rest (words ++ word ∷ []) ≡ self.new }
+
+        // What is pending and the word decide both.
+        ensures pending { self.new ≡ next_pending self.old word }
+        ensures answer { result ≡ next_item self.old word }
+
+        // The bounds that every splitter keeps.
+        ensures bounds { IsPending self.old × IsPending self.new }
+    {
+        let pending = mem::replace(&mut self.pending, Pending::Idle);
+        let (pending, item) = take_word(pending, word);
+        self.pending = pending;
+        item
+    }
+
+    /// Drops all that is pending: it stands for the empty list.
+    #[tactic(auto, unfolding(crate::specs::Items::Rest))]
+    pub fn clear(&mut self)
+        ensures { self.new ≡ Rest [] }
+    {
+        self.pending = Pending::Idle;
+    }
+
+    /// Whether no packet, load or polyline is unfinished.
+    pub fn is_idle(&self) -> bool
+        ensures { IsTrue result ↔ IsIdle self.now }
+    {
+        matches!(&self.pending, Pending::Idle)
+    }
+}

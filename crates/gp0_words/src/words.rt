@@ -1,0 +1,47 @@
+// The words of one item.
+ghost use Rattle.std.specs.Prelude.{◌≡◌, ◌<◌, [], ◌∷◌, ◌++◌, length};
+
+use arrayvec::ArrayVec;
+use std::marker::Model;
+
+/// The words of one item, at most twelve. They stand in an array, so that no call takes memory.
+///
+/// Contracts see the list of the words.
+#[derive(Drop)]
+pub struct Words {
+    words: ArrayVec<u32, 12>,
+}
+
+impl Model for Words {
+    ghost use Rattle.std.specs.Prelude.{List, ℕ};
+
+    ghost Value = { List ℕ };
+
+    ghost view = { λ w. w.words.items };
+}
+
+impl Words {
+    /// No words.
+    pub fn new() -> Words
+        ensures { result ≡ [] }
+    {
+        Words {
+            words: ArrayVec::new(),
+        }
+    }
+
+    /// Appends a word.
+    pub fn push(&mut self, word: u32)
+        requires { length self.old < 12 }
+        ensures { self.new ≡ self.old ++ word ∷ [] }
+    {
+        self.words.push(word);
+    }
+
+    /// The words, in order.
+    pub fn as_slice(&self) -> &[u32]
+        ensures { result.now ≡ self.now }
+    {
+        self.words.as_slice()
+    }
+}
