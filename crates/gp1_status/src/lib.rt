@@ -1,0 +1,83 @@
+//! The registers of the GPU: the drawing environment, the display, the latch, and the status word.
+//!
+//! Contracts see a `Regs` as the record of its values. Widths that have a Y in them go by the height of
+//! video memory, which is 512 or 1024 rows.
+#![tactic(auto)]
+
+mod bits;
+mod regs;
+
+pub use regs::{Regs, clears};
+
+#[cfg(test)]
+mod tests {
+    use super::*;
+
+    #[test]
+    fn the_status_word_shows_registers_and_machine(rt: HostRuntime) {
+        for (idle, sending, want) in [
+            (true, false, 0x1480_2000),
+            (false, false, 0x1080_2000),
+            (true, true, 0x0c80_2000),
+        ] {
+            assert_eq!(rt;
+                Regs::new().status(idle, sending),
+                want,
+                "at {idle}, {sending}"
+            );
+        }
+        let mut regs = Regs::new();
+        for word in [0x0300_0000, 0x0400_0002, 0x0800_0001] {
+            regs.gp1(word);
+        }
+        assert_eq!(rt; regs.status(true, false), 0x5602_2000);
+        assert_eq!(rt;
+            (regs.display_off(), regs.direction(), regs.mode()),
+            (false, 2, 1)
+        );
+        let mut raised = Regs::new();
+        raised.raise();
+        raised.env(1, 0x800);
+        assert_eq!(rt; raised.status(true, false), 0x1580_2000);
+        assert!(rt; raised.irq());
+    }
+
+    #[test]
+    fn information_goes_to_the_latch(rt: HostRuntime) {
+        let mut regs = Regs::new();
+        regs.env(2, 0xf_ffff);
+        regs.env(4, 0xf_ffff);
+        for (word, want) in [
+            (0x1000_0002, 0xf_ffff),
+            (0x1000_0007, 2),
+            (0x1000_0000, 2),
+            (0x1000_0004, 0x7_ffff),
+            (0x5f00_0007, 2),
+        ] {
+            regs.gp1(word);
+            assert_eq!(rt; regs.held(), want, "after {word}");
+        }
+        assert_eq!(rt; (regs.info(4), regs.info(6)), (Some(0x7_ffff), None));
+    }
+
+    #[test]
+    fn a_reset_keeps_the_latch(rt: HostRuntime) {
+        let mut regs = Regs::new();
+        regs.env(1, 0xff_ffff);
+        regs.page(0);
+        assert_eq!(rt; regs.e1(), 0x3600);
+        regs.latch(0x1234_5678);
+        regs.gp1(0x4000_0000);
+        assert_eq!(rt; (regs.e1(), regs.window(), regs.top_left()), (0, 0, 0));
+        assert_eq!(rt;
+            (regs.bottom_right(), regs.offset(), regs.mask()),
+            (0, 0, 0)
+        );
+        assert_eq!(rt;
+            (regs.start(), regs.hrange(), regs.vrange()),
+            (0, 0xc0_0200, 0x4_0010)
+        );
+        assert_eq!(rt; (regs.held(), regs.height()), (0x1234_5678, 512));
+        assert_eq!(rt; (clears(0x4100_0000), clears(0x0200_0000)), (true, false));
+    }
+}
