@@ -1,0 +1,120 @@
+// The lines of words, of the status and of notes.
+ghost use Rattle.std.specs.Prelude.{◌≡◌, ◌≤◌, ◌++◌, codes, None, Some, OnOk, OnErr};
+ghost use Rattle.dev_io.specs.Device.{Rose, AppendsPart, appended};
+ghost use Rattle.packet_text.specs.Line.{word_line, status_line, note_name, area_text, note_line};
+
+use crate::number::{decimal_text, hex_digits, signed_text};
+use dev_io::{Failed, Sink, write_pieces};
+use gp0_packets::Note;
+use itoa::Buffer;
+use px_num::Box2;
+
+/// Writes the line of a word that was read: its eight hexadecimal digits.
+#[tactic(auto, unfolding(crate::specs::Line::word_line))]
+pub fn write_word<K: Sink>(out: &mut K, word: u32) -> Result<(), Failed>
+    ensures ok { OnOk result (K.held out.new ≡ appended (K.held out.old) (word_line word)) }
+    ensures failed { OnErr result (AppendsPart (K.held out.old) (K.held out.new) (word_line word)) }
+    ensures cause { OnErr result (Rose (K.faults out.old) (K.faults out.new)) }
+    ensures faults { K.faults out.old ≤ K.faults out.new }
+{
+    write_pieces(out, &[&hex_digits(word), b"\n"])
+}
+
+/// Writes the status line: `status ` and eight hexadecimal digits.
+#[tactic(auto, unfolding(crate::specs::Line::status_line))]
+pub fn write_status<K: Sink>(out: &mut K, word: u32) -> Result<(), Failed>
+    ensures ok { OnOk result (K.held out.new ≡ appended (K.held out.old) (status_line word)) }
+    ensures failed { OnErr result (AppendsPart (K.held out.old) (K.held out.new) (status_line word)) }
+    ensures cause { OnErr result (Rose (K.faults out.old) (K.faults out.new)) }
+    ensures faults { K.faults out.old ≤ K.faults out.new }
+{
+    write_pieces(out, &[b"status ", &hex_digits(word), b"\n"])
+}
+
+/// Writes the line of a note: its event, its name, its head in eight hexadecimal digits, and the corners of its area, or
+/// a dash where it has none.
+pub fn write_note<K: Sink>(out: &mut K, note: &Note) -> Result<(), Failed>
+    requires { note.now.class ≤ 9 }
+    ensures ok { OnOk result (K.held out.new ≡ appended (K.held out.old) (note_line note.now)) }
+    ensures failed { OnErr result (AppendsPart (K.held out.old) (K.held out.new) (note_line note.now)) }
+    ensures cause { OnErr result (Rose (K.faults out.old) (K.faults out.new)) }
+    ensures faults { K.faults out.old ≤ K.faults out.new }
+{
+    match &note.area {
+        None => write_bare(out, note.event, note.class, note.head),
+        Some(area) => write_with_area(out, note.event, note.class, note.head, area),
+    }
+}
+
+// The name of a note.
+fn name_of(class: u8, head: u32) -> &'static [u8]
+    ensures { result.now ≡ note_name class head }
+{
+    let opcode = head >> 24;
+    match class {
+        0 => match opcode {
+            0x02 => b"fill",
+            0x1f => b"irq",
+            _ => b"nop",
+        },
+        1 => b"polygon",
+        2 => b"line",
+        3 => b"rectangle",
+        4 => b"copy",
+        5 => b"load",
+        6 => b"store",
+        7 if 0xe1 <= opcode && opcode <= 0xe6 => b"environment",
+        7 => b"nop",
+        8 => b"finish",
+        _ => b"pixels",
+    }
+}
+
+// The line of a note without an area.
+#[tactic(auto, unfolding(crate::specs::Line::note_line))]
+fn write_bare<K: Sink>(out: &mut K, event: u64, class: u8, head: u32) -> Result<(), Failed>
+    ensures ok { OnOk result (K.held out.new ≡ appended (K.held out.old) (note_line (record { event = event; class = class; head = head; area = None }))) }
+    ensures failed { OnErr result (AppendsPart (K.held out.old) (K.held out.new) (note_line (record { event = event; class = class; head = head; area = None }))) }
+    ensures cause { OnErr result (Rose (K.faults out.old) (K.faults out.new)) }
+    ensures faults { K.faults out.old ≤ K.faults out.new }
+{
+    let mut number = Buffer::new();
+    let n = decimal_text(&mut number, event);
+    let name = name_of(class, head);
+    let digits = hex_digits(head);
+    write_pieces(out, &[n, b" ", name, b" ", &digits, b" -", b"\n"])
+}
+
+// The line of a note with an area.
+#[tactic(auto, unfolding(crate::specs::Line::note_line))]
+fn write_with_area<K: Sink>(
+    out: &mut K,
+    event: u64,
+    class: u8,
+    head: u32,
+    area: &Box2,
+) -> Result<(), Failed>
+    ensures ok { OnOk result (K.held out.new ≡ appended (K.held out.old) (note_line (record { event = event; class = class; head = head; area = Some area.now }))) }
+    ensures failed { OnErr result (AppendsPart (K.held out.old) (K.held out.new) (note_line (record { event = event; class = class; head = head; area = Some area.now }))) }
+    ensures cause { OnErr result (Rose (K.faults out.old) (K.faults out.new)) }
+    ensures faults { K.faults out.old ≤ K.faults out.new }
+{
+    let mut number = Buffer::new();
+    let n = decimal_text(&mut number, event);
+    let name = name_of(class, head);
+    let digits = hex_digits(head);
+    let mut left = Buffer::new();
+    let x1 = signed_text(&mut left, &area.x1);
+    let mut top = Buffer::new();
+    let y1 = signed_text(&mut top, &area.y1);
+    let mut right = Buffer::new();
+    let x2 = signed_text(&mut right, &area.x2);
+    let mut bottom = Buffer::new();
+    let y2 = signed_text(&mut bottom, &area.y2);
+    write_pieces(
+        out,
+        &[
+            n, b" ", name, b" ", &digits, b" ", x1, b" ", y1, b" ", x2, b" ", y2, b"\n",
+        ],
+    )
+}

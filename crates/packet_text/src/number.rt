@@ -1,0 +1,41 @@
+// Numbers as text.
+ghost use Rattle.std.specs.Prelude.{◌≡◌, ◌<◌, decimal};
+ghost use Rattle.std.specs.Fmt.{signed_decimal};
+ghost use Rattle.packet_text.specs.Number.{word_text, hex_digit};
+
+use itoa::Buffer;
+
+/// A word in eight hexadecimal digits, lower case.
+#[tactic(auto, unfolding(crate::specs::Number::word_text))]
+pub fn hex_digits(word: u32) -> [u8; 8]
+    ensures { result ≡ word_text word }
+{
+    let mut digits = [0u8; 8];
+    let mut rest = word;
+    for i in 0..8 {
+        digits[7 - i] = digit(rest % 16);
+        rest /= 16;
+    }
+    digits
+}
+
+fn digit(n: u32) -> u8
+    requires { n < 16 }
+    ensures { result ≡ hex_digit n }
+{
+    if n < 10 { 48 + n as u8 } else { 87 + n as u8 }
+}
+
+/// A number in decimal digits, in a buffer of the caller's.
+pub fn decimal_text(buffer: &mut Buffer, n: u64) -> &[u8]
+    ensures { result.now ≡ decimal n }
+{
+    buffer.format(n).as_bytes()
+}
+
+/// A signed number in decimal digits, in a buffer of the caller's.
+pub(crate) fn signed_text<'a>(buffer: &'a mut Buffer, n: &i32) -> &'a [u8]
+    ensures { result.now ≡ signed_decimal n.now }
+{
+    buffer.format(*n).as_bytes()
+}
