@@ -1,0 +1,63 @@
+-- The numbers of a tap after one note more (our own rule).
+use Rattle.std.specs.Prelude.{ℕ, ◌+◌, ◌-◌, ◌*◌, ◌%◌, ◌^◌, ℤ, pos, ◌+ℤ◌, ◌-ℤ◌, nat_abs, int_lt, List, [], ◌∷◌, ◌++◌, Option, Some, None, if◌then◌else◌, nat_lt, nat_le, ◌==◌, ◌&&◌, length, slice_index, slice_set, drop, min, max}
+use Rattle.px_num.specs.declared.shape.Box2.{Box2}
+use Rattle.gp0_packets.specs.declared.note.Note.{Note}
+
+-- a number stays at 2^64 - 1 once there
+abbrev pub capped : ℕ → ℕ
+capped n = min n (2 ^ 64 - 1)
+
+-- Kind 0: the number at the note's class grows by 1. Another length than ten, and a class above 9, change nothing.
+abbrev pub counts_after : List ℕ → (class : ℕ) → List ℕ
+counts_after numbers class =
+    if length numbers == 10 && nat_lt class 10 then slice_set numbers class (capped (slice_index numbers class + 1)) else numbers
+
+-- Kind 1: event, class and head of the last 64 notes, the oldest first. A length that isn't a multiple of 3 up to 192
+-- changes nothing.
+abbrev pub trace_after : List ℕ → Note → List ℕ
+trace_after numbers note =
+    if length numbers % 3 == 0 && nat_le (length numbers) 192 then
+    drop (if length numbers == 192 then 3 else 0) numbers ++ note.event ∷ note.class ∷ note.head ∷ []
+    else numbers
+
+-- how many cells lie from first to last in one direction, both inclusive
+abbrev pub side_of : (first last : ℤ) → ℕ
+side_of first last = if int_lt last first then 0 else nat_abs (last +ℤ pos 1 -ℤ first)
+
+-- (x2 - x1 + 1) * (y2 - y1 + 1)
+abbrev pub cells_of : Box2 → ℕ
+cells_of area = side_of area.x1 area.x2 * side_of area.y1 area.y2
+
+-- Kind 2: the notes with an area, the sum of their cells, and the most cells of one area. Another length than three,
+-- and a note without an area, change nothing.
+abbrev pub cover_after : List ℕ → Option Box2 → List ℕ
+cover_after numbers None = numbers
+cover_after numbers (Some area) =
+    if length numbers == 3 then
+    capped (slice_index numbers 0 + 1) ∷ capped (slice_index numbers 1 + cells_of area) ∷ max (slice_index numbers 2) (capped (cells_of area)) ∷ []
+    else numbers
+
+-- the numbers by the kind; every other kind changes nothing
+unfoldable pub tally : (kind : ℕ) → List ℕ → Note → List ℕ
+tally kind numbers note =
+    if kind == 0 then counts_after numbers note.class else
+    (if kind == 1 then trace_after numbers note else
+    (if kind == 2 then cover_after numbers note.area else numbers))
+
+-- what a tap says: its kind and its numbers
+pub record Reading : Type 0 where
+  pub kind : ℕ
+  pub numbers : List ℕ
+
+-- what it says after one note more: the kind stays
+unfoldable pub reading_after : Note → Reading → Reading
+reading_after note reading = record { kind = reading.kind; numbers = tally reading.kind reading.numbers note }
+
+-- three numbers of each note
+abbrev pub trace_numbers : List Note → List ℕ
+trace_numbers [] = []
+trace_numbers (note ∷ notes) = note.event ∷ note.class ∷ note.head ∷ trace_numbers notes
+
+-- the number of a note at a place: event, class, head
+abbrev pub note_number : Note → (place : ℕ) → ℕ
+note_number note place = if place == 0 then note.event else (if place == 1 then note.class else note.head)

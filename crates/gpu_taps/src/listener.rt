@@ -1,0 +1,35 @@
+// What can be told of notes, and telling a list of it.
+ghost use Rattle.std.specs.Prelude.{◌≡◌, map, vec_len};
+ghost use Rattle.gpu_taps.specs.Tally.{Reading, reading_after};
+
+use crate::tap::Tap;
+use gp0_packets::Note;
+
+/// What can be told of notes. A tap in a box is one, so that what tells a list of taps is generic in them and
+/// lends out no boxed tap.
+pub trait Listener: Drop {
+    /// What it says.
+    ghost heard: { Self → Reading };
+
+    /// Tells it a note.
+    fn tell(&mut self, note: &Note)
+        ensures { heard self.new ≡ reading_after note.now (heard self.old) };
+}
+
+impl Listener for Box<dyn Tap> {
+    ghost heard = { λ b. (Tap-box b).reading b.value };
+
+    fn tell(&mut self, note: &Note) {
+        (**self).note(note)
+    }
+}
+
+/// Tells every listener of the list the same note, in order.
+pub fn tell_all<T: Listener>(taps: &mut Vec<T>, note: &Note)
+    ensures len { vec_len taps.new ≡ vec_len taps.old }
+    ensures told { map T.heard taps.new.items ≡ map (reading_after note.now) (map T.heard taps.old.items) }
+{
+    for i in 0..taps.len() {
+        taps[i].tell(note);
+    }
+}
