@@ -1,0 +1,71 @@
+-- Events, one after another.
+use Rattle.std.specs.Prelude.{ℕ, ◌+◌, ◌-◌, ◌^◌, min, List, [], ◌∷◌, ◌++◌, option_to_list, Result, Ok, Err}
+use Rattle.gp0_packets.specs.declared.note.Note.{Note}
+use Rattle.gpu_capture.specs.Capture.{Captured, capture}
+use Rattle.gpu_capture.specs.declared.event.Event.{Event}
+use Rattle.gpu_capture.specs.declared.event.Stop.{Stop}
+use Rattle.gpu_capture.specs.declared.event.Stop.TheVariants.{End}
+use Rattle.gpu_core.specs.Machine.{State}
+use Rattle.event_play.specs.Step.{Stepped, Step, StepCost}
+use Rattle.event_play.specs.declared.ending.Ending.{Ending}
+use Rattle.event_play.specs.declared.ending.Ending.TheVariants.{Done, Stopped, Faulted}
+use Rattle.event_play.specs.declared.fault.EventFault.{EventFault}
+
+-- what has been played: the state, the number of events, the shown words, the notes, and the most store steps of all this
+pub record Tale : Type 0 where
+  pub state : State
+  pub played : ℕ
+  pub shown : List ℕ
+  pub notes : List Note
+  pub cost : ℕ
+
+-- nothing yet, from a state and a number of events played before
+abbrev pub from_state : State → ℕ → Tale
+from_state s played = record { state = s; played = played; shown = []; notes = []; cost = 0 }
+
+-- the number of the next event; numbers stay at 2^64 - 1 once there
+abbrev pub next_number : ℕ → ℕ
+next_number played = min (played + 1) (2 ^ 64 - 1)
+
+-- the tale with one event more
+abbrev pub told_on : Tale → (cost : ℕ) → Result Stepped EventFault → Result Tale EventFault
+told_on t cost (Ok stepped) = Ok (record {
+  state = stepped.state;
+  played = next_number t.played;
+  shown = t.shown ++ option_to_list stepped.shown;
+  notes = t.notes ++ stepped.notes;
+  cost = t.cost + cost;
+})
+told_on t cost (Err fault) = Err fault
+
+abbrev pub after_event : Tale → Event → Result Tale EventFault
+after_event t event = told_on t (StepCost t.state event) (Step t.state (next_number t.played) event)
+
+-- how a list of events was played: the tale, how it ended, and the bytes behind a capture's end
+pub record Played : Type 0 where
+  pub tale : Tale
+  pub ending : Ending
+  pub rest : List ℕ
+
+-- an ending of the format, at the number of the next event
+abbrev pub ending_of : ℕ → Stop → Ending
+ending_of number End = Done
+ending_of number stop = Stopped number stop
+
+abbrev pub go_on : Result Tale EventFault → (Tale → Played) → (EventFault → Played) → Played
+go_on (Ok next) on faulted = on next
+go_on (Err fault) on faulted = faulted fault
+
+-- the events, up to the first fault
+abbrev pub Replay : Tale → List Event → Stop → List ℕ → Played
+Replay t [] stop rest = record { tale = t; ending = ending_of (next_number t.played) stop; rest = rest }
+Replay t (event ∷ events) stop rest = go_on (after_event t event)
+    (λ next. Replay next events stop rest)
+    (λ fault. record { tale = t; ending = Faulted (next_number t.played) fault; rest = rest })
+
+abbrev pub replayed : Tale → Captured → Played
+replayed t captured = Replay t captured.events captured.ending captured.rest
+
+-- a whole capture; it is whole where no event has a fault and it ends with End, which is the ending Done
+abbrev pub Play : Tale → List ℕ → Played
+Play t bytes = replayed t (capture bytes)

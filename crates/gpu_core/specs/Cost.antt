@@ -1,0 +1,43 @@
+-- The most store steps of an item and of a read (our own rule): a row of a fill of width w costs w / 16; a chunk of a copy 3, and 3 a cell
+-- where it reads what it writes; a data word of a load 2 for each pixel that it plots; a read 1 for each pixel that it gives.
+use Rattle.std.specs.Prelude.{ℕ, ◌+◌, ◌*◌, ◌/◌, Option, None, Some}
+use Rattle.gp0_words.specs.declared.item.Item.{Item}
+use Rattle.gp0_packets.specs.Packets.{packet_of}
+use Rattle.gp0_packets.specs.declared.packet.Packet.{Packet}
+use Rattle.gp0_packets.specs.declared.packet.Packet.TheVariants as packet
+use Rattle.vram_store.specs.Vram.{height_of}
+use Rattle.vram_copy.specs.Costs.{copy_cost}
+use Rattle.vram_copy.specs.Words.{pixels_next}
+use Rattle.vram_copy.specs.declared.transfer.Transfer.{Transfer}
+use Rattle.gpu_core.specs.Machine.{Parts, State, new_item}
+
+-- the pixels of the next word of an open transfer
+abbrev pub pixels_of : Option Transfer → ℕ
+pixels_of None = 0
+pixels_of (Some job) = pixels_next job
+
+unfoldable pub packet_cost : Parts → Packet → ℕ
+packet_cost p (packet.Fill color x y w h) = w / 16 * h
+packet_cost p (packet.Copy from to w h) = copy_cost (height_of p.m) from to w h
+packet_cost p (packet.Pixels word) = 2 * pixels_of p.load
+packet_cost p (packet.Load x y w h) = 0
+packet_cost p (packet.Store x y w h) = 0
+packet_cost p (packet.Env index value) = 0
+packet_cost p (packet.Poly four a b c d shaded textured semi raw clut page) = 0
+packet_cost p (packet.Segment a b semi) = 0
+packet_cost p (packet.Rect x y w h color textured semi raw u v clut) = 0
+packet_cost p packet.Irq = 0
+packet_cost p packet.Nop = 0
+packet_cost p packet.Finish = 0
+
+abbrev pub item_cost : Parts → Option Item → ℕ
+item_cost p None = 0
+item_cost p (Some item) = packet_cost p (packet_of item)
+
+-- one word of GP0
+unfoldable pub FeedCost : State → ℕ → ℕ
+FeedCost s word = item_cost s.parts (new_item s.words word)
+
+-- one read
+unfoldable pub TakeCost : State → ℕ
+TakeCost s = pixels_of s.parts.store

@@ -1,0 +1,129 @@
+-- The drawing processor, as a machine over all the words that came since the last clearing
+-- (psx-spx, "GPU I/O Ports, DMA Channels, Commands, VRAM", "GPU Memory Transfer Commands").
+use Rattle.std.specs.Prelude.{ℕ, Bool, true, false, List, [], ◌∷◌, ◌++◌, Option, Some, None, is_some, if◌then◌else◌, length, slice_get, map}
+use Rattle.gp0_words.specs.Items.{Items, Rest}
+use Rattle.gp0_words.specs.declared.item.Item.{Item}
+use Rattle.gp0_words.specs.declared.pending.Pending.{Pending}
+use Rattle.gp0_words.specs.declared.pending.Pending.TheVariants as pending
+use Rattle.gp0_packets.specs.Packets.{packet_of}
+use Rattle.gp0_packets.specs.declared.note.Note.{Note}
+use Rattle.gp0_packets.specs.declared.packet.Packet.{Packet}
+use Rattle.gp0_packets.specs.declared.packet.Packet.TheVariants as packet
+use Rattle.gp1_status.specs.Registers.{Registers, env_of, gp1_of, is_clearing, reset, status_of}
+use Rattle.gpu_taps.specs.Tally.{Reading, reading_after}
+use Rattle.vram_store.specs.Vram.{blank}
+use Rattle.vram_copy.specs.Fill.{Fill}
+use Rattle.vram_copy.specs.Transfers.{Copy}
+use Rattle.vram_copy.specs.Words.{LoadWord, StoreWord, after_word}
+use Rattle.vram_copy.specs.declared.transfer.Transfer.{Transfer}
+use Rattle.gpu_core.specs.Area.{note_of}
+
+-- everything but the words: video memory, the registers, and the open load and store
+pub record Parts : Type 0 where
+  pub m : List ℕ
+  pub regs : Registers
+  pub load : Option Transfer
+  pub store : Option Transfer
+
+-- a state: the parts, and all GP0 words since the last clearing
+pub record State : Type 0 where
+  pub parts : Parts
+  pub words : List ℕ
+
+-- zeros, the registers after a reset with latch 0, no transfer and no words
+unfoldable pub first_state : State
+first_state = record { parts = record { m = blank; regs = reset 0 512; load = None; store = None }; words = [] }
+
+-- ---- one item
+
+-- a load or store at its first pixel
+abbrev pub opened : (x y w h : ℕ) → Option Transfer
+opened x y w h = Some (record { x = x; y = y; w = w; h = h; at = 0 })
+
+-- a data word of a load; where none is open nothing happens
+abbrev pub with_pixels : Parts → Option Transfer → ℕ → Parts
+with_pixels p None word = p
+with_pixels p (Some job) word = record p { m = LoadWord p.m p.regs.mask job word; load = after_word job }
+
+-- what a packet does (polygons, lines and rectangles are not drawn yet)
+unfoldable pub Effect : Parts → Packet → Parts
+Effect p (packet.Fill color x y w h) = record p { m = Fill p.m x y w h color }
+Effect p (packet.Copy from to w h) = record p { m = Copy p.m p.regs.mask from to w h }
+Effect p (packet.Load x y w h) = record p { load = opened x y w h }
+Effect p (packet.Store x y w h) = record p { store = opened x y w h }
+Effect p (packet.Pixels word) = with_pixels p p.load word
+Effect p (packet.Env index value) = record p { regs = env_of p.regs index value }
+Effect p packet.Irq = record p { regs = record p.regs { irq = true } }
+Effect p (packet.Poly four a b c d shaded textured semi raw clut page) = p
+Effect p (packet.Segment a b semi) = p
+Effect p (packet.Rect x y w h color textured semi raw u v clut) = p
+Effect p packet.Nop = p
+Effect p packet.Finish = p
+
+-- ---- one word of GP0
+
+-- the item that the words have more, with one word more
+unfoldable pub new_item : List ℕ → ℕ → Option Item
+new_item words word = slice_get (Items (words ++ word ∷ [])) (length (Items words))
+
+abbrev pub after_item : Parts → Option Item → Parts
+after_item p None = p
+after_item p (Some item) = Effect p (packet_of item)
+
+abbrev pub noted : (event : ℕ) → Option Item → Option Note
+noted event None = None
+noted event (Some item) = Some (note_of event item)
+
+-- The word is appended. Where the words then have one item more, that item takes effect, and gives a note.
+unfoldable pub Feed : State → ℕ → State
+Feed s word = record { parts = after_item s.parts (new_item s.words word); words = s.words ++ word ∷ [] }
+
+unfoldable pub FeedNote : State → (event word : ℕ) → Option Note
+FeedNote s event word = noted event (new_item s.words word)
+
+-- what the taps read after a note, if there is one
+abbrev pub told_option : Option Note → List Reading → List Reading
+told_option None readings = readings
+told_option (Some note) readings = map (reading_after note) readings
+
+-- ---- GP1, reads and the status word
+
+-- no unfinished packet, load, polyline or store
+abbrev pub cleared : Parts → Parts
+cleared p = record p { load = None; store = None }
+
+-- the registers change; opcodes 00h and 01h also end what is unfinished
+unfoldable pub Gp1 : State → ℕ → State
+Gp1 s word =
+    let parts = record s.parts { regs = gp1_of s.parts.regs word } in
+    if is_clearing word then record { parts = cleared parts; words = [] } else record { parts = parts; words = s.words }
+
+pub record Taken : Type 0 where
+  pub word : ℕ
+  pub parts : Parts
+
+-- A read while a store is open gives its next two pixels, which become the latch, and closes it after its last word. A read while
+-- none is open gives the latch.
+abbrev pub taken_from : Parts → Option Transfer → Taken
+taken_from p None = record { word = p.regs.held; parts = p }
+taken_from p (Some job) =
+    record { word = StoreWord p.m job; parts = record p { regs = record p.regs { held = StoreWord p.m job }; store = after_word job } }
+
+unfoldable pub TakenWord : State → ℕ
+TakenWord s = (taken_from s.parts s.parts.store).word
+
+unfoldable pub Take : State → State
+Take s = record { parts = (taken_from s.parts s.parts.store).parts; words = s.words }
+
+-- nothing is pending: every packet is whole
+abbrev pub is_idle : Pending → Bool
+is_idle pending.Idle = true
+is_idle (pending.Packet words) = false
+is_idle (pending.Pixels left) = false
+is_idle (pending.Poly command color vertex half) = false
+
+unfoldable pub Idle : State → Bool
+Idle s = is_idle (Rest s.words)
+
+unfoldable pub Status : State → ℕ
+Status s = status_of s.parts.regs (Idle s) (is_some s.parts.store)

@@ -1,0 +1,111 @@
+-- Runs of cells that are copied at once or one after another.
+use Rattle.std.proofs.Common.{◌≡◌, ◌<◌, ◌≤◌, ◌⊎◌, inl, inr, ◌+◌, ◌*◌, ◌-◌, ◌/◌, ◌%◌, ℕ, Bool, true, false, cond, IsTrue, ◌↔◌, List, Option, Some, None, length, get_or, arith, refl, ap, sym, ◌∙◌}
+use Rattle.std.proofs.lemmas.Bool.{cases_lt}
+use Rattle.px_num.specs.declared.shape.Cell.{Cell}
+use Rattle.px_num.proofs.FoldLemmas.{each_below-add, each_below-same}
+use Rattle.overlap_guard.specs.Hazard.{HasCopyHazard}
+use Rattle.vram_store.specs.Vram.{IsStored, at, set, bit}
+use Rattle.vram_store.specs.Plot.{is_testing, is_kept, forced, plot, draw_at, draw_lane, drawn_lanes}
+use Rattle.vram_store.specs.Chunk.{IsBlind, IsLane, HasLanes}
+use Rattle.vram_store.proofs.ChunkLaw.{chunk_law}
+use Rattle.vram_store.proofs.Drawn.{plot_is}
+use Rattle.vram_store.proofs.MaskLemmas.{kept_untested}
+use Rattle.vram_copy.specs.Rect.{right}
+use Rattle.vram_copy.specs.Copy.{Copy, copied_rows, copied_row, copied_run}
+
+pub plot_untested : (m : List ℕ) (mask x y color : ℕ) → is_testing mask ≡ false → plot m mask x y color ≡ set m x y (forced mask color)
+unfolding plot
+plot_untested m mask x y color off = rw (kept_untested mask (at m x y) off) refl
+
+-- the number of a cell
+abbrev pub place : Cell → ℕ
+place cell = 1024 * cell.y + cell.x
+
+-- lane i of a copy reads the cell i columns to the right of the source
+abbrev pub read_from : Cell → ℕ → List ℕ → Option ℕ
+read_from s i m = Some (get_or m (place s + i) 0)
+
+run_is : (m : List ℕ) (mask : ℕ) (s t : Cell) (n : ℕ) → copied_run m mask s t n ≡ drawn_lanes (read_from s) mask (place t) n m
+unfolding drawn_lanes
+run_is m mask s t n =
+    each_below-same (λ i cells. plot cells mask (t.x + i) t.y (get_or cells (1024 * s.y + (s.x + i)) 0)) (draw_lane (read_from s) mask (place t)) n m
+    (λ i cells lt.
+    let there : 1024 * t.y + (t.x + i) ≡ place t + i = omega arith in
+    let here : 1024 * s.y + (s.x + i) ≡ place s + i = omega arith in
+    plot_is cells mask (t.x + i) t.y (get_or cells (1024 * s.y + (s.x + i)) 0)
+    ∙ ap (λ p. draw_at mask p (Some (get_or cells (1024 * s.y + (s.x + i)) 0)) cells) there
+    ∙ ap (λ p. draw_at mask (place t + i) (Some (get_or cells p 0)) cells) here)
+
+-- ---- without a hazard no lane reads what an earlier one writes
+
+away : (s t : Cell) (n j : ℕ) → ¬ (HasCopyHazard s t n) → s.x + n ≤ 1024 → t.x + n ≤ 1024 → j < n → (place s + j < place t) ⊎ (place t + j ≤ place s + j)
+away s t n j free room_s room_t lt = elim (cases_lt (place s + j) (place t)) [
+  | inl before ↦ inl before
+  | inr from ↦ elim (cases_lt (place s) (place t)) [
+    | inl within ↦ absurd (free (j, lt, (place s + j - place t, omega (arith, within, from), (omega arith, omega arith))))
+    | inr past ↦ inr (omega (arith, past))
+  ]
+]
+
+blind_of : (m : List ℕ) (s t : Cell) (n : ℕ) → ¬ (HasCopyHazard s t n) → s.x + n ≤ 1024 → t.x + n ≤ 1024 → IsBlind (read_from s) (place t) n m
+blind_of m s t n free room_s room_t = record {
+  blind = λ j lt now apart. ap Some (apart.others (place s + j) (away s t n j free room_s room_t lt));
+}
+
+lane_of : (kept : Bool) (b h color : ℕ) → b ≡ cond kept 0 1 → h ≡ color → IsLane (cond kept None (Some color)) b h
+lane_of true b h color e f = λ one. absurd (omega (arith, e, one))
+lane_of false b h color e f = (e, f)
+
+-- what one store writes for a run: each colour as it is written, and each bit as the cell is open
+pub record IsLaneRun (m : List ℕ) (mask : ℕ) (s t : Cell) (n : ℕ) (lanes : List ℕ) (bits : ℕ) : Type 0 where
+  pub colors : (j : ℕ) → j < n → get_or lanes j 0 ≡ forced mask (get_or m (place s + j) 0)
+  pub open_cells : (j : ℕ) → j < n → bit bits j ≡ cond (is_kept mask (get_or m (place t + j) 0)) 0 1
+
+lanes_of : (m : List ℕ) (mask : ℕ) (s t : Cell) (n : ℕ) (lanes : List ℕ) (bits : ℕ) → IsLaneRun m mask s t n lanes bits → HasLanes (read_from s) mask (place t) n m lanes bits
+lanes_of m mask s t n lanes bits run = record {
+  lane = λ j lt. lane_of (is_kept mask (get_or m (place t + j) 0)) (bit bits j) (get_or lanes j 0) (forced mask (get_or m (place s + j) 0)) (run.open_cells j lt) (run.colors j lt);
+}
+
+pub run_at_once : (old new : List ℕ) (mask : ℕ) (s t : Cell) (n : ℕ) (lanes : List ℕ) (bits : ℕ)
+    → ¬ (HasCopyHazard s t n) → s.x + n ≤ 1024 → t.x + n ≤ 1024 → IsLaneRun old mask s t n lanes bits → IsStored old (place t) n lanes bits new
+    → new ≡ copied_run old mask s t n
+run_at_once old new mask s t n lanes bits free room_s room_t run stored =
+    chunk_law (read_from s) mask (place t) n old lanes new bits (blind_of old s t n free room_s room_t) (lanes_of old mask s t n lanes bits run) stored
+    ∙ sym (run_is old mask s t n)
+
+-- no hazard was told
+pub free_of : (told : Bool) (s t : Cell) (n : ℕ) → IsTrue told ↔ HasCopyHazard s t n → told ≡ false → ¬ (HasCopyHazard s t n)
+free_of told s t n pairs off hazard = let on = pairs.1 hazard in cc
+
+-- ---- chunks of a row
+
+row_and_run : (m : List ℕ) (mask : ℕ) (s t : Cell) (done n : ℕ) → (s.x + done) % 1024 + n ≤ 1024 → (t.x + done) % 1024 + n ≤ 1024
+    → copied_run (copied_row m mask s t done) mask (right s done) (right t done) n ≡ copied_row m mask s t (done + n)
+row_and_run m mask s t done n room_s room_t =
+    sym (each_below-add (λ i cells. plot cells mask ((t.x + i) % 1024) t.y (get_or cells (1024 * s.y + (s.x + i) % 1024) 0)) done n m
+    ∙ each_below-same (λ i cells. plot cells mask ((t.x + (done + i)) % 1024) t.y (get_or cells (1024 * s.y + (s.x + (done + i)) % 1024) 0))
+    (λ i cells. plot cells mask ((t.x + done) % 1024 + i) t.y (get_or cells (1024 * s.y + ((s.x + done) % 1024 + i)) 0))
+    n (copied_row m mask s t done)
+    (λ i cells lt.
+    let over : (t.x + (done + i)) % 1024 ≡ (t.x + done) % 1024 + i = omega arith in
+    let from : (s.x + (done + i)) % 1024 ≡ (s.x + done) % 1024 + i = omega arith in
+    ap (λ x. plot cells mask x t.y (get_or cells (1024 * s.y + (s.x + (done + i)) % 1024) 0)) over
+    ∙ ap (λ x. plot cells mask ((t.x + done) % 1024 + i) t.y (get_or cells (1024 * s.y + x) 0)) from))
+
+pub row_more : (m now new : List ℕ) (mask : ℕ) (s t source target : Cell) (done n : ℕ) → source ≡ right s done → target ≡ right t done
+    → source.x + n ≤ 1024 → target.x + n ≤ 1024 → now ≡ copied_row m mask s t done → new ≡ copied_run now mask source target n
+    → new ≡ copied_row m mask s t (done + n)
+row_more m now new mask s t source target done n at_s at_t room_s room_t so_far ran =
+    ran
+    ∙ ap (λ (cell : Cell). copied_run now mask cell target n) at_s
+    ∙ ap (λ (cell : Cell). copied_run now mask (right s done) cell n) at_t
+    ∙ ap (λ cells. copied_run cells mask (right s done) (right t done) n) so_far
+    ∙ row_and_run m mask s t done n (rw (← ap (λ (cell : Cell). cell.x) at_s) room_s) (rw (← ap (λ (cell : Cell). cell.x) at_t) room_t)
+
+-- all rows, at the height that video memory has
+pub copied_is_whole : (height : ℕ) (m new : List ℕ) (mask : ℕ) (source target : Cell) (w j h : ℕ) → length m ≡ 1024 * height
+    → new ≡ copied_rows height m mask source target w j → j ≡ h → new ≡ Copy m mask source target w h
+unfolding Copy
+copied_is_whole height m new mask source target w j h long so_far all =
+    let e : height ≡ length m / 1024 = omega arith in
+    so_far ∙ ap (λ rows. copied_rows rows m mask source target w j) e ∙ ap (λ k. copied_rows (length m / 1024) m mask source target w k) all

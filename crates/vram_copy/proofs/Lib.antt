@@ -1,0 +1,5 @@
+pub mod CopyLemmas
+pub mod CostLemmas
+pub mod CutLemmas
+pub mod FillLemmas
+pub mod WordLemmas

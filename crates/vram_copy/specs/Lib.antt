@@ -1,0 +1,6 @@
+pub mod Copy
+pub mod Costs
+pub mod Fill
+pub mod Laws
+pub mod Rect
+pub mod Words

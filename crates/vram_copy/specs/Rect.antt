@@ -1,0 +1,11 @@
+-- Cells of rectangles, which go on at the other side of video memory (psx-spx, "GPU Memory Transfer Commands").
+use Rattle.std.specs.Prelude.{ℕ, ◌+◌, ◌%◌}
+use Rattle.px_num.specs.declared.shape.Cell.{Cell}
+
+-- the cell so many columns to the right; X wraps at 1024
+abbrev pub right : Cell → ℕ → Cell
+right cell i = record { x = (cell.x + i) % 1024; y = cell.y }
+
+-- the cell so many rows below; Y wraps at the height
+abbrev pub down : ℕ → Cell → ℕ → Cell
+down height cell j = record { x = cell.x; y = (cell.y + j) % height }

@@ -1,0 +1,46 @@
+-- Rectangles that are loaded or stored by words of two pixels (psx-spx, GP0(A0h) "Copy Rectangle (CPU to VRAM)"
+-- and GP0(C0h) "Copy Rectangle (VRAM to CPU)").
+use Rattle.std.specs.Prelude.{ℕ, List, Option, Some, None, ◌+◌, ◌-◌, ◌*◌, ◌/◌, ◌%◌, ◌^◌, nat_lt, if◌then◌else◌, min}
+use Rattle.px_num.specs.Fold.{each_below}
+use Rattle.px_num.specs.declared.shape.Cell.{Cell}
+use Rattle.vram_store.specs.Vram.{height_of, at}
+use Rattle.vram_store.specs.Plot.{plot}
+use Rattle.vram_copy.specs.declared.transfer.Transfer.{Transfer}
+
+-- the cell of pixel number i, counted row by row; X wraps at 1024 and Y at the height
+abbrev pub pixel_cell : ℕ → Transfer → ℕ → Cell
+pixel_cell height job i = record { x = (job.x + i % job.w) % 1024; y = (job.y + i / job.w) % height }
+
+-- how many pixels the next word has
+abbrev pub pixels_next : Transfer → ℕ
+pixels_next job = min 2 (job.w * job.h - job.at)
+
+-- the transfer behind its next word
+abbrev pub advanced : Transfer → Transfer
+advanced job = record { x = job.x; y = job.y; w = job.w; h = job.h; at = job.at + pixels_next job }
+
+-- the transfer that is still open behind its next word: none where that was the last
+abbrev pub after_word : Transfer → Option Transfer
+after_word job = if nat_lt (job.at + pixels_next job) (job.w * job.h) then Some (advanced job) else None
+
+-- half number i of a word, the low half first
+abbrev pub half_of : ℕ → ℕ → ℕ
+half_of word i = word / 2 ^ (16 * i) % 2 ^ 16
+
+-- the first n pixels of a word are plotted, one after another
+abbrev pub pixels_from : ℕ → List ℕ → ℕ → Transfer → ℕ → ℕ → List ℕ
+pixels_from height m mask job word n =
+    each_below (λ i cells. plot cells mask (pixel_cell height job (job.at + i)).x (pixel_cell height job (job.at + i)).y (half_of word i)) n m
+
+-- the pixels of a word are plotted; the spare half of an odd count is dropped
+unfoldable pub LoadWord : List ℕ → ℕ → Transfer → ℕ → List ℕ
+LoadWord m mask job word = pixels_from (height_of m) m mask job word (pixels_next job)
+
+-- the next n pixels as a word, the first in the low half
+abbrev pub word_of : ℕ → List ℕ → Transfer → ℕ → ℕ
+word_of height m job n =
+    each_below (λ i word. word + at m (pixel_cell height job (job.at + i)).x (pixel_cell height job (job.at + i)).y * 2 ^ (16 * i)) n 0
+
+-- the next pixels as a word; the spare half of an odd count is 0
+unfoldable pub StoreWord : List ℕ → Transfer → ℕ
+StoreWord m job = word_of (height_of m) m job (pixels_next job)

@@ -1,0 +1,28 @@
+// Cells of a rectangle, counted from its first.
+ghost use Rattle.std.specs.Prelude.{◌≡◌, ◌≤◌, ◌<◌};
+ghost use Rattle.vram_copy.specs.Rect.{right, down};
+
+use px_num::{Cell, wrap_at, wrap_x};
+
+/// The cell `i` columns to the right. X wraps at 1024.
+pub fn cell_right(cell: Cell, i: u16) -> Cell
+    ensures value { result ≡ right cell i }
+    ensures in_row { result.x < 1024 }
+{
+    Cell {
+        x: wrap_x(cell.x as u32 + i as u32),
+        y: cell.y,
+    }
+}
+
+/// The cell `j` rows below. Y wraps at the height.
+pub fn cell_down(cell: Cell, j: u16, height: u16) -> Cell
+    requires { 1 ≤ height }
+    ensures value { result ≡ down height cell j }
+    ensures in_height { result.y < height }
+{
+    Cell {
+        x: cell.x,
+        y: wrap_at(cell.y as u32 + j as u32, height),
+    }
+}

@@ -1,0 +1,169 @@
+// Copies in chunks of up to sixteen cells, under the guard.
+ghost use Rattle.std.specs.Prelude.{◌≡◌, ◌≤◌, ◌<◌, ◌+◌, ◌-◌, ◌*◌, ℕ, if◌then◌else◌, slice_index, length};
+ghost use Rattle.overlap_guard.specs.Hazard.{HasCopyHazard};
+ghost use Rattle.vram_store.specs.Vram.{bit, height_of};
+ghost use Rattle.vram_store.specs.Plot.{is_kept};
+ghost use Rattle.vram_copy.specs.Copy.{Copy, copied_row, copied_run};
+ghost use Rattle.vram_copy.specs.Costs.{chunk_len, chunk_cost, row_cost, copy_cost};
+
+use crate::cells::{cell_down, cell_right};
+use crate::plots::copy_cell;
+use overlap_guard::copy_hazard;
+use px_num::Cell;
+use std::sync::ledger::Ledger;
+use vram_store::mask::{force_lanes, open_bits, tests};
+use vram_store::{Steps, Vram};
+
+/// Copies `h` rows of `w` cells from one place to another, plotting them under the mask setting.
+///
+/// It leaves what copying pixel after pixel leaves, from left to right in each row and rows from the top, where
+/// each pixel is read as video memory is then: a copy onto cells that it reads later repeats what it wrote (our
+/// own rule). X wraps at 1024 and Y at the height. A row is cut where source or target wraps and each piece into
+/// chunks of up to sixteen cells; a chunk takes at most three steps, and three for each of its cells where it
+/// reads what it writes (psx-spx, GP0(80h)).
+pub fn copy<L: Ledger>(
+    vram: &mut Vram,
+    mask: u8,
+    from: Cell,
+    to: Cell,
+    w: u16,
+    h: u16,
+    steps: &mut Steps<L>,
+)
+    ensures cells { vram.new ≡ Copy vram.old mask from to w h }
+    ensures long { length vram.new ≡ length vram.old }
+    ensures cost { steps.new ≤ steps.old + copy_cost (height_of vram.old) from to w h }
+{
+    let height = vram.height();
+    for j in 0..h {
+        let source = cell_down(from, j, height);
+        let target = cell_down(to, j, height);
+        copy_row(vram, mask, source, target, w, steps);
+    }
+}
+
+fn copy_row<L: Ledger>(
+    vram: &mut Vram,
+    mask: u8,
+    from: Cell,
+    to: Cell,
+    w: u16,
+    steps: &mut Steps<L>,
+)
+    requires source_in { from.y < height_of vram.old }
+    requires target_in { to.y < height_of vram.old }
+    ensures cells { vram.new ≡ copied_row vram.old mask from to w }
+    ensures long { length vram.new ≡ length vram.old }
+    ensures cost { steps.new ≤ steps.old + row_cost from to w }
+{
+    let mut done = 0;
+    while done < w {
+        let source = cell_right(from, done);
+        let target = cell_right(to, done);
+        let n = next_len(source.x, target.x, w - done);
+        copy_chunk(vram, mask, source, target, n, steps);
+        done += n as u16;
+    }
+}
+
+// How many cells the next chunk has: up to 16, to the row's end, to where a side wraps.
+fn next_len(source_x: u16, target_x: u16, left: u16) -> u8
+    requires source_in { source_x < 1024 }
+    requires target_in { target_x < 1024 }
+    requires some { 1 ≤ left }
+    ensures value { result ≡ chunk_len source_x target_x left }
+    ensures some { 1 ≤ result }
+    ensures most { result ≤ 16 }
+    ensures in_row { result ≤ left }
+    ensures in_source { source_x + result ≤ 1024 }
+    ensures in_target { target_x + result ≤ 1024 }
+{
+    left.min(16).min((1024 - source_x).min(1024 - target_x)) as u8
+}
+
+fn copy_chunk<L: Ledger>(
+    vram: &mut Vram,
+    mask: u8,
+    from: Cell,
+    to: Cell,
+    n: u8,
+    steps: &mut Steps<L>,
+)
+    requires count { (1 ≤ n) × (n ≤ 16) }
+    requires source_in { (from.x + n ≤ 1024) × (from.y < height_of vram.old) }
+    requires target_in { (to.x + n ≤ 1024) × (to.y < height_of vram.old) }
+    ensures cells { vram.new ≡ copied_run vram.old mask from to n }
+    ensures long { length vram.new ≡ length vram.old }
+    ensures cost { steps.new ≤ steps.old + chunk_cost from to n }
+{
+    if copy_hazard(from, to, n) {
+        copy_in_turn(vram, mask, from, to, n, steps);
+    } else {
+        copy_at_once(vram, mask, from, to, n, steps);
+    }
+}
+
+// Cell after cell.
+fn copy_in_turn<L: Ledger>(
+    vram: &mut Vram,
+    mask: u8,
+    from: Cell,
+    to: Cell,
+    n: u8,
+    steps: &mut Steps<L>,
+)
+    requires source_in { (from.x + n ≤ 1024) × (from.y < height_of vram.old) }
+    requires target_in { (to.x + n ≤ 1024) × (to.y < height_of vram.old) }
+    ensures cells { vram.new ≡ copied_run vram.old mask from to n }
+    ensures long { length vram.new ≡ length vram.old }
+    ensures cost { steps.new ≤ steps.old + 3 * n }
+{
+    for i in 0..n {
+        let source = Cell {
+            x: from.x + i as u16,
+            y: from.y,
+        };
+        let target = Cell {
+            x: to.x + i as u16,
+            y: to.y,
+        };
+        copy_cell(vram, mask, source, target, steps);
+    }
+}
+
+// All cells together, where none is read after it was written.
+fn copy_at_once<L: Ledger>(
+    vram: &mut Vram,
+    mask: u8,
+    from: Cell,
+    to: Cell,
+    n: u8,
+    steps: &mut Steps<L>,
+)
+    requires count { (1 ≤ n) × (n ≤ 16) }
+    requires source_in { (from.x + n ≤ 1024) × (from.y < height_of vram.old) }
+    requires target_in { (to.x + n ≤ 1024) × (to.y < height_of vram.old) }
+    requires free { ¬ (HasCopyHazard from to n) }
+    ensures cells { vram.new ≡ copied_run vram.old mask from to n }
+    ensures long { length vram.new ≡ length vram.old }
+    ensures cost { steps.new ≤ steps.old + 3 }
+{
+    let colors = vram.load16(from.x, from.y, n, steps);
+    let lanes = force_lanes(mask, colors);
+    let open = open_cells(vram, mask, to, n, steps);
+    vram.store16(to.x, to.y, n, lanes, open, steps);
+}
+
+// A bit for each of n cells of a row, 0 where the cell stays as it is and 1 where a plot writes it.
+fn open_cells<L: Ledger>(vram: &Vram, mask: u8, to: Cell, n: u8, steps: &mut Steps<L>) -> u16
+    requires count { (1 ≤ n) × (n ≤ 16) }
+    requires target_in { (to.x + n ≤ 1024) × (to.y < height_of vram.now) }
+    ensures bits { (j : ℕ) → j < n → bit result j ≡ (if is_kept mask (slice_index vram.now (1024 * to.y + to.x + j)) then 0 else 1) }
+    ensures cost { steps.new ≤ steps.old + 1 }
+{
+    if tests(mask) {
+        open_bits(mask, vram.load16(to.x, to.y, n, steps))
+    } else {
+        0xffff
+    }
+}

@@ -1,0 +1,53 @@
+// One pixel under the mask setting.
+ghost use Rattle.std.specs.Prelude.{◌≡◌, ◌≤◌, ◌<◌, ◌+◌, length};
+ghost use Rattle.vram_store.specs.Vram.{height_of};
+ghost use Rattle.vram_store.specs.Plot.{plot};
+ghost use Rattle.vram_copy.specs.Copy.{copied_cell};
+
+use px_num::Cell;
+use std::sync::ledger::Ledger;
+use vram_store::mask::{force, keeps, tests};
+use vram_store::{Steps, Vram};
+
+/// Plots a halfword at a cell. At most two steps.
+#[tactic(auto, unfolding(vram_store::specs::Plot::plot))]
+pub fn plot_pixel<L: Ledger>(vram: &mut Vram, mask: u8, to: Cell, color: u16, steps: &mut Steps<L>)
+    requires in_row { to.x < 1024 }
+    requires in_height { to.y < height_of vram.old }
+    ensures cells { vram.new ≡ plot vram.old mask to.x to.y color }
+    ensures long { length vram.new ≡ length vram.old }
+    ensures cost { steps.new ≤ steps.old + 2 }
+{
+    if tests(mask) {
+        plot_tested(vram, mask, to, color, steps);
+    } else {
+        vram.put(to.x, to.y, force(mask, color), steps);
+    }
+}
+
+// The same by a look at the cell.
+#[tactic(auto, unfolding(vram_store::specs::Plot::plot))]
+fn plot_tested<L: Ledger>(vram: &mut Vram, mask: u8, to: Cell, color: u16, steps: &mut Steps<L>)
+    requires in_row { to.x < 1024 }
+    requires in_height { to.y < height_of vram.old }
+    ensures cells { vram.new ≡ plot vram.old mask to.x to.y color }
+    ensures long { length vram.new ≡ length vram.old }
+    ensures cost { steps.new ≤ steps.old + 2 }
+{
+    let old = vram.get(to.x, to.y, steps);
+    if !keeps(mask, old) {
+        vram.put(to.x, to.y, force(mask, color), steps);
+    }
+}
+
+/// Copies one cell. At most three steps.
+pub fn copy_cell<L: Ledger>(vram: &mut Vram, mask: u8, from: Cell, to: Cell, steps: &mut Steps<L>)
+    requires source_in { (from.x < 1024) × (from.y < height_of vram.old) }
+    requires target_in { (to.x < 1024) × (to.y < height_of vram.old) }
+    ensures cells { vram.new ≡ copied_cell vram.old mask from to }
+    ensures long { length vram.new ≡ length vram.old }
+    ensures cost { steps.new ≤ steps.old + 3 }
+{
+    let color = vram.get(from.x, from.y, steps);
+    plot_pixel(vram, mask, to, color, steps);
+}
