@@ -1,12 +1,12 @@
 -- The most store steps of an item and of a read (our own rule): a row of a fill of width w costs w / 16; a chunk of a copy 3, and 3 a cell
 -- where it reads what it writes; a data word of a load 2 for each pixel that it plots; a read 1 for each pixel that it gives.
-use Rattle.std.specs.Prelude.{ℕ, ◌+◌, ◌*◌, ◌/◌, Option, None, Some}
+use Rattle.std.specs.Prelude.{ℕ, ◌+◌, ◌*◌, Option, None, Some}
 use Rattle.gp0_words.specs.declared.item.Item.{Item}
 use Rattle.gp0_packets.specs.Packets.{packet_of}
 use Rattle.gp0_packets.specs.declared.packet.Packet.{Packet}
 use Rattle.gp0_packets.specs.declared.packet.Packet.TheVariants as packet
 use Rattle.vram_store.specs.Vram.{height_of}
-use Rattle.vram_copy.specs.Costs.{copy_cost}
+use Rattle.vram_copy.specs.Costs.{fill_cost, copy_cost}
 use Rattle.vram_copy.specs.Words.{pixels_next}
 use Rattle.vram_copy.specs.declared.transfer.Transfer.{Transfer}
 use Rattle.gpu_core.specs.Machine.{Parts, State, new_item}
@@ -17,7 +17,7 @@ pixels_of None = 0
 pixels_of (Some job) = pixels_next job
 
 unfoldable pub packet_cost : Parts → Packet → ℕ
-packet_cost p (packet.Fill color x y w h) = w / 16 * h
+packet_cost p (packet.Fill color x y w h) = fill_cost w h
 packet_cost p (packet.Copy from to w h) = copy_cost (height_of p.m) from to w h
 packet_cost p (packet.Pixels word) = 2 * pixels_of p.load
 packet_cost p (packet.Load x y w h) = 0

@@ -3,7 +3,6 @@ use Rattle.std.specs.Prelude.{◌≡◌, ◌≤◌, ◌<◌, ℕ, ◌+◌, ◌-�
 use Rattle.gp0_words.specs.Items.{Rest}
 use Rattle.gp0_words.specs.declared.pending.Pending.{Pending}
 use Rattle.gp0_words.specs.declared.pending.Pending.TheVariants as pending
-use Rattle.vram_copy.specs.Words.{IsUnderWay}
 use Rattle.vram_copy.specs.declared.transfer.Transfer.{Transfer}
 use Rattle.gpu_core.specs.Machine.{Parts, State}
 
@@ -31,7 +30,7 @@ IsLinked (pending.Poly command color vertex half) load = load ≡ None
 -- an open transfer has a pixel to come
 abbrev pub IsOpen : Option Transfer → Type 0
 IsOpen None = Unit {0}
-IsOpen (Some job) = IsUnderWay job
+IsOpen (Some job) = job.at < job.w * job.h
 
 -- the bounds that every machine keeps
 pub record KeepsBounds (p : Parts) (at_splitter : Pending) : Type 0 where

@@ -13,7 +13,7 @@ use Rattle.gp1_status.specs.Registers.{Registers, env_of, gp1_of, is_clearing, r
 use Rattle.gpu_taps.specs.Tally.{Reading, reading_after}
 use Rattle.vram_store.specs.Vram.{blank}
 use Rattle.vram_copy.specs.Fill.{Fill}
-use Rattle.vram_copy.specs.Transfers.{Copy}
+use Rattle.vram_copy.specs.Copy.{Copy}
 use Rattle.vram_copy.specs.Words.{LoadWord, StoreWord, after_word}
 use Rattle.vram_copy.specs.declared.transfer.Transfer.{Transfer}
 use Rattle.gpu_core.specs.Area.{note_of}
