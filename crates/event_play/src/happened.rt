@@ -1,11 +1,11 @@
 // One event on the drawing processor, and the lines that are due for it.
-ghost use Rattle.std.specs.Prelude.{◌≡◌, ◌≤◌, ◌+◌, map, flat_map, option_to_list, IfOk, IfErr, IfSome, OnOk, OnErr, Err};
+ghost use Rattle.std.specs.Prelude.{◌≡◌, ◌≤◌, ◌+◌, ◌&&◌, not, map, flat_map, option_to_list, IfOk, IfErr, IfSome, OnOk, OnErr, Err};
 ghost use Rattle.dev_io.specs.Device.{Rose, AppendsPart, appended};
 ghost use Rattle.gpu_core.specs.Kept.{kept_of};
-ghost use Rattle.gpu_core.specs.Machine.{State, told_option};
+ghost use Rattle.gpu_core.specs.Machine.{State};
 ghost use Rattle.packet_text.specs.Line.{word_line, listed};
 ghost use Rattle.event_play.specs.Out.{lines_for};
-ghost use Rattle.event_play.specs.RigState.{HasStepped};
+ghost use Rattle.event_play.specs.RigState.{HasStepped, told_notes};
 ghost use Rattle.event_play.specs.Step.{Step, StepCost, is_built};
 
 use crate::ending::Mode;
@@ -20,6 +20,7 @@ use std::sync::ledger::Ledger;
 use vram_store::Steps;
 
 /// What an event gave: the word that it shows, and the note of the item that it completed.
+#[derive(Clone, Copy)]
 pub(crate) struct Happened {
     pub(crate) shown: Option<u32>,
     pub(crate) note: Option<Note>,
@@ -37,7 +38,7 @@ pub(crate) fn take_event<T: Listener, L: Ledger>(
     ensures stepped { (s : State) → kept_of s ≡ gpu.old →
         IfOk result (λ h. HasStepped (Step s number event.now) gpu.new h.shown (option_to_list h.note)) }
     ensures class { IfOk result (λ h. IfSome h.note (λ note. note.class ≤ 9)) }
-    ensures taps { IfOk result (λ h. map T.heard taps.new.items ≡ told_option h.note (map T.heard taps.old.items)) }
+    ensures taps { IfOk result (λ h. map T.heard taps.new.items ≡ told_notes (option_to_list h.note) (map T.heard taps.old.items)) }
     ensures cost { (s : State) → kept_of s ≡ gpu.old → OnOk result (steps.new ≤ steps.old + StepCost s event.now) }
 
     ensures fault { (s : State) → kept_of s ≡ gpu.old → IfErr result (λ fault. Step s number event.now ≡ Err fault) }
@@ -69,12 +70,12 @@ pub(crate) fn take_event<T: Listener, L: Ledger>(
     }
 }
 
-/// Whether what this word begins is built.
-fn builds(word: u32) -> bool
-    ensures { result ≡ is_built word }
+/// Whether this word would begin what is not built.
+fn is_refused(idle: bool, word: u32) -> bool
+    ensures { result ≡ (idle && not (is_built word)) }
 {
     let class = word >> 29;
-    !(1 <= class && class <= 3)
+    idle && 1 <= class && class <= 3
 }
 
 /// A word of GP0, unless it begins what is not built.
@@ -88,15 +89,14 @@ fn feed<T: Listener, L: Ledger>(
     ensures stepped { (s : State) → kept_of s ≡ gpu.old →
         IfOk result (λ h. HasStepped (Step s number (Event.Gp0 word)) gpu.new h.shown (option_to_list h.note)) }
     ensures class { IfOk result (λ h. IfSome h.note (λ note. note.class ≤ 9)) }
-    ensures taps { IfOk result (λ h. map T.heard taps.new.items ≡ told_option h.note (map T.heard taps.old.items)) }
+    ensures taps { IfOk result (λ h. map T.heard taps.new.items ≡ told_notes (option_to_list h.note) (map T.heard taps.old.items)) }
     ensures cost { (s : State) → kept_of s ≡ gpu.old → OnOk result (steps.new ≤ steps.old + StepCost s (Event.Gp0 word)) }
     ensures fault { (s : State) → kept_of s ≡ gpu.old → IfErr result (λ fault. Step s number (Event.Gp0 word) ≡ Err fault) }
     ensures unchanged { OnErr result (gpu.new ≡ gpu.old) }
     ensures untold { OnErr result (map T.heard taps.new.items ≡ map T.heard taps.old.items) }
     ensures free { OnErr result (steps.new ≡ steps.old) }
 {
-    let idle = gpu.is_idle();
-    if idle && !builds(word) {
+    if is_refused(gpu.is_idle(), word) {
         return Err(EventFault::NotBuilt { word });
     }
     let note = gpu.gp0(number, word, taps, steps);

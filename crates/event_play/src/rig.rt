@@ -21,8 +21,8 @@ use vram_store::Steps;
 /// A machine that plays events: the drawing processor, and a count of the events played.
 #[derive(Drop)]
 pub struct Rig {
-    gpu: Gpu,
-    played: u64,
+    pub(crate) gpu: Gpu,
+    pub(crate) played: u64,
 }
 
 impl Model for Rig {
