@@ -11,69 +11,96 @@ use Rattle.px_num.proofs.LaneOps.{each2, long_splat, at_splat}
 use Rattle.blend_dither.specs.Color.{IsShift}
 use Rattle.blend_dither.proofs.Offsets.{low_bias}
 
-abbrev pub raised : ℕ → ℕ
-raised a = of_z w16 (to_z w16 a +ℤ to_z w16 4)
+-- two lanes added as signed numbers, and the fact that the sum fits
+abbrev sum : ℕ → ℕ → ℕ
+sum a b = of_z w16 (to_z w16 a +ℤ to_z w16 b)
 
-pub raised_is : (s : ℤ) → IsShift s → to_z w16 (raised (of_z w16 s)) ≡ s +ℤ pos 4
+abbrev SumFits : ℕ → ℕ → Type 0
+SumFits a b = SFits w16 (to_z w16 a +ℤ to_z w16 b)
+
+-- a signed lane as an unsigned one, and the fact that nothing is lost
+abbrev unsigned : ℕ → ℕ
+unsigned a = nat_abs (to_z w16 a)
+
+abbrev Casts : ℕ → Type 0
+Casts a = T (non_neg (to_z w16 a)) × Fits w16 (nat_abs (to_z w16 a))
+
+abbrev bits : List ℤ → List ℕ
+bits shifts = map (of_z w16) shifts
+
+abbrev sums : List ℤ → List ℕ
+sums shifts = zip2 sum (bits shifts) (replicate 16 4)
+
+abbrev biases : List ℤ → List ℕ
+biases shifts = map unsigned (sums shifts)
+
+-- ---- one lane
+
+abbrev raised : ℕ → ℕ
+raised a = sum a 4
+
+raised_is : (s : ℤ) → IsShift s → to_z w16 (raised (of_z w16 s)) ≡ s +ℤ pos 4
 raised_is s small = omega (arith, ints)
 
-pub raised_fits : (s : ℤ) → IsShift s → SFits w16 (to_z w16 (of_z w16 s) +ℤ to_z w16 4)
+raised_fits : (s : ℤ) → IsShift s → SumFits (of_z w16 s) 4
 raised_fits s small = omega (arith, ints)
 
-pub raised_positive : (s : ℤ) → IsShift s → pos 0 ≤ℤ to_z w16 (raised (of_z w16 s))
+raised_positive : (s : ℤ) → IsShift s → pos 0 ≤ℤ to_z w16 (raised (of_z w16 s))
 raised_positive s small = omega (arith, ints)
 
-pub raised_casts : (s : ℤ) → IsShift s → T (non_neg (to_z w16 (raised (of_z w16 s)))) × Fits w16 (nat_abs (to_z w16 (raised (of_z w16 s))))
+raised_casts : (s : ℤ) → IsShift s → Casts (raised (of_z w16 s))
 raised_casts s small =
     let yes = yes_non_neg (raised_positive s small) in
     (yes, record { fits = omega (arith, ints, ap up (pos-nat_abs _ yes), raised_is s small) })
 
+-- ---- sixteen lanes
+
 module _ (shifts : List ℤ) (long : length shifts ≡ 16) (small : (i : ℕ) → i < 16 → IsShift (get_or shifts i (pos 0))) where
-  at_bits : (i : ℕ) → i < 16 → get_or (map (of_z w16) shifts) i 0 ≡ of_z w16 (get_or shifts i (pos 0))
+  at_bits : (i : ℕ) → i < 16 → get_or (bits shifts) i 0 ≡ of_z w16 (get_or shifts i (pos 0))
   at_bits i lt = get_or-map (of_z w16) shifts i (pos 0) 0 (omega arith)
 
-  long_bits : length (map (of_z w16) shifts) ≡ 16
+  long_bits : length (bits shifts) ≡ 16
   long_bits = simp length-map long
 
-  pub sums_fit : Each2 (λ a b. SFits w16 (to_z w16 a +ℤ to_z w16 b)) (map (of_z w16) shifts) (replicate 16 4)
+  pub sums_fit : Each2 SumFits (bits shifts) (replicate 16 4)
   sums_fit =
       let e = long_bits in
-      each2 (λ a b. SFits w16 (to_z w16 a +ℤ to_z w16 b)) (map (of_z w16) shifts) (replicate 16 4) long_bits
+      each2 SumFits (bits shifts) (replicate 16 4) long_bits
       (λ i lt.
       let below : i < 16 = omega arith in
       rw (at_bits i below, get_or-replicate {A = ℕ} 16 i 4 0 below) (raised_fits (get_or shifts i (pos 0)) (small i below)))
 
-  at_raised : (i : ℕ) → i < 16 → get_or (zip2 (λ a b. of_z w16 (to_z w16 a +ℤ to_z w16 b)) (map (of_z w16) shifts) (replicate 16 4)) i 0 ≡ raised (of_z w16 (get_or shifts i (pos 0)))
-  at_raised i lt = at_splat (λ a b. of_z w16 (to_z w16 a +ℤ to_z w16 b)) (map (of_z w16) shifts) 4 long_bits i lt ∙ ap raised (at_bits i lt)
+  at_raised : (i : ℕ) → i < 16 → get_or (sums shifts) i 0 ≡ raised (of_z w16 (get_or shifts i (pos 0)))
+  at_raised i lt = at_splat sum (bits shifts) 4 long_bits i lt ∙ ap raised (at_bits i lt)
 
-  long_raised : length (zip2 (λ a b. of_z w16 (to_z w16 a +ℤ to_z w16 b)) (map (of_z w16) shifts) (replicate 16 4)) ≡ 16
-  long_raised = long_splat (λ a b. of_z w16 (to_z w16 a +ℤ to_z w16 b)) (map (of_z w16) shifts) 4 long_bits
+  long_raised : length (sums shifts) ≡ 16
+  long_raised = long_splat sum (bits shifts) 4 long_bits
 
-  pub casts_fit : Each1 (λ a. T (non_neg (to_z w16 a)) × Fits w16 (nat_abs (to_z w16 a))) (zip2 (λ a b. of_z w16 (to_z w16 a +ℤ to_z w16 b)) (map (of_z w16) shifts) (replicate 16 4))
+  pub casts_fit : Each1 Casts (sums shifts)
   casts_fit =
       let e = long_raised in
-      Each1-from_get_or (λ a. T (non_neg (to_z w16 a)) × Fits w16 (nat_abs (to_z w16 a))) (zip2 (λ a b. of_z w16 (to_z w16 a +ℤ to_z w16 b)) (map (of_z w16) shifts) (replicate 16 4)) 0
+      Each1-from_get_or Casts (sums shifts) 0
       (λ i lt.
       let below : i < 16 = omega arith in
       rw (at_raised i below) (raised_casts (get_or shifts i (pos 0)) (small i below)))
 
-  pub at_biased : (i : ℕ) → i < 16 → pos (get_or (map (λ a. nat_abs (to_z w16 a)) (zip2 (λ a b. of_z w16 (to_z w16 a +ℤ to_z w16 b)) (map (of_z w16) shifts) (replicate 16 4))) i 0) ≡ get_or shifts i (pos 0) +ℤ pos 4
+  pub at_biased : (i : ℕ) → i < 16 → pos (get_or (biases shifts) i 0) ≡ get_or shifts i (pos 0) +ℤ pos 4
   at_biased i lt =
       let e = long_raised in
       let s = get_or shifts i (pos 0) in
-      ap pos (get_or-map (λ a. nat_abs (to_z w16 a)) (zip2 (λ a b. of_z w16 (to_z w16 a +ℤ to_z w16 b)) (map (of_z w16) shifts) (replicate 16 4)) i 0 0 (omega arith)
-      ∙ ap (λ a. nat_abs (to_z w16 a)) (at_raised i lt))
+      ap pos (get_or-map unsigned (sums shifts) i 0 0 (omega arith)
+      ∙ ap unsigned (at_raised i lt))
       ∙ pos-nat_abs (to_z w16 (raised (of_z w16 s))) (yes_non_neg (raised_positive s (small i lt)))
       ∙ raised_is s (small i lt)
 
-  pub biased_low : (i : ℕ) → i < 16 → get_or (map (λ a. nat_abs (to_z w16 a)) (zip2 (λ a b. of_z w16 (to_z w16 a +ℤ to_z w16 b)) (map (of_z w16) shifts) (replicate 16 4))) i 0 < 8
+  pub biased_low : (i : ℕ) → i < 16 → get_or (biases shifts) i 0 < 8
   biased_low i lt = low_bias _ _ (small i lt) (at_biased i lt)
 
   -- what a call gets of signed lanes that are handed on
-  pub at_again : (i : ℕ) → i < 16 → get_or (map (to_z w16) (map (of_z w16) shifts)) i (pos 0) ≡ get_or shifts i (pos 0)
+  pub at_again : (i : ℕ) → i < 16 → get_or (map (to_z w16) (bits shifts)) i (pos 0) ≡ get_or shifts i (pos 0)
   at_again i lt =
       let e = long_bits in
       let fits : SFits w16 (get_or shifts i (pos 0)) = let h = small i lt in omega (arith, ints) in
-      get_or-map (to_z w16) (map (of_z w16) shifts) i 0 (pos 0) (omega arith)
+      get_or-map (to_z w16) (bits shifts) i 0 (pos 0) (omega arith)
       ∙ ap (to_z w16) (at_bits i lt)
       ∙ to_z-of_z w16 (get_or shifts i (pos 0)) fits

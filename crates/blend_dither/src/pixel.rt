@@ -1,6 +1,6 @@
 // The colour of one pixel.
-ghost use Rattle.std.specs.Prelude.{◌≡◌, ◌≤◌, ◌<◌, ◌^◌};
-ghost use Rattle.blend_dither.specs.Color.{dither_offset, IsShift, tone_of, tone_channel, shifted_channel, red_of, green_of, blue_of, modulated_of, modulated_channel, blended_of, blended_channel, packed, packed_pixel};
+ghost use Rattle.std.specs.Prelude.{◌≡◌, ◌≤◌, ◌<◌, ◌^◌, slice_index_or, pos};
+ghost use Rattle.blend_dither.specs.Color.{dither_offset, dither_offsets, IsShift, tone_of, tone_channel, shifted_channel, red_of, green_of, blue_of, modulated_of, modulated_channel, blended_of, blended_channel, packed, packed_pixel};
 
 // The offsets of a block of four rows of four cells, row after row.
 const DITHER: [i8; 16] = [-4, 0, -3, 1, 2, -2, 3, -1, -3, 1, -4, 0, 3, -1, 2, -2];
@@ -11,7 +11,7 @@ pub fn shift_at(x: u16, y: u16) -> i8
     ensures value { result ≡ dither_offset x y }
     ensures small { IsShift result }
 {
-    DITHER[(4 * (y % 4) + x % 4) as usize]
+    offset_at((4 * (y % 4) + x % 4) as usize)
 }
 
 /// A colour as a halfword: each channel plus the dither offset, brought into 0 to 255 and divided by 8.
@@ -67,6 +67,14 @@ pub fn pack(color: u16, high: bool, forced: bool) -> u16
     ensures { result ≡ packed_pixel color high forced }
 {
     color % 32768 + if high || forced { 32768 } else { 0 }
+}
+
+fn offset_at(place: usize) -> i8
+    requires { place < 16 }
+    ensures value { result ≡ slice_index_or dither_offsets place (pos 0) }
+    ensures small { IsShift result }
+{
+    DITHER[place]
 }
 
 fn pack_channels(red: u16, green: u16, blue: u16) -> u16
