@@ -1,0 +1,2 @@
+pub mod BiasLemmas
+pub mod Offsets

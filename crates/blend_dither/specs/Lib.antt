@@ -1,0 +1,3 @@
+pub mod Bias
+pub mod Color
+pub mod Laws

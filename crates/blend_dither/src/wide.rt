@@ -1,0 +1,136 @@
+// The colours of sixteen pixels at once.
+ghost use Rattle.std.specs.Prelude.{◌≡◌, ◌≤◌, ◌<◌, ◌+◌, ◌-◌, ◌/◌, ◌*◌, ◌^◌, min, length, slice_index, slice_index_or, pos};
+ghost use Rattle.px_num.specs.Lanes.{EachLane};
+ghost use Rattle.blend_dither.specs.Color.{IsShift, tone_of, packed, modulated_of, blended_of, blended_channel};
+
+use crate::lanes::{biased, low5};
+use px_num::lanes::{add, mul, shifted_down, smaller, splat, sub_or_zero};
+use std::simd::prelude::*;
+
+/// [`tone`](crate::tone) in each lane, of channels that are at most 255.
+pub fn tone_lanes(red: u16x16, green: u16x16, blue: u16x16, shifts: i16x16) -> u16x16
+    requires long { (length red ≡ 16) × (length green ≡ 16) × (length blue ≡ 16)
+        × (length shifts ≡ 16) }
+    requires channels { EachLane (λ i. (slice_index red i ≤ 255)
+        × (slice_index green i ≤ 255) × (slice_index blue i ≤ 255)) }
+    requires shifts { EachLane (λ i. IsShift (slice_index_or shifts i (pos 0))) }
+    ensures long { length result ≡ 16 }
+    ensures value { EachLane (λ i. slice_index result i ≡ tone_of (slice_index red i)
+        (slice_index green i) (slice_index blue i) (slice_index_or shifts i (pos 0))) }
+    ensures low { EachLane (λ i. slice_index result i < 2 ^ 15) }
+{
+    let bias = biased(shifts);
+    pack_lanes(
+        shifted_lanes(red, bias),
+        shifted_lanes(green, bias),
+        shifted_lanes(blue, bias),
+    )
+}
+
+/// [`modulate`](crate::modulate) in each lane, by colours' channels that are at most 255.
+pub fn modulate_lanes(
+    texels: u16x16,
+    red: u16x16,
+    green: u16x16,
+    blue: u16x16,
+    shifts: i16x16,
+) -> u16x16
+    requires long { (length texels ≡ 16) × (length red ≡ 16) × (length green ≡ 16)
+        × (length blue ≡ 16) × (length shifts ≡ 16) }
+    requires channels { EachLane (λ i. (slice_index red i ≤ 255)
+        × (slice_index green i ≤ 255) × (slice_index blue i ≤ 255)) }
+    requires shifts { EachLane (λ i. IsShift (slice_index_or shifts i (pos 0))) }
+    ensures long { length result ≡ 16 }
+    ensures value { EachLane (λ i. slice_index result i ≡ modulated_of (slice_index texels i)
+        (slice_index red i) (slice_index green i) (slice_index blue i)
+        (slice_index_or shifts i (pos 0))) }
+    ensures low { EachLane (λ i. slice_index result i < 2 ^ 15) }
+{
+    let bias = biased(shifts);
+    pack_lanes(
+        modulated_lanes(low5(texels), red, bias),
+        modulated_lanes(low5(shifted_down(texels, 5)), green, bias),
+        modulated_lanes(low5(shifted_down(texels, 10)), blue, bias),
+    )
+}
+
+/// [`blend`](crate::blend) in each lane.
+pub fn blend_lanes(mode: u8, back: u16x16, front: u16x16) -> u16x16
+    requires mode { mode ≤ 3 }
+    requires long { (length back ≡ 16) × (length front ≡ 16) }
+    ensures long { length result ≡ 16 }
+    ensures value { EachLane (λ i. slice_index result i
+        ≡ blended_of mode (slice_index back i) (slice_index front i)) }
+    ensures low { EachLane (λ i. slice_index result i < 2 ^ 15) }
+{
+    pack_lanes(
+        blended_lanes(mode, low5(back), low5(front)),
+        blended_lanes(
+            mode,
+            low5(shifted_down(back, 5)),
+            low5(shifted_down(front, 5)),
+        ),
+        blended_lanes(
+            mode,
+            low5(shifted_down(back, 10)),
+            low5(shifted_down(front, 10)),
+        ),
+    )
+}
+
+fn pack_lanes(red: u16x16, green: u16x16, blue: u16x16) -> u16x16
+    requires long { (length red ≡ 16) × (length green ≡ 16) × (length blue ≡ 16) }
+    requires low { EachLane (λ i. (slice_index red i < 32) × (slice_index green i < 32)
+        × (slice_index blue i < 32)) }
+    ensures long { length result ≡ 16 }
+    ensures value { EachLane (λ i. slice_index result i
+        ≡ packed (slice_index red i) (slice_index green i) (slice_index blue i)) }
+    ensures low { EachLane (λ i. slice_index result i < 2 ^ 15) }
+{
+    let green_part = mul(green, splat(32));
+    let blue_part = mul(blue, splat(1024));
+    add(add(red, green_part), blue_part)
+}
+
+// Each channel plus its bias less 4, brought into 0 to 255 and divided by 8.
+fn shifted_lanes(channels: u16x16, bias: u16x16) -> u16x16
+    requires long { (length channels ≡ 16) × (length bias ≡ 16) }
+    requires low { EachLane (λ i. slice_index channels i < 1024) }
+    requires bias { EachLane (λ i. slice_index bias i < 8) }
+    ensures long { length result ≡ 16 }
+    ensures value { EachLane (λ i. slice_index result i
+        ≡ min (slice_index channels i + slice_index bias i - 4) 255 / 8) }
+{
+    let raised = add(channels, bias);
+    let lowered = sub_or_zero(raised, splat(4));
+    shifted_down(smaller(lowered, splat(255)), 3)
+}
+
+fn modulated_lanes(texels: u16x16, colors: u16x16, bias: u16x16) -> u16x16
+    requires long { (length texels ≡ 16) × (length colors ≡ 16) × (length bias ≡ 16) }
+    requires low { EachLane (λ i. (slice_index texels i < 32) × (slice_index colors i ≤ 255)
+        × (slice_index bias i < 8)) }
+    ensures long { length result ≡ 16 }
+    ensures value { EachLane (λ i. slice_index result i
+        ≡ min (8 * slice_index texels i * slice_index colors i / 128 + slice_index bias i - 4) 255 / 8) }
+{
+    let eightfold = mul(splat(8), texels);
+    let product = mul(eightfold, colors);
+    shifted_lanes(shifted_down(product, 7), bias)
+}
+
+fn blended_lanes(mode: u8, back: u16x16, front: u16x16) -> u16x16
+    requires mode { mode ≤ 3 }
+    requires long { (length back ≡ 16) × (length front ≡ 16) }
+    requires low { EachLane (λ i. (slice_index back i < 32) × (slice_index front i < 32)) }
+    ensures long { length result ≡ 16 }
+    ensures value { EachLane (λ i. slice_index result i
+        ≡ blended_channel mode (slice_index back i) (slice_index front i)) }
+{
+    match mode {
+        0 => shifted_down(add(back, front), 1),
+        1 => smaller(add(back, front), splat(31)),
+        2 => sub_or_zero(back, front),
+        _ => smaller(add(back, shifted_down(front, 2)), splat(31)),
+    }
+}

@@ -1,0 +1,7 @@
+-- A texture window that changes nothing.
+use Rattle.std.specs.Prelude.{ℕ, ◌<◌, ◌≡◌}
+use Rattle.texture_page.specs.Page.{windowed}
+
+-- a window without mask, whatever its offset, leaves each coordinate
+abbrev pub OpenWindowLaw : Type 0
+OpenWindowLaw = (off u : ℕ) → u < 256 → windowed 0 off u ≡ u
