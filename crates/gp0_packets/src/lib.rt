@@ -18,3 +18,6 @@ mod transfer;
 pub use decoder::decode;
 pub use note::{Note, class_of, head_of};
 pub use packet::Packet;
+
+#[cfg(test)]
+mod tests;
