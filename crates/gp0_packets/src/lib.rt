@@ -8,6 +8,7 @@
 
 mod decoder;
 mod field;
+pub mod laws;
 mod line;
 mod note;
 mod packet;
