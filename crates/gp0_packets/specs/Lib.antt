@@ -1,4 +1,5 @@
 pub mod Fields
+pub mod Loads
 pub mod Notes
 pub mod Packets
 pub mod Ranges

@@ -8,6 +8,7 @@
 
 mod decoder;
 mod field;
+pub mod laws;
 mod line;
 mod note;
 mod packet;
@@ -18,3 +19,6 @@ mod transfer;
 pub use decoder::decode;
 pub use note::{Note, class_of, head_of};
 pub use packet::Packet;
+
+#[cfg(test)]
+mod tests;
