@@ -1,6 +1,6 @@
 // Copies in chunks of up to sixteen cells, under the guard.
-ghost use Rattle.std.specs.Prelude.{◌≡◌, ◌≤◌, ◌<◌, ◌+◌, ◌-◌, ◌*◌, ℕ, if◌then◌else◌, slice_index, length};
-ghost use Rattle.overlap_guard.specs.Hazard.{HasCopyHazard};
+ghost use Rattle.std.specs.Prelude.{◌≡◌, ◌≤◌, ◌<◌, ◌+◌, ◌-◌, ◌*◌, ℕ, if◌then◌else◌, false, slice_index, length};
+ghost use Rattle.overlap_guard.specs.Hazard.{has_copy_hazard};
 ghost use Rattle.vram_store.specs.Vram.{bit, height_of};
 ghost use Rattle.vram_store.specs.Plot.{is_kept};
 ghost use Rattle.vram_copy.specs.Copy.{Copy, copied_row, copied_run};
@@ -81,6 +81,7 @@ fn next_len(source_x: u16, target_x: u16, left: u16) -> u8
     left.min(16).min((1024 - source_x).min(1024 - target_x)) as u8
 }
 
+#[tactic(auto, unfolding(crate::specs::Costs::chunk_cost))]
 fn copy_chunk<L: Ledger>(
     vram: &mut Vram,
     mask: u8,
@@ -143,7 +144,7 @@ fn copy_at_once<L: Ledger>(
     requires count { (1 ≤ n) × (n ≤ 16) }
     requires source_in { (from.x + n ≤ 1024) × (from.y < height_of vram.old) }
     requires target_in { (to.x + n ≤ 1024) × (to.y < height_of vram.old) }
-    requires free { ¬ (HasCopyHazard from to n) }
+    requires free { has_copy_hazard from to n ≡ false }
     ensures cells { vram.new ≡ copied_run vram.old mask from to n }
     ensures long { length vram.new ≡ length vram.old }
     ensures cost { steps.new ≤ steps.old + 3 }
