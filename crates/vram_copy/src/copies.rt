@@ -14,13 +14,14 @@ use std::sync::ledger::Ledger;
 use vram_store::mask::{force_lanes, open_bits, tests};
 use vram_store::{Steps, Vram};
 
-/// Copies `h` rows of `w` cells from one place to another, plotting them under the mask setting.
+/// Copies `h` rows of `w` cells from one place to another, plotting them under the mask setting
+/// (psx-spx, GP0(80h)).
 ///
-/// It leaves what copying pixel after pixel leaves, from left to right in each row and rows from the top, where
-/// each pixel is read as video memory is then: a copy onto cells that it reads later repeats what it wrote (our
-/// own rule). X wraps at 1024 and Y at the height. A row is cut where source or target wraps and each piece into
-/// chunks of up to sixteen cells; a chunk takes at most three steps, and three for each of its cells where it
-/// reads what it writes (psx-spx, GP0(80h)).
+/// It leaves what copying pixel after pixel leaves, from left to right in each row and rows from
+/// the top, where each pixel is read as video memory is then: a copy onto cells that it reads later
+/// repeats what it wrote (our own rule). X wraps at 1024 and Y at the height. A row is cut where
+/// source or target wraps and each piece into chunks of up to sixteen cells; a chunk takes at most
+/// three steps, and three for each of its cells where it reads what it writes.
 pub fn copy<L: Ledger>(
     vram: &mut Vram,
     mask: u8,
@@ -159,7 +160,8 @@ fn copy_at_once<L: Ledger>(
 fn open_cells<L: Ledger>(vram: &Vram, mask: u8, to: Cell, n: u8, steps: &mut Steps<L>) -> u16
     requires count { (1 ≤ n) × (n ≤ 16) }
     requires target_in { (to.x + n ≤ 1024) × (to.y < height_of vram.now) }
-    ensures bits { (j : ℕ) → j < n → bit result j ≡ (if is_kept mask (slice_index vram.now (1024 * to.y + to.x + j)) then 0 else 1) }
+    ensures bits { (j : ℕ) → j < n
+        → bit result j ≡ (if is_kept mask (slice_index vram.now (1024 * to.y + to.x + j)) then 0 else 1) }
     ensures cost { steps.new ≤ steps.old + 1 }
 {
     if tests(mask) {

@@ -1,12 +1,13 @@
 //! Rectangles of video memory that are filled, copied, loaded and stored.
 //!
-//! Pixels go from left to right in each row, and rows from the top. A rectangle that leaves video memory goes
-//! on at the other side: X wraps at 1024 and Y at the height, with no carry between them (psx-spx, "GPU Memory
-//! Transfer Commands"). The contracts count the store steps, the accesses to video memory. Fills and copies
-//! move sixteen cells at a time, and a copy keeps the order of its pixels where that can be seen.
+//! Pixels go from left to right in each row, and rows from the top. A rectangle that leaves video
+//! memory goes on at the other side: X wraps at 1024 and Y at the height, with no carry between
+//! them (psx-spx, "GPU Memory Transfer Commands"). The contracts count the store steps, the
+//! accesses to video memory. Fills and copies move sixteen cells at a time, and a copy keeps the
+//! order of its pixels where that can be seen.
 #![tactic(auto)]
 
-ghost use Rattle.std.specs.Prelude.{◌≡◌, ◌<◌};
+ghost use Rattle.std.specs.Prelude.{◌≡◌, ◌<◌, ◌%◌};
 
 mod cells;
 mod copies;
@@ -29,32 +30,46 @@ mod tests {
     use std::test::Fail;
     use vram_store::{Steps, Vram};
 
-    // What a fill from (1008, 511) on leaves in itself, on its four sides, and in cells with a carry from X to Y.
-    fn filled<L: Ledger>(alloc: Global, blank: Blank) -> Result<[u16; 8], Fail>
+    // What a fill leaves in cells of its corners and around them.
+    fn filled<L: Ledger>(
+        alloc: Global,
+        blank: Blank,
+        x: u16,
+        y: u16,
+        w: u16,
+        h: u16,
+    ) -> Result<[u16; 8], Fail>
         requires name { blank.name ≡ L.name }
         requires parts { blank.parts ≡ L.parts }
         requires some { 0 < blank.parts }
+        requires whole { (x % 16 ≡ 0) × (w % 16 ≡ 0) }
     {
         let mut steps = Steps::<L>::new(blank);
         let mut vram = Vram::new(alloc)?;
-        fill(&mut vram, 1008, 511, 32, 2, 0x1f, &mut steps);
-        fill(&mut vram, 512, 0, 0, 2, 0x1f, &mut steps);
+        fill(&mut vram, x, y, w, h, 0x1f, &mut steps);
         Ok([
             vram.get(1008, 511, &mut steps),
             vram.get(15, 511, &mut steps),
             vram.get(1023, 0, &mut steps),
             vram.get(0, 0, &mut steps),
             vram.get(16, 0, &mut steps),
-            vram.get(1007, 511, &mut steps),
+            vram.get(31, 0, &mut steps),
+            vram.get(32, 0, &mut steps),
             vram.get(0, 1, &mut steps),
-            vram.get(512, 0, &mut steps),
         ])
     }
 
     #[test]
     fn fills_wrap_in_both_directions(rt: HostRuntime) -> Result<(), Fail> {
-        let cells = filled::<Brand>(rt.alloc(), Blank::new(1))?;
-        assert_eq!(rt; cells, [0x1f, 0x1f, 0x1f, 0x1f, 0, 0, 0, 0]);
+        for (x, y, w, h, want) in [
+            (16, 0, 16, 1, [0, 0, 0, 0, 0x1f, 0x1f, 0, 0]),
+            (1008, 511, 32, 2, [0x1f, 0x1f, 0x1f, 0x1f, 0, 0, 0, 0]),
+            (16, 0, 0, 1, [0; 8]),
+            (16, 0, 16, 0, [0; 8]),
+        ] {
+            let cells = filled::<Brand>(rt.alloc(), Blank::new(1), x, y, w, h)?;
+            assert_eq!(rt; cells, want, "{w} by {h} at {x} {y}");
+        }
         Ok(())
     }
 
@@ -93,7 +108,8 @@ mod tests {
         Ok(())
     }
 
-    // Three pixels that were loaded, as they are stored; and a pixel loaded over one that the mask setting keeps.
+    // Three pixels that were loaded, as they are stored; and a pixel loaded over one that the mask
+    // setting keeps.
     fn moved<L: Ledger>(alloc: Global, blank: Blank) -> Result<[u32; 3], Fail>
         requires name { blank.name ≡ L.name }
         requires parts { blank.parts ≡ L.parts }
