@@ -1,9 +1,10 @@
 -- Runs of cells that are copied at once or one after another.
-use Rattle.std.proofs.Common.{◌≡◌, ◌<◌, ◌≤◌, ◌⊎◌, inl, inr, ◌+◌, ◌*◌, ◌-◌, ◌/◌, ◌%◌, ℕ, Bool, true, false, cond, IsTrue, ◌↔◌, List, Option, Some, None, length, get_or, arith, refl, ap, sym, ◌∙◌}
+use Rattle.std.proofs.Common.{◌≡◌, ◌<◌, ◌≤◌, ◌⊎◌, inl, inr, ◌+◌, ◌*◌, ◌-◌, ◌/◌, ◌%◌, ℕ, Bool, true, false, cond, List, Option, Some, None, length, get_or, arith, refl, ap, sym, ◌∙◌}
 use Rattle.std.proofs.lemmas.Bool.{cases_lt}
 use Rattle.px_num.specs.declared.shape.Cell.{Cell}
 use Rattle.px_num.proofs.FoldLemmas.{each_below-add, each_below-same}
-use Rattle.overlap_guard.specs.Hazard.{HasCopyHazard}
+use Rattle.overlap_guard.specs.Hazard.{HasCopyHazard, has_copy_hazard}
+use Rattle.overlap_guard.proofs.TestLemmas.{copy_iff}
 use Rattle.vram_store.specs.Vram.{IsStored, at, set, bit}
 use Rattle.vram_store.specs.Plot.{is_testing, is_kept, forced, plot, draw_at, draw_lane, drawn_lanes}
 use Rattle.vram_store.specs.Chunk.{IsBlind, IsLane, HasLanes}
@@ -73,9 +74,8 @@ run_at_once old new mask s t n lanes bits free room_s room_t run stored =
     chunk_law (read_from s) mask (place t) n old lanes new bits (blind_of old s t n free room_s room_t) (lanes_of old mask s t n lanes bits run) stored
     ∙ sym (run_is old mask s t n)
 
--- no hazard was told
-pub free_of : (told : Bool) (s t : Cell) (n : ℕ) → IsTrue told ↔ HasCopyHazard s t n → told ≡ false → ¬ (HasCopyHazard s t n)
-free_of told s t n pairs off hazard = let on = pairs.1 hazard in cc
+pub free_of : (s t : Cell) (n : ℕ) → has_copy_hazard s t n ≡ false → ¬ (HasCopyHazard s t n)
+free_of s t n off hazard = let on = (copy_iff s t n).1 hazard in cc
 
 -- ---- chunks of a row
 

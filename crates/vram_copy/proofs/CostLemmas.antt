@@ -4,18 +4,9 @@ use Rattle.std.proofs.lemmas.Bool.{cases_lt, eqb-true, eq-eqb}
 use Rattle.std.proofs.lemmas.Bool.Decides.{nat_tests}
 use Rattle.px_num.specs.declared.shape.Cell.{Cell}
 use Rattle.px_num.proofs.FoldLemmas.{each_below-next}
-use Rattle.overlap_guard.specs.Hazard.{has_copy_hazard}
 use Rattle.vram_store.specs.Vram.{height_of}
 use Rattle.vram_copy.specs.Rect.{right}
 use Rattle.vram_copy.specs.Costs.{since_cut, begins_chunk, chunk_len, chunk_at, chunk_cost, cell_cost, cost_below, row_cost, rows_cost, copy_cost}
-
-pub cost_in_turn : (s t : Cell) (n : ℕ) → has_copy_hazard s t n ≡ true → chunk_cost s t n ≡ 3 * n
-unfolding chunk_cost
-cost_in_turn s t n on = rw on refl
-
-pub cost_at_once : (s t : Cell) (n : ℕ) → has_copy_hazard s t n ≡ false → chunk_cost s t n ≡ 3
-unfolding chunk_cost
-cost_at_once s t n off = rw off refl
 
 -- ---- which cells begin a chunk
 

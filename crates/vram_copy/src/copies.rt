@@ -1,6 +1,6 @@
 // Copies in chunks of up to sixteen cells, under the guard.
-ghost use Rattle.std.specs.Prelude.{◌≡◌, ◌≤◌, ◌<◌, ◌+◌, ◌-◌, ◌*◌, ℕ, if◌then◌else◌, slice_index, length};
-ghost use Rattle.overlap_guard.specs.Hazard.{HasCopyHazard};
+ghost use Rattle.std.specs.Prelude.{◌≡◌, ◌≤◌, ◌<◌, ◌+◌, ◌-◌, ◌*◌, ℕ, if◌then◌else◌, false, slice_index, length};
+ghost use Rattle.overlap_guard.specs.Hazard.{has_copy_hazard};
 ghost use Rattle.vram_store.specs.Vram.{bit, height_of};
 ghost use Rattle.vram_store.specs.Plot.{is_kept};
 ghost use Rattle.vram_copy.specs.Copy.{Copy, copied_row, copied_run};
@@ -14,13 +14,14 @@ use std::sync::ledger::Ledger;
 use vram_store::mask::{force_lanes, open_bits, tests};
 use vram_store::{Steps, Vram};
 
-/// Copies `h` rows of `w` cells from one place to another, plotting them under the mask setting.
+/// Copies `h` rows of `w` cells from one place to another, plotting them under the mask setting
+/// (psx-spx, GP0(80h)).
 ///
-/// It leaves what copying pixel after pixel leaves, from left to right in each row and rows from the top, where
-/// each pixel is read as video memory is then: a copy onto cells that it reads later repeats what it wrote (our
-/// own rule). X wraps at 1024 and Y at the height. A row is cut where source or target wraps and each piece into
-/// chunks of up to sixteen cells; a chunk takes at most three steps, and three for each of its cells where it
-/// reads what it writes (psx-spx, GP0(80h)).
+/// It leaves what copying pixel after pixel leaves, from left to right in each row and rows from
+/// the top, where each pixel is read as video memory is then: a copy onto cells that it reads later
+/// repeats what it wrote (our own rule). X wraps at 1024 and Y at the height. A row is cut where
+/// source or target wraps and each piece into chunks of up to sixteen cells; a chunk takes at most
+/// three steps, and three for each of its cells where it reads what it writes.
 pub fn copy<L: Ledger>(
     vram: &mut Vram,
     mask: u8,
@@ -81,6 +82,7 @@ fn next_len(source_x: u16, target_x: u16, left: u16) -> u8
     left.min(16).min((1024 - source_x).min(1024 - target_x)) as u8
 }
 
+#[tactic(auto, unfolding(crate::specs::Costs::chunk_cost))]
 fn copy_chunk<L: Ledger>(
     vram: &mut Vram,
     mask: u8,
@@ -143,7 +145,7 @@ fn copy_at_once<L: Ledger>(
     requires count { (1 ≤ n) × (n ≤ 16) }
     requires source_in { (from.x + n ≤ 1024) × (from.y < height_of vram.old) }
     requires target_in { (to.x + n ≤ 1024) × (to.y < height_of vram.old) }
-    requires free { ¬ (HasCopyHazard from to n) }
+    requires free { has_copy_hazard from to n ≡ false }
     ensures cells { vram.new ≡ copied_run vram.old mask from to n }
     ensures long { length vram.new ≡ length vram.old }
     ensures cost { steps.new ≤ steps.old + 3 }
@@ -158,7 +160,8 @@ fn copy_at_once<L: Ledger>(
 fn open_cells<L: Ledger>(vram: &Vram, mask: u8, to: Cell, n: u8, steps: &mut Steps<L>) -> u16
     requires count { (1 ≤ n) × (n ≤ 16) }
     requires target_in { (to.x + n ≤ 1024) × (to.y < height_of vram.now) }
-    ensures bits { (j : ℕ) → j < n → bit result j ≡ (if is_kept mask (slice_index vram.now (1024 * to.y + to.x + j)) then 0 else 1) }
+    ensures bits { (j : ℕ) → j < n
+        → bit result j ≡ (if is_kept mask (slice_index vram.now (1024 * to.y + to.x + j)) then 0 else 1) }
     ensures cost { steps.new ≤ steps.old + 1 }
 {
     if tests(mask) {

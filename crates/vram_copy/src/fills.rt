@@ -9,11 +9,12 @@ use std::simd::prelude::*;
 use std::sync::ledger::Ledger;
 use vram_store::{Steps, Vram};
 
-/// Fills `h` rows of `w` cells from (x, y) on with a halfword, where `x` and `w` are multiples of 16.
+/// Fills `h` rows of `w` cells from (x, y) on with a halfword, where `x` and `w` are multiples of
+/// 16.
 ///
-/// X wraps at 1024 and Y at the height, with no carry between them. The mask setting does not matter: cells
-/// with bit 15 are written too, and the halfword is written as it is. A width or a height of 0 fills nothing
-/// (psx-spx, GP0(02h)). It takes `w / 16` steps a row.
+/// X wraps at 1024 and Y at the height, with no carry between them. The mask setting does not
+/// matter: cells with bit 15 are written too, and the halfword is written as it is. A width or a
+/// height of 0 fills nothing (psx-spx, GP0(02h)). It takes `w / 16` steps a row.
 pub fn fill<L: Ledger>(
     vram: &mut Vram,
     x: u16,

@@ -25,10 +25,11 @@ pub struct Transfer {
     pub at: u32,
 }
 
-/// Plots the next two pixels of a rectangle from a word, the low half first, under the mask setting.
+/// Plots the next two pixels of a rectangle from a word, the low half first, under the mask
+/// setting.
 ///
-/// Where one pixel is left, the high half is dropped. X wraps at 1024 and Y at the height. The transfer goes on
-/// by the pixels plotted, at most two steps each (psx-spx, GP0(A0h)).
+/// Where one pixel is left, the high half is dropped. X wraps at 1024 and Y at the height. The
+/// transfer goes on by the pixels plotted, at most two steps each (psx-spx, GP0(A0h)).
 pub fn load_word<L: Ledger>(
     vram: &mut Vram,
     mask: u8,
@@ -74,8 +75,8 @@ fn load_pixels<L: Ledger>(
 
 /// The next two pixels of a rectangle as a word, the low half first, as video memory is now.
 ///
-/// Where one pixel is left, the high half is 0 (our own rule). X wraps at 1024 and Y at the height. The transfer
-/// goes on by the pixels given, one step each (psx-spx, GP0(C0h)).
+/// Where one pixel is left, the high half is 0 (our own rule). X wraps at 1024 and Y at the height.
+/// The transfer goes on by the pixels given, one step each (psx-spx, GP0(C0h)).
 pub fn store_word<L: Ledger>(vram: &Vram, job: &mut Transfer, steps: &mut Steps<L>) -> u32
     requires more { job.old.at < job.old.w * job.old.h }
     ensures word { result ≡ StoreWord vram.now job.old }
