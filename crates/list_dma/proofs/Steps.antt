@@ -1,5 +1,5 @@
 -- A walk on its way.
-use Rattle.std.proofs.Common.{◌≡◌, ◌≢◌, ℕ, suc, ◌+◌, ◌-◌, ◌*◌, ◌<◌, List, [], ◌∷◌, length, true, false, refl, sym, ◌∙◌, ap, arith, inl, inr, ne_eqb}
+use Rattle.std.proofs.Common.{◌≡◌, ◌≢◌, ℕ, suc, ◌+◌, ◌-◌, ◌*◌, ◌<◌, List, ◌∷◌, length, true, false, sym, ◌∙◌, ap, arith, inl, inr, ne_eqb}
 use Rattle.std.specs.Prelude.{Option, Some, None, ◌==◌}
 use Rattle.std.specs.List.{list_any}
 use Rattle.std.proofs.lemmas.Bool.{cases_eq, eq-eqb}
@@ -14,10 +14,6 @@ pub record IsOnWay (ram marks : List ℕ) (address left count : ℕ) (loops : Op
   pub marked : (place : ℕ) → is_marked marks place ≡ list_any (◌==◌ (place * 4)) seen
   pub repeats : repeat_after seen (chain ram address left) ≡ loops
   pub counts : count + length (chain ram address left) ≡ long
-
-pub started : (ram marks : List ℕ) (start limit : ℕ) → ((k : ℕ) → is_marked marks k ≡ false)
-    → IsOnWay ram marks start limit 0 (repeat_after [] (chain ram start limit)) (length (chain ram start limit))
-started ram marks start limit clear = record { seen = []; marked = clear; repeats = refl; counts = omega arith }
 
 pub ended : (ram marks : List ℕ) (address limit k : ℕ) (loops : Option ℕ) (long : ℕ)
     → IsOnWay ram marks address (limit - k) k loops long → k < limit → is_end address ≡ true → loops ≡ None
