@@ -1,0 +1,5 @@
+pub mod Node
+pub mod Walk
+pub mod Repeats
+pub mod Marks
+pub mod Plans

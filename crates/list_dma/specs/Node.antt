@@ -1,0 +1,29 @@
+-- A node of a linked list in main memory: a header, and the words behind it
+-- (psx-spx, "DMA Channels", on SyncMode 2 and its linked lists).
+use Rattle.std.specs.Prelude.{ℕ, zero, suc, List, [], ◌∷◌, Bool, Option, Some, None, ◌+◌, ◌/◌, ◌%◌, ◌^◌, ◌==◌, if◌then◌else◌}
+use Rattle.ot_clear_dma.specs.Ram.{word_at, cut}
+
+-- an address with bit 23 ends a list
+abbrev pub is_end : ℕ → Bool
+is_end address = address / 2 ^ 23 % 2 == 1
+
+-- bits 0 to 23 of a node's header: the next address
+abbrev pub next_of : List ℕ → (node : ℕ) → ℕ
+next_of ram node = word_at ram node % 2 ^ 24
+
+-- bits 24 to 31 of a node's header: how many words follow it
+abbrev pub word_count : List ℕ → (node : ℕ) → ℕ
+word_count ram node = word_at ram node / 2 ^ 24
+
+-- the node that an address names, if it ends no list
+abbrev pub node_of : ℕ → Option ℕ
+node_of address = if is_end address then None else Some (cut address)
+
+-- n words, each 4 behind the one before it, the first 4 behind an address
+abbrev pub words_behind : List ℕ → (address n : ℕ) → List ℕ
+words_behind ram address zero = []
+words_behind ram address (suc n) = word_at ram (address + 4) ∷ words_behind ram (address + 4) n
+
+-- the words of a node
+abbrev pub node_words : List ℕ → (node : ℕ) → List ℕ
+node_words ram node = words_behind ram node (word_count ram node)

@@ -1,0 +1,43 @@
+// The nodes of a linked list.
+ghost use Rattle.std.specs.Prelude.{◌≡◌, ◌<◌, ◌/◌, ◌^◌, IfSome};
+ghost use Rattle.ot_clear_dma.specs.Ram.{cut, place_of};
+ghost use Rattle.list_dma.specs.Node.{is_end, next_of, node_of};
+
+use ot_clear_dma::Ram;
+
+/// The node that follows a node, or none where the address in its header has bit 23. The address of the
+/// node counts bytes, and only its bits of 1FFFFCh matter.
+pub fn next_node(ram: &Ram, node: u32) -> Option<u32>
+    ensures value { result ≡ node_of (next_of ram.now node) }
+    ensures in_memory { IfSome result (λ next. next < 2 ^ 21) }
+{
+    let address = next_address(ram, node);
+    if ends(address) {
+        None
+    } else {
+        Some(cut(address))
+    }
+}
+
+// Whether an address ends a list.
+pub(crate) fn ends(address: u32) -> bool
+    ensures { result ≡ is_end address }
+{
+    address >> 23 & 1 == 1
+}
+
+// The address of the word that an address names.
+pub(crate) fn cut(address: u32) -> u32
+    ensures value { result ≡ cut address }
+    ensures place { result / 4 ≡ place_of address }
+    ensures in_memory { result < 2 ^ 21 }
+{
+    address & 0x1f_ffff & !3
+}
+
+// The address in the header of a node.
+pub(crate) fn next_address(ram: &Ram, node: u32) -> u32
+    ensures { result ≡ next_of ram.now node }
+{
+    ram.get(node) & 0xff_ffff
+}

@@ -1,0 +1,79 @@
+// What a start of the channel is to move.
+ghost use Rattle.std.specs.Prelude.{◌≡◌, ◌<◌, ◌≤◌, ◌^◌, IfOk};
+ghost use Rattle.list_dma.specs.Plans.{plan_of, words_of, count_of, IsPlan};
+
+/// What a start of the channel is to move.
+#[derive(Clone, Copy, Debug, PartialEq, Eq)]
+pub enum Plan {
+    /// Nothing: CHCR bit 24 is 0.
+    Idle,
+    /// Words one after another.
+    Words {
+        /// How many, 1 to 524,288.
+        n: u32,
+        /// Whether each address is 4 before the last one, in place of 4 behind it.
+        back: bool,
+        /// Whether they go from the GPU to memory.
+        to_ram: bool,
+    },
+    /// A linked list.
+    List,
+}
+
+/// Why a start is refused.
+#[derive(Clone, Copy, Debug, PartialEq, Eq)]
+pub enum DmaFault {
+    /// There is no such mode: mode 3, or a list to memory.
+    Bad,
+    /// There are more words than memory has.
+    TooLong {
+        /// How many, up to 4,294,967,296.
+        words: u64,
+    },
+}
+
+/// The plan of a start of DMA channel 2 with these values of BCR and CHCR. Mode 0 moves BCR's low half of
+/// words, mode 1 the product of its halves, where a half of 0 stands for 10000h; mode 2 is a list.
+pub fn block_plan(bcr: u32, chcr: u32) -> Result<Plan, DmaFault>
+    ensures value { result ≡ plan_of bcr chcr }
+    ensures bounds { IfOk result IsPlan }
+{
+    if chcr >> 24 & 1 == 0 {
+        return Ok(Plan::Idle);
+    }
+    match chcr >> 9 & 3 {
+        0 => plan_words(u64::from(count(bcr & 0xffff)), chcr),
+        1 => plan_words(
+            u64::from(count(bcr & 0xffff)) * u64::from(count(bcr >> 16)),
+            chcr,
+        ),
+        2 if chcr & 1 == 1 => Ok(Plan::List),
+        _ => Err(DmaFault::Bad),
+    }
+}
+
+// A count of 16 bits, where 0 stands for 10000h.
+pub(crate) fn count(field: u32) -> u32
+    requires { field < 2 ^ 16 }
+    ensures value { result ≡ count_of field }
+    ensures some { 1 ≤ result }
+    ensures most { result ≤ 2 ^ 16 }
+{
+    if field == 0 { 0x1_0000 } else { field }
+}
+
+// A plan of so many words.
+fn plan_words(n: u64, chcr: u32) -> Result<Plan, DmaFault>
+    requires { 1 ≤ n }
+    ensures value { result ≡ words_of n chcr }
+    ensures bounds { IfOk result IsPlan }
+{
+    if n > 524_288 {
+        return Err(DmaFault::TooLong { words: n });
+    }
+    Ok(Plan::Words {
+        n: n as u32,
+        back: chcr >> 1 & 1 == 1,
+        to_ram: chcr & 1 == 0,
+    })
+}

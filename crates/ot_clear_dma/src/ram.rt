@@ -1,0 +1,101 @@
+// The words of main memory.
+ghost use Rattle.std.specs.Prelude.{◌≡◌, ◌≤◌, ◌<◌, ◌+◌, ◌*◌, ◌/◌, ◌%◌, ◌^◌, ℕ, List, length, vec_len, IfOk};
+ghost use Rattle.ot_clear_dma.specs.Ram.{word_at, set, place_of, zeros, blank};
+ghost use Rattle.ot_clear_dma.specs.Table.{below, cleared_table, IsOrderingTable};
+
+use px_num::OutOfMemory;
+use std::alloc::{AllocError, Global};
+use std::marker::Model;
+
+/// How many words there are.
+const WORDS: usize = 524_288;
+
+/// What the last word of a table holds: an address that ends a list.
+const END: u32 = 0xff_ffff;
+
+/// Main memory. Contracts see it as the list of its words.
+#[derive(Drop)]
+pub struct Ram {
+    words: Vec<u32>,
+}
+
+impl Model for Ram {
+    ghost Value = { List ℕ };
+
+    ghost view = { λ ram. ram.words.items };
+
+    ghost invariant = { λ ram. vec_len ram.words ≡ 524288 };
+}
+
+// The length is a variable here, so that no proof computes the list.
+#[tactic(auto, unfolding(crate::specs::Ram::zeros))]
+fn zeroed(alloc: Global, n: usize) -> Result<Vec<u32>, AllocError>
+    ensures items { IfOk result (λ v. v.items ≡ zeros n) }
+    ensures len { IfOk result (λ v. vec_len v ≡ n) }
+{
+    vec![in alloc; 0u32; n]
+}
+
+// The place of the word that an address names.
+fn place(address: u32) -> usize
+    ensures value { result ≡ place_of address }
+    ensures in_memory { result < 524288 }
+{
+    (address >> 2 & 0x7_ffff) as usize
+}
+
+// The address of the word that lies k words below.
+#[tactic(auto, unfolding(crate::specs::Table::below))]
+fn below(address: u32, k: u32) -> u32
+    requires { k ≤ 65536 }
+    ensures { result ≡ below address k }
+{
+    address.wrapping_sub(4 * k) & 0x1f_ffff & !3
+}
+
+impl Ram {
+    /// Memory in which every word is 0. Refused where memory of the machine runs out.
+    #[tactic(auto, unfolding(crate::specs::Ram::blank))]
+    pub fn new(alloc: Global) -> Result<Self, OutOfMemory>
+        ensures words { IfOk result (λ ram. ram ≡ blank) }
+        ensures long { IfOk result (λ ram. length ram ≡ 524288) }
+    {
+        match zeroed(alloc, WORDS) {
+            Ok(words) => Ok(Ram { words }),
+            Err(_) => Err(OutOfMemory),
+        }
+    }
+
+    /// The word at an address.
+    pub fn get(&self, address: u32) -> u32
+        ensures value { result ≡ word_at self.now address }
+        ensures long { length self.now ≡ 524288 }
+    {
+        self.words[place(address)]
+    }
+
+    /// Writes the word at an address. All other words stay.
+    pub fn put(&mut self, address: u32, word: u32)
+        ensures words { self.new ≡ set self.old address word }
+        ensures long { length self.new ≡ 524288 }
+    {
+        self.words[place(address)] = word;
+    }
+
+    /// Writes a table of `n` words, as DMA channel 6 does: the first at `madr` and each later one 4 before
+    /// it. Each word holds the address of the one before it in memory, and the last one 00FFFFFFh.
+    #[tactic(auto, unfolding(crate::specs::Table::cleared_table))]
+    pub fn clear_table(&mut self, madr: u32, n: u32)
+        requires some { 1 ≤ n }
+        requires most { n ≤ 65536 }
+        ensures words { self.new ≡ cleared_table self.old madr n }
+        ensures table { IsOrderingTable self.old self.new madr n }
+        ensures long { length self.new ≡ 524288 }
+    {
+        for k in 0..n - 1 {
+            let address = below(madr, k);
+            self.put(address, below(address, 1));
+        }
+        self.put(below(madr, n - 1), END);
+    }
+}
