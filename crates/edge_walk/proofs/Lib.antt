@@ -1,0 +1,5 @@
+pub mod Corner
+pub mod DivisorLemmas
+pub mod MixLemmas
+pub mod RowLemmas
+pub mod SpanLemmas
