@@ -1,5 +1,5 @@
 -- The three corners of a triangle in their two orders.
-use Rattle.std.proofs.Common.{◌≡◌, ◌≢◌, ℤ, pos, ◌+ℤ◌, ◌-ℤ◌, ◌<ℤ◌, arith, Bool, true, false, ◌&&◌, refl, sym, ap, ◌∙◌, int_lt, unsigned_abs}
+use Rattle.std.proofs.Common.{◌≡◌, ℤ, pos, ◌+ℤ◌, ◌-ℤ◌, ◌<ℤ◌, arith, Bool, true, false, ◌&&◌, refl, sym, ap, ◌∙◌, int_lt}
 use Rattle.std.proofs.lemmas.Int.{ints}
 use Rattle.px_num.specs.declared.shape.Vertex.{Vertex}
 use Rattle.px_num.proofs.Ring.{Poly, at, sub, mul, add, same}

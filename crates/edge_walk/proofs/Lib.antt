@@ -1,5 +1,6 @@
 pub mod Corner
 pub mod DivisorLemmas
+pub mod InBox
 pub mod MixLemmas
 pub mod RowLemmas
 pub mod SpanLemmas

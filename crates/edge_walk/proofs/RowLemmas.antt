@@ -1,6 +1,6 @@
 -- The cells of a row on one side of an edge.
-use Rattle.std.proofs.Common.{ℕ, zero, suc, int_lt, ◌+◌, ◌*◌, ◌/◌, ◌≤◌, ◌<◌, ◌≡◌, ℤ, pos, negsuc, ◌+ℤ◌, ◌-ℤ◌, ◌*ℤ◌, ◌≤ℤ◌, ◌<ℤ◌, ◌↔◌, Bool, true, false, IsTrue, cond, ◌&&◌, ◌||◌, unsigned_abs, refl, arith}
-use Rattle.std.specs.Int.{int_div_euclid, int_min, int_max}
+use Rattle.std.proofs.Common.{ℕ, zero, suc, int_lt, ◌+◌, ◌≤◌, ◌<◌, ◌≡◌, ℤ, pos, negsuc, ◌+ℤ◌, ◌-ℤ◌, ◌*ℤ◌, ◌≤ℤ◌, ◌<ℤ◌, ◌↔◌, Bool, true, false, IsTrue, cond, ◌&&◌, ◌||◌, unsigned_abs, refl, arith}
+use Rattle.std.specs.Int.{int_min, int_max}
 use Rattle.std.proofs.lemmas.Int.{ints, clamps, by_lt_z}
 use Rattle.std.proofs.Math.Nat.{mul-le-mul_right, le-mul_of_pos_right}
 use borrow.Author.Differences.{up, down}
@@ -9,7 +9,7 @@ use Rattle.px_num.specs.declared.shape.Vertex.{Vertex}
 use Rattle.px_num.specs.Floor.{IsFloor}
 use Rattle.edge_walk.specs.Row.{IsBetween, least_value}
 use Rattle.edge_walk.specs.Triangle.{is_on_side, is_kept_edge, edge}
-use Rattle.px_num.proofs.Ring.{at, add, sub, mul, same, below}
+use Rattle.px_num.proofs.Ring.{at, add, sub, mul, same}
 
 le_ups : (x y : ℤ) → x ≤ℤ y → up x + down y ≤ up y + down x
 le_ups x y h = omega (arith, ints)

@@ -1,9 +1,8 @@
 -- From limits within three edges to the span of a row.
-use Rattle.std.proofs.Common.{◌≡◌, ℤ, ◌≤ℤ◌, ◌<ℤ◌, ◌↔◌, Bool, true, false, cond, IsTrue, refl, sym, ap, subst, ◌∙◌, arith}
+use Rattle.std.proofs.Common.{◌≡◌, ℤ, ◌≤ℤ◌, ◌<ℤ◌, ◌↔◌, Bool, true, false, IsTrue, refl, sym, ◌∙◌, arith}
 use Rattle.std.proofs.lemmas.Int.{ints}
-use Rattle.px_num.specs.declared.shape.Vertex.{Vertex}
 use Rattle.px_num.specs.declared.shape.Box2.{Box2}
-use Rattle.edge_walk.specs.Triangle.{Corners, corners, oriented, is_within, is_inside, IsUpright}
+use Rattle.edge_walk.specs.Triangle.{Corners, is_inside}
 use Rattle.edge_walk.specs.Row.{IsBetween, IsInBox, IsRowSpan}
 
 not_true : (b : Bool) → (IsTrue b → ⊥) → b ≡ false

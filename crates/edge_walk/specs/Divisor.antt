@@ -1,7 +1,6 @@
 -- A doubled area by which sums of attributes are divided.
-use Rattle.std.specs.Prelude.{ℕ, ◌+◌, ◌/◌, ◌^◌, ◌<◌, ◌≤◌, ◌≡◌, unsigned_abs}
+use Rattle.std.specs.Prelude.{ℕ, ◌+◌, ◌/◌, ◌^◌, ◌<◌, ◌≤◌, ◌≡◌}
 use Rattle.edge_walk.specs.declared.divisor.Divisor.{Divisor}
-use Rattle.edge_walk.specs.Triangle.{Corners, doubled_area}
 
 -- what a sum is multiplied by: the 48 bits below the product's quotient are its fraction
 abbrev pub reciprocal_of : ℕ → ℕ

@@ -2,7 +2,6 @@
 ghost use Rattle.std.specs.Prelude.{◌≡◌, ◌+◌, ◌*◌, ◌/◌, ◌^◌, ◌≤◌, ◌<◌, ℕ, ℤ, pos, ◌-ℤ◌, ◌+ℤ◌, ◌*ℤ◌, ◌≤ℤ◌, IsTrue, unsigned_abs, length, slice_index};
 ghost use Rattle.edge_walk.specs.Triangle.{IsNear, IsSmall, IsUpright, corners, edge, doubled_area, is_within};
 ghost use Rattle.edge_walk.specs.Attribute.{AreBytes, attribute, step_of};
-
 ghost use Rattle.edge_walk.specs.Divisor.{IsDivisor};
 
 use crate::divisor::Divisor;

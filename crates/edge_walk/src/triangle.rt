@@ -10,6 +10,7 @@ use std::simd::prelude::*;
 
 /// A triangle that the size rule admits and whose doubled area is not 0. Contracts see it as its three
 /// vertices, in the order in which `new` was given them.
+#[derive(Clone, Copy)]
 pub struct Tri {
     a: Vertex,
     b: Vertex,
@@ -36,14 +37,6 @@ impl Model for Tri {
 
     ghost inverse_ok = { λ t h. ap (λ s. record { a = t.a; b = t.b; c = t.c; turned = s; divisor = divisor_for (corners t.a t.b t.c) }) (sym h.turned_is) ∙ ap (λ s. record { a = t.a; b = t.b; c = t.c; turned = t.turned; divisor = s }) (sym h.divisor_is) };
 }
-
-impl Clone for Tri {
-    fn clone(&self) -> Result<Self, std::alloc::AllocError> {
-        Ok(*self)
-    }
-}
-
-impl Copy for Tri {}
 
 // A triangle whose doubled area is above 0.
 #[derive(Clone, Copy)]
@@ -86,6 +79,7 @@ impl Tri {
     fn upright(&self) -> Upright
         ensures same { corners result.a result.b result.c ≡ oriented self.now }
         ensures upright { IsUpright (corners result.a result.b result.c) }
+        ensures drawn { IsDrawn self.now }
     {
         if self.turned {
             Upright {
@@ -104,7 +98,8 @@ impl Tri {
 
     /// Whether the triangle draws a cell.
     pub fn inside(&self, x: i32, y: i32) -> bool
-        ensures { result ≡ is_inside self.now x y }
+        ensures value { result ≡ is_inside self.now x y }
+        ensures in_bounds { IsTrue result → IsInBox (bounding_box self.now) x y }
     {
         let t = self.upright();
         let first = is_on_side(&t.a, &t.b, x, y);
@@ -115,7 +110,8 @@ impl Tri {
 
     /// The smallest box that has the three vertices.
     pub fn bounds(&self) -> Box2
-        ensures { result ≡ bounding_box self.now }
+        ensures value { result ≡ bounding_box self.now }
+        ensures drawn { IsDrawn self.now }
     {
         bounding_box(&self.a, &self.b, &self.c)
     }

@@ -1,4 +1,4 @@
-use Rattle.std.proofs.Common.{◌≡◌, ◌*◌, ◌/◌, ◌+◌, ◌^◌, ap, ◌∙◌, arith}
+use Rattle.std.proofs.Common.{◌*◌, ◌/◌, ◌^◌, ap, ◌∙◌, arith}
 use Rattle.edge_walk.proofs.DivisorLemmas.{reciprocal_exact, reciprocal_bound, square_bound}
 use Rattle.edge_walk.proofs.divisor.Divisor.quotient.Goals as goal
 
