@@ -1,4 +1,5 @@
 pub mod Corner
+pub mod Decided
 pub mod DivisorLemmas
 pub mod InBox
 pub mod MixLemmas

@@ -1,5 +1,5 @@
 -- Triangles: the edge rule, the size rule and the cells inside (psx-spx, "GPU Render Polygon Commands"; the edge rule is our own).
-use Rattle.std.specs.Prelude.{◌≤◌, ◌≢◌, Bool, ◌||◌, ◌&&◌, if◌then◌else◌, int_lt, unsigned_abs, ℤ, pos, ◌-ℤ◌, ◌*ℤ◌, ◌<ℤ◌}
+use Rattle.std.specs.Prelude.{◌≤◌, ◌≢◌, ◌==◌, Bool, not, ◌||◌, ◌&&◌, nat_le, if◌then◌else◌, int_lt, unsigned_abs, ℤ, pos, ◌-ℤ◌, ◌*ℤ◌, ◌<ℤ◌}
 use Rattle.std.specs.Ordering.{int_eq}
 use Rattle.px_num.specs.declared.shape.Vertex.{Vertex}
 
@@ -53,6 +53,16 @@ pub record IsSmall (t : Corners) : Type 0 where
 pub record IsDrawn (t : Corners) : Type 0 where
   pub small : IsSmall t
   pub area : doubled_area t ≢ pos 0
+
+-- the same as a test, for definitions that choose by it
+abbrev pub is_near : Vertex → Vertex → Bool
+is_near p q = nat_le (unsigned_abs (p.x -ℤ q.x)) 1023 && nat_le (unsigned_abs (p.y -ℤ q.y)) 511
+
+abbrev pub is_flat : Corners → Bool
+is_flat t = unsigned_abs (doubled_area t) == 0
+
+unfoldable pub is_drawn : Corners → Bool
+is_drawn t = is_near t.first t.second && is_near t.second t.third && is_near t.third t.first && not (is_flat t)
 
 -- such a triangle whose doubled area is above 0
 pub record IsUpright (t : Corners) : Type 0 where

@@ -47,17 +47,19 @@ struct Upright {
 }
 
 impl Tri {
+    ghost use Rattle.std.specs.Option.{is_some};
     ghost use Rattle.std.specs.Prelude.{◌≡◌, SomeIff, MatchOption, IsTrue, ◌↔◌, pos, ℤ, false, ◌≤◌, ◌<◌, ◌+ℤ◌, ℕ, length, slice_index};
     ghost use Rattle.px_num.specs.Lanes.{EachLane};
     ghost use Rattle.edge_walk.specs.Attribute.{attribute_at};
     ghost use Rattle.edge_walk.specs.Extent.{bounding_box};
     ghost use Rattle.edge_walk.specs.Row.{IsInBox, IsRowSpan};
-    ghost use Rattle.edge_walk.specs.Triangle.{corners, oriented, IsDrawn, IsUpright, is_inside};
+    ghost use Rattle.edge_walk.specs.Triangle.{corners, oriented, IsDrawn, IsUpright, is_drawn, is_inside};
 
     /// The triangle with these vertices. None exactly where its doubled area is 0, or the size rule refuses it: two of
     /// its vertices lie more than 1023 apart in X or more than 511 in Y (psx-spx, "GPU Render Polygon Commands").
     pub fn new(a: Vertex, b: Vertex, c: Vertex) -> Option<Tri>
-        ensures { SomeIff result (IsDrawn (corners a b c)) (corners a b c) }
+        ensures value { SomeIff result (IsDrawn (corners a b c)) (corners a b c) }
+        ensures drawn { is_some result ≡ is_drawn (corners a b c) }
     {
         if !is_small(&a, &b, &c) {
             return None;

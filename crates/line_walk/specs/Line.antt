@@ -1,5 +1,5 @@
 -- Segments: the size rule and the points (psx-spx, "GPU Render Line Commands"; which points, is our own rule).
-use Rattle.std.specs.Prelude.{ℕ, ◌+◌, ◌*◌, ◌/◌, ◌%◌, ◌^◌, ◌≤◌, ◌==◌, if◌then◌else◌, max, unsigned_abs, ℤ, pos, ◌+ℤ◌, ◌-ℤ◌, ◌*ℤ◌, ◌≤ℤ◌}
+use Rattle.std.specs.Prelude.{ℕ, ◌+◌, ◌*◌, ◌/◌, ◌%◌, ◌^◌, ◌≤◌, ◌==◌, Bool, ◌&&◌, nat_le, if◌then◌else◌, max, unsigned_abs, ℤ, pos, ◌+ℤ◌, ◌-ℤ◌, ◌*ℤ◌, ◌≤ℤ◌}
 use Rattle.std.specs.Int.{int_div_euclid, int_min, int_max}
 use Rattle.px_num.specs.declared.shape.Vertex.{Vertex}
 
@@ -15,6 +15,10 @@ ends a b = record { first = a; second = b }
 pub record IsNear (p q : Vertex) : Type 0 where
   pub across : unsigned_abs (p.x -ℤ q.x) ≤ 1023
   pub down : unsigned_abs (p.y -ℤ q.y) ≤ 511
+
+-- the same as a test, for definitions that choose by it
+abbrev pub is_near : Vertex → Vertex → Bool
+is_near p q = nat_le (unsigned_abs (p.x -ℤ q.x)) 1023 && nat_le (unsigned_abs (p.y -ℤ q.y)) 511
 
 -- the number of steps from the first point to the last
 abbrev pub steps_of : Ends → ℕ

@@ -29,13 +29,15 @@ impl Model for Segment {
 }
 
 impl Segment {
+    ghost use Rattle.std.specs.Option.{is_some};
     ghost use Rattle.std.specs.Prelude.{◌≡◌, ◌<◌, ◌≤◌, ◌^◌, SomeIff};
-    ghost use Rattle.line_walk.specs.Line.{ends, len_of, point_of, IsNear, IsBetweenEnds};
+    ghost use Rattle.line_walk.specs.Line.{ends, len_of, point_of, is_near, IsNear, IsBetweenEnds};
 
     /// The segment with these vertices. None exactly where the size rule refuses it: they lie more than 1023 apart in
     /// X or more than 511 in Y (psx-spx, "GPU Render Line Commands").
     pub fn new(a: Vertex, b: Vertex) -> Option<Segment>
-        ensures { SomeIff result (IsNear a b) (ends a b) }
+        ensures value { SomeIff result (IsNear a b) (ends a b) }
+        ensures drawn { is_some result ≡ is_near a b }
     {
         let across = b.x.abs_diff(a.x);
         let down = b.y.abs_diff(a.y);

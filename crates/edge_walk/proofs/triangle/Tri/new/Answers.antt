@@ -1,6 +1,7 @@
-use Rattle.std.proofs.Common.{◌∙◌, refl, ap, arith, pos, int_lt, w64, SFits, rules, unsigned_abs}
+use Rattle.std.proofs.Common.{◌∙◌, IsTrue, false, refl, ap, arith, pos, int_lt, w64, SFits, rules, unsigned_abs}
 use Rattle.std.proofs.lemmas.Int.{to_z-of_z, ints}
 use Rattle.edge_walk.specs.Divisor.{divisor_of}
+use Rattle.edge_walk.proofs.Decided.{is_drawn-yes, is_drawn-no}
 use Rattle.edge_walk.proofs.MixLemmas.{area_small}
 use Rattle.edge_walk.proofs.triangle.Tri.new.Goals as goal
 
@@ -20,7 +21,18 @@ invariant_of-result c =
       divisor_is = c.new.ensures ∙ ap divisor_of (simp to_z-of_z at c.unsigned_abs.ensures.value ∙ ap unsigned_abs is);
     }
 
-pub returns : goal.returns
-returns c =
+pub returns-clause-value : goal.returns-clause-value
+returns-clause-value c =
     let is = c.doubled_area-area.ensures in
     (record { small = c.if-not-is_small.ensures.0 refl; area = omega (arith, ints, is) }, refl)
+
+pub returns-clause-drawn : goal.returns-clause-drawn
+returns-clause-drawn c =
+    let is = c.doubled_area-area.ensures in
+    is_drawn-yes _ (record { small = c.if-not-is_small.ensures.0 refl; area = omega (arith, ints, is) })
+
+pub returns-then-not-is_small-clause-drawn : goal.returns-then-not-is_small-clause-drawn
+returns-then-not-is_small-clause-drawn c = is_drawn-no _ (λ h. let e : IsTrue false = c.if-not-is_small.ensures.1 h.small in absurd cc)
+
+pub returns-then-area-eq0-clause-drawn : goal.returns-then-area-eq0-clause-drawn
+returns-then-area-eq0-clause-drawn c = let is = c.doubled_area-area.ensures in is_drawn-no _ (λ h. h.area (omega (arith, ints, is)))
