@@ -1,0 +1,41 @@
+-- Colour and texture coordinates of a triangle's cells (our own rule).
+use Rattle.std.specs.Prelude.{ℕ, ◌+◌, ◌*◌, ◌/◌, ◌%◌, ◌^◌, ◌==◌, ◌≤◌, if◌then◌else◌, unsigned_abs, ℤ, pos, ◌-ℤ◌, ◌*ℤ◌}
+use Rattle.px_num.specs.declared.shape.Vertex.{Vertex}
+use Rattle.edge_walk.specs.Triangle.{Corners, edge, doubled_area, oriented}
+
+-- red, green, blue, u and v of a vertex, numbered from 0
+abbrev pub attribute : ℕ → Vertex → ℕ
+attribute which v =
+    if which == 0 then v.color % 256
+    else (if which == 1 then v.color / 2 ^ 8 % 256
+    else (if which == 2 then v.color / 2 ^ 16 % 256
+    else (if which == 3 then v.u
+    else v.v)))
+
+-- how far a cell inside lies from an edge
+unfoldable pub weight : Vertex → Vertex → ℤ → ℤ → ℕ
+weight p q x y = unsigned_abs (edge p q x y)
+
+-- an attribute of an oriented triangle at a cell inside: each vertex counts by the weight of the edge opposite to it
+unfoldable pub mixed_of : Corners → ℕ → ℤ → ℤ → ℕ
+mixed_of t which x y =
+    (weight t.second t.third x y * attribute which t.first
+    + weight t.third t.first x y * attribute which t.second
+    + weight t.first t.second x y * attribute which t.third)
+    / unsigned_abs (doubled_area t)
+
+abbrev pub attribute_at : Corners → ℕ → ℤ → ℤ → ℕ
+attribute_at t which x y = mixed_of (oriented t) which x y
+
+-- the attribute of each vertex is a byte
+pub record AreBytes (which : ℕ) (t : Corners) : Type 0 where
+  pub first : attribute which t.first ≤ 255
+  pub second : attribute which t.second ≤ 255
+  pub third : attribute which t.third ≤ 255
+
+-- how much the sum of an attribute grows from one cell of a row to the next
+abbrev pub step_of : Corners → ℕ → ℤ
+step_of t which =
+    pos 0 -ℤ pos (attribute which t.first) *ℤ (t.third.y -ℤ t.second.y)
+    -ℤ pos (attribute which t.second) *ℤ (t.first.y -ℤ t.third.y)
+    -ℤ pos (attribute which t.third) *ℤ (t.second.y -ℤ t.first.y)

@@ -1,0 +1,15 @@
+-- A doubled area by which sums of attributes are divided.
+use Rattle.std.specs.Prelude.{ℕ, ◌+◌, ◌/◌, ◌^◌, ◌<◌, ◌≤◌, ◌≡◌}
+use Rattle.edge_walk.specs.declared.divisor.Divisor.{Divisor}
+
+-- what a sum is multiplied by: the 48 bits below the product's quotient are its fraction
+abbrev pub reciprocal_of : ℕ → ℕ
+reciprocal_of area = 2 ^ 48 / area + 1
+
+abbrev pub divisor_of : ℕ → Divisor
+divisor_of area = record { area = area; reciprocal = reciprocal_of area }
+
+pub record IsDivisor (d : Divisor) : Type 0 where
+  pub some : 0 < d.area
+  pub most : d.area ≤ 1045506
+  pub reciprocal : d.reciprocal ≡ reciprocal_of d.area

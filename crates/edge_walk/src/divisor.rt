@@ -1,0 +1,35 @@
+// Exact quotients by an area, without a division for each.
+ghost use Rattle.std.specs.Prelude.{◌≡◌, ◌*◌, ◌/◌, ◌<◌, ◌≤◌};
+
+/// A doubled area, and 2^48 over it, rounded up past the quotient.
+///
+/// The sum of an attribute is at most 255 times the area. The product of such a sum and the reciprocal is less than
+/// 2^48 over the area above 2^48 times the exact quotient, so it has the same whole part.
+#[derive(Clone, Copy)]
+pub(crate) struct Divisor {
+    area: u32,
+    reciprocal: u64,
+}
+
+impl Divisor {
+    ghost use Rattle.edge_walk.specs.Divisor.{IsDivisor, divisor_of};
+
+    pub(crate) fn new(area: u32) -> Divisor
+        requires { 0 < area }
+        ensures { result ≡ divisor_of area }
+    {
+        Divisor {
+            area,
+            reciprocal: (1 << 48) / area as u64 + 1,
+        }
+    }
+
+    /// The sum over the area, rounded down.
+    pub(crate) fn quotient(&self, sum: u32) -> u8
+        requires divisor { IsDivisor self.now }
+        requires sum { sum ≤ 255 * self.now.area }
+        ensures { result ≡ sum / self.now.area }
+    {
+        (sum as u64 * self.reciprocal >> 48) as u8
+    }
+}

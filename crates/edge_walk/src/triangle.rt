@@ -1,0 +1,172 @@
+// A triangle and its cells.
+use crate::divisor::Divisor;
+use crate::edge::{all_three, doubled_area, is_on_side, is_small};
+use crate::extent::bounding_box;
+use crate::mix::{attribute, mixed, row_lanes, row_mix, weights_at};
+use crate::rows::{Limits, row_limits};
+use px_num::{Box2, Vertex};
+use std::marker::Model;
+use std::simd::prelude::*;
+
+/// A triangle that the size rule admits and whose doubled area is not 0. Contracts see it as its three
+/// vertices, in the order in which `new` was given them.
+#[derive(Clone, Copy)]
+pub struct Tri {
+    a: Vertex,
+    b: Vertex,
+    c: Vertex,
+    // whether b and c are exchanged in the oriented triangle
+    turned: bool,
+    divisor: Divisor,
+}
+
+impl Model for Tri {
+    ghost use Rattle.std.specs.Prelude.{◌≡◌, int_lt, pos, unsigned_abs};
+    ghost use Rattle.std.proofs.Common.{ap, sym, ◌∙◌};
+    ghost use Rattle.edge_walk.specs.Divisor.{divisor_of};
+    ghost use Rattle.edge_walk.specs.Triangle.{Corners, corners, doubled_area, IsDrawn};
+    ghost use Rattle.edge_walk.specs.Held.{IsHeld, is_turned, divisor_for};
+
+    ghost Value = { Corners };
+
+    ghost view = { λ t. corners t.a t.b t.c };
+
+    ghost invariant = { λ t. IsHeld (corners t.a t.b t.c) t.turned t.divisor };
+
+    ghost inverse = { λ t. record { a = t.first; b = t.second; c = t.third; turned = is_turned t; divisor = divisor_for t } };
+
+    ghost inverse_ok = { λ t h. ap (λ s. record { a = t.a; b = t.b; c = t.c; turned = s; divisor = divisor_for (corners t.a t.b t.c) }) (sym h.turned_is) ∙ ap (λ s. record { a = t.a; b = t.b; c = t.c; turned = t.turned; divisor = s }) (sym h.divisor_is) };
+}
+
+// A triangle whose doubled area is above 0.
+#[derive(Clone, Copy)]
+struct Upright {
+    a: Vertex,
+    b: Vertex,
+    c: Vertex,
+}
+
+impl Tri {
+    ghost use Rattle.std.specs.Option.{is_some};
+    ghost use Rattle.std.specs.Prelude.{◌≡◌, SomeIff, MatchOption, IsTrue, ◌↔◌, pos, ℤ, false, ◌≤◌, ◌<◌, ◌+ℤ◌, ℕ, length, slice_index};
+    ghost use Rattle.px_num.specs.Lanes.{EachLane};
+    ghost use Rattle.edge_walk.specs.Attribute.{attribute_at};
+    ghost use Rattle.edge_walk.specs.Extent.{bounding_box};
+    ghost use Rattle.edge_walk.specs.Row.{IsInBox, IsRowSpan};
+    ghost use Rattle.edge_walk.specs.Triangle.{corners, oriented, IsDrawn, IsUpright, is_drawn, is_inside};
+
+    /// The triangle with these vertices. None exactly where its doubled area is 0, or the size rule refuses it: two of
+    /// its vertices lie more than 1023 apart in X or more than 511 in Y (psx-spx, "GPU Render Polygon Commands").
+    pub fn new(a: Vertex, b: Vertex, c: Vertex) -> Option<Tri>
+        ensures value { SomeIff result (IsDrawn (corners a b c)) (corners a b c) }
+        ensures drawn { is_some result ≡ is_drawn (corners a b c) }
+    {
+        if !is_small(&a, &b, &c) {
+            return None;
+        }
+        let area = doubled_area(&a, &b, &c);
+        if area == 0 {
+            return None;
+        }
+        Some(Tri {
+            a,
+            b,
+            c,
+            turned: area < 0,
+            divisor: Divisor::new(area.unsigned_abs() as u32),
+        })
+    }
+
+    // The same triangle, its doubled area above 0.
+    fn upright(&self) -> Upright
+        ensures same { corners result.a result.b result.c ≡ oriented self.now }
+        ensures upright { IsUpright (corners result.a result.b result.c) }
+        ensures drawn { IsDrawn self.now }
+    {
+        if self.turned {
+            Upright {
+                a: self.a,
+                b: self.c,
+                c: self.b,
+            }
+        } else {
+            Upright {
+                a: self.a,
+                b: self.b,
+                c: self.c,
+            }
+        }
+    }
+
+    /// Whether the triangle draws a cell.
+    pub fn inside(&self, x: i32, y: i32) -> bool
+        ensures value { result ≡ is_inside self.now x y }
+        ensures in_bounds { IsTrue result → IsInBox (bounding_box self.now) x y }
+    {
+        let t = self.upright();
+        let first = is_on_side(&t.a, &t.b, x, y);
+        let second = is_on_side(&t.b, &t.c, x, y);
+        let third = is_on_side(&t.c, &t.a, x, y);
+        all_three(first, second, third)
+    }
+
+    /// The smallest box that has the three vertices.
+    pub fn bounds(&self) -> Box2
+        ensures value { result ≡ bounding_box self.now }
+        ensures drawn { IsDrawn self.now }
+    {
+        bounding_box(&self.a, &self.b, &self.c)
+    }
+
+    /// The first and the last column of the cells inside that stand in a row of a box. All cells between them are
+    /// inside. None exactly where the row has no such cell.
+    pub fn row_span(&self, y: i32, clip: &Box2) -> Option<(i32, i32)>
+        ensures { MatchOption result ((x : ℤ) → IsInBox clip.now x y → is_inside self.now x y ≡ false) (λ span. IsRowSpan self.now y clip.now span.0 span.1) }
+    {
+        if y < clip.y1 || clip.y2 < y {
+            return None;
+        }
+        let t = self.upright();
+        let limits = row_limits(&t.a, &t.b, &t.c, y, Limits::of(clip.x1, clip.x2));
+        if limits.low <= limits.high {
+            Some((limits.low as i32, limits.high as i32))
+        } else {
+            None
+        }
+    }
+
+    /// Red, green, blue, u or v, numbered from 0, at a cell inside.
+    pub fn attr_at(&self, which: u8, x: i32, y: i32) -> u8
+        requires which { which ≤ 4 }
+        requires inside { IsTrue (is_inside self.now x y) }
+        ensures value { result ≡ attribute_at self.now which x y }
+        ensures byte { result ≤ 255 }
+    {
+        let t = self.upright();
+        let weights = weights_at(&t.a, &t.b, &t.c, x, y);
+        mixed(
+            &weights,
+            attribute(&t.a, which),
+            attribute(&t.b, which),
+            attribute(&t.c, which),
+            &self.divisor,
+        )
+    }
+
+    /// `attr_at` of the `n` cells inside from (x, y) to the right, and 0 in the lanes from `n` on.
+    pub fn attr_lanes(&self, which: u8, x: i32, y: i32, n: u8) -> u16x16
+        requires which { which ≤ 4 }
+        requires some { 1 ≤ n }
+        requires lanes { n ≤ 16 }
+        requires inside { (j : ℕ) → j < n → IsTrue (is_inside self.now (x +ℤ pos j) y) }
+        ensures long { length result ≡ 16 }
+        ensures value { (j : ℕ) → j < n → slice_index result j ≡ attribute_at self.now which (x +ℤ pos j) y }
+        ensures bytes { EachLane (λ j. slice_index result j ≤ 255) }
+        ensures rest { (j : ℕ) → n ≤ j → slice_index result j ≡ 0 }
+    {
+        let t = self.upright();
+        let weights = weights_at(&t.a, &t.b, &t.c, x, y);
+        let mix = row_mix(&t.a, &t.b, &t.c, which, &weights);
+        u16x16::from_array(row_lanes(&mix, n, &self.divisor))
+    }
+}

@@ -1,0 +1,77 @@
+-- A step along a segment stays between its ends.
+use Rattle.std.proofs.Common.{ℕ, suc, ◌+◌, ◌*◌, ◌≤◌, ◌<◌, ◌≡◌, ◌≢◌, ℤ, pos, negsuc, ◌+ℤ◌, ◌-ℤ◌, ◌*ℤ◌, ◌≤ℤ◌, ◌<ℤ◌, Bool, true, false, cond, eqb, refl, ap, arith}
+use Rattle.std.specs.Int.{int_min, int_max}
+use Rattle.std.proofs.lemmas.Int.{ints, clamps, by_lt_z}
+use Rattle.std.proofs.lemmas.Bool.Decides.{nat_tests}
+use Rattle.std.proofs.Math.Nat.{mul-le-mul_right}
+use borrow.Author.Differences.{up, down}
+use Rattle.px_num.specs.Floor.{IsFloor}
+use Rattle.px_num.proofs.FloorLemmas.{floor_is}
+use Rattle.px_num.proofs.Ring.{at, add, mul, same}
+use Rattle.line_walk.specs.Line.{Ends, rise, along, steps_of, len_of, point_of, IsAmid, IsBetweenEnds}
+
+le_ups : (x y : ℤ) → x ≤ℤ y → up x + down y ≤ up y + down x
+le_ups x y h = omega (arith, ints)
+
+mul_mono : (d : ℕ) (x y : ℤ) → x ≤ℤ y → (x *ℤ pos d) ≤ℤ (y *ℤ pos d)
+mul_mono d x y le = omega (arith, ints, mul-le-mul_right d (le_ups x y le))
+
+mul_mono_left : (j k : ℕ) (d : ℤ) → j ≤ k → pos 0 ≤ℤ d → (pos j *ℤ d) ≤ℤ (pos k *ℤ d)
+mul_mono_left j k (pos d) le h = omega (arith, ints, mul-le-mul_right d le)
+mul_mono_left j k (negsuc d) le h = absurd (omega (arith, ints))
+
+mul_mono_down : (j k : ℕ) (d : ℤ) → j ≤ k → d <ℤ pos 0 → (pos k *ℤ d) ≤ℤ (pos j *ℤ d)
+mul_mono_down j k (pos d) le h = absurd (omega (arith, ints))
+mul_mono_down j k (negsuc d) le h = omega (arith, ints, mul-le-mul_right (suc d) le)
+
+module _ (q d : ℤ) (n k : ℕ) (some : 0 < n) (within : k ≤ n) (floor : IsFloor q (pos (2 * k) *ℤ d +ℤ pos n) (pos (2 * n))) where
+  quotient_low : int_min (pos 0) d ≤ℤ q
+  quotient_low = by_lt_z d (pos 0)
+      (λ falls. by_lt_z q d
+      (λ beyond. let m = mul_mono (2 * n) (q +ℤ pos 1) d (omega (arith, ints)) in let e = mul_mono_down (2 * k) (2 * n) d (omega arith) falls in absurd (omega (arith, ints, floor.next)))
+      (λ le. omega (arith, ints, clamps)))
+      (λ grows. by_lt_z q (pos 0)
+      (λ beyond. let m = mul_mono (2 * n) (q +ℤ pos 1) (pos 0) (omega (arith, ints)) in let e = mul_mono_left 0 (2 * k) d (omega arith) grows in absurd (omega (arith, ints, floor.next)))
+      (λ le. omega (arith, ints, clamps)))
+
+  quotient_high : q ≤ℤ int_max (pos 0) d
+  quotient_high = by_lt_z d (pos 0)
+      (λ falls. by_lt_z (pos 0) q
+      (λ beyond. let m = mul_mono (2 * n) (pos 1) q (omega (arith, ints)) in let e = mul_mono_down 0 (2 * k) d (omega arith) falls in absurd (omega (arith, ints, floor.reached)))
+      (λ le. omega (arith, ints, clamps)))
+      (λ grows. by_lt_z d q
+      (λ beyond. let m = mul_mono (2 * n) (d +ℤ pos 1) q (omega (arith, ints)) in let e = mul_mono_left (2 * k) (2 * n) d (omega arith) grows in let r = same (mul (add (at d) (at (pos 1))) (at (pos (2 * n)))) (add (mul (at (pos (2 * n))) (at d)) (at (pos (2 * n)))) (omega arith) in absurd (omega (arith, ints, floor.reached)))
+      (λ le. omega (arith, ints, clamps)))
+
+pub rise-low : (d : ℤ) (n k : ℕ) → 0 < n → k ≤ n → int_min (pos 0) d ≤ℤ rise d n k
+unfolding rise
+rise-low d n k some within = quotient_low _ d n k some within (floor_is _ (pos (2 * n)) (omega (arith, ints)))
+
+pub rise-high : (d : ℤ) (n k : ℕ) → 0 < n → k ≤ n → rise d n k ≤ℤ int_max (pos 0) d
+unfolding rise
+rise-high d n k some within = quotient_high _ d n k some within (floor_is _ (pos (2 * n)) (omega (arith, ints)))
+
+pub sum-amid : (from to : ℤ) (n k : ℕ) → 0 < n → k ≤ n → IsAmid from to (from +ℤ rise (to -ℤ from) n k)
+sum-amid from to n k some within = (
+  omega (arith, ints, clamps, rise-low (to -ℤ from) n k some within),
+  omega (arith, ints, clamps, rise-high (to -ℤ from) n k some within),
+)
+
+-- where there is a step
+pub along-some : (from to : ℤ) (n k : ℕ) → n ≢ 0 → along from to n k ≡ (from +ℤ rise (to -ℤ from) n k)
+along-some from to n k some = let e : eqb n 0 ≡ false = grind (arith, nat_tests) in ap (λ t. cond t from (from +ℤ rise (to -ℤ from) n k)) e
+
+by_steps : (t : Bool) (from to : ℤ) (n k : ℕ) → t ≡ eqb n 0 → k ≤ n → IsAmid from to (cond t from (from +ℤ rise (to -ℤ from) n k))
+by_steps true from to n k e within = (omega (arith, ints, clamps), omega (arith, ints, clamps))
+by_steps false from to n k e within = let some : 0 < n = grind (arith, nat_tests) in sum-amid from to n k some within
+
+-- a value along a segment lies between those at its ends
+pub along-amid : (from to : ℤ) (n k : ℕ) → k ≤ n → IsAmid from to (along from to n k)
+along-amid from to n k within = by_steps (eqb n 0) from to n k refl within
+
+-- each point lies in the box of the ends
+pub point_of-between : (s : Ends) (k : ℕ) → k < len_of s → IsBetweenEnds s (point_of s k)
+point_of-between s k within = record {
+  across = along-amid s.first.x s.second.x (steps_of s) k (omega arith);
+  down = along-amid s.first.y s.second.y (steps_of s) k (omega arith);
+}
