@@ -3,6 +3,8 @@
 
 mod command;
 mod line;
+#[cfg(test)]
+mod rows;
 mod run;
 
 ghost use Rattle.std.specs.Prelude.{◌≡◌, ◌<◌};
