@@ -1,0 +1,4 @@
+pub mod BlindLemmas
+pub mod CellsLemmas
+pub mod CostLemmas
+pub mod FlatLemmas

@@ -1,0 +1,5 @@
+pub mod Cells
+pub mod Cost
+pub mod Guard
+pub mod Laws
+pub mod Shade
