@@ -66,7 +66,7 @@ pub(crate) fn read_texel<L: Ledger>(
 }
 
 #[tactic(auto, unfolding(crate::specs::Shade::shift_of))]
-fn shift_for(dither: bool, x: u16, y: u16) -> i8
+pub(crate) fn shift_for(dither: bool, x: u16, y: u16) -> i8
     ensures value { result ≡ shift_of dither x y }
     ensures small { IsShift result }
 {
