@@ -9,8 +9,8 @@ ghost use Rattle.span_lanes.specs.Cost.{paint_steps, chunk_cost, span_cost};
 
 use crate::Span;
 use crate::cells::draw_cell;
-use crate::flat::gather;
 use crate::guard::reads_itself;
+use crate::lanes::gather;
 use std::simd::prelude::*;
 use std::sync::ledger::Ledger;
 use vram_store::{Steps, Vram};

@@ -6,8 +6,9 @@ ghost use Rattle.vram_store.specs.Chunk.{IsLane, HasLanes};
 ghost use Rattle.span_lanes.specs.Shade.{IsSpan, LiesIn, shade};
 ghost use Rattle.span_lanes.specs.Cost.{paint_steps};
 
-use crate::Span;
 use crate::pixel::pixel_of;
+use crate::plain::collect_plain;
+use crate::{Paint, Span};
 use std::sync::ledger::Ledger;
 use vram_store::mask::write_over;
 use vram_store::{Steps, Vram};
@@ -45,13 +46,7 @@ fn put_lane(cells: &mut [u16; 16], bits: u16, j: u8, written: Option<u16>) -> u1
 }
 
 // The pixels of k cells of a span, all of them read in video memory as it is.
-pub(crate) fn collect<L: Ledger>(
-    vram: &Vram,
-    span: &Span,
-    first: u16,
-    k: u8,
-    steps: &mut Steps<L>,
-) -> Lanes
+fn collect<L: Ledger>(vram: &Vram, span: &Span, first: u16, k: u8, steps: &mut Steps<L>) -> Lanes
     requires span { IsSpan span.now }
     requires height { LiesIn (height_of vram.now) span.now }
     requires some { 1 ≤ k }
@@ -74,4 +69,27 @@ pub(crate) fn collect<L: Ledger>(
         );
     }
     Lanes { cells, bits }
+}
+
+// The pixels of k cells of a span, all of them read in video memory as it is.
+pub(crate) fn gather<L: Ledger>(
+    vram: &Vram,
+    span: &Span,
+    first: u16,
+    k: u8,
+    steps: &mut Steps<L>,
+) -> Lanes
+    requires span { IsSpan span.now }
+    requires height { LiesIn (height_of vram.now) span.now }
+    requires some { 1 ≤ k }
+    requires few { k ≤ 16 }
+    requires within { first + k ≤ span.now.n }
+    ensures lanes { HasLanes (later (shade span.now) first) span.now.brush.mask (1024 * span.now.y + (span.now.x + first)) k vram.now result.cells result.bits }
+    ensures cost { steps.new ≤ steps.old + (1 + paint_steps span.now.paint * k) }
+{
+    match &span.paint {
+        Paint::Flat { .. } => collect_plain(vram, span, first, k, steps),
+        Paint::Shaded { .. } => collect_plain(vram, span, first, k, steps),
+        _ => collect(vram, span, first, k, steps),
+    }
 }

@@ -10,12 +10,13 @@ ghost use Rattle.std.specs.Prelude.{◌≡◌, ◌≤◌, ◌<◌, ◌+◌, pos,
 ghost use Rattle.edge_walk.specs.Triangle.{is_inside};
 
 mod cells;
+mod colors;
 mod draw;
-mod flat;
 mod guard;
 mod lanes;
 pub mod laws;
 mod pixel;
+mod plain;
 mod span;
 
 pub use draw::draw_span;
