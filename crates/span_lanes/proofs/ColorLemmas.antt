@@ -1,0 +1,44 @@
+-- Colours by their channels.
+use Rattle.std.proofs.Common.{◌≡◌, ◌≤◌, ◌<◌, ℕ, ◌+◌, ◌*◌, ◌∙◌, ap, List, map, length, get_or, pos, ℤ, to_z, of_z, w16, SFits, arith}
+use Rattle.std.proofs.lemmas.Int.{ints, to_z-of_z}
+use Rattle.std.proofs.lemmas.List.{get_or-map, length-map}
+use Rattle.px_num.specs.Lanes.{EachLane}
+use Rattle.blend_dither.specs.Color.{red_of, green_of, blue_of, IsShift}
+use Rattle.span_lanes.specs.declared.span.Paint.{Paint}
+use Rattle.span_lanes.specs.declared.span.Paint.TheVariants.{Flat, Shaded, TexturedTri, TexturedRow}
+use Rattle.edge_walk.specs.Triangle.{Corners}
+use Rattle.span_lanes.specs.Shade.{HasInside, AreInside}
+
+pub red_mixed : (r g b : ℕ) → r ≤ 255 → red_of (r + 256 * g + 65536 * b) ≡ r
+red_mixed r g b low = omega arith
+
+pub green_mixed : (r g b : ℕ) → r ≤ 255 → g ≤ 255 → green_of (r + 256 * g + 65536 * b) ≡ g
+green_mixed r g b low less = omega arith
+
+pub blue_mixed : (r g b : ℕ) → r ≤ 255 → g ≤ 255 → b ≤ 255 → blue_of (r + 256 * g + 65536 * b) ≡ b
+blue_mixed r g b low less least = omega arith
+
+inside_more : (tri : Corners) (x y n first k : ℕ) → first + k ≤ n → AreInside tri x y n → AreInside tri (x + first) y k
+inside_more tri x y n first k within inside i lt =
+    let same : x + first + i ≡ x + (first + i) = omega arith in
+    rw same (inside (first + i) (omega arith))
+
+-- cells of a later chunk are inside
+pub inside_later : (paint : Paint) (x y n first k : ℕ) → first + k ≤ n → HasInside paint x y n → HasInside paint (x + first) y k
+inside_later (Flat color) x y n first k within inside = inside
+inside_later (Shaded tri) x y n first k within inside = inside_more tri x y n first k within inside
+inside_later (TexturedTri tri texture) x y n first k within inside = inside_more tri x y n first k within inside
+inside_later (TexturedRow color texture u v flip) x y n first k within inside = inside
+
+small_fits : (z : ℤ) → IsShift z → SFits w16 z
+small_fits z small = omega (arith, ints)
+
+-- small numbers that were written to lanes are read back
+pub read_back : (xs : List ℤ) → length xs ≡ 16 → EachLane (λ i. IsShift (get_or xs i (pos 0))) → (i : ℕ) → i < 16
+    → get_or (map (to_z w16) (map (of_z w16) xs)) i (pos 0) ≡ get_or xs i (pos 0)
+read_back xs long small i lt =
+    let there : i < length xs = omega (arith, long) in
+    let there_too : i < length (map (of_z w16) xs) = simp length-map there in
+    get_or-map (to_z w16) (map (of_z w16) xs) i 0 (pos 0) there_too
+    ∙ ap (to_z w16) (get_or-map (of_z w16) xs i (pos 0) 0 there)
+    ∙ to_z-of_z w16 (get_or xs i (pos 0)) (small_fits (get_or xs i (pos 0)) (small i lt))

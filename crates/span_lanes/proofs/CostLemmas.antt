@@ -1,0 +1,56 @@
+-- What a span costs at most.
+use Rattle.std.proofs.Common.{◌≡◌, ◌≤◌, ℕ, zero, suc, Bool, true, false, cond, ltb, ◌+◌, ◌-◌, ◌*◌, ◌/◌, min, refl, subst, add-one, arith}
+use Rattle.span_lanes.specs.declared.span.Paint.{Paint}
+use Rattle.span_lanes.specs.declared.span.Paint.TheVariants.{Flat, Shaded, TexturedTri, TexturedRow}
+use Rattle.span_lanes.specs.declared.span.Span.{Span}
+use Rattle.span_lanes.specs.Guard.{has_hazard}
+use Rattle.span_lanes.specs.Cost.{paint_steps, steps_of, chunk_cost, chunks_cost, span_cost}
+use Rattle.span_lanes.specs.Laws.{CostLaw}
+
+steps_small : (b : Bool) (p k : ℕ) → p ≤ 2 → 1 ≤ k → steps_of b p k ≤ 4 * k
+steps_small true zero k low some = omega arith
+steps_small true (suc zero) k low some = omega arith
+steps_small true (suc (suc zero)) k low some = omega arith
+steps_small true (suc (suc (suc p))) k low some = absurd (omega arith)
+steps_small false zero k low some = omega arith
+steps_small false (suc zero) k low some = omega arith
+steps_small false (suc (suc zero)) k low some = omega arith
+steps_small false (suc (suc (suc p))) k low some = absurd (omega arith)
+
+two_or_one : (b : Bool) → cond b 2 1 ≤ 2
+two_or_one true = omega arith
+two_or_one false = omega arith
+
+paint_small : (paint : Paint) → paint_steps paint ≤ 2
+paint_small (Flat color) = omega arith
+paint_small (Shaded tri) = omega arith
+paint_small (TexturedTri tri t) = two_or_one (ltb t.page.depth 2)
+paint_small (TexturedRow color t u v flip) = two_or_one (ltb t.page.depth 2)
+
+chunks_small : (span : Span) (c : ℕ) → c ≤ (span.n + 15) / 16 → chunks_cost span c ≤ 4 * min (16 * c) span.n
+chunks_small span zero le = omega arith
+chunks_small span (suc c) le =
+    let so_far = chunks_small span c (omega arith) in
+    let k : ℕ = min (span.n - 16 * c) 16 in
+    let next = steps_small (has_hazard span (16 * c) (min (span.n - 16 * c) 16)) (paint_steps span.paint) (min (span.n - 16 * c) 16) (paint_small span.paint) (omega arith) in
+    joined (chunks_cost span c) (chunk_cost span (16 * c) (min (span.n - 16 * c) 16)) c span.n le so_far next
+  where
+    joined : (a b c n : ℕ) → suc c ≤ (n + 15) / 16 → a ≤ 4 * min (16 * c) n → b ≤ 4 * min (n - 16 * c) 16 → a + b ≤ 4 * min (16 * suc c) n
+    joined a b c n le f g = omega arith
+
+pub cost_law : CostLaw
+unfolding span_cost
+cost_law span is =
+    let all : min (16 * ((span.n + 15) / 16)) span.n ≡ span.n = omega arith in
+    rw all at (chunks_small span ((span.n + 15) / 16) (omega arith))
+
+-- one chunk more
+pub cost_more : (span : Span) (at k before now next : ℕ) → k ≡ min (span.n - 16 * at) 16
+    → now ≤ before + chunks_cost span at → next ≤ now + chunk_cost span (16 * at) k → next ≤ before + chunks_cost span (at + 1)
+cost_more span at k before now next e so_far here =
+    let spent : next ≤ now + chunk_cost span (16 * at) (min (span.n - 16 * at) 16) = subst (λ (i : ℕ). next ≤ now + chunk_cost span (16 * at) i) e here in
+    let more : chunks_cost span (at + 1) ≡ chunks_cost span at + chunk_cost span (16 * at) (min (span.n - 16 * at) 16) = rw (add-one at) refl in
+    rw more (joined before now next _ _ so_far spent)
+  where
+    joined : (before now next d e : ℕ) → now ≤ before + d → next ≤ now + e → next ≤ before + (d + e)
+    joined before now next d e f g = omega arith

@@ -1,0 +1,5 @@
+pub mod BlindLemmas
+pub mod CellsLemmas
+pub mod ColorLemmas
+pub mod CostLemmas
+pub mod PlainLemmas

@@ -1,0 +1,41 @@
+-- Pixels without a texture.
+use Rattle.std.proofs.Common.{◌≡◌, ◌<◌, ℕ, ℤ, List, Option, None, Some, Bool, true, false, cond, ◌+◌, ◌^◌, refl, ap, ◌∙◌, arith}
+use Rattle.vram_store.specs.Vram.{at}
+use Rattle.vram_store.specs.Plot.{is_kept, forced, written_over}
+use Rattle.vram_store.specs.Chunk.{IsLane}
+use Rattle.blend_dither.specs.Color.{packed_pixel, tone_of, red_of, green_of, blue_of}
+use Rattle.span_lanes.specs.declared.span.Brush.{Brush}
+use Rattle.span_lanes.specs.declared.span.Paint.{Paint}
+use Rattle.span_lanes.specs.declared.span.Paint.TheVariants.{Flat, Shaded, TexturedTri, TexturedRow}
+use Rattle.span_lanes.specs.declared.span.Span.{Span}
+use Rattle.span_lanes.specs.Shade.{flat_pixel, blended_if, shift_of, paint_pixel, shade}
+use Rattle.span_lanes.specs.Lanes.{texture_of, paint_color}
+
+paint_plain : (paint : Paint) (brush : Brush) (x y i : ℕ) (m : List ℕ) → texture_of paint ≡ None
+    → paint_pixel paint brush x y i m ≡ flat_pixel brush (paint_color paint x y) (shift_of brush.dither x y) (at m x y)
+paint_plain (Flat color) brush x y i m none = refl
+paint_plain (Shaded tri) brush x y i m none = refl
+paint_plain (TexturedTri tri texture) brush x y i m none = absurd (cc)
+paint_plain (TexturedRow color texture u v flip) brush x y i m none = absurd (cc)
+
+pub shade_plain : (span : Span) (i x : ℕ) (m : List ℕ) → texture_of span.paint ≡ None → x ≡ span.x + i
+    → shade span i m ≡ flat_pixel span.brush (paint_color span.paint x span.y) (shift_of span.brush.dither x span.y) (at m x span.y)
+unfolding shade
+shade_plain span i x m none e = rw e (paint_plain span.paint span.brush (span.x + i) span.y i m none)
+
+packed_low : (p x : ℕ) → x ≡ p → x < 2 ^ 15 → packed_pixel p false false ≡ x
+packed_low p x e lt = omega arith
+
+pub plain_is : (brush : Brush) (color : ℕ) (shift : ℤ) (back t h : ℕ) → t ≡ tone_of (red_of color) (green_of color) (blue_of color) shift
+    → h ≡ blended_if brush.semi brush.mode back t → h < 2 ^ 15 → flat_pixel brush color shift back ≡ Some h
+unfolding flat_pixel
+plain_is brush color shift back t h tone e low =
+    ap (λ (n : ℕ). Some n) (packed_low _ h (e ∙ ap (blended_if brush.semi brush.mode back) tone) low)
+
+-- a lane whose pixel is there
+pub plain_lane : (mask c : ℕ) (pixel : Option ℕ) (p b h : ℕ) → pixel ≡ Some p → b ≡ cond (is_kept mask c) 0 1 → h ≡ forced mask p → IsLane (written_over mask c pixel) b h
+plain_lane mask c pixel p b h e f g = rw e (by_kept (is_kept mask c) (forced mask p) f g)
+  where
+    by_kept : (kept : Bool) (q : ℕ) → b ≡ cond kept 0 1 → h ≡ q → IsLane (cond kept None (Some q)) b h
+    by_kept true q f g = λ one. absurd (omega arith)
+    by_kept false q f g = (f, g)

@@ -1,0 +1,17 @@
+-- Cells that are drawn one after another (our own rule: every pixel reads video memory as it is then).
+use Rattle.std.specs.Prelude.{ℕ, ◌+◌, ◌*◌, List, [], ◌∷◌, Option, map}
+use Rattle.std.specs.List.{range_with_len}
+use Rattle.px_num.specs.declared.shape.Cell.{Cell}
+use Rattle.vram_store.specs.Plot.{draw_at}
+
+-- the cells of a list in its order: each takes its pixel, or none, from video memory as it is by then, and is plotted under the mask setting
+abbrev pub Cells : (Cell → List ℕ → Option ℕ) → ℕ → List Cell → List ℕ → List ℕ
+Cells shade mask [] m = m
+Cells shade mask (cell ∷ cells) m = Cells shade mask cells (draw_at mask (1024 * cell.y + cell.x) (shade cell m) m)
+
+abbrev pub cell_in_row : ℕ → ℕ → ℕ → Cell
+cell_in_row x y i = record { x = x + i; y = y }
+
+-- n cells of a row from (x, y) on, from left to right
+unfoldable pub row_cells : ℕ → ℕ → ℕ → List Cell
+row_cells x y n = map (cell_in_row x y) (range_with_len 0 n)

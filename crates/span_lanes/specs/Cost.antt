@@ -1,0 +1,34 @@
+-- How many store steps the cells of a row may take (our own rule).
+use Rattle.std.specs.Prelude.{ℕ, zero, suc, ◌+◌, ◌-◌, ◌*◌, ◌/◌, min, Bool, if◌then◌else◌, nat_lt}
+use Rattle.span_lanes.specs.declared.span.Paint.{Paint}
+use Rattle.span_lanes.specs.declared.span.Paint.TheVariants.{Flat, Shaded, TexturedTri, TexturedRow}
+use Rattle.span_lanes.specs.declared.span.Span.{Span}
+use Rattle.span_lanes.specs.Guard.{has_hazard}
+
+-- the reads of a texel: its cell, and at depths 0 and 1 the palette's entry
+abbrev pub texel_steps : ℕ → ℕ
+texel_steps depth = if nat_lt depth 2 then 2 else 1
+
+-- the reads of a pixel, but for its own cell
+abbrev pub paint_steps : Paint → ℕ
+paint_steps (Flat color) = 0
+paint_steps (Shaded tri) = 0
+paint_steps (TexturedTri tri texture) = texel_steps texture.page.depth
+paint_steps (TexturedRow color texture u v flip) = texel_steps texture.page.depth
+
+-- a chunk of n cells whose pixels read d cells each: without a hazard its own cells are read and written in one step each
+abbrev pub steps_of : Bool → ℕ → ℕ → ℕ
+steps_of hazard d n = if hazard then (d + 2) * n else 2 + d * n
+
+-- n cells of a span from a first one on
+abbrev pub chunk_cost : Span → ℕ → ℕ → ℕ
+chunk_cost span first n = steps_of (has_hazard span first n) (paint_steps span.paint) n
+
+-- the first so many chunks of a span, cut from its left into chunks of sixteen cells and a last one
+abbrev pub chunks_cost : Span → ℕ → ℕ
+chunks_cost span zero = 0
+chunks_cost span (suc c) = chunks_cost span c + chunk_cost span (16 * c) (min (span.n - 16 * c) 16)
+
+-- all of them
+unfoldable pub span_cost : Span → ℕ
+span_cost span = chunks_cost span ((span.n + 15) / 16)

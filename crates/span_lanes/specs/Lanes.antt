@@ -1,0 +1,50 @@
+-- The parts of the pixels of a chunk, lane by lane.
+use Rattle.std.specs.Prelude.{ℕ, Bool, ◌≡◌, ◌+◌, ◌<◌, ◌≤◌, ℤ, pos, List, Option, None, Some, length, slice_index, slice_index_or}
+use Rattle.px_num.specs.Lanes.{EachLane}
+use Rattle.blend_dither.specs.Color.{IsShift, tone_of, red_of, green_of, blue_of}
+use Rattle.span_lanes.specs.declared.span.Paint.{Paint}
+use Rattle.span_lanes.specs.declared.span.Texture.{Texture}
+use Rattle.span_lanes.specs.declared.span.Paint.TheVariants.{Flat, Shaded, TexturedTri, TexturedRow}
+use Rattle.span_lanes.specs.Shade.{shift_of, color_in}
+
+-- the texture of a paint
+abbrev pub texture_of : Paint → Option Texture
+texture_of (Flat color) = None
+texture_of (Shaded tri) = None
+texture_of (TexturedTri tri texture) = Some texture
+texture_of (TexturedRow color texture u v flip) = Some texture
+
+-- the colour of a paint at a cell
+abbrev pub paint_color : Paint → ℕ → ℕ → ℕ
+paint_color (Flat color) x y = color
+paint_color (Shaded tri) x y = color_in tri x y
+paint_color (TexturedTri tri texture) x y = color_in tri x y
+paint_color (TexturedRow color texture u v flip) x y = color
+
+-- sixteen channels of eight bits
+pub record AreChannels (channels : List ℕ) : Type 0 where
+  pub long : length channels ≡ 16
+  pub bytes : EachLane (λ i. slice_index channels i ≤ 255)
+
+-- the first n lanes are the channels of colours
+pub record HasColors (color : ℕ → ℕ) (n : ℕ) (r g b : List ℕ) : Type 0 where
+  pub reds : AreChannels r
+  pub greens : AreChannels g
+  pub blues : AreChannels b
+  pub red : (j : ℕ) → j < n → red_of (color j) ≡ slice_index r j
+  pub green : (j : ℕ) → j < n → green_of (color j) ≡ slice_index g j
+  pub blue : (j : ℕ) → j < n → blue_of (color j) ≡ slice_index b j
+
+-- the colours of a paint in a row, from (x, y) on
+abbrev pub colors_from : Paint → ℕ → ℕ → ℕ → ℕ
+colors_from paint x y j = paint_color paint (x + j) y
+
+-- sixteen dither offsets, or zeros
+pub record AreShifts (shifts : List ℤ) : Type 0 where
+  pub long : length shifts ≡ 16
+  pub small : EachLane (λ i. IsShift (slice_index_or shifts i (pos 0)))
+
+-- the tone of a paint at a cell
+abbrev pub tone_at : Paint → Bool → ℕ → ℕ → ℕ
+tone_at paint dither x y =
+    tone_of (red_of (paint_color paint x y)) (green_of (paint_color paint x y)) (blue_of (paint_color paint x y)) (shift_of dither x y)

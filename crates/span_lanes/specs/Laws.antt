@@ -1,0 +1,28 @@
+-- What spans are, and what they cost.
+use Rattle.std.specs.Prelude.{ℕ, ◌≡◌, ◌*◌, ◌≤◌, List, true, false}
+use Rattle.texture_page.specs.declared.page.Page.{Page}
+use Rattle.span_lanes.specs.declared.span.Paint.TheVariants.{TexturedRow}
+use Rattle.span_lanes.specs.declared.span.Span.{Span}
+use Rattle.span_lanes.specs.Cells.{Cells, row_cells}
+use Rattle.span_lanes.specs.Shade.{IsSpan, drawn_span, shade_at}
+use Rattle.span_lanes.specs.Cost.{span_cost}
+
+-- the cells of a span by their number are those of its row
+abbrev pub SpanLaw : Type 0
+SpanLaw =
+    (span : Span) (n : ℕ) (m : List ℕ)
+    → drawn_span span n m ≡ Cells (shade_at span) span.brush.mask (row_cells span.x span.y n) m
+
+-- a span costs at most four steps a cell
+abbrev pub CostLaw : Type 0
+CostLaw = (span : Span) → IsSpan span → span_cost span ≤ 4 * span.n
+
+-- n cells from (x, y) on of raw texels, from the first texel of a page on, with the palette that begins at (0, 0)
+abbrev pub raw_row : Page → ℕ → ℕ → ℕ → Span
+raw_row page x y n = record {
+  x = x;
+  y = y;
+  n = n;
+  paint = TexturedRow 0 (record { page = page; window = record { mask_x = 0; mask_y = 0; off_x = 0; off_y = 0 }; clut = 0; raw = true }) 0 0 false;
+  brush = record { mask = 0; mode = 0; semi = false; dither = false };
+}

@@ -1,0 +1,6 @@
+pub mod Cells
+pub mod Cost
+pub mod Guard
+pub mod Lanes
+pub mod Laws
+pub mod Shade

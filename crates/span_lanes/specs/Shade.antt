@@ -1,0 +1,135 @@
+-- The pixel that a span draws at one of its cells (psx-spx, "GPU Rendering Attributes"; the exact whole numbers are our own rule).
+use Rattle.std.specs.Prelude.{ℕ, ◌+◌, ◌-◌, ◌*◌, ◌%◌, ◌<◌, ◌≤◌, ◌==◌, ◌&&◌, ℤ, pos, IsTrue, Bool, false, not, List, Option, None, Some, if◌then◌else◌, nat_lt}
+use Rattle.px_num.specs.declared.shape.Cell.{Cell}
+use Rattle.vram_store.specs.Vram.{at, bit}
+use Rattle.vram_store.specs.Plot.{drawn_lanes}
+use Rattle.texture_page.specs.Page.{IsPage, IsWindow, texel_place, clut_place, index_at}
+use Rattle.blend_dither.specs.Color.{dither_offset, tone_of, red_of, green_of, blue_of, modulated_of, blended_of, packed_pixel}
+use Rattle.edge_walk.specs.Triangle.{Corners, is_inside}
+use Rattle.edge_walk.specs.Attribute.{attribute_at}
+use Rattle.span_lanes.specs.declared.span.Brush.{Brush}
+use Rattle.span_lanes.specs.declared.span.Texture.{Texture}
+use Rattle.span_lanes.specs.declared.span.Paint.{Paint}
+use Rattle.span_lanes.specs.declared.span.Paint.TheVariants.{Flat, Shaded, TexturedTri, TexturedRow}
+use Rattle.span_lanes.specs.declared.span.Span.{Span}
+
+-- ---- spans that can be drawn
+
+-- a texture whose page and window are such as there are
+pub record IsTexture (texture : Texture) : Type 0 where
+  pub page : IsPage texture.page
+  pub window : IsWindow texture.window
+
+abbrev pub IsPaint : Paint → Type 0
+IsPaint (Flat color) = Unit {0}
+IsPaint (Shaded tri) = Unit {0}
+IsPaint (TexturedTri tri texture) = IsTexture texture
+IsPaint (TexturedRow color texture u v flip) = IsTexture texture
+
+-- n cells of a row from (x, y) on are inside a triangle
+abbrev pub AreInside : Corners → ℕ → ℕ → ℕ → Type 0
+AreInside tri x y n = (i : ℕ) → i < n → IsTrue (is_inside tri (pos (x + i)) (pos y))
+
+-- the cells are inside where the paint has a triangle
+abbrev pub HasInside : Paint → ℕ → ℕ → ℕ → Type 0
+HasInside (Flat color) x y n = Unit {0}
+HasInside (Shaded tri) x y n = AreInside tri x y n
+HasInside (TexturedTri tri texture) x y n = AreInside tri x y n
+HasInside (TexturedRow color texture u v flip) x y n = Unit {0}
+
+-- some cells of one row, and settings such as there are
+pub record IsSpan (span : Span) : Type 0 where
+  pub some : 1 ≤ span.n
+  pub in_row : span.x + span.n ≤ 1024
+  pub mask : span.brush.mask ≤ 3
+  pub mode : span.brush.mode ≤ 3
+  pub paint : IsPaint span.paint
+  pub inside : HasInside span.paint span.x span.y span.n
+
+-- all rows of the texture page lie in video memory of a height
+abbrev pub HasPage : ℕ → Paint → Type 0
+HasPage height (Flat color) = Unit {0}
+HasPage height (Shaded tri) = Unit {0}
+HasPage height (TexturedTri tri texture) = texture.page.y + 255 < height
+HasPage height (TexturedRow color texture u v flip) = texture.page.y + 255 < height
+
+-- the row of a span and its texture page lie in video memory of a height
+pub record LiesIn (height : ℕ) (span : Span) : Type 0 where
+  pub row : span.y < height
+  pub page : HasPage height span.paint
+
+-- ---- texels
+
+abbrev pub at_cell : List ℕ → Cell → ℕ
+at_cell m cell = at m cell.x cell.y
+
+-- the texel at a pair of coordinates, its cell and its palette's entry as they are in video memory
+unfoldable pub texel : Texture → ℕ → ℕ → List ℕ → ℕ
+texel t u v m =
+    if nat_lt t.page.depth 2 then at_cell m (clut_place t.clut (index_at t.page t.window u (at_cell m (texel_place t.page t.window u v))))
+    else at_cell m (texel_place t.page t.window u v)
+
+-- the U of cell i of a row: from cell to cell one more, or one less where it is flipped
+unfoldable pub row_u : ℕ → Bool → ℕ → ℕ
+row_u u flip i = if flip then (u + 1024 - i) % 256 else (u + i) % 256
+
+-- ---- colours
+
+-- the dither offset that is used at a cell
+unfoldable pub shift_of : Bool → ℕ → ℕ → ℤ
+shift_of dither x y = if dither then dither_offset x y else pos 0
+
+-- a colour over a cell, blended where it is semi-transparent
+unfoldable pub blended_if : Bool → ℕ → ℕ → ℕ → ℕ
+blended_if semi mode back front = if semi then blended_of mode back front else front
+
+-- the pixel of a colour
+unfoldable pub flat_pixel : Brush → ℕ → ℤ → ℕ → Option ℕ
+flat_pixel brush color shift back =
+    Some (packed_pixel (blended_if brush.semi brush.mode back (tone_of (red_of color) (green_of color) (blue_of color) shift)) false false)
+
+-- bit 15 of a texel
+abbrev pub is_high : ℕ → Bool
+is_high t = bit t 15 == 1
+
+-- a texel under a colour, or the texel itself
+unfoldable pub front_of : Bool → ℕ → ℤ → ℕ → ℕ
+front_of raw color shift t = if raw then t else modulated_of t (red_of color) (green_of color) (blue_of color) shift
+
+-- the pixel of a texel: none for 0000h; bit 15 says whether it may be semi-transparent, and stays
+unfoldable pub textured_pixel : Brush → Bool → ℕ → ℤ → ℕ → ℕ → Option ℕ
+textured_pixel brush raw color shift back t =
+    if t == 0 then None
+    else Some (packed_pixel (blended_if (brush.semi && is_high t) brush.mode back (front_of raw color shift t)) (is_high t) false)
+
+-- red, green, blue, u or v of a triangle at a cell
+abbrev pub attribute_in : Corners → ℕ → ℕ → ℕ → ℕ
+attribute_in tri which x y = attribute_at tri which (pos x) (pos y)
+
+-- the colour of a triangle at a cell
+unfoldable pub color_in : Corners → ℕ → ℕ → ℕ
+color_in tri x y = attribute_in tri 0 x y + 256 * attribute_in tri 1 x y + 65536 * attribute_in tri 2 x y
+
+-- ---- the pixel
+
+-- the pixel, or none, of cell i of a row, which is (x, y)
+abbrev pub paint_pixel : Paint → Brush → ℕ → ℕ → ℕ → List ℕ → Option ℕ
+paint_pixel (Flat color) brush x y i m = flat_pixel brush color (shift_of brush.dither x y) (at m x y)
+paint_pixel (Shaded tri) brush x y i m = flat_pixel brush (color_in tri x y) (shift_of brush.dither x y) (at m x y)
+paint_pixel (TexturedTri tri texture) brush x y i m =
+    textured_pixel brush texture.raw (color_in tri x y) (shift_of (brush.dither && not texture.raw) x y) (at m x y)
+    (texel texture (attribute_in tri 3 x y) (attribute_in tri 4 x y) m)
+paint_pixel (TexturedRow color texture u v flip) brush x y i m =
+    textured_pixel brush texture.raw color (shift_of (brush.dither && not texture.raw) x y) (at m x y) (texel texture (row_u u flip i) v m)
+
+-- the pixel of cell i of a span
+unfoldable pub shade : Span → ℕ → List ℕ → Option ℕ
+shade span i m = paint_pixel span.paint span.brush (span.x + i) span.y i m
+
+-- the pixel of a span at a cell of its row
+abbrev pub shade_at : Span → Cell → List ℕ → Option ℕ
+shade_at span cell m = shade span (cell.x - span.x) m
+
+-- the first n cells of a span, one after another from left to right, by their number
+abbrev pub drawn_span : Span → ℕ → List ℕ → List ℕ
+drawn_span span n m = drawn_lanes (shade span) span.brush.mask (1024 * span.y + span.x) n m

@@ -1,0 +1,194 @@
+// One pixel of a span.
+ghost use Rattle.std.specs.Prelude.{◌≡◌, ◌≤◌, ◌<◌, ◌+◌, ◌&&◌, ◌*◌, not, pos, IsTrue};
+ghost use Rattle.blend_dither.specs.Color.{IsShift};
+ghost use Rattle.edge_walk.specs.Triangle.{is_inside};
+ghost use Rattle.vram_store.specs.Vram.{at, height_of};
+ghost use Rattle.span_lanes.specs.Shade.{IsTexture, IsSpan, LiesIn, texel, row_u, shift_of, blended_if, front_of, flat_pixel, textured_pixel, shade, attribute_in, color_in};
+ghost use Rattle.span_lanes.specs.Cost.{texel_steps, paint_steps};
+
+use crate::{Brush, Paint, Span, Texture};
+use blend_dither::{blend, modulate, pack, shift_at, tone};
+use edge_walk::Tri;
+use px_num::Cell;
+use std::sync::ledger::Ledger;
+use texture_page::{clut_cell, index_of, texel_cell};
+use vram_store::{Steps, Vram};
+
+#[tactic(auto, unfolding(crate::specs::Shade::row_u))]
+pub(crate) fn u_of(u: u8, flip: bool, i: u16) -> u8
+    requires { i < 1024 }
+    ensures { result ≡ row_u u flip i }
+{
+    if flip {
+        ((u as u16 + 1024 - i) % 256) as u8
+    } else {
+        ((u as u16 + i) % 256) as u8
+    }
+}
+
+// A cell as it is, or 0 below the last row.
+//
+// The rows of palettes are below 512 and those of video memory may be any number here, so they are compared.
+fn cell_at<L: Ledger>(vram: &Vram, cell: Cell, steps: &mut Steps<L>) -> u16
+    requires in_row { cell.x < 1024 }
+    ensures value { result ≡ at vram.now cell.x cell.y }
+    ensures cost { steps.new ≤ steps.old + 1 }
+{
+    if cell.y < vram.height() {
+        vram.get(cell.x, cell.y, steps)
+    } else {
+        0
+    }
+}
+
+// A texel as it is in video memory.
+#[tactic(auto, unfolding(crate::specs::Shade::texel))]
+pub(crate) fn read_texel<L: Ledger>(
+    vram: &Vram,
+    texture: &Texture,
+    u: u8,
+    v: u8,
+    steps: &mut Steps<L>,
+) -> u16
+    requires texture { IsTexture texture.now }
+    requires page { texture.now.page.y + 255 < height_of vram.now }
+    ensures value { result ≡ texel texture.now u v vram.now }
+    ensures cost { steps.new ≤ steps.old + texel_steps texture.now.page.depth }
+{
+    let cell = texel_cell(&texture.page, &texture.window, u, v);
+    let h = vram.get(cell.x, cell.y, steps);
+    if texture.page.depth < 2 {
+        let index = index_of(&texture.page, &texture.window, u, h);
+        cell_at(vram, clut_cell(texture.clut, index), steps)
+    } else {
+        h
+    }
+}
+
+#[tactic(auto, unfolding(crate::specs::Shade::shift_of))]
+pub(crate) fn shift_for(dither: bool, x: u16, y: u16) -> i8
+    ensures value { result ≡ shift_of dither x y }
+    ensures small { IsShift result }
+{
+    if dither { shift_at(x, y) } else { 0 }
+}
+
+#[tactic(auto, unfolding(crate::specs::Shade::blended_if))]
+fn blend_if(semi: bool, mode: u8, back: u16, front: u16) -> u16
+    requires { mode ≤ 3 }
+    ensures { result ≡ blended_if semi mode back front }
+{
+    if semi {
+        blend(mode, back, front)
+    } else {
+        front
+    }
+}
+
+#[tactic(auto, unfolding(crate::specs::Shade::front_of))]
+fn front(raw: bool, color: u32, shift: i8, t: u16) -> u16
+    requires { IsShift shift }
+    ensures { result ≡ front_of raw color shift t }
+{
+    if raw { t } else { modulate(t, color, shift) }
+}
+
+#[tactic(auto, unfolding(crate::specs::Shade::flat_pixel))]
+fn plain_pixel(brush: &Brush, color: u32, shift: i8, back: u16) -> Option<u16>
+    requires mode { brush.now.mode ≤ 3 }
+    requires shift { IsShift shift }
+    ensures { result ≡ flat_pixel brush.now color shift back }
+{
+    Some(pack(
+        blend_if(brush.semi, brush.mode, back, tone(color, shift)),
+        false,
+        false,
+    ))
+}
+
+#[tactic(auto, unfolding(crate::specs::Shade::textured_pixel))]
+fn texel_pixel(brush: &Brush, raw: bool, color: u32, shift: i8, back: u16, t: u16) -> Option<u16>
+    requires mode { brush.now.mode ≤ 3 }
+    requires shift { IsShift shift }
+    ensures { result ≡ textured_pixel brush.now raw color shift back t }
+{
+    if t == 0 {
+        None
+    } else {
+        let high = t >> 15 & 1 == 1;
+        let color = blend_if(
+            brush.semi && high,
+            brush.mode,
+            back,
+            front(raw, color, shift, t),
+        );
+        Some(pack(color, high, false))
+    }
+}
+
+// An attribute of a triangle at a cell inside.
+pub(crate) fn attribute_of(tri: &Tri, which: u8, x: u16, y: u16) -> u8
+    requires which { which ≤ 4 }
+    requires inside { IsTrue (is_inside tri.now (pos x) (pos y)) }
+    ensures { result ≡ attribute_in tri.now which x y }
+{
+    tri.attr_at(which, x as i32, y as i32)
+}
+
+#[tactic(auto, unfolding(crate::specs::Shade::color_in))]
+fn color_of(tri: &Tri, x: u16, y: u16) -> u32
+    requires inside { IsTrue (is_inside tri.now (pos x) (pos y)) }
+    ensures { result ≡ color_in tri.now x y }
+{
+    let red = attribute_of(tri, 0, x, y) as u32;
+    let green = attribute_of(tri, 1, x, y) as u32;
+    let blue = attribute_of(tri, 2, x, y) as u32;
+    red + 256 * green + 65536 * blue
+}
+
+// The pixel of cell i of a span over the cell's content.
+#[tactic(auto, unfolding(crate::specs::Shade::shade))]
+pub(crate) fn pixel_of<L: Ledger>(
+    vram: &Vram,
+    span: &Span,
+    i: u16,
+    back: u16,
+    steps: &mut Steps<L>,
+) -> Option<u16>
+    requires span { IsSpan span.now }
+    requires height { LiesIn (height_of vram.now) span.now }
+    requires within { i < span.now.n }
+    requires back { back ≡ at vram.now (span.now.x + i) span.now.y }
+    ensures value { result ≡ shade span.now i vram.now }
+    ensures cost { steps.new ≤ steps.old + paint_steps span.now.paint }
+{
+    match &span.paint {
+        Paint::Flat { color } => {
+            let shift = shift_for(span.brush.dither, span.x + i, span.y);
+            plain_pixel(&span.brush, *color, shift, back)
+        }
+        Paint::Shaded { tri } => {
+            let shift = shift_for(span.brush.dither, span.x + i, span.y);
+            plain_pixel(&span.brush, color_of(tri, span.x + i, span.y), shift, back)
+        }
+        Paint::TexturedTri { tri, texture } => {
+            let shift = shift_for(span.brush.dither && !texture.raw, span.x + i, span.y);
+            let color = color_of(tri, span.x + i, span.y);
+            let u = attribute_of(tri, 3, span.x + i, span.y);
+            let v = attribute_of(tri, 4, span.x + i, span.y);
+            let t = read_texel(vram, texture, u, v, steps);
+            texel_pixel(&span.brush, texture.raw, color, shift, back, t)
+        }
+        Paint::TexturedRow {
+            color,
+            texture,
+            u,
+            v,
+            flip,
+        } => {
+            let shift = shift_for(span.brush.dither && !texture.raw, span.x + i, span.y);
+            let t = read_texel(vram, texture, u_of(*u, *flip, i), *v, steps);
+            texel_pixel(&span.brush, texture.raw, *color, shift, back, t)
+        }
+    }
+}
