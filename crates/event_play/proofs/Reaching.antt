@@ -1,11 +1,12 @@
 -- Playing a capture, event by event.
-use Rattle.std.proofs.Common.{◌≡◌, ◌≤◌, ◌⊎◌, inl, inr, ℕ, ◌+◌, ◌++◌, List, [], ◌∷◌, Option, Some, None, Ok, Err, option_to_list, map, refl, ap, sym, subst, ◌∙◌, append_assoc, append-nil, arith}
-use Rattle.dev_io.specs.Device.{prepended, appended, AppendsPart, IsAtEnd}
+use Rattle.std.proofs.Common.{◌≡◌, ◌≤◌, inl, inr, ℕ, ◌+◌, ◌++◌, List, [], ◌∷◌, Option, Ok, option_to_list, refl, ap, sym, subst, ◌∙◌, append_assoc, append-nil, arith}
+use Rattle.dev_io.specs.Device.{appended, AppendsPart}
 use Rattle.dev_io.proofs.Appended.{appended-appended, appended-nil}
 use Rattle.dev_io.proofs.Parts.{prepended-nil, taken_on}
 use Rattle.gp0_packets.specs.declared.note.Note.{Note}
 use Rattle.gpu_capture.specs.Capture.{Captured, ended, then_events}
-use Rattle.gpu_capture.specs.Reader.{Takes, StopsAt, SaysStop, capture_from, IsStart}
+use Rattle.gpu_capture.proofs.Steps.{split}
+use Rattle.gpu_capture.specs.Reader.{AreNeeded, Takes, StopsAt, SaysStop, capture_from, IsStart}
 use Rattle.gpu_capture.specs.declared.event.Event.{Event}
 use Rattle.gpu_capture.specs.declared.event.Stop.{Stop}
 use Rattle.gpu_capture.specs.declared.event.Stop.TheVariants.{End, NotCapture, Truncated, BadRecord, TooLong, ReadFault}
@@ -13,16 +14,35 @@ use Rattle.gpu_capture.specs.declared.progress.Progress.{Progress}
 use Rattle.gpu_core.specs.Kept.{kept_of}
 use Rattle.gpu_core.specs.Machine.{State}
 use Rattle.gpu_taps.specs.Tally.{Reading}
-use Rattle.event_play.specs.Out.{lines_for, lines_of, final_bytes, final_cost, finals, Out, OutCost}
-use Rattle.event_play.specs.Playing.{PlaysEvent, PartsEvent, FaultsEvent, EndsEvent, EndsAt, IsNotEnd, Reaches, LacksBytes, SaysEnding, SaysRig, EndsPlay, counted}
+use Rattle.event_play.specs.Out.{lines_for, lines_of, final_bytes, final_cost, Out, OutCost}
+use Rattle.event_play.specs.Playing.{PlaysEvent, PartsEvent, FaultsEvent, EndsEvent, EndsAt, IsNotEnd, AreAllNeeded, Reaches, SaysEnding, EndsPlay}
 use Rattle.event_play.specs.Replay.{Tale, Played, from_state, after_event, go_on, Replay, replayed, Play, next_number, ending_of}
 use Rattle.event_play.specs.RigState.{RigState, StandsFor, told_notes}
-use Rattle.event_play.specs.Step.{Step, StepCost}
+use Rattle.event_play.specs.Step.{StepCost}
 use Rattle.event_play.specs.declared.ending.Ending.{Ending}
 use Rattle.event_play.specs.declared.ending.Ending.TheVariants.{Done, Stopped, Faulted, WriteFailed}
 use Rattle.event_play.specs.declared.ending.Mode.{Mode}
 use Rattle.event_play.specs.declared.fault.EventFault.{EventFault}
 use Rattle.event_play.proofs.Grows.{lines-none, lines-append, told-append, tale_on, after-event, out_grows, cost_within}
+
+-- ---- none too many
+
+none_needed : (first : Tale) → AreAllNeeded first []
+none_needed first [] [] is some = absurd (some refl)
+none_needed first [] (x ∷ xs) is some = absurd cc
+none_needed first (x ∷ xs) more is some = absurd cc
+
+-- the bytes so far, and those of one step more
+all_needed : (first t : Tale) (old : Progress) (xs ys : List ℕ) → ((more : List ℕ) → Play first (xs ++ more) ≡ replayed t (capture_from old more))
+    → AreAllNeeded first xs → AreNeeded old ys → AreAllNeeded first (xs ++ ys)
+all_needed first t old xs ys reached was next part more is some =
+    elim (split xs ys part more is) [
+      | inl behind ↦
+          let short = next behind.0 more behind.2 some in
+          let e : Play first part ≡ replayed t (ended (Truncated short.0) []) = ap (Play first) behind.1 ∙ reached behind.0 ∙ ap (replayed t) short.1 in
+          rw e tt
+      | inr inside ↦ was part inside.0 inside.1 inside.2
+    ]
 
 -- ---- the beginning
 
@@ -31,6 +51,7 @@ pub reaches_start : (mode : Mode) (s : State) (left held : Option (List ℕ)) (r
 reaches_start mode s left held rig heard steps progress stands start = record {
   taken = [];
   bytes = prepended-nil left;
+  needed = none_needed (from_state s rig.played);
   tale = from_state s rig.played;
   says = λ rest. rw start.started refl;
   stands = record { state = stands; played = refl };
@@ -85,6 +106,7 @@ module _ (mode : Mode) (first : Tale) (left_before left_mid left_now held_before
       record {
         taken = reached.taken ++ takes.taken;
         bytes = taken_on left_before left_mid left_now reached.taken takes.taken reached.bytes takes.bytes;
+        needed = all_needed first reached.tale old reached.taken takes.taken reached.says reached.needed takes.needed;
         tale = next;
         says = λ rest.
             says_event first reached.tale event old new reached.taken takes.taken rest reached.says (takes.says rest)
@@ -107,6 +129,7 @@ module _ (mode : Mode) (first : Tale) (left_before left_mid left_now held_before
       record {
         taken = reached.taken ++ takes.taken;
         bytes = taken_on left_before left_mid left_now reached.taken takes.taken reached.bytes takes.bytes;
+        needed = all_needed first reached.tale old reached.taken takes.taken reached.says reached.needed takes.needed;
         tale = t;
         last = t;
         says = (λ rest. let e = says rest in (rw (e, faults.is) refl, rw (e, faults.is, at) refl), faults.held ∙ reached.held);
@@ -130,6 +153,7 @@ module _ (mode : Mode) (first : Tale) (left_before left_mid left_now held_before
       in record {
         taken = reached.taken ++ takes.taken;
         bytes = taken_on left_before left_mid left_now reached.taken takes.taken reached.bytes takes.bytes;
+        needed = all_needed first reached.tale old reached.taken takes.taken reached.says reached.needed takes.needed;
         tale = t;
         last = next;
         says = record {
@@ -205,6 +229,7 @@ module _ (mode : Mode) (first : Tale) (left_before left_mid left_now held_before
       record {
         taken = reached.taken ++ stops.taken;
         bytes = taken_on left_before left_mid left_now reached.taken stops.taken reached.bytes stops.bytes;
+        needed = all_needed first reached.tale old reached.taken stops.taken reached.says reached.needed stops.needed;
         tale = t;
         last = t;
         says = (says, held ∙ ap (λ xs. appended xs (final_bytes mode t.state)) reached.held ∙ appended-appended held_before (lines_of mode t) (final_bytes mode t.state));
@@ -223,6 +248,7 @@ module _ (mode : Mode) (first : Tale) (left_before left_mid left_now held_before
       record {
         taken = reached.taken ++ stops.taken;
         bytes = taken_on left_before left_mid left_now reached.taken stops.taken reached.bytes stops.bytes;
+        needed = all_needed first reached.tale old reached.taken stops.taken reached.says reached.needed stops.needed;
         tale = t;
         last = t;
         says = record {
@@ -244,6 +270,7 @@ module _ (mode : Mode) (first : Tale) (left_before left_mid left_now held_before
       record {
         taken = reached.taken ++ stops.taken;
         bytes = taken_on left_before left_mid left_now reached.taken stops.taken reached.bytes stops.bytes;
+        needed = all_needed first reached.tale old reached.taken stops.taken reached.says reached.needed stops.needed;
         tale = t;
         last = t;
         says = says_stopped mode first t old reached.taken stops.taken left_now held_before held_now stop reached.says stops.says not (held ∙ reached.held);

@@ -1,5 +1,5 @@
 -- What is written of a replay, by the mode (our own rule).
-use Rattle.std.specs.Prelude.{ℕ, ◌+◌, List, [], ◌++◌, flat_map, Option, option_to_list}
+use Rattle.std.specs.Prelude.{ℕ, ◌+◌, List, [], ◌++◌, flat_map}
 use Rattle.gp0_packets.specs.declared.note.Note.{Note}
 use Rattle.gpu_core.specs.Machine.{State, Status}
 use Rattle.packet_text.specs.Line.{word_line, status_line, listed}

@@ -89,12 +89,22 @@ EndsAt mode s number stop held_before held_now steps_before steps_now (Faulted a
 
 -- ---- a whole capture
 
+-- it ended for want of bytes
+abbrev pub IsShort : Ending → Type 0
+IsShort (Stopped number (Truncated byte)) = Unit {0}
+IsShort ending = ⊥
+
+-- none of these bytes is one too many: a proper part of them, played alone, ends for want of bytes
+abbrev pub AreAllNeeded : Tale → List ℕ → Type 0
+AreAllNeeded first taken = (part more : List ℕ) → taken ≡ part ++ more → (more ≡ [] → ⊥) → IsShort (Play first part).ending
+
 -- The first bytes of the source were taken. Whatever follows them, playing goes on from this tale at the reader's place, and exactly
 -- what was due so far has been written and told.
 pub record Reaches (mode : Mode) (first : Tale) (left_before left_now held_before held_now : Option (List ℕ)) (rig : RigState)
     (heard_before heard_now : List Reading) (steps_before steps_now : ℕ) (progress : Progress) : Type 0 where
   pub taken : List ℕ
   pub bytes : left_before ≡ prepended taken left_now
+  pub needed : AreAllNeeded first taken
   pub tale : Tale
   pub says : (rest : List ℕ) → Play first (taken ++ rest) ≡ replayed tale (capture_from progress rest)
   pub stands : StandsFor rig tale
@@ -140,6 +150,7 @@ pub record EndsPlay (mode : Mode) (first : Tale) (left_before left_now held_befo
     (heard_before heard_now : List Reading) (steps_before steps_now : ℕ) (ending : Ending) : Type 0 where
   pub taken : List ℕ
   pub bytes : left_before ≡ prepended taken left_now
+  pub needed : AreAllNeeded first taken
   pub tale : Tale
   pub last : Tale
   pub says : SaysEnding mode first tale last taken left_now held_before held_now ending

@@ -1,5 +1,5 @@
 -- What contracts see of a rig: what its drawing processor keeps, and the number of events played.
-use Rattle.std.specs.Prelude.{◌≡◌, ℕ, List, Option, None, Some, Result, Ok, map, fold}
+use Rattle.std.specs.Prelude.{◌≡◌, ℕ, List, Option, Result, Ok, map, fold}
 use Rattle.gp0_packets.specs.declared.note.Note.{Note}
 use Rattle.gpu_core.specs.Kept.{Kept, kept_of}
 use Rattle.gpu_core.specs.Machine.{State}

@@ -1,5 +1,5 @@
 -- What a list of bytes says as a capture (our own rule): 8 bytes of head, and then little-endian words in records.
-use Rattle.std.specs.Prelude.{ℕ, List, [], ◌∷◌, ◌++◌, ◌+◌, ◌^◌, true, false, not, ◌==◌, nat_lt, length, drop, Option, Some, None, position, zip, replicate, if◌then◌else◌}
+use Rattle.std.specs.Prelude.{ℕ, List, [], ◌∷◌, ◌++◌, ◌+◌, ◌^◌, not, ◌==◌, nat_lt, length, drop, Option, Some, None, position, zip, replicate, if◌then◌else◌}
 use Rattle.byteorder.specs.Endian.{little_number}
 use Rattle.gpu_capture.specs.declared.event.Event.{Event}
 use Rattle.gpu_capture.specs.declared.event.Event.TheVariants.{Read}

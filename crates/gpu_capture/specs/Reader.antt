@@ -1,5 +1,5 @@
 -- What the steps of a reader take from its source, and what the format says of that.
-use Rattle.std.specs.Prelude.{◌≡◌, ◌<◌, ◌≤◌, ℕ, List, [], ◌∷◌, ◌++◌, ◌+◌, ◌-◌, ◌*◌, ◌^◌, Bool, true, false, Option, length, replicate, if◌then◌else◌}
+use Rattle.std.specs.Prelude.{◌≡◌, ◌<◌, ◌≤◌, ℕ, List, [], ◌∷◌, ◌++◌, ◌+◌, ◌-◌, ◌*◌, ◌^◌, false, Option, length, replicate, if◌then◌else◌}
 use Rattle.byteorder.specs.Endian.{little_number}
 use Rattle.dev_io.specs.Device.{prepended, IsAtEnd}
 use Rattle.gpu_capture.specs.Record.{IsDue}
@@ -52,11 +52,16 @@ capture_from p bytes = if p.started then then_events (replicate p.reads Read) (r
 unfoldable pub work_left : Progress → ℕ
 work_left p = (2 ^ 31 - p.place) * 2 ^ 19 + p.reads
 
--- bytes were taken and events were given: what the format says of those bytes and any rest is these events, and then what it says
--- of the rest from the new place on
+-- none of these bytes is one too many: a proper part of them is cut short before anything more is known
+abbrev pub AreNeeded : Progress → List ℕ → Type 0
+AreNeeded p taken = (part more : List ℕ) → taken ≡ part ++ more → (more ≡ [] → ⊥) → (byte : ℕ) × (capture_from p part ≡ ended (Truncated byte) [])
+
+-- bytes were taken, none too many, and events were given: what the format says of those bytes and any rest is these events, and then
+-- what it says of the rest from the new place on
 pub record Takes (old new : Progress) (before now : Option (List ℕ)) (events : List Event) : Type 0 where
   pub taken : List ℕ
   pub bytes : before ≡ prepended taken now
+  pub needed : AreNeeded old taken
   pub says : (rest : List ℕ) → capture_from old (taken ++ rest) ≡ then_events events (capture_from new rest)
 
 -- What the format says of the bytes taken where a reader stops. No byte is taken past those that decide it. Where the source failed,
@@ -69,6 +74,7 @@ SaysStop stop old taken now = (rest : List ℕ) → capture_from old (taken ++ r
 pub record StopsAt (old : Progress) (before now : Option (List ℕ)) (stop : Stop) : Type 0 where
   pub taken : List ℕ
   pub bytes : before ≡ prepended taken now
+  pub needed : AreNeeded old taken
   pub says : SaysStop stop old taken now
 
 -- where a new reader stands

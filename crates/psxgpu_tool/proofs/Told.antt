@@ -1,11 +1,11 @@
 -- What the end of playing says, where the bytes of the source are told.
-use Rattle.std.proofs.Common.{◌≡◌, ◌≤◌, ◌⊎◌, inl, inr, ℕ, ◌+◌, ◌++◌, List, [], Option, Some, None, refl, ap, sym, ◌∙◌, append-nil, arith}
+use Rattle.std.proofs.Common.{◌≡◌, inl, inr, ℕ, ◌++◌, List, [], Option, Some, None, refl, ap, sym, ◌∙◌, append-nil, arith}
 use Rattle.dev_io.specs.Device.{prepended, appended, IsAtEnd}
 use Rattle.gpu_capture.specs.declared.event.Stop.{Stop}
 use Rattle.gpu_capture.specs.declared.event.Stop.TheVariants.{End, NotCapture, Truncated, BadRecord, TooLong, ReadFault}
 use Rattle.gpu_taps.specs.Tally.{Reading}
 use Rattle.event_play.specs.Out.{lines_of, finals, Out}
-use Rattle.event_play.specs.Playing.{EndsPlay, MayReadFault, MayWriteFault}
+use Rattle.event_play.specs.Playing.{AreAllNeeded, EndsPlay, MayReadFault, MayWriteFault}
 use Rattle.event_play.specs.Replay.{Tale, Played}
 use Rattle.event_play.specs.RigState.{RigState}
 use Rattle.event_play.specs.declared.ending.Ending.{Ending}
@@ -53,12 +53,12 @@ module _ (mode : Mode) (bytes : List ℕ) (left held_before held_now err_before 
   )
 
   -- a stop that the bytes taken decide
-  refused_stop : (t : Tale) (taken : List ℕ) (number : ℕ) (stop : Stop) → IsCut bytes taken left
+  refused_stop : (t : Tale) (taken : List ℕ) (number : ℕ) (stop : Stop) → IsCut bytes taken left → AreAllNeeded first taken
       → ((rest : List ℕ) → play_of (taken ++ rest) ≡ record { tale = t; ending = Stopped number stop; rest = rest })
       → status_of (Stopped number stop) ≡ 2 → held_now ≡ appended held_before (lines_of mode t)
       → LineGoes err_before err_now faults_before faults_now (ending_line (Stopped number stop))
       → RefusedRun mode (Some bytes) left held_before held_now err_before err_now faults_before faults_now
-  refused_stop t taken number stop is_cut says two held line =
+  refused_stop t taken number stop is_cut needed says two held line =
       let is : play_of bytes ≡ record { tale = t; ending = Stopped number stop; rest = is_cut.rest } = ap play_of is_cut.all ∙ says is_cut.rest in
       refused_by t (Stopped number stop) (ap (λ (r : Played). r.tale) is) (ap (λ (r : Played). r.ending) is) refl two held
       (record {
@@ -66,30 +66,31 @@ module _ (mode : Mode) (bytes : List ℕ) (left held_before held_now err_before 
         rest = is_cut.rest;
         all = is_cut.all;
         left_is = is_cut.left_is;
+        needed = needed;
         decides = inl (λ more. ap (λ (r : Played). r.ending) (says more) ∙ sym (ap (λ (r : Played). r.ending) is));
       })
       line
 
-  refused_short : (t : Tale) (taken : List ℕ) (number byte : ℕ) → IsCut bytes taken left
+  refused_short : (t : Tale) (taken : List ℕ) (number byte : ℕ) → IsCut bytes taken left → AreAllNeeded first taken
       → play_of taken ≡ record { tale = t; ending = Stopped number (Truncated byte); rest = [] } → IsAtEnd left
       → held_now ≡ appended held_before (lines_of mode t)
       → LineGoes err_before err_now faults_before faults_now (ending_line (Stopped number (Truncated byte)))
       → RefusedRun mode (Some bytes) left held_before held_now err_before err_now faults_before faults_now
-  refused_short t taken number byte is_cut says at_end held line =
+  refused_short t taken number byte is_cut needed says at_end held line =
       let none = none_left left is_cut.rest is_cut.left_is at_end in
       let is : play_of bytes ≡ record { tale = t; ending = Stopped number (Truncated byte); rest = [] } =
       ap play_of (all_taken bytes taken is_cut.rest is_cut.all none) ∙ says
       in
       refused_by t (Stopped number (Truncated byte)) (ap (λ (r : Played). r.tale) is) (ap (λ (r : Played). r.ending) is) refl refl held
-      (record { taken = taken; rest = is_cut.rest; all = is_cut.all; left_is = is_cut.left_is; decides = inr none })
+      (record { taken = taken; rest = is_cut.rest; all = is_cut.all; left_is = is_cut.left_is; needed = needed; decides = inr none })
       line
 
-  refused_fault : (t : Tale) (taken : List ℕ) (number : ℕ) (fault : EventFault) → IsCut bytes taken left
+  refused_fault : (t : Tale) (taken : List ℕ) (number : ℕ) (fault : EventFault) → IsCut bytes taken left → AreAllNeeded first taken
       → ((rest : List ℕ) → ((play_of (taken ++ rest)).tale ≡ t) × ((play_of (taken ++ rest)).ending ≡ Faulted number fault))
       → held_now ≡ appended held_before (lines_of mode t)
       → LineGoes err_before err_now faults_before faults_now (ending_line (Faulted number fault))
       → RefusedRun mode (Some bytes) left held_before held_now err_before err_now faults_before faults_now
-  refused_fault t taken number fault is_cut says held line =
+  refused_fault t taken number fault is_cut needed says held line =
       let same = ap play_of is_cut.all in
       let tale = ap (λ (r : Played). r.tale) same ∙ (says is_cut.rest).0 in
       let is = ap (λ (r : Played). r.ending) same ∙ (says is_cut.rest).1 in
@@ -99,6 +100,7 @@ module _ (mode : Mode) (bytes : List ℕ) (left held_before held_now err_before 
         rest = is_cut.rest;
         all = is_cut.all;
         left_is = is_cut.left_is;
+        needed = needed;
         decides = inl (λ more. (says more).1 ∙ sym is);
       })
       line
@@ -115,17 +117,17 @@ refused_run mode (Some bytes) left hb hn eb en fb fn rig rb rn sb sn Done ends t
 refused_run mode (Some bytes) left hb hn eb en fb fn rig rb rn sb sn (WriteFailed number) ends two line = absurd (omega (arith, two))
 refused_run mode (Some bytes) left hb hn eb en fb fn rig rb rn sb sn (Stopped number (ReadFault byte)) ends two line = absurd (omega (arith, two))
 refused_run mode (Some bytes) left hb hn eb en fb fn rig rb rn sb sn (Faulted number fault) ends two line =
-    refused_fault mode bytes left hb hn eb en fb fn ends.tale ends.taken number fault (cut bytes ends.taken left ends.bytes) ends.says.0 ends.says.1 line
+    refused_fault mode bytes left hb hn eb en fb fn ends.tale ends.taken number fault (cut bytes ends.taken left ends.bytes) ends.needed ends.says.0 ends.says.1 line
 refused_run mode (Some bytes) left hb hn eb en fb fn rig rb rn sb sn (Stopped number (Truncated byte)) ends two line =
-    refused_short mode bytes left hb hn eb en fb fn ends.tale ends.taken number byte (cut bytes ends.taken left ends.bytes) ends.says.0 ends.says.2 ends.says.1 line
+    refused_short mode bytes left hb hn eb en fb fn ends.tale ends.taken number byte (cut bytes ends.taken left ends.bytes) ends.needed ends.says.0 ends.says.2 ends.says.1 line
 refused_run mode (Some bytes) left hb hn eb en fb fn rig rb rn sb sn (Stopped number End) ends two line =
-    refused_stop mode bytes left hb hn eb en fb fn ends.tale ends.taken number End (cut bytes ends.taken left ends.bytes) ends.says.0 two ends.says.1 line
+    refused_stop mode bytes left hb hn eb en fb fn ends.tale ends.taken number End (cut bytes ends.taken left ends.bytes) ends.needed ends.says.0 two ends.says.1 line
 refused_run mode (Some bytes) left hb hn eb en fb fn rig rb rn sb sn (Stopped number (NotCapture byte)) ends two line =
-    refused_stop mode bytes left hb hn eb en fb fn ends.tale ends.taken number (NotCapture byte) (cut bytes ends.taken left ends.bytes) ends.says.0 two ends.says.1 line
+    refused_stop mode bytes left hb hn eb en fb fn ends.tale ends.taken number (NotCapture byte) (cut bytes ends.taken left ends.bytes) ends.needed ends.says.0 two ends.says.1 line
 refused_run mode (Some bytes) left hb hn eb en fb fn rig rb rn sb sn (Stopped number (BadRecord byte word)) ends two line =
-    refused_stop mode bytes left hb hn eb en fb fn ends.tale ends.taken number (BadRecord byte word) (cut bytes ends.taken left ends.bytes) ends.says.0 two ends.says.1 line
+    refused_stop mode bytes left hb hn eb en fb fn ends.tale ends.taken number (BadRecord byte word) (cut bytes ends.taken left ends.bytes) ends.needed ends.says.0 two ends.says.1 line
 refused_run mode (Some bytes) left hb hn eb en fb fn rig rb rn sb sn (Stopped number (TooLong byte)) ends two line =
-    refused_stop mode bytes left hb hn eb en fb fn ends.tale ends.taken number (TooLong byte) (cut bytes ends.taken left ends.bytes) ends.says.0 two ends.says.1 line
+    refused_stop mode bytes left hb hn eb en fb fn ends.tale ends.taken number (TooLong byte) (cut bytes ends.taken left ends.bytes) ends.needed ends.says.0 two ends.says.1 line
 
 starved_by : (mode : Mode) (bytes : List ℕ) (left held_before held_now err_before err_now : Option (List ℕ)) (faults_before faults_now : ℕ)
     (t : Tale) (taken : List ℕ) (number byte : ℕ) → IsCut bytes taken left

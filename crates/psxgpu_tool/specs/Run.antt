@@ -4,7 +4,7 @@ use Rattle.dev_io.specs.Device.{appended, AppendsPart, Rose}
 use Rattle.gpu_capture.specs.declared.event.Stop.TheVariants.{Truncated, ReadFault}
 use Rattle.gpu_core.specs.Machine.{first_state}
 use Rattle.event_play.specs.Out.{Out, OutCost}
-use Rattle.event_play.specs.Playing.{LacksBytes}
+use Rattle.event_play.specs.Playing.{AreAllNeeded, LacksBytes}
 use Rattle.event_play.specs.Replay.{Tale, Played, Play, from_state}
 use Rattle.event_play.specs.declared.ending.Ending.{Ending}
 use Rattle.event_play.specs.declared.ending.Ending.TheVariants.{Done, Stopped, Faulted, WriteFailed}
@@ -36,12 +36,13 @@ WholeRun mode (Some bytes) left held_before held_now =
 
 -- ---- status 2
 
--- the bytes taken decide the ending, whatever follows them, or there are no others
+-- the bytes taken decide the ending, whatever follows them, or there are no others; and none of them is one too many
 pub record Decided (bytes : List ℕ) (left : Option (List ℕ)) : Type 0 where
   pub taken : List ℕ
   pub rest : List ℕ
   pub all : bytes ≡ taken ++ rest
   pub left_is : left ≡ Some rest
+  pub needed : AreAllNeeded first taken
   pub decides : ((more : List ℕ) → (play_of (taken ++ more)).ending ≡ (play_of bytes).ending) ⊎ (rest ≡ [])
 
 -- the capture, or one of its events, is refused: all that was due before was written, and the line says why and where

@@ -1,4 +1,4 @@
-use Rattle.std.proofs.Common.{◌∙◌, arith}
+use Rattle.std.proofs.Common.{arith}
 use Rattle.std.proofs.lemmas.Result.{err_from_is_err_and}
 use Rattle.gpu_capture.proofs.Steps.{takes_on, stops_on}
 use Rattle.gpu_capture.proofs.reader.advance.Goals as goal

@@ -1,7 +1,5 @@
-use Rattle.std.proofs.Common.{◌≡◌, ℕ, sym, ap, subst, ◌∙◌}
+use Rattle.std.proofs.Common.{sym, ap, ◌∙◌}
 use Rattle.gpu_core.specs.Machine.{first_state}
-use Rattle.event_play.specs.Playing.{EndsPlay}
-use Rattle.event_play.specs.Replay.{from_state}
 use Rattle.event_play.specs.RigState.{RigState}
 use Rattle.psxgpu_tool.proofs.Told.{refused_run, starved_run, complete_run, cost_of_run}
 use Rattle.psxgpu_tool.proofs.run.play.Goals as goal

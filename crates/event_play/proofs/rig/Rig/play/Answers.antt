@@ -1,4 +1,4 @@
-use Rattle.std.proofs.Common.{◌≤◌, ◌+◌, arith}
+use Rattle.std.proofs.Common.{arith}
 use Rattle.event_play.proofs.Reaching.{reaches_start, reaches_on, event_ends, stop_ends}
 use Rattle.event_play.proofs.rig.Rig.play.Goals as goal
 
