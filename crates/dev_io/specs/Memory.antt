@@ -1,5 +1,5 @@
 -- Sinks in memory (our own rule): what they hold, how much they may hold, and how often they failed.
-use Rattle.std.specs.Prelude.{◌+◌, ◌-◌, ◌++◌, List, ℕ, max, min, length, take}
+use Rattle.std.specs.Prelude.{◌-◌, ◌++◌, List, ℕ, max, min, length, take}
 use Rattle.dev_io.specs.Cut.{one_more}
 
 pub record SinkState : Type 0 where

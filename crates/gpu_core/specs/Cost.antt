@@ -1,6 +1,6 @@
 -- The most store steps of an item and of a read (our own rule): a row of a fill of width w costs w / 16; a chunk of a copy 3, and 3 a cell
 -- where it reads what it writes; a data word of a load 2 for each pixel that it plots; a read 1 for each pixel that it gives.
-use Rattle.std.specs.Prelude.{ℕ, ◌+◌, ◌*◌, Option, None, Some}
+use Rattle.std.specs.Prelude.{ℕ, ◌*◌, Option, None, Some}
 use Rattle.gp0_words.specs.declared.item.Item.{Item}
 use Rattle.gp0_packets.specs.Packets.{packet_of}
 use Rattle.gp0_packets.specs.declared.packet.Packet.{Packet}

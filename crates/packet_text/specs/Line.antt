@@ -1,5 +1,5 @@
 -- The lines that the commands write (our own rule). Each ends with one newline byte.
-use Rattle.std.specs.Prelude.{ℕ, List, [], ◌∷◌, ◌++◌, Option, None, Some, ◌/◌, ◌^◌, ◌==◌, ◌&&◌, nat_le, if◌then◌else◌, codes, decimal}
+use Rattle.std.specs.Prelude.{ℕ, List, [], ◌++◌, Option, None, Some, ◌==◌, ◌&&◌, nat_le, if◌then◌else◌, codes, decimal}
 use Rattle.std.specs.Fmt.{signed_decimal}
 use Rattle.gp0_packets.specs.declared.note.Note.{Note}
 use Rattle.gp0_words.specs.Kinds.{opcode_of}

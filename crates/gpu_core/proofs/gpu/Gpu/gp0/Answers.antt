@@ -1,4 +1,4 @@
-use Rattle.std.proofs.Common.{◌≡◌, ◌≤◌, Some, None, sym, ap, ◌∙◌, arith, refl, ◌+◌}
+use Rattle.std.proofs.Common.{Some, None, sym, ap, ◌∙◌, arith, refl}
 use Rattle.gp0_packets.specs.Packets.{packet_of}
 use Rattle.gpu_core.specs.Cost.{FeedCost, packet_cost}
 use Rattle.gpu_core.specs.Kept.{Kept}
