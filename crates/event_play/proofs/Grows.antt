@@ -62,10 +62,11 @@ adds_on : (mode : Mode) (t : Tale) (spent : ℕ) (step : Result Stepped EventFau
 adds_on mode t spent (Ok stepped) on faulted at_next at_fault =
     let next = told_next stepped in
     let due = lines_for mode (option_to_list stepped.shown) stepped.notes in
-    let more = at_next next in
-    (due ++ more.0,
-    more.1 ∙ ap (λ xs. xs ++ more.0) (lines-append mode t.shown (option_to_list stepped.shown) t.notes stepped.notes)
-    ∙ append_assoc (lines_of mode t) due more.0)
+    let more = at_next next in (
+      due ++ more.0,
+      more.1 ∙ ap (λ xs. xs ++ more.0) (lines-append mode t.shown (option_to_list stepped.shown) t.notes stepped.notes)
+          ∙ append_assoc (lines_of mode t) due more.0,
+    )
   where
     told_next : Stepped → Tale
     told_next stepped = record {

@@ -125,8 +125,8 @@ module _ (mode : Mode) (first : Tale) (left_before left_mid left_now held_before
       let due = lines_for mode (option_to_list parts.shown) parts.notes in
       let is = after-event t event parts.state parts.shown parts.notes parts.is in
       let says = λ (rest : List ℕ).
-          says_event first t event old new reached.taken takes.taken rest reached.says (takes.says rest)
-          ∙ goes_on t next event (capture_from new rest) is
+      says_event first t event old new reached.taken takes.taken rest reached.says (takes.says rest)
+      ∙ goes_on t next event (capture_from new rest) is
       in record {
         taken = reached.taken ++ takes.taken;
         bytes = taken_on left_before left_mid left_now reached.taken takes.taken reached.bytes takes.bytes;
@@ -139,10 +139,12 @@ module _ (mode : Mode) (first : Tale) (left_before left_mid left_now held_before
           goes_on = λ rest. (capture_from new rest, says rest);
           prefix = λ rest.
               let c = capture_from new rest in
-              let more = out_grows mode next c.events c.ending c.rest in
-              (more.0, ap (Out mode) (says rest) ∙ more.1
-              ∙ ap (λ xs. xs ++ more.0) (lines-append mode t.shown (option_to_list parts.shown) t.notes parts.notes)
-              ∙ append_assoc (lines_of mode t) due more.0);
+              let more = out_grows mode next c.events c.ending c.rest in (
+                more.0,
+                ap (Out mode) (says rest) ∙ more.1
+                    ∙ ap (λ xs. xs ++ more.0) (lines-append mode t.shown (option_to_list parts.shown) t.notes parts.notes)
+                    ∙ append_assoc (lines_of mode t) due more.0,
+              );
         };
         stands = (parts.stands, inr parts.played);
         heard = heard_on heard_before heard_mid heard_now t.notes parts.notes reached.heard parts.heard;
@@ -262,6 +264,6 @@ module _ (mode : Mode) (first : Tale) (left_before left_mid left_now held_before
   stop_ends stop (Stopped number told) stops ends =
       let Q : Ending → Type 0 = λ ending. EndsPlay mode first left_before left_now held_before held_now rig heard_before heard_now steps_before steps_now ending in
       let e : Stopped (next_number reached.tale.played) stop ≡ Stopped number told =
-          ap (λ n. Stopped n stop) (sym (ends.0 ∙ number_of rig reached.tale reached.stands)) ∙ ap (Stopped number) (sym ends.1)
+      ap (λ n. Stopped n stop) (sym (ends.0 ∙ number_of rig reached.tale reached.stands)) ∙ ap (Stopped number) (sym ends.1)
       in subst Q e (stopped_ends stop stops ends.2 ends.3 ends.4)
   stop_ends stop (Faulted number fault) stops ends = absurd ends

@@ -9,3 +9,43 @@ mod number;
 
 pub use line::{write_note, write_status, write_word};
 pub use number::{decimal_text, hex_digits};
+
+#[cfg(test)]
+mod tests {
+    use super::*;
+    use dev_io::MemSink;
+    use gp0_packets::Note;
+    use px_num::Box2;
+    use std::test::Fail;
+
+    #[test]
+    fn lines_of_notes_words_and_status(rt: HostRuntime) -> Result<(), Fail> {
+        let mut out = MemSink::new(rt.alloc(), 100)?;
+        let environment = Note {
+            event: 1,
+            class: 7,
+            head: 0xe407_ffff,
+            area: None,
+        };
+        let polygon = Note {
+            event: 5,
+            class: 1,
+            head: 0x20ff_ffff,
+            area: Some(Box2 {
+                x1: 0,
+                y1: -1,
+                x2: 8,
+                y2: 8,
+            }),
+        };
+        assert_eq!(rt; write_note(&mut out, &environment), Ok(()));
+        assert_eq!(rt; write_note(&mut out, &polygon), Ok(()));
+        assert_eq!(rt; write_word(&mut out, 0x000f_ffff), Ok(()));
+        assert_eq!(rt; write_status(&mut out, 0x1480_2000), Ok(()));
+        assert_eq!(rt;
+            out.bytes(),
+            b"1 environment e407ffff -\n5 polygon 20ffffff 0 -1 8 8\n000fffff\nstatus 14802000\n".as_slice()
+        );
+        Ok(())
+    }
+}

@@ -78,7 +78,7 @@ module _ (mode : Mode) (bytes : List ℕ) (left held_before held_now err_before 
   refused_short t taken number byte is_cut says at_end held line =
       let none = none_left left is_cut.rest is_cut.left_is at_end in
       let is : play_of bytes ≡ record { tale = t; ending = Stopped number (Truncated byte); rest = [] } =
-          ap play_of (all_taken bytes taken is_cut.rest is_cut.all none) ∙ says
+      ap play_of (all_taken bytes taken is_cut.rest is_cut.all none) ∙ says
       in
       refused_by t (Stopped number (Truncated byte)) (ap (λ (r : Played). r.tale) is) (ap (λ (r : Played). r.ending) is) refl refl held
       (record { taken = taken; rest = is_cut.rest; all = is_cut.all; left_is = is_cut.left_is; decides = inr none })

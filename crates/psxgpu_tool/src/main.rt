@@ -3,6 +3,8 @@
 
 mod command;
 mod line;
+#[cfg(test)]
+mod rows;
 mod run;
 
 ghost use Rattle.std.specs.Prelude.{◌≡◌, ◌<◌};
@@ -28,42 +30,29 @@ fn run_over<L: Ledger>(rt: &HostRuntime, blank: Blank) -> u8
     requires some { 0 < blank.parts }
 {
     let mut steps = Steps::<L>::new(blank);
-    let mut source = ReadEdge::new(rt.stdin());
-    let mut out = WriteEdge::new(io::writer(rt));
-    let mut err = WriteEdge::new(rt.stderr());
-    let Ok(words) = words(rt) else {
-        tell(&mut err, b"psxgpu: memory\n");
-        return 5;
-    };
-    let Ok(taps) = taps(rt) else {
-        tell(&mut err, b"psxgpu: memory\n");
-        return 5;
-    };
-    run(
-        rt.alloc(),
-        &words,
-        &mut source,
-        &mut out,
-        &mut err,
-        taps,
-        &mut steps,
-    )
+    match run_with_taps(rt, &mut steps) {
+        Ok(status) => status,
+        Err(_) => {
+            tell(&mut WriteEdge::new(rt.stderr()), b"psxgpu: memory\n");
+            5
+        }
+    }
 }
 
-/// The words behind the program's name.
-fn words(rt: &HostRuntime) -> io::Result<Vec<String>> {
-    Ok(env::args(rt)?.skip(1).collect(rt.alloc())?)
-}
-
-/// The taps of each run: counts, trace and cover.
-fn taps(rt: &HostRuntime) -> io::Result<Vec<Box<dyn Tap>>> {
+/// Runs the words of the command line with the taps counts, trace and cover. It fails only for want of memory for the words
+/// or the taps.
+fn run_with_taps<L: Ledger>(rt: &HostRuntime, steps: &mut Steps<L>) -> io::Result<u8> {
     let alloc = rt.alloc();
-    let mut taps: Vec<Box<dyn Tap>> = Vec::new(alloc);
-    taps.push(Box::new(alloc, Counts::new())?)?;
+    let words: Vec<String> = env::args(rt)?.skip(1).collect(alloc)?;
     let Ok(trace) = Trace::new(alloc) else {
         return Err(io::ErrorKind::OutOfMemory.into());
     };
+    let mut taps: Vec<Box<dyn Tap>> = Vec::new(alloc);
+    taps.push(Box::new(alloc, Counts::new())?)?;
     taps.push(Box::new(alloc, trace)?)?;
     taps.push(Box::new(alloc, Cover::new())?)?;
-    Ok(taps)
+    let mut source = ReadEdge::new(rt.stdin());
+    let mut out = WriteEdge::new(io::writer(rt));
+    let mut err = WriteEdge::new(rt.stderr());
+    Ok(run(alloc, &words, &mut source, &mut out, &mut err, taps, steps))
 }

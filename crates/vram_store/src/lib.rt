@@ -5,6 +5,8 @@
 //! of `get`, `put`, `load16` or `store16`; no other call reaches a cell.
 #![tactic(auto)]
 
+ghost use Rattle.std.specs.Prelude.{◌≡◌, ◌<◌};
+
 pub mod mask;
 mod steps;
 mod vram;

@@ -92,7 +92,12 @@ impl Vram {
     {
         steps.tick();
         let start = 1024 * y as usize + x as usize;
-        u16x16::from_array(load_lanes(&self.cells[start..start + n as usize]))
+        let lanes = if n == 16 {
+            load_lanes(&self.cells[start..start + 16])
+        } else {
+            load_lanes(&self.cells[start..start + n as usize])
+        };
+        u16x16::from_array(lanes)
     }
 
     /// Writes those of the first `n` lanes whose bit of the mask is 1 to row `y` from column `x` on. All
@@ -116,7 +121,12 @@ impl Vram {
     {
         steps.tick();
         let start = 1024 * y as usize + x as usize;
-        store_lanes(&mut self.cells, start, n as usize, &lanes.to_array(), mask);
+        let lanes = lanes.to_array();
+        if n == 16 && mask == 0xffff {
+            store_lanes(&mut self.cells, start, 16, &lanes, 0xffff);
+        } else {
+            store_lanes(&mut self.cells, start, n as usize, &lanes, mask);
+        }
     }
 }
 

@@ -7,14 +7,14 @@ pub returns-then-is_refused-clause-fault : goal.returns-then-is_refused-clause-f
 unfolding Step
 returns-then-is_refused-clause-fault g c = λ s e.
     let on : (Idle s && not (is_built c.args.word)) ≡ true =
-        ap (λ b. b && not (is_built c.args.word)) (sym (c.is_idle.ensures s e)) ∙ sym c.is_refused.ensures ∙ c.if-is_refused.true
+    ap (λ b. b && not (is_built c.args.word)) (sym (c.is_idle.ensures s e)) ∙ sym c.is_refused.ensures ∙ c.if-is_refused.true
     in rw on refl
 
 pub returns-clause-stepped : goal.returns-clause-stepped
 unfolding Step
 returns-clause-stepped g c = λ s e.
     let off : (Idle s && not (is_built c.args.word)) ≡ false =
-        ap (λ b. b && not (is_built c.args.word)) (sym (c.is_idle.ensures s e)) ∙ sym c.is_refused.ensures ∙ c.if-is_refused.false
+    ap (λ b. b && not (is_built c.args.word)) (sym (c.is_idle.ensures s e)) ∙ sym c.is_refused.ensures ∙ c.if-is_refused.false
     in record {
       state = Feed s c.args.word;
       is = rw (off, c.gp0-note.ensures.note s e) refl;
