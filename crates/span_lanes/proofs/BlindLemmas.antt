@@ -16,7 +16,7 @@ use Rattle.span_lanes.specs.declared.span.Span.{Span}
 use Rattle.vram_store.specs.Plot.{later}
 use Rattle.vram_store.specs.Chunk.{AgreesApart, IsBlind}
 use Rattle.span_lanes.specs.Shade.{IsSpan, at_cell, texel, row_u, paint_pixel, shade, flat_pixel, shift_of, color_in, attribute_in}
-use Rattle.span_lanes.specs.Guard.{row_texel, row_texels, tri_texel, tri_texels, target, clut_strip, palette_of, PaintHazard, HasHazard}
+use Rattle.span_lanes.specs.Guard.{paint_texel, paint_texels, target, clut_strip, palette_of, PaintHazard, HasHazard}
 
 -- a cell that none of j lanes of a row writes
 same_cell : (m now : List ℕ) (x y j cx cy : ℕ) → AgreesApart (1024 * y + x) j m now → cx < 1024 → x + j ≤ 1024
@@ -95,7 +95,7 @@ paint_blind : (paint : Paint) (brush : Brush) (x y first k : ℕ) (m : List ℕ)
     → (PaintHazard paint x y first k → ⊥)
     → (j : ℕ) → j < k → (now : List ℕ) → AgreesApart (1024 * y + (x + first)) j m now
     → paint_pixel paint brush (x + (first + j)) y (first + j) now ≡ paint_pixel paint brush (x + (first + j)) y (first + j) m
-unfolding row_texels tri_texels
+unfolding paint_texels
 paint_blind (Flat color) brush x y first k m room none j lt now agree =
     ap (flat_pixel brush color (shift_of brush.dither (x + (first + j)) y))
     (same_cell m now (x + first) y j (x + (first + j)) y agree (omega arith) (omega arith) (λ i less e f. omega arith))
@@ -103,12 +103,12 @@ paint_blind (Shaded tri) brush x y first k m room none j lt now agree =
     ap (flat_pixel brush (color_in tri (x + (first + j)) y) (shift_of brush.dither (x + (first + j)) y))
     (same_cell m now (x + first) y j (x + (first + j)) y agree (omega arith) (omega arith) (λ i less e f. omega arith))
 paint_blind (TexturedTri tri t) brush x y first k m room none j lt now agree =
-    let back = back_blind t (tri_texel t tri x y) x y first k room none m now j lt agree in
-    let same = texel_blind t (tri_texel t tri x y) x y first k room none m now j lt agree (attribute_in tri 3 (x + (first + j)) y) (attribute_in tri 4 (x + (first + j)) y) refl in
+    let back = back_blind t (paint_texel (TexturedTri tri t) t x y) x y first k room none m now j lt agree in
+    let same = texel_blind t (paint_texel (TexturedTri tri t) t x y) x y first k room none m now j lt agree (attribute_in tri 3 (x + (first + j)) y) (attribute_in tri 4 (x + (first + j)) y) refl in
     rw (back, same) refl
 paint_blind (TexturedRow color t u v flip) brush x y first k m room none j lt now agree =
-    let back = back_blind t (row_texel t u v flip) x y first k room none m now j lt agree in
-    let same = texel_blind t (row_texel t u v flip) x y first k room none m now j lt agree (row_u u flip (first + j)) v refl in
+    let back = back_blind t (paint_texel (TexturedRow color t u v flip) t x y) x y first k room none m now j lt agree in
+    let same = texel_blind t (paint_texel (TexturedRow color t u v flip) t x y) x y first k room none m now j lt agree (row_u u flip (first + j)) v refl in
     rw (back, same) refl
 
 pub span_blind : (span : Span) (first k : ℕ) (m : List ℕ) → IsSpan span → first + k ≤ span.n → (HasHazard span first k → ⊥)

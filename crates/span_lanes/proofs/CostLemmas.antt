@@ -1,10 +1,12 @@
 -- What a span costs at most.
-use Rattle.std.proofs.Common.{◌≡◌, ◌≤◌, ℕ, zero, suc, Bool, true, false, cond, ltb, ◌+◌, ◌-◌, ◌*◌, ◌/◌, min, refl, subst, add-one, arith}
-use Rattle.span_lanes.specs.declared.span.Paint.{Paint}
-use Rattle.span_lanes.specs.declared.span.Paint.TheVariants.{Flat, Shaded, TexturedTri, TexturedRow}
+use Rattle.std.proofs.Common.{◌≡◌, ◌≤◌, ℕ, zero, suc, List, Option, None, Some, Bool, true, false, cond, ltb, ◌+◌, ◌-◌, ◌*◌, ◌/◌, min, refl, subst, add-one, arith}
+use Rattle.span_lanes.specs.declared.span.Texture.{Texture}
 use Rattle.span_lanes.specs.declared.span.Span.{Span}
-use Rattle.span_lanes.specs.Guard.{has_hazard}
-use Rattle.span_lanes.specs.Cost.{paint_steps, steps_of, chunk_cost, chunks_cost, span_cost}
+use Rattle.span_lanes.specs.Guard.{has_hazard, paint_texels, palette_of, target}
+use Rattle.span_lanes.specs.Shade.{texture_of}
+use Rattle.overlap_guard.specs.Hazard.{has_texture_hazard}
+use Rattle.px_num.specs.declared.shape.Cell.{Cell}
+use Rattle.span_lanes.specs.Cost.{texel_steps, texture_steps, paint_steps, steps_of, chunk_cost, chunks_cost, span_cost}
 use Rattle.span_lanes.specs.Laws.{CostLaw}
 
 steps_small : (b : Bool) (p k : ℕ) → p ≤ 2 → 1 ≤ k → steps_of b p k ≤ 4 * k
@@ -21,18 +23,16 @@ two_or_one : (b : Bool) → cond b 2 1 ≤ 2
 two_or_one true = omega arith
 two_or_one false = omega arith
 
-paint_small : (paint : Paint) → paint_steps paint ≤ 2
-paint_small (Flat color) = omega arith
-paint_small (Shaded tri) = omega arith
-paint_small (TexturedTri tri t) = two_or_one (ltb t.page.depth 2)
-paint_small (TexturedRow color t u v flip) = two_or_one (ltb t.page.depth 2)
+texture_small : (t : Option Texture) → texture_steps t ≤ 2
+texture_small None = omega arith
+texture_small (Some t) = two_or_one (ltb t.page.depth 2)
 
 chunks_small : (span : Span) (c : ℕ) → c ≤ (span.n + 15) / 16 → chunks_cost span c ≤ 4 * min (16 * c) span.n
 chunks_small span zero le = omega arith
 chunks_small span (suc c) le =
     let so_far = chunks_small span c (omega arith) in
     let k : ℕ = min (span.n - 16 * c) 16 in
-    let next = steps_small (has_hazard span (16 * c) (min (span.n - 16 * c) 16)) (paint_steps span.paint) (min (span.n - 16 * c) 16) (paint_small span.paint) (omega arith) in
+    let next = steps_small (has_hazard span (16 * c) (min (span.n - 16 * c) 16)) (paint_steps span.paint) (min (span.n - 16 * c) 16) (texture_small (texture_of span.paint)) (omega arith) in
     joined (chunks_cost span c) (chunk_cost span (16 * c) (min (span.n - 16 * c) 16)) c span.n le so_far next
   where
     joined : (a b c n : ℕ) → suc c ≤ (n + 15) / 16 → a ≤ 4 * min (16 * c) n → b ≤ 4 * min (n - 16 * c) 16 → a + b ≤ 4 * min (16 * suc c) n
@@ -54,3 +54,14 @@ cost_more span at k before now next e so_far here =
   where
     joined : (before now next d e : ℕ) → now ≤ before + d → next ≤ now + e → next ≤ before + (d + e)
     joined before now next d e f g = omega arith
+
+-- chunks without a texture
+pub plain_cost : (span : Span) (first k : ℕ) → texture_of span.paint ≡ None → chunk_cost span first k ≡ 2 + 0 * k
+unfolding has_hazard
+plain_cost span first k e = rw e refl
+
+-- chunks whose texels are known
+pub textured_cost : (span : Span) (t : Texture) (first k : ℕ) (cells : List Cell) → texture_of span.paint ≡ Some t → paint_texels span.paint t span.x span.y first k ≡ cells
+    → chunk_cost span first k ≡ steps_of (has_texture_hazard cells (palette_of t) (target span.x span.y first) k) (texel_steps t.page.depth) k
+unfolding has_hazard
+textured_cost span t first k cells e same = rw (e, same) refl

@@ -3,3 +3,4 @@ pub mod CellsLemmas
 pub mod ColorLemmas
 pub mod CostLemmas
 pub mod PlainLemmas
+pub mod TexelLemmas

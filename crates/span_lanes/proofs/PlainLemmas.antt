@@ -8,8 +8,8 @@ use Rattle.span_lanes.specs.declared.span.Brush.{Brush}
 use Rattle.span_lanes.specs.declared.span.Paint.{Paint}
 use Rattle.span_lanes.specs.declared.span.Paint.TheVariants.{Flat, Shaded, TexturedTri, TexturedRow}
 use Rattle.span_lanes.specs.declared.span.Span.{Span}
-use Rattle.span_lanes.specs.Shade.{flat_pixel, blended_if, shift_of, paint_pixel, shade}
-use Rattle.span_lanes.specs.Lanes.{texture_of, paint_color}
+use Rattle.span_lanes.specs.Shade.{texture_of, flat_pixel, blended_if, shift_of, paint_pixel, shade}
+use Rattle.span_lanes.specs.Paints.{paint_color}
 
 paint_plain : (paint : Paint) (brush : Brush) (x y i : ℕ) (m : List ℕ) → texture_of paint ≡ None
     → paint_pixel paint brush x y i m ≡ flat_pixel brush (paint_color paint x y) (shift_of brush.dither x y) (at m x y)

@@ -1,20 +1,22 @@
 -- How many store steps the cells of a row may take (our own rule).
-use Rattle.std.specs.Prelude.{ℕ, zero, suc, ◌+◌, ◌-◌, ◌*◌, ◌/◌, min, Bool, if◌then◌else◌, nat_lt}
+use Rattle.std.specs.Prelude.{ℕ, zero, suc, ◌+◌, ◌-◌, ◌*◌, ◌/◌, min, Bool, Option, None, Some, if◌then◌else◌, nat_lt}
 use Rattle.span_lanes.specs.declared.span.Paint.{Paint}
-use Rattle.span_lanes.specs.declared.span.Paint.TheVariants.{Flat, Shaded, TexturedTri, TexturedRow}
+use Rattle.span_lanes.specs.declared.span.Texture.{Texture}
 use Rattle.span_lanes.specs.declared.span.Span.{Span}
+use Rattle.span_lanes.specs.Shade.{texture_of}
 use Rattle.span_lanes.specs.Guard.{has_hazard}
 
 -- the reads of a texel: its cell, and at depths 0 and 1 the palette's entry
 abbrev pub texel_steps : ℕ → ℕ
 texel_steps depth = if nat_lt depth 2 then 2 else 1
 
+abbrev pub texture_steps : Option Texture → ℕ
+texture_steps None = 0
+texture_steps (Some t) = texel_steps t.page.depth
+
 -- the reads of a pixel, but for its own cell
 abbrev pub paint_steps : Paint → ℕ
-paint_steps (Flat color) = 0
-paint_steps (Shaded tri) = 0
-paint_steps (TexturedTri tri texture) = texel_steps texture.page.depth
-paint_steps (TexturedRow color texture u v flip) = texel_steps texture.page.depth
+paint_steps paint = texture_steps (texture_of paint)
 
 -- a chunk of n cells whose pixels read d cells each: without a hazard its own cells are read and written in one step each
 abbrev pub steps_of : Bool → ℕ → ℕ → ℕ

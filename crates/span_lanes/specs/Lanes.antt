@@ -1,25 +1,12 @@
 -- The parts of the pixels of a chunk, lane by lane.
-use Rattle.std.specs.Prelude.{ℕ, Bool, ◌≡◌, ◌+◌, ◌<◌, ◌≤◌, ℤ, pos, List, Option, None, Some, length, slice_index, slice_index_or}
+use Rattle.std.specs.Prelude.{ℕ, Bool, ◌≡◌, ◌+◌, ◌<◌, ◌≤◌, ℤ, pos, List, if◌then◌else◌, ◌==◌, length, slice_index, slice_index_or}
 use Rattle.px_num.specs.Lanes.{EachLane}
+use Rattle.vram_store.specs.Vram.{bit}
 use Rattle.blend_dither.specs.Color.{IsShift, tone_of, red_of, green_of, blue_of}
 use Rattle.span_lanes.specs.declared.span.Paint.{Paint}
 use Rattle.span_lanes.specs.declared.span.Texture.{Texture}
-use Rattle.span_lanes.specs.declared.span.Paint.TheVariants.{Flat, Shaded, TexturedTri, TexturedRow}
-use Rattle.span_lanes.specs.Shade.{shift_of, color_in}
-
--- the texture of a paint
-abbrev pub texture_of : Paint → Option Texture
-texture_of (Flat color) = None
-texture_of (Shaded tri) = None
-texture_of (TexturedTri tri texture) = Some texture
-texture_of (TexturedRow color texture u v flip) = Some texture
-
--- the colour of a paint at a cell
-abbrev pub paint_color : Paint → ℕ → ℕ → ℕ
-paint_color (Flat color) x y = color
-paint_color (Shaded tri) x y = color_in tri x y
-paint_color (TexturedTri tri texture) x y = color_in tri x y
-paint_color (TexturedRow color texture u v flip) x y = color
+use Rattle.span_lanes.specs.Shade.{shift_of, texel}
+use Rattle.span_lanes.specs.Paints.{paint_color, paint_u, paint_v}
 
 -- sixteen channels of eight bits
 pub record AreChannels (channels : List ℕ) : Type 0 where
@@ -48,3 +35,21 @@ pub record AreShifts (shifts : List ℤ) : Type 0 where
 abbrev pub tone_at : Paint → Bool → ℕ → ℕ → ℕ
 tone_at paint dither x y =
     tone_of (red_of (paint_color paint x y)) (green_of (paint_color paint x y)) (blue_of (paint_color paint x y)) (shift_of dither x y)
+
+-- sixteen coordinates of a texel
+pub record AreCoordinates (coordinates : List ℕ) : Type 0 where
+  pub long : length coordinates ≡ 16
+  pub bytes : EachLane (λ i. slice_index coordinates i ≤ 255)
+
+-- the first n lanes are the texel coordinates of a paint in a row, from (x, y) on, which is cell `first` of a span
+pub record HasCoordinates (paint : Paint) (x y first n : ℕ) (us vs : List ℕ) : Type 0 where
+  pub across : AreCoordinates us
+  pub down : AreCoordinates vs
+  pub u : (j : ℕ) → j < n → slice_index us j ≡ paint_u paint (x + j) y (first + j)
+  pub v : (j : ℕ) → j < n → slice_index vs j ≡ paint_v paint (x + j) y (first + j)
+
+-- the first n lanes are texels, with a bit for each that is drawn
+pub record HasTexels (t : Texture) (us vs : List ℕ) (m : List ℕ) (n : ℕ) (texels : List ℕ) (bits : ℕ) : Type 0 where
+  pub long : length texels ≡ 16
+  pub texel_is : (j : ℕ) → j < n → slice_index texels j ≡ texel t (slice_index us j) (slice_index vs j) m
+  pub drawn : (j : ℕ) → j < n → bit bits j ≡ (if slice_index texels j == 0 then 0 else 1)

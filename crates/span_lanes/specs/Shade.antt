@@ -1,5 +1,5 @@
 -- The pixel that a span draws at one of its cells (psx-spx, "GPU Rendering Attributes"; the exact whole numbers are our own rule).
-use Rattle.std.specs.Prelude.{ℕ, ◌+◌, ◌-◌, ◌*◌, ◌%◌, ◌<◌, ◌≤◌, ◌==◌, ◌&&◌, ℤ, pos, IsTrue, Bool, false, not, List, Option, None, Some, if◌then◌else◌, nat_lt}
+use Rattle.std.specs.Prelude.{ℕ, ◌+◌, ◌-◌, ◌*◌, ◌%◌, ◌<◌, ◌≤◌, ◌==◌, ◌&&◌, ℤ, pos, IsTrue, Bool, false, not, List, Option, None, Some, IfSome, if◌then◌else◌, nat_lt}
 use Rattle.px_num.specs.declared.shape.Cell.{Cell}
 use Rattle.vram_store.specs.Vram.{at, bit}
 use Rattle.vram_store.specs.Plot.{drawn_lanes}
@@ -20,11 +20,12 @@ pub record IsTexture (texture : Texture) : Type 0 where
   pub page : IsPage texture.page
   pub window : IsWindow texture.window
 
-abbrev pub IsPaint : Paint → Type 0
-IsPaint (Flat color) = Unit {0}
-IsPaint (Shaded tri) = Unit {0}
-IsPaint (TexturedTri tri texture) = IsTexture texture
-IsPaint (TexturedRow color texture u v flip) = IsTexture texture
+-- the texture of a paint
+abbrev pub texture_of : Paint → Option Texture
+texture_of (Flat color) = None
+texture_of (Shaded tri) = None
+texture_of (TexturedTri tri texture) = Some texture
+texture_of (TexturedRow color texture u v flip) = Some texture
 
 -- n cells of a row from (x, y) on are inside a triangle
 abbrev pub AreInside : Corners → ℕ → ℕ → ℕ → Type 0
@@ -43,20 +44,13 @@ pub record IsSpan (span : Span) : Type 0 where
   pub in_row : span.x + span.n ≤ 1024
   pub mask : span.brush.mask ≤ 3
   pub mode : span.brush.mode ≤ 3
-  pub paint : IsPaint span.paint
+  pub texture : IfSome (texture_of span.paint) IsTexture
   pub inside : HasInside span.paint span.x span.y span.n
-
--- all rows of the texture page lie in video memory of a height
-abbrev pub HasPage : ℕ → Paint → Type 0
-HasPage height (Flat color) = Unit {0}
-HasPage height (Shaded tri) = Unit {0}
-HasPage height (TexturedTri tri texture) = texture.page.y + 255 < height
-HasPage height (TexturedRow color texture u v flip) = texture.page.y + 255 < height
 
 -- the row of a span and its texture page lie in video memory of a height
 pub record LiesIn (height : ℕ) (span : Span) : Type 0 where
   pub row : span.y < height
-  pub page : HasPage height span.paint
+  pub page : IfSome (texture_of span.paint) (λ texture. texture.page.y + 255 < height)
 
 -- ---- texels
 

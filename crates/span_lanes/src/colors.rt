@@ -1,13 +1,13 @@
 // The colours and dither offsets of the cells of a chunk.
 ghost use Rattle.std.specs.Prelude.{◌≡◌, ◌≤◌, ◌<◌, ◌+◌, ◌%◌, ◌^◌, ℕ, length, slice_index, slice_index_or, pos};
-ghost use Rattle.blend_dither.specs.Color.{tone_of};
+ghost use Rattle.blend_dither.specs.Color.{tone_of, modulated_of};
 ghost use Rattle.px_num.specs.Lanes.{EachLane};
 ghost use Rattle.span_lanes.specs.Shade.{AreInside, HasInside, attribute_in, color_in, shift_of};
 ghost use Rattle.span_lanes.specs.Lanes.{AreChannels, HasColors, AreShifts, colors_from};
 
 use crate::Paint;
 use crate::pixel::shift_for;
-use blend_dither::tone_lanes;
+use blend_dither::{modulate_lanes, tone_lanes};
 use edge_walk::Tri;
 use px_num::lanes::splat;
 use std::simd::prelude::*;
@@ -108,4 +108,16 @@ pub(crate) fn tones_of(colors: Colors, shifts: Shifts) -> u16x16
         ≡ tone_of (slice_index colors.red i) (slice_index colors.green i) (slice_index colors.blue i) (slice_index_or shifts.lanes i (pos 0))) }
 {
     tone_lanes(colors.red, colors.green, colors.blue, shifts.lanes)
+}
+
+// Sixteen texels under colours.
+pub(crate) fn modulated_by(texels: u16x16, colors: Colors, shifts: Shifts) -> u16x16
+    requires texels { length texels ≡ 16 }
+    requires channels { AreChannels colors.red × AreChannels colors.green × AreChannels colors.blue }
+    requires shifts { AreShifts shifts.lanes }
+    ensures long { length result ≡ 16 }
+    ensures value { EachLane (λ i. slice_index result i
+        ≡ modulated_of (slice_index texels i) (slice_index colors.red i) (slice_index colors.green i) (slice_index colors.blue i) (slice_index_or shifts.lanes i (pos 0))) }
+{
+    modulate_lanes(texels, colors.red, colors.green, colors.blue, shifts.lanes)
 }

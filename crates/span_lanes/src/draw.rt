@@ -1,16 +1,20 @@
 // Spans, chunk by chunk.
-ghost use Rattle.std.specs.Prelude.{◌≡◌, ◌≤◌, ◌<◌, ◌+◌, ◌*◌, length};
+ghost use Rattle.std.specs.Prelude.{◌≡◌, ◌≤◌, ◌<◌, ◌+◌, ◌*◌, None, Some, length};
 ghost use Rattle.vram_store.specs.Vram.{height_of};
 ghost use Rattle.vram_store.specs.Plot.{later, drawn_lanes};
-ghost use Rattle.vram_store.specs.Chunk.{IsBlind};
+ghost use Rattle.vram_store.specs.Chunk.{IsBlind, HasLanes};
 ghost use Rattle.span_lanes.specs.Cells.{Cells, row_cells};
-ghost use Rattle.span_lanes.specs.Shade.{IsSpan, LiesIn, shade, drawn_span, shade_at};
+ghost use Rattle.span_lanes.specs.Shade.{IsSpan, LiesIn, texture_of, shade, drawn_span, shade_at};
 ghost use Rattle.span_lanes.specs.Cost.{paint_steps, chunk_cost, span_cost};
 
-use crate::Span;
 use crate::cells::draw_cell;
-use crate::guard::reads_itself;
-use crate::lanes::gather;
+use crate::coordinates::coordinates_of;
+use crate::guard::{reads_itself, texture_of};
+use crate::lanes::Lanes;
+use crate::plain::collect_plain;
+use crate::textured::collect_textured;
+use crate::{Span, Texture};
+use px_num::Cell;
 use std::simd::prelude::*;
 use std::sync::ledger::Ledger;
 use vram_store::{Steps, Vram};
@@ -29,27 +33,74 @@ fn draw_cells<L: Ledger>(vram: &mut Vram, span: &Span, first: u16, k: u8, steps:
     }
 }
 
-// A chunk that does not read what it writes: its pixels are read, and then stored at once.
-fn draw_at_once<L: Ledger>(vram: &mut Vram, span: &Span, first: u16, k: u8, steps: &mut Steps<L>)
+// Stores the pixels of a chunk that does not read what it writes.
+fn store_chunk<L: Ledger>(
+    vram: &mut Vram,
+    span: &Span,
+    first: u16,
+    k: u8,
+    lanes: &Lanes,
+    steps: &mut Steps<L>,
+)
     requires span { IsSpan span.now }
     requires height { LiesIn (height_of vram.old) span.now }
     requires some { 1 ≤ k }
     requires few { k ≤ 16 }
     requires within { first + k ≤ span.now.n }
     requires blind { IsBlind (later (shade span.now) first) (1024 * span.now.y + (span.now.x + first)) k vram.old }
+    requires lanes { HasLanes (later (shade span.now) first) span.now.brush.mask (1024 * span.now.y + (span.now.x + first)) k vram.old lanes.now.cells lanes.now.bits }
     ensures cells { vram.new ≡ drawn_lanes (later (shade span.now) first) span.now.brush.mask (1024 * span.now.y + (span.now.x + first)) k vram.old }
     ensures long { length vram.new ≡ length vram.old }
-    ensures cost { steps.new ≤ steps.old + (2 + paint_steps span.now.paint * k) }
+    ensures cost { steps.new ≤ steps.old + 1 }
 {
-    let lanes = gather(vram, span, first, k, steps);
-    vram.store16(
-        span.x + first,
-        span.y,
-        k,
-        u16x16::from_array(lanes.cells),
-        lanes.bits,
-        steps,
-    );
+    let x = span.x + first;
+    let cells = u16x16::from_array(lanes.cells);
+    vram.store16(x, span.y, k, cells, lanes.bits, steps);
+}
+
+// A chunk without a texture, which reads nothing but its own cells.
+fn draw_plain<L: Ledger>(vram: &mut Vram, span: &Span, first: u16, k: u8, steps: &mut Steps<L>)
+    requires span { IsSpan span.now }
+    requires height { LiesIn (height_of vram.old) span.now }
+    requires some { 1 ≤ k }
+    requires few { k ≤ 16 }
+    requires within { first + k ≤ span.now.n }
+    requires plain { texture_of span.now.paint ≡ None }
+    ensures cells { vram.new ≡ drawn_lanes (later (shade span.now) first) span.now.brush.mask (1024 * span.now.y + (span.now.x + first)) k vram.old }
+    ensures long { length vram.new ≡ length vram.old }
+    ensures cost { steps.new ≤ steps.old + chunk_cost span.now first k }
+{
+    let lanes = collect_plain(vram, span, first, k, steps);
+    store_chunk(vram, span, first, k, &lanes, steps);
+}
+
+// A textured chunk: at once where it does not read what it writes.
+fn draw_textured<L: Ledger>(
+    vram: &mut Vram,
+    span: &Span,
+    texture: &Texture,
+    first: u16,
+    k: u8,
+    steps: &mut Steps<L>,
+)
+    requires span { IsSpan span.now }
+    requires height { LiesIn (height_of vram.old) span.now }
+    requires some { 1 ≤ k }
+    requires few { k ≤ 16 }
+    requires within { first + k ≤ span.now.n }
+    requires texture { texture_of span.now.paint ≡ Some texture.now }
+    ensures cells { vram.new ≡ drawn_lanes (later (shade span.now) first) span.now.brush.mask (1024 * span.now.y + (span.now.x + first)) k vram.old }
+    ensures long { length vram.new ≡ length vram.old }
+    ensures cost { steps.new ≤ steps.old + chunk_cost span.now first k }
+{
+    let (x, y) = (span.x + first, span.y);
+    let at = coordinates_of(&span.paint, x, y, first, k);
+    if reads_itself(texture, &at, Cell { x, y }, k) {
+        draw_cells(vram, span, first, k, steps);
+    } else {
+        let lanes = collect_textured(vram, span, texture, &at, first, k, steps);
+        store_chunk(vram, span, first, k, &lanes, steps);
+    }
 }
 
 fn draw_chunk<L: Ledger>(vram: &mut Vram, span: &Span, first: u16, k: u8, steps: &mut Steps<L>)
@@ -62,10 +113,9 @@ fn draw_chunk<L: Ledger>(vram: &mut Vram, span: &Span, first: u16, k: u8, steps:
     ensures long { length vram.new ≡ length vram.old }
     ensures cost { steps.new ≤ steps.old + chunk_cost span.now first k }
 {
-    if reads_itself(span, first, k) {
-        draw_cells(vram, span, first, k, steps);
-    } else {
-        draw_at_once(vram, span, first, k, steps);
+    match texture_of(&span.paint) {
+        None => draw_plain(vram, span, first, k, steps),
+        Some(texture) => draw_textured(vram, span, &texture, first, k, steps),
     }
 }
 

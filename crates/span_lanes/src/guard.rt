@@ -1,79 +1,52 @@
-// Whether a chunk of a span reads what it writes.
-ghost use Rattle.std.specs.Prelude.{◌≡◌, ◌≤◌, ◌<◌, ◌+◌, ◌↔◌, IsTrue, length, take, pos};
-ghost use Rattle.span_lanes.specs.Shade.{IsTexture, IsSpan, AreInside};
-ghost use Rattle.span_lanes.specs.Guard.{row_texel, row_texels, tri_texel, tri_texels, target, palette_of, clut_strip, HasHazard, has_hazard};
-ghost use Rattle.edge_walk.specs.Triangle.{is_inside};
+// Whether a textured chunk reads what it writes.
+ghost use Rattle.std.specs.Prelude.{◌≡◌, ◌≤◌, ◌<◌, ◌+◌, ◌↔◌, IsTrue, take, slice_index};
+ghost use Rattle.texture_page.specs.Page.{texel_place};
 ghost use Rattle.overlap_guard.specs.Hazard.{HasTextureHazard, has_texture_hazard};
+ghost use Rattle.span_lanes.specs.Shade.{IsTexture, texture_of};
+ghost use Rattle.span_lanes.specs.Lanes.{AreCoordinates};
+ghost use Rattle.span_lanes.specs.Guard.{texel_cells, palette_of, clut_strip};
 
-use crate::pixel::{attribute_of, u_of};
-use crate::{Paint, Span, Texture};
-use edge_walk::Tri;
+use crate::coordinates::Coordinates;
+use crate::{Paint, Texture};
 use overlap_guard::texture_hazard;
 use px_num::{Cell, Strip};
 use texture_page::texel_cell;
 
-fn texel_at(texture: &Texture, u: u8, v: u8, flip: bool, i: u16) -> Cell
-    requires texture { IsTexture texture.now }
-    requires within { i < 1024 }
-    ensures { result ≡ row_texel texture.now u v flip i }
+pub(crate) fn texture_of(paint: &Paint) -> Option<Texture>
+    ensures { result ≡ texture_of paint.now }
 {
-    texel_cell(&texture.page, &texture.window, u_of(u, flip, i), v)
-}
-
-fn texels_of(texture: &Texture, u: u8, v: u8, flip: bool, first: u16, k: u8) -> [Cell; 16]
-    requires texture { IsTexture texture.now }
-    requires few { k ≤ 16 }
-    requires within { first + k ≤ 1024 }
-    ensures { take k result ≡ row_texels texture.now u v flip first k }
-{
-    let mut cells = [Cell { x: 0, y: 0 }; 16];
-    for j in 0..k {
-        cells[j as usize] = texel_at(texture, u, v, flip, first + j as u16);
+    match paint {
+        Paint::Flat { .. } => None,
+        Paint::Shaded { .. } => None,
+        Paint::TexturedTri { texture, .. } => Some(*texture),
+        Paint::TexturedRow { texture, .. } => Some(*texture),
     }
-    cells
 }
 
-fn tri_texel_at(texture: &Texture, tri: &Tri, x: u16, y: u16, i: u16) -> Cell
+fn texel_at(texture: &Texture, at: &Coordinates, j: u8) -> Cell
     requires texture { IsTexture texture.now }
-    requires row { x + i < 1024 }
-    requires inside { IsTrue (is_inside tri.now (pos (x + i)) (pos y)) }
-    ensures { result ≡ tri_texel texture.now tri.now x y i }
+    requires across { AreCoordinates at.now.us }
+    requires down { AreCoordinates at.now.vs }
+    requires lane { j < 16 }
+    ensures { result ≡ texel_place texture.now.page texture.now.window (slice_index at.now.us j) (slice_index at.now.vs j) }
 {
-    let u = attribute_of(tri, 3, x + i, y);
-    let v = attribute_of(tri, 4, x + i, y);
+    let u = at.us[j as usize] as u8;
+    let v = at.vs[j as usize] as u8;
     texel_cell(&texture.page, &texture.window, u, v)
 }
 
-fn tri_texels_of(texture: &Texture, tri: &Tri, x: u16, y: u16, first: u16, k: u8) -> [Cell; 16]
+fn texels_at(texture: &Texture, at: &Coordinates, k: u8) -> [Cell; 16]
     requires texture { IsTexture texture.now }
+    requires across { AreCoordinates at.now.us }
+    requires down { AreCoordinates at.now.vs }
     requires few { k ≤ 16 }
-    requires within { x + first + k ≤ 1024 }
-    requires inside { AreInside tri.now x y (first + k) }
-    ensures { take k result ≡ tri_texels texture.now tri.now x y first k }
+    ensures { take k result ≡ texel_cells texture.now at.now.us at.now.vs k }
 {
     let mut cells = [Cell { x: 0, y: 0 }; 16];
     for j in 0..k {
-        cells[j as usize] = tri_texel_at(texture, tri, x, y, first + j as u16);
+        cells[j as usize] = texel_at(texture, at, j);
     }
     cells
-}
-
-fn tri_hazard(texture: &Texture, tri: &Tri, x: u16, y: u16, first: u16, k: u8) -> bool
-    requires texture { IsTexture texture.now }
-    requires some { 1 ≤ k }
-    requires few { k ≤ 16 }
-    requires within { x + first + k ≤ 1024 }
-    requires inside { AreInside tri.now x y (first + k) }
-    ensures pairs { IsTrue result ↔ HasTextureHazard (tri_texels texture.now tri.now x y first k) (palette_of texture.now) (target x y first) k }
-    ensures value { result ≡ has_texture_hazard (tri_texels texture.now tri.now x y first k) (palette_of texture.now) (target x y first) k }
-{
-    let cells = tri_texels_of(texture, tri, x, y, first, k);
-    texture_hazard(
-        &cells[..k as usize],
-        palette(texture),
-        Cell { x: x + first, y },
-        k,
-    )
 }
 
 fn palette(texture: &Texture) -> Option<Strip>
@@ -96,43 +69,17 @@ fn strip_of(clut: u16, n: u16) -> Strip
     }
 }
 
-fn row_hazard(texture: &Texture, u: u8, v: u8, flip: bool, to: Cell, first: u16, k: u8) -> bool
+// Whether k cells from `to` on, whose texels are at these coordinates, read what they write.
+pub(crate) fn reads_itself(texture: &Texture, at: &Coordinates, to: Cell, k: u8) -> bool
     requires texture { IsTexture texture.now }
+    requires across { AreCoordinates at.now.us }
+    requires down { AreCoordinates at.now.vs }
     requires some { 1 ≤ k }
     requires few { k ≤ 16 }
     requires target { to.x + k ≤ 1024 }
-    requires within { first + k ≤ 1024 }
-    ensures pairs { IsTrue result ↔ HasTextureHazard (row_texels texture.now u v flip first k) (palette_of texture.now) to k }
-    ensures value { result ≡ has_texture_hazard (row_texels texture.now u v flip first k) (palette_of texture.now) to k }
+    ensures pairs { IsTrue result ↔ HasTextureHazard (texel_cells texture.now at.now.us at.now.vs k) (palette_of texture.now) to k }
+    ensures value { result ≡ has_texture_hazard (texel_cells texture.now at.now.us at.now.vs k) (palette_of texture.now) to k }
 {
-    let cells = texels_of(texture, u, v, flip, first, k);
+    let cells = texels_at(texture, at, k);
     texture_hazard(&cells[..k as usize], palette(texture), to, k)
-}
-
-// Whether k cells of a span read what they write.
-#[tactic(auto, unfolding(crate::specs::Guard::has_hazard))]
-pub(crate) fn reads_itself(span: &Span, first: u16, k: u8) -> bool
-    requires span { IsSpan span.now }
-    requires some { 1 ≤ k }
-    requires few { k ≤ 16 }
-    requires within { first + k ≤ span.now.n }
-    ensures pairs { IsTrue result ↔ HasHazard span.now first k }
-    ensures value { result ≡ has_hazard span.now first k }
-{
-    let to = Cell {
-        x: span.x + first,
-        y: span.y,
-    };
-    match &span.paint {
-        Paint::Flat { .. } => false,
-        Paint::Shaded { .. } => false,
-        Paint::TexturedTri { tri, texture } => tri_hazard(texture, tri, span.x, span.y, first, k),
-        Paint::TexturedRow {
-            texture,
-            u,
-            v,
-            flip,
-            ..
-        } => { row_hazard(texture, *u, *v, *flip, to, first, k) }
-    }
 }

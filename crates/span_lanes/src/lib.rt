@@ -11,6 +11,7 @@ ghost use Rattle.edge_walk.specs.Triangle.{is_inside};
 
 mod cells;
 mod colors;
+mod coordinates;
 mod draw;
 mod guard;
 mod lanes;
@@ -18,6 +19,7 @@ pub mod laws;
 mod pixel;
 mod plain;
 mod span;
+mod textured;
 
 pub use draw::draw_span;
 pub use span::{Brush, Paint, Span, Texture};

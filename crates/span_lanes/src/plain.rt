@@ -4,8 +4,8 @@ ghost use Rattle.px_num.specs.Lanes.{EachLane};
 ghost use Rattle.vram_store.specs.Vram.{height_of};
 ghost use Rattle.vram_store.specs.Plot.{later};
 ghost use Rattle.vram_store.specs.Chunk.{HasLanes};
-ghost use Rattle.span_lanes.specs.Shade.{IsSpan, LiesIn, HasInside, blended_if, shade};
-ghost use Rattle.span_lanes.specs.Lanes.{texture_of, tone_at};
+ghost use Rattle.span_lanes.specs.Shade.{IsSpan, LiesIn, HasInside, texture_of, blended_if, shade};
+ghost use Rattle.span_lanes.specs.Lanes.{tone_at};
 
 use crate::colors::{colors_of, shifts_of, tones_of};
 use crate::lanes::Lanes;

@@ -1,6 +1,6 @@
 use Rattle.std.proofs.Common.{ℕ, ◌≡◌, ◌<◌, ◌+◌, ◌*◌, get_or, sym, ap, ◌∙◌, arith}
 use Rattle.span_lanes.specs.Shade.{flat_pixel, shift_of}
-use Rattle.span_lanes.specs.Lanes.{paint_color}
+use Rattle.span_lanes.specs.Paints.{paint_color}
 use Rattle.span_lanes.proofs.ColorLemmas.{inside_later}
 use Rattle.span_lanes.proofs.PlainLemmas.{shade_plain, plain_is, plain_lane}
 use Rattle.span_lanes.proofs.plain.collect_plain.Goals as goal

@@ -1,0 +1,86 @@
+-- Texels of a chunk.
+use Rattle.std.proofs.Common.{◌≡◌, ◌≢◌, ◌<◌, ◌≤◌, ℕ, ℤ, zero, suc, List, [], ◌∷◌, ◌++◌, Option, None, Some, Bool, true, false, cond, eqb, ◌&&◌, not, ◌+◌, min, map, length, get_or, refl, sym, ap, ◌∙◌, arith, add-one, below_more}
+use Rattle.std.specs.List.{range_with_len}
+use Rattle.std.proofs.lemmas.List.FromFn.{map-range_with_len_more}
+use Rattle.vram_store.specs.Vram.{at, bit}
+use Rattle.vram_store.specs.Plot.{is_kept, forced, written_over}
+use Rattle.vram_store.specs.Chunk.{IsLane}
+use Rattle.blend_dither.specs.Color.{packed_pixel}
+use Rattle.texture_page.specs.Page.{texel_place}
+use Rattle.span_lanes.specs.declared.span.Brush.{Brush}
+use Rattle.span_lanes.specs.declared.span.Texture.{Texture}
+use Rattle.span_lanes.specs.declared.span.Paint.{Paint}
+use Rattle.span_lanes.specs.declared.span.Paint.TheVariants.{Flat, Shaded, TexturedTri, TexturedRow}
+use Rattle.span_lanes.specs.declared.span.Span.{Span}
+use Rattle.span_lanes.specs.Shade.{texture_of, texel, textured_pixel, blended_if, front_of, is_high, shift_of, paint_pixel, shade}
+use Rattle.span_lanes.specs.Paints.{paint_color, paint_u, paint_v}
+use Rattle.span_lanes.specs.Lanes.{HasTexels, HasCoordinates}
+use Rattle.span_lanes.specs.Guard.{paint_texel, paint_texels, texel_cells}
+
+-- one texel more
+pub texels_more : (t : Texture) (us vs m : List ℕ) (j : ℕ) (texels after : List ℕ) (bits now : ℕ) → HasTexels t us vs m j texels bits
+    → length after ≡ length texels → ((i : ℕ) → i ≢ j → get_or after i 0 ≡ get_or texels i 0) → ((i : ℕ) → i ≢ j → bit now i ≡ bit bits i)
+    → get_or after j 0 ≡ texel t (get_or us j 0) (get_or vs j 0) m → bit now j ≡ cond (eqb (get_or after j 0) 0) 0 1
+    → HasTexels t us vs m (j + 1) after now
+texels_more t us vs m j texels after bits now has long same_texels same_bits here drawn = record {
+  long = long ∙ has.long;
+  texel_is = below_more _ _ (λ i lt. same_texels i (other i lt) ∙ has.texel_is i lt) here;
+  drawn = below_more _ _ (λ i lt. rw (same_texels i (other i lt)) (same_bits i (other i lt) ∙ has.drawn i lt)) drawn;
+}
+  where
+    other : (i : ℕ) → i < j → i ≢ j
+    other i lt e = absurd (omega arith)
+
+-- the cells of texels by their coordinates are those of the paint
+pub cells_same : (paint : Paint) (t : Texture) (x y first : ℕ) (us vs : List ℕ) (k n : ℕ) → HasCoordinates paint (x + first) y first n us vs → k ≤ n
+    → paint_texels paint t x y first k ≡ texel_cells t us vs k
+unfolding paint_texels texel_cells
+cells_same paint t x y first us vs zero n has le = refl
+cells_same paint t x y first us vs (suc k) n has le =
+    let so_far = cells_same paint t x y first us vs k n has (omega arith) in
+    let across : get_or us k 0 ≡ paint_u paint (x + (first + k)) y (first + k) = has.u k (omega arith) ∙ ap (λ (c : ℕ). paint_u paint c y (first + k)) (omega arith) in
+    let down : get_or vs k 0 ≡ paint_v paint (x + (first + k)) y (first + k) = has.v k (omega arith) ∙ ap (λ (c : ℕ). paint_v paint c y (first + k)) (omega arith) in
+    let by_paint = map-range_with_len_more (paint_texel paint t x y) first k (first + k) refl in
+    let by_lane = map-range_with_len_more (λ j. texel_place t.page t.window (get_or us j 0) (get_or vs j 0)) 0 k k (omega arith) in
+    let here : paint_texel paint t x y (first + k) ≡ texel_place t.page t.window (get_or us k 0) (get_or vs k 0) = rw (across, down) refl in
+    let by_paint_and_lane : paint_texels paint t x y first k ++ paint_texel paint t x y (first + k) ∷ [] ≡ texel_cells t us vs k ++ texel_place t.page t.window (get_or us k 0) (get_or vs k 0) ∷ [] = rw (so_far, here) refl in
+    ap (λ (n : ℕ). map (paint_texel paint t x y) (range_with_len first n)) (sym (add-one k))
+    ∙ by_paint
+    ∙ by_paint_and_lane
+    ∙ sym by_lane
+    ∙ ap (λ (n : ℕ). map (λ j. texel_place t.page t.window (get_or us j 0) (get_or vs j 0)) (range_with_len 0 n)) (add-one k)
+
+paint_textured : (paint : Paint) (t : Texture) (brush : Brush) (x y i : ℕ) (m : List ℕ) → texture_of paint ≡ Some t
+    → paint_pixel paint brush x y i m
+    ≡ textured_pixel brush t.raw (paint_color paint x y) (shift_of (brush.dither && not t.raw) x y) (at m x y) (texel t (paint_u paint x y i) (paint_v paint x y i) m)
+paint_textured (Flat color) t brush x y i m is = absurd (cc)
+paint_textured (Shaded tri) t brush x y i m is = absurd (cc)
+paint_textured (TexturedTri tri texture) t brush x y i m is = let e : texture ≡ t = cc in rw e refl
+paint_textured (TexturedRow color texture u v flip) t brush x y i m is = let e : texture ≡ t = cc in rw e refl
+
+pub shade_textured : (span : Span) (t : Texture) (i x : ℕ) (m : List ℕ) → texture_of span.paint ≡ Some t → x ≡ span.x + i
+    → shade span i m
+    ≡ textured_pixel span.brush t.raw (paint_color span.paint x span.y) (shift_of (span.brush.dither && not t.raw) x span.y) (at m x span.y)
+    (texel t (paint_u span.paint x span.y i) (paint_v span.paint x span.y i) m)
+unfolding shade
+shade_textured span t i x m is e = rw e (paint_textured span.paint t span.brush (span.x + i) span.y i m is)
+
+-- a lane whose texel may be none
+pub textured_lane : (mask c : ℕ) (pixel : Option ℕ) (brush : Brush) (raw : Bool) (color : ℕ) (shift : ℤ) (back t p front b open_bit texel_bit h : ℕ)
+    → pixel ≡ textured_pixel brush raw color shift back t
+    → front ≡ front_of raw color shift t
+    → p ≡ packed_pixel (blended_if (brush.semi && is_high t) brush.mode back front) (is_high t) false
+    → b ≡ min open_bit texel_bit → open_bit ≡ cond (is_kept mask c) 0 1 → texel_bit ≡ cond (eqb t 0) 0 1 → h ≡ forced mask p
+    → IsLane (written_over mask c pixel) b h
+unfolding textured_pixel
+textured_lane mask c pixel brush raw color shift back t p front b open_bit texel_bit h is front_is plotted bits shown drawn stored =
+    rw is (by_texel (eqb t 0) (packed_pixel (blended_if (brush.semi && is_high t) brush.mode back (front_of raw color shift t)) (is_high t) false)
+    (plotted ∙ ap (λ (f : ℕ). packed_pixel (blended_if (brush.semi && is_high t) brush.mode back f) (is_high t) false) front_is) drawn)
+  where
+    by_kept : (kept : Bool) (q : ℕ) → open_bit ≡ cond kept 0 1 → texel_bit ≡ 1 → h ≡ q → IsLane (cond kept None (Some q)) b h
+    by_kept true q e one f = λ got. absurd (omega arith)
+    by_kept false q e one f = (omega arith, f)
+
+    by_texel : (none : Bool) (q : ℕ) → p ≡ q → texel_bit ≡ cond none 0 1 → IsLane (written_over mask c (cond none None (Some q))) b h
+    by_texel true q same bit_is = λ got. absurd (omega arith)
+    by_texel false q same bit_is = by_kept (is_kept mask c) (forced mask q) shown bit_is (stored ∙ ap (forced mask) same)

@@ -1,5 +1,0 @@
-use Rattle.vram_store.proofs.ChunkLaw.{chunk_law}
-use Rattle.span_lanes.proofs.draw.draw_at_once.Goals as goal
-
-pub returns-clause-cells : goal.returns-clause-cells
-returns-clause-cells g c = chunk_law _ _ _ _ _ _ _ _ c.requires.blind c.gather-lanes.ensures.lanes c.store16.ensures.cells

@@ -1,0 +1,26 @@
+-- The parts of a paint at a cell.
+use Rattle.std.specs.Prelude.{ℕ}
+use Rattle.span_lanes.specs.declared.span.Paint.{Paint}
+use Rattle.span_lanes.specs.declared.span.Paint.TheVariants.{Flat, Shaded, TexturedTri, TexturedRow}
+use Rattle.span_lanes.specs.Shade.{row_u, attribute_in, color_in}
+
+-- its colour at (x, y)
+abbrev pub paint_color : Paint → ℕ → ℕ → ℕ
+paint_color (Flat color) x y = color
+paint_color (Shaded tri) x y = color_in tri x y
+paint_color (TexturedTri tri texture) x y = color_in tri x y
+paint_color (TexturedRow color texture u v flip) x y = color
+
+-- the column of its texel at (x, y), which is cell i of a row; 0 without a texture
+abbrev pub paint_u : Paint → ℕ → ℕ → ℕ → ℕ
+paint_u (Flat color) x y i = 0
+paint_u (Shaded tri) x y i = 0
+paint_u (TexturedTri tri texture) x y i = attribute_in tri 3 x y
+paint_u (TexturedRow color texture u v flip) x y i = row_u u flip i
+
+-- the row of its texel
+abbrev pub paint_v : Paint → ℕ → ℕ → ℕ → ℕ
+paint_v (Flat color) x y i = 0
+paint_v (Shaded tri) x y i = 0
+paint_v (TexturedTri tri texture) x y i = attribute_in tri 4 x y
+paint_v (TexturedRow color texture u v flip) x y i = v

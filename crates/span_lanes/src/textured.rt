@@ -1,0 +1,200 @@
+// Textured chunks, all their lanes at once.
+ghost use Rattle.std.specs.Prelude.{◌≡◌, ◌≢◌, ◌≤◌, ◌<◌, ◌+◌, ◌*◌, ◌%◌, ◌^◌, ◌==◌, ◌&&◌, if◌then◌else◌, not, false, Some, ℕ, length, slice_index};
+ghost use Rattle.blend_dither.specs.Color.{modulated_of, packed_pixel, blended_of, red_of, green_of, blue_of};
+ghost use Rattle.px_num.specs.Lanes.{EachLane};
+ghost use Rattle.vram_store.specs.Vram.{bit, height_of};
+ghost use Rattle.vram_store.specs.Plot.{later};
+ghost use Rattle.vram_store.specs.Chunk.{HasLanes};
+ghost use Rattle.span_lanes.specs.Shade.{IsTexture, IsSpan, LiesIn, HasInside, texture_of, shift_of, is_high, blended_if, front_of, shade};
+ghost use Rattle.span_lanes.specs.Paints.{paint_color};
+ghost use Rattle.span_lanes.specs.Lanes.{AreCoordinates, HasCoordinates, HasTexels};
+ghost use Rattle.span_lanes.specs.Cost.{texel_steps};
+
+use crate::colors::{colors_of, modulated_by, shifts_of};
+use crate::coordinates::Coordinates;
+use crate::lanes::{Lanes, both, mark_texel};
+use crate::pixel::read_texel;
+use crate::{Paint, Span, Texture};
+use blend_dither::blend_lanes;
+use px_num::lanes::{add, mul, shifted_down, splat, sub_or_zero};
+use std::simd::prelude::*;
+use std::sync::ledger::Ledger;
+use vram_store::mask::{force_lanes, open_bits};
+use vram_store::{Steps, Vram};
+
+fn put_texel(cells: &mut [u16; 16], bits: u16, j: u8, texel: u16) -> u16
+    requires lane { j < 16 }
+    requires clear { bit bits j ≡ 0 }
+    ensures cell { slice_index cells.new j ≡ texel }
+    ensures long { length cells.new ≡ length cells.old }
+    ensures here { bit result j ≡ (if texel == 0 then 0 else 1) }
+    ensures other_cells { (i : ℕ) → i ≢ j → slice_index cells.new i ≡ slice_index cells.old i }
+    ensures other_bits { (i : ℕ) → i ≢ j → bit result i ≡ bit bits i }
+{
+    cells[j as usize] = texel;
+    mark_texel(bits, j, texel)
+}
+
+// The texels at k coordinates, one by one, with a bit for each that is drawn.
+fn read_texels<L: Ledger>(
+    vram: &Vram,
+    texture: &Texture,
+    at: &Coordinates,
+    k: u8,
+    steps: &mut Steps<L>,
+) -> Lanes
+    requires texture { IsTexture texture.now }
+    requires page { texture.now.page.y + 255 < height_of vram.now }
+    requires across { AreCoordinates at.now.us }
+    requires down { AreCoordinates at.now.vs }
+    requires few { k ≤ 16 }
+    ensures texels { HasTexels texture.now at.now.us at.now.vs vram.now k result.cells result.bits }
+    ensures cost { steps.new ≤ steps.old + texel_steps texture.now.page.depth * k }
+{
+    let mut cells = [0; 16];
+    let mut bits = 0;
+    for j in 0..k {
+        let u = at.us[j as usize] as u8;
+        let v = at.vs[j as usize] as u8;
+        let texel = read_texel(vram, texture, u, v, steps);
+        bits = put_texel(&mut cells, bits, j, texel);
+    }
+    Lanes { cells, bits }
+}
+
+// Bit 15 of each lane.
+fn high_bits(texels: u16x16) -> u16x16
+    requires { length texels ≡ 16 }
+    ensures long { length result ≡ 16 }
+    ensures low { EachLane (λ i. slice_index result i ≤ 1) }
+    ensures value { EachLane (λ i. slice_index result i ≡ bit (slice_index texels i) 15) }
+{
+    shifted_down(texels, 15)
+}
+
+// The first lane where the bit is 1, and else the second.
+fn choose(bits: u16x16, first: u16x16, second: u16x16) -> u16x16
+    requires long { (length bits ≡ 16) × (length first ≡ 16) × (length second ≡ 16) }
+    requires low { EachLane (λ i. slice_index bits i ≤ 1) }
+    ensures long { length result ≡ 16 }
+    ensures value { EachLane (λ i. slice_index result i ≡ (if slice_index bits i == 1 then slice_index first i else slice_index second i)) }
+{
+    let firsts = mul(bits, first);
+    let seconds = mul(sub_or_zero(splat(1), bits), second);
+    add(firsts, seconds)
+}
+
+// Each lane below 2^15, with a bit 15.
+fn with_high(lanes: u16x16, bits: u16x16) -> u16x16
+    requires long { (length lanes ≡ 16) × (length bits ≡ 16) }
+    requires low { EachLane (λ i. slice_index bits i ≤ 1) }
+    ensures long { length result ≡ 16 }
+    ensures value { EachLane (λ i. slice_index result i ≡ packed_pixel (slice_index lanes i) (slice_index bits i == 1) false) }
+{
+    let above = mul(shifted_down(lanes, 15), splat(0x8000));
+    let below = sub_or_zero(lanes, above);
+    add(below, mul(bits, splat(0x8000)))
+}
+
+// Sixteen fronts over the contents of their cells, blended where they are semi-transparent and the bit is 1.
+#[tactic(auto, unfolding(crate::specs::Shade::blended_if))]
+fn blend_high(semi: bool, mode: u8, back: u16x16, front: u16x16, bits: u16x16) -> u16x16
+    requires mode { mode ≤ 3 }
+    requires long { (length back ≡ 16) × (length front ≡ 16) × (length bits ≡ 16) }
+    requires low { EachLane (λ i. slice_index bits i ≤ 1) }
+    ensures long { length result ≡ 16 }
+    ensures value { EachLane (λ i. slice_index result i
+        ≡ blended_if (semi && (slice_index bits i == 1)) mode (slice_index back i) (slice_index front i)) }
+{
+    if semi {
+        choose(bits, blend_lanes(mode, back, front), front)
+    } else {
+        front
+    }
+}
+
+// The halfwords of sixteen texels over the contents of their cells.
+fn plotted_lanes(semi: bool, mode: u8, back: u16x16, texels: u16x16, front: u16x16) -> u16x16
+    requires mode { mode ≤ 3 }
+    requires long { (length back ≡ 16) × (length texels ≡ 16) × (length front ≡ 16) }
+    ensures long { length result ≡ 16 }
+    ensures value { EachLane (λ i. slice_index result i
+        ≡ packed_pixel (blended_if (semi && is_high (slice_index texels i)) mode (slice_index back i) (slice_index front i)) (is_high (slice_index texels i)) false) }
+{
+    let bits = high_bits(texels);
+    with_high(blend_high(semi, mode, back, front, bits), bits)
+}
+
+// k texels under the colours of a paint from (x, y) on.
+fn modulated(paint: &Paint, dither: bool, x: u16, y: u16, k: u8, texels: u16x16) -> u16x16
+    requires some { 1 ≤ k }
+    requires few { k ≤ 16 }
+    requires in_row { x ≤ 1024 }
+    requires inside { HasInside paint.now x y k }
+    requires long { length texels ≡ 16 }
+    ensures long { length result ≡ 16 }
+    ensures value { (j : ℕ) → j < k → slice_index result j
+        ≡ modulated_of (slice_index texels j) (red_of (paint_color paint.now (x + j) y)) (green_of (paint_color paint.now (x + j) y))
+        (blue_of (paint_color paint.now (x + j) y)) (shift_of dither (x + j) y) }
+{
+    modulated_by(texels, colors_of(paint, x, y, k), shifts_of(dither, x, y))
+}
+
+// The colours of k texels from (x, y) on, or the texels themselves.
+#[tactic(auto, unfolding(crate::specs::Shade::front_of))]
+fn fronts(raw: bool, paint: &Paint, dither: bool, x: u16, y: u16, k: u8, texels: u16x16) -> u16x16
+    requires some { 1 ≤ k }
+    requires few { k ≤ 16 }
+    requires in_row { x ≤ 1024 }
+    requires inside { HasInside paint.now x y k }
+    requires long { length texels ≡ 16 }
+    ensures long { length result ≡ 16 }
+    ensures value { (j : ℕ) → j < k → slice_index result j
+        ≡ front_of raw (paint_color paint.now (x + j) y) (shift_of dither (x + j) y) (slice_index texels j) }
+{
+    if raw {
+        texels
+    } else {
+        modulated(paint, dither, x, y, k, texels)
+    }
+}
+
+fn is_dithered(dither: bool, raw: bool) -> bool
+    ensures { result ≡ (dither && not raw) }
+{
+    dither && !raw
+}
+
+// The pixels of k cells of a textured span, all of them read in video memory as it is.
+pub(crate) fn collect_textured<L: Ledger>(
+    vram: &Vram,
+    span: &Span,
+    texture: &Texture,
+    at: &Coordinates,
+    first: u16,
+    k: u8,
+    steps: &mut Steps<L>,
+) -> Lanes
+    requires span { IsSpan span.now }
+    requires height { LiesIn (height_of vram.now) span.now }
+    requires some { 1 ≤ k }
+    requires few { k ≤ 16 }
+    requires within { first + k ≤ span.now.n }
+    requires texture { texture_of span.now.paint ≡ Some texture.now }
+    requires at { HasCoordinates span.now.paint (span.now.x + first) span.now.y first k at.now.us at.now.vs }
+    ensures lanes { HasLanes (later (shade span.now) first) span.now.brush.mask (1024 * span.now.y + (span.now.x + first)) k vram.now result.cells result.bits }
+    ensures cost { steps.new ≤ steps.old + (1 + texel_steps texture.now.page.depth * k) }
+{
+    let x = span.x + first;
+    let brush = span.brush;
+    let back = vram.load16(x, span.y, k, steps);
+    let read = read_texels(vram, texture, at, k, steps);
+    let texels = u16x16::from_array(read.cells);
+    let dither = is_dithered(brush.dither, texture.raw);
+    let front = fronts(texture.raw, &span.paint, dither, x, span.y, k, texels);
+    let plotted = plotted_lanes(brush.semi, brush.mode, back, texels, front);
+    Lanes {
+        cells: force_lanes(brush.mask, plotted).to_array(),
+        bits: both(open_bits(brush.mask, back), read.bits),
+    }
+}
