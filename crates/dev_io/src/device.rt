@@ -1,6 +1,8 @@
 // Sources and sinks: the bytes that they tell of, and a count of faults that never falls.
-ghost use Rattle.std.specs.Prelude.{◌≡◌, ◌≤◌, ◌<◌, List, ℕ, Option, length, flat_map, IfOk, IfErr, OnOk, OnErr};
+ghost use Rattle.std.specs.Prelude.{◌≡◌, ◌≤◌, ◌<◌, List, ℕ, Option, length, flat_map, IfSome, IfOk, IfErr, OnOk, OnErr};
 ghost use Rattle.dev_io.specs.Device.{Rose, Gives, IsAtEnd, Accepts, AppendsPart, appended};
+
+use arrayvec::ArrayVec;
 
 /// A source or a sink failed. It comes only where the count of faults rose, and then nothing was taken or appended.
 #[derive(Clone, Copy, Debug, PartialEq, Eq)]
@@ -56,8 +58,35 @@ pub fn write_all<K: Sink>(sink: &mut K, piece: &[u8]) -> Result<(), Failed>
     Ok(())
 }
 
-/// Writes the pieces, one after another.
+/// The bytes that are gathered before they are written: more than the longest line has.
+const GATHERED: usize = 128;
+
+/// Writes the pieces, one after another. Where they are few bytes together, the sink is called for all of them at once.
 pub fn write_pieces<K: Sink>(sink: &mut K, pieces: &[&[u8]]) -> Result<(), Failed>
+    ensures ok { OnOk result (K.held sink.new ≡ appended (K.held sink.old) (flat_map (λ piece. piece.now) pieces.now)) }
+    ensures failed { OnErr result (AppendsPart (K.held sink.old) (K.held sink.new) (flat_map (λ piece. piece.now) pieces.now)) }
+    ensures cause { OnErr result (Rose (K.faults sink.old) (K.faults sink.new)) }
+    ensures faults { K.faults sink.old ≤ K.faults sink.new }
+{
+    match gather(pieces) {
+        Some(gathered) => write_all(sink, gathered.as_slice()),
+        None => write_each(sink, pieces),
+    }
+}
+
+/// The bytes of the pieces, where they are few together.
+fn gather(pieces: &[&[u8]]) -> Option<ArrayVec<u8, GATHERED>>
+    ensures { IfSome result (λ gathered. gathered.items ≡ flat_map (λ piece. piece.now) pieces.now) }
+{
+    let mut gathered = ArrayVec::new();
+    for piece in pieces {
+        gathered.try_extend_from_slice(piece).ok()?;
+    }
+    Some(gathered)
+}
+
+/// Writes the pieces, one after another, each by itself.
+fn write_each<K: Sink>(sink: &mut K, pieces: &[&[u8]]) -> Result<(), Failed>
     ensures ok { OnOk result (K.held sink.new ≡ appended (K.held sink.old) (flat_map (λ piece. piece.now) pieces.now)) }
     ensures failed { OnErr result (AppendsPart (K.held sink.old) (K.held sink.new) (flat_map (λ piece. piece.now) pieces.now)) }
     ensures cause { OnErr result (Rose (K.faults sink.old) (K.faults sink.new)) }

@@ -1,6 +1,6 @@
 use Rattle.std.proofs.lemmas.Result.{err_from_is_err_and}
 use Rattle.dev_io.proofs.Parts.{piece_part}
-use Rattle.dev_io.proofs.device.write_pieces.Goals as goal
+use Rattle.dev_io.proofs.device.write_each.Goals as goal
 
 pub returns-in_err-write_all-clause-failed : goal.returns-in_err-write_all-clause-failed
 returns-in_err-write_all-clause-failed g c =
