@@ -1,5 +1,5 @@
 -- Cells of a list against lanes that are numbered.
-use Rattle.std.proofs.Common.{◌≡◌, ℕ, zero, suc, List, [], ◌∷◌, ◌++◌, Option, ◌+◌, ◌-◌, ◌*◌, map, refl, sym, ap, ◌∙◌, arith, add-one}
+use Rattle.std.proofs.Common.{◌≡◌, ◌<◌, ℕ, zero, suc, List, [], ◌∷◌, ◌++◌, Option, ◌+◌, ◌-◌, ◌*◌, map, refl, sym, ap, ◌∙◌, arith, add-one}
 use Rattle.std.specs.List.{range_with_len}
 use Rattle.std.proofs.lemmas.List.FromFn.{map-range_with_len_more}
 use Rattle.px_num.specs.declared.shape.Cell.{Cell}
@@ -23,6 +23,23 @@ row_more x y n =
 row_none : (x y : ℕ) → row_cells x y 0 ≡ []
 unfolding row_cells
 row_none x y = refl
+
+-- pixels that agree at the cells of a row are drawn alike there
+module _ (one two : Cell → List ℕ → Option ℕ) (mask x y : ℕ) where
+  last_same : (n : ℕ) (now : List ℕ) → one (cell_in_row x y n) now ≡ two (cell_in_row x y n) now
+      → Cells one mask (cell_in_row x y n ∷ []) now ≡ Cells two mask (cell_in_row x y n ∷ []) now
+  last_same n now same = ap (λ (pixel : Option ℕ). draw_at mask (1024 * y + (x + n)) pixel now) same
+
+  pub row_same : (n : ℕ) (m : List ℕ) → ((i : ℕ) → i < n → (now : List ℕ) → one (cell_in_row x y i) now ≡ two (cell_in_row x y i) now)
+      → Cells one mask (row_cells x y n) m ≡ Cells two mask (row_cells x y n) m
+  row_same zero m same = rw (row_none x y) refl
+  row_same (suc n) m same =
+      let so_far = row_same n m (λ i lt. same i (omega arith)) in
+      rw (row_more x y n)
+      (cells_append one mask (row_cells x y n) (cell_in_row x y n ∷ []) m
+      ∙ ap (Cells one mask (cell_in_row x y n ∷ [])) so_far
+      ∙ last_same n (Cells two mask (row_cells x y n) m) (same n (omega arith) (Cells two mask (row_cells x y n) m))
+      ∙ sym (cells_append two mask (row_cells x y n) (cell_in_row x y n ∷ []) m))
 
 module _ (by_cell : Cell → List ℕ → Option ℕ) (by_lane : ℕ → List ℕ → Option ℕ) (mask x y : ℕ) (m : List ℕ)
     (same : (i : ℕ) (now : List ℕ) → by_lane i now ≡ by_cell (cell_in_row x y i) now) where

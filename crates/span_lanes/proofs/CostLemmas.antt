@@ -40,7 +40,7 @@ chunks_small span (suc c) le =
 
 pub cost_law : CostLaw
 unfolding span_cost
-cost_law span is =
+cost_law span =
     let all : min (16 * ((span.n + 15) / 16)) span.n ≡ span.n = omega arith in
     rw all at (chunks_small span ((span.n + 15) / 16) (omega arith))
 

@@ -1,35 +1,63 @@
 -- Texels of a chunk.
-use Rattle.std.proofs.Common.{◌≡◌, ◌≢◌, ◌<◌, ◌≤◌, ℕ, ℤ, zero, suc, List, [], ◌∷◌, ◌++◌, Option, None, Some, Bool, true, false, cond, eqb, ◌&&◌, not, ◌+◌, min, map, length, get_or, refl, sym, ap, ◌∙◌, arith, add-one, below_more}
+use Rattle.std.proofs.Common.{◌≡◌, ◌<◌, ◌≤◌, ℕ, ℤ, zero, suc, List, [], ◌∷◌, ◌++◌, Option, None, Some, Bool, true, false, cond, eqb, ◌&&◌, not, ◌+◌, ◌-◌, ◌*◌, take, ltb, min, map, get_or, refl, sym, ap, ◌∙◌, arith, add-one}
 use Rattle.std.specs.List.{range_with_len}
-use Rattle.std.proofs.lemmas.List.FromFn.{map-range_with_len_more}
-use Rattle.vram_store.specs.Vram.{at, bit}
+use Rattle.std.proofs.lemmas.List.FromFn.{map-range_with_len_more, get_or-map-range_with_len}
+use Rattle.std.proofs.lemmas.List.{get_or-take}
+use Rattle.std.proofs.lemmas.Nat.{or_of_8, and_le_l, and_le_r}
+use lib.Bits.{bit_and}
+use Rattle.std.proofs.lemmas.Bool.Decides.{nat_tests}
+use Rattle.px_num.specs.declared.shape.Cell.{Cell}
+use Rattle.overlap_guard.specs.Hazard.{cell_at}
+use Rattle.vram_store.specs.Vram.{at}
 use Rattle.vram_store.specs.Plot.{is_kept, forced, written_over}
 use Rattle.vram_store.specs.Chunk.{IsLane}
 use Rattle.blend_dither.specs.Color.{packed_pixel}
-use Rattle.texture_page.specs.Page.{texel_place}
+use Rattle.texture_page.specs.Page.{texel_place, clut_place, index_at, windowed}
 use Rattle.span_lanes.specs.declared.span.Brush.{Brush}
 use Rattle.span_lanes.specs.declared.span.Texture.{Texture}
 use Rattle.span_lanes.specs.declared.span.Paint.{Paint}
 use Rattle.span_lanes.specs.declared.span.Paint.TheVariants.{Flat, Shaded, TexturedTri, TexturedRow}
 use Rattle.span_lanes.specs.declared.span.Span.{Span}
-use Rattle.span_lanes.specs.Shade.{texture_of, texel, textured_pixel, blended_if, front_of, is_high, shift_of, paint_pixel, shade}
+use Rattle.span_lanes.specs.Shade.{texture_of, at_cell, texel, textured_pixel, blended_if, front_of, is_high, shift_of, paint_pixel, shade}
 use Rattle.span_lanes.specs.Paints.{paint_color, paint_u, paint_v}
-use Rattle.span_lanes.specs.Lanes.{HasTexels, HasCoordinates}
+use Rattle.span_lanes.specs.Lanes.{HasCoordinates}
 use Rattle.span_lanes.specs.Guard.{paint_texel, paint_texels, texel_cells}
 
--- one texel more
-pub texels_more : (t : Texture) (us vs m : List ℕ) (j : ℕ) (texels after : List ℕ) (bits now : ℕ) → HasTexels t us vs m j texels bits
-    → length after ≡ length texels → ((i : ℕ) → i ≢ j → get_or after i 0 ≡ get_or texels i 0) → ((i : ℕ) → i ≢ j → bit now i ≡ bit bits i)
-    → get_or after j 0 ≡ texel t (get_or us j 0) (get_or vs j 0) m → bit now j ≡ cond (eqb (get_or after j 0) 0) 0 1
-    → HasTexels t us vs m (j + 1) after now
-texels_more t us vs m j texels after bits now has long same_texels same_bits here drawn = record {
-  long = long ∙ has.long;
-  texel_is = below_more _ _ (λ i lt. same_texels i (other i lt) ∙ has.texel_is i lt) here;
-  drawn = below_more _ _ (λ i lt. rw (same_texels i (other i lt)) (same_bits i (other i lt) ∙ has.drawn i lt)) drawn;
-}
-  where
-    other : (i : ℕ) → i < j → i ≢ j
-    other i lt e = absurd (omega arith)
+-- a row under a window is within the page
+pub windowed_low : (mask off v : ℕ) → v ≤ 255 → mask ≤ 31 → windowed mask off v < 256
+unfolding windowed
+windowed_low mask off v low few =
+    let rows = and_le_l v (255 - mask * 8) in
+    let offs = and_le_r off mask in
+    or_of_8 (bit_and v (255 - mask * 8)) (bit_and off mask * 8) (omega (arith, rows)) (omega (arith, offs))
+
+-- one of the cells of texels
+pub place_of : (t : Texture) (us vs : List ℕ) (k : ℕ) (cells : List Cell) (j : ℕ) → take k cells ≡ texel_cells t us vs k → j < k
+    → cell_at cells j ≡ texel_place t.page t.window (get_or us j 0) (get_or vs j 0)
+unfolding texel_cells
+place_of t us vs k cells j e lt =
+    let none : Cell = record { x = 0; y = 0 } in
+    sym (get_or-take k cells j none lt)
+    ∙ ap (λ (l : List Cell). get_or l j none) e
+    ∙ get_or-map-range_with_len (λ i. texel_place t.page t.window (get_or us i 0) (get_or vs i 0)) 0 k j j none lt (omega arith)
+
+low_depth : (n : ℕ) → n < 2 → ltb n 2 ≡ true
+low_depth n lt = grind (arith, nat_tests)
+
+high_depth : (n : ℕ) → 2 ≤ n → ltb n 2 ≡ false
+high_depth n le = grind (arith, nat_tests)
+
+-- a texel by the cell that it stands in
+pub texel_direct : (t : Texture) (u v : ℕ) (m : List ℕ) (cell : Cell) → 2 ≤ t.page.depth → cell ≡ texel_place t.page t.window u v
+    → at_cell m cell ≡ texel t u v m
+unfolding texel
+texel_direct t u v m cell deep e = rw (high_depth t.page.depth deep) (ap (at_cell m) e)
+
+pub texel_entry : (t : Texture) (u v : ℕ) (m : List ℕ) (cell : Cell) (h : ℕ) → t.page.depth < 2 → cell ≡ texel_place t.page t.window u v → h ≡ at_cell m cell
+    → at_cell m (clut_place t.clut (index_at t.page t.window u h)) ≡ texel t u v m
+unfolding texel
+texel_entry t u v m cell h low e read =
+    rw (low_depth t.page.depth low) (ap (λ (k : ℕ). at_cell m (clut_place t.clut (index_at t.page t.window u k))) (read ∙ ap (at_cell m) e))
 
 -- the cells of texels by their coordinates are those of the paint
 pub cells_same : (paint : Paint) (t : Texture) (x y first : ℕ) (us vs : List ℕ) (k n : ℕ) → HasCoordinates paint (x + first) y first n us vs → k ≤ n

@@ -1,11 +1,9 @@
 -- The parts of the pixels of a chunk, lane by lane.
-use Rattle.std.specs.Prelude.{ℕ, Bool, ◌≡◌, ◌+◌, ◌<◌, ◌≤◌, ℤ, pos, List, if◌then◌else◌, ◌==◌, length, slice_index, slice_index_or}
+use Rattle.std.specs.Prelude.{ℕ, Bool, ◌≡◌, ◌+◌, ◌<◌, ◌≤◌, ℤ, pos, List, length, slice_index, slice_index_or}
 use Rattle.px_num.specs.Lanes.{EachLane}
-use Rattle.vram_store.specs.Vram.{bit}
 use Rattle.blend_dither.specs.Color.{IsShift, tone_of, red_of, green_of, blue_of}
 use Rattle.span_lanes.specs.declared.span.Paint.{Paint}
-use Rattle.span_lanes.specs.declared.span.Texture.{Texture}
-use Rattle.span_lanes.specs.Shade.{shift_of, texel}
+use Rattle.span_lanes.specs.Shade.{shift_of}
 use Rattle.span_lanes.specs.Paints.{paint_color, paint_u, paint_v}
 
 -- sixteen channels of eight bits
@@ -47,9 +45,3 @@ pub record HasCoordinates (paint : Paint) (x y first n : ℕ) (us vs : List ℕ)
   pub down : AreCoordinates vs
   pub u : (j : ℕ) → j < n → slice_index us j ≡ paint_u paint (x + j) y (first + j)
   pub v : (j : ℕ) → j < n → slice_index vs j ≡ paint_v paint (x + j) y (first + j)
-
--- the first n lanes are texels, with a bit for each that is drawn
-pub record HasTexels (t : Texture) (us vs : List ℕ) (m : List ℕ) (n : ℕ) (texels : List ℕ) (bits : ℕ) : Type 0 where
-  pub long : length texels ≡ 16
-  pub texel_is : (j : ℕ) → j < n → slice_index texels j ≡ texel t (slice_index us j) (slice_index vs j) m
-  pub drawn : (j : ℕ) → j < n → bit bits j ≡ (if slice_index texels j == 0 then 0 else 1)

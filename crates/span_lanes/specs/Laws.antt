@@ -4,7 +4,7 @@ use Rattle.texture_page.specs.declared.page.Page.{Page}
 use Rattle.span_lanes.specs.declared.span.Paint.TheVariants.{TexturedRow}
 use Rattle.span_lanes.specs.declared.span.Span.{Span}
 use Rattle.span_lanes.specs.Cells.{Cells, row_cells}
-use Rattle.span_lanes.specs.Shade.{IsSpan, drawn_span, shade_at}
+use Rattle.span_lanes.specs.Shade.{drawn_span, shade_at}
 use Rattle.span_lanes.specs.Cost.{span_cost}
 
 -- the cells of a span by their number are those of its row
@@ -15,7 +15,7 @@ SpanLaw =
 
 -- a span costs at most four steps a cell
 abbrev pub CostLaw : Type 0
-CostLaw = (span : Span) → IsSpan span → span_cost span ≤ 4 * span.n
+CostLaw = (span : Span) → span_cost span ≤ 4 * span.n
 
 -- n cells from (x, y) on of raw texels, from the first texel of a page on, with the palette that begins at (0, 0)
 abbrev pub raw_row : Page → ℕ → ℕ → ℕ → Span

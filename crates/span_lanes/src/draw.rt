@@ -9,7 +9,7 @@ ghost use Rattle.span_lanes.specs.Cost.{paint_steps, chunk_cost, span_cost};
 
 use crate::cells::draw_cell;
 use crate::coordinates::coordinates_of;
-use crate::guard::{reads_itself, texture_of};
+use crate::guard::{reads_itself, texels_at, texture_of};
 use crate::lanes::Lanes;
 use crate::plain::collect_plain;
 use crate::textured::collect_textured;
@@ -95,10 +95,11 @@ fn draw_textured<L: Ledger>(
 {
     let (x, y) = (span.x + first, span.y);
     let at = coordinates_of(&span.paint, x, y, first, k);
-    if reads_itself(texture, &at, Cell { x, y }, k) {
+    let cells = texels_at(texture, &at, k);
+    if reads_itself(texture, &cells, Cell { x, y }, k) {
         draw_cells(vram, span, first, k, steps);
     } else {
-        let lanes = collect_textured(vram, span, texture, &at, first, k, steps);
+        let lanes = collect_textured(vram, span, texture, &at, &cells, first, k, steps);
         store_chunk(vram, span, first, k, &lanes, steps);
     }
 }

@@ -35,7 +35,8 @@ fn texel_at(texture: &Texture, at: &Coordinates, j: u8) -> Cell
     texel_cell(&texture.page, &texture.window, u, v)
 }
 
-fn texels_at(texture: &Texture, at: &Coordinates, k: u8) -> [Cell; 16]
+// The cells of k texels by their coordinates.
+pub(crate) fn texels_at(texture: &Texture, at: &Coordinates, k: u8) -> [Cell; 16]
     requires texture { IsTexture texture.now }
     requires across { AreCoordinates at.now.us }
     requires down { AreCoordinates at.now.vs }
@@ -69,17 +70,13 @@ fn strip_of(clut: u16, n: u16) -> Strip
     }
 }
 
-// Whether k cells from `to` on, whose texels are at these coordinates, read what they write.
-pub(crate) fn reads_itself(texture: &Texture, at: &Coordinates, to: Cell, k: u8) -> bool
-    requires texture { IsTexture texture.now }
-    requires across { AreCoordinates at.now.us }
-    requires down { AreCoordinates at.now.vs }
+// Whether k cells from `to` on, whose texels are in these cells, read what they write.
+pub(crate) fn reads_itself(texture: &Texture, texels: &[Cell; 16], to: Cell, k: u8) -> bool
     requires some { 1 ≤ k }
     requires few { k ≤ 16 }
     requires target { to.x + k ≤ 1024 }
-    ensures pairs { IsTrue result ↔ HasTextureHazard (texel_cells texture.now at.now.us at.now.vs k) (palette_of texture.now) to k }
-    ensures value { result ≡ has_texture_hazard (texel_cells texture.now at.now.us at.now.vs k) (palette_of texture.now) to k }
+    ensures pairs { IsTrue result ↔ HasTextureHazard (take k texels.now) (palette_of texture.now) to k }
+    ensures value { result ≡ has_texture_hazard (take k texels.now) (palette_of texture.now) to k }
 {
-    let cells = texels_at(texture, at, k);
-    texture_hazard(&cells[..k as usize], palette(texture), to, k)
+    texture_hazard(&texels[..k as usize], palette(texture), to, k)
 }

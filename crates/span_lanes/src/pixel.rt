@@ -29,7 +29,7 @@ pub(crate) fn u_of(u: u8, flip: bool, i: u16) -> u8
 // A cell as it is, or 0 below the last row.
 //
 // The rows of palettes are below 512 and those of video memory may be any number here, so they are compared.
-fn cell_at<L: Ledger>(vram: &Vram, cell: Cell, steps: &mut Steps<L>) -> u16
+pub(crate) fn cell_or_zero<L: Ledger>(vram: &Vram, cell: Cell, steps: &mut Steps<L>) -> u16
     requires in_row { cell.x < 1024 }
     ensures value { result ≡ at vram.now cell.x cell.y }
     ensures cost { steps.new ≤ steps.old + 1 }
@@ -59,7 +59,7 @@ pub(crate) fn read_texel<L: Ledger>(
     let h = vram.get(cell.x, cell.y, steps);
     if texture.page.depth < 2 {
         let index = index_of(&texture.page, &texture.window, u, h);
-        cell_at(vram, clut_cell(texture.clut, index), steps)
+        cell_or_zero(vram, clut_cell(texture.clut, index), steps)
     } else {
         h
     }

@@ -1,65 +1,111 @@
 // Textured chunks, all their lanes at once.
-ghost use Rattle.std.specs.Prelude.{◌≡◌, ◌≢◌, ◌≤◌, ◌<◌, ◌+◌, ◌*◌, ◌%◌, ◌^◌, ◌==◌, ◌&&◌, if◌then◌else◌, not, false, Some, ℕ, length, slice_index};
+ghost use Rattle.std.specs.Prelude.{◌≡◌, ◌≤◌, ◌<◌, ◌+◌, ◌*◌, ◌%◌, ◌^◌, ◌==◌, ◌&&◌, if◌then◌else◌, not, false, Some, ℕ, take, length, slice_index};
 ghost use Rattle.blend_dither.specs.Color.{modulated_of, packed_pixel, blended_of, red_of, green_of, blue_of};
 ghost use Rattle.px_num.specs.Lanes.{EachLane};
 ghost use Rattle.vram_store.specs.Vram.{bit, height_of};
 ghost use Rattle.vram_store.specs.Plot.{later};
 ghost use Rattle.vram_store.specs.Chunk.{HasLanes};
-ghost use Rattle.span_lanes.specs.Shade.{IsTexture, IsSpan, LiesIn, HasInside, texture_of, shift_of, is_high, blended_if, front_of, shade};
+ghost use Rattle.span_lanes.specs.Shade.{IsTexture, IsSpan, LiesIn, HasInside, texture_of, shift_of, is_high, blended_if, front_of, at_cell, texel, shade};
 ghost use Rattle.span_lanes.specs.Paints.{paint_color};
-ghost use Rattle.span_lanes.specs.Lanes.{AreCoordinates, HasCoordinates, HasTexels};
+ghost use Rattle.span_lanes.specs.Lanes.{AreCoordinates, HasCoordinates};
+ghost use Rattle.span_lanes.specs.Guard.{texel_cells};
+ghost use Rattle.overlap_guard.specs.Hazard.{cell_at};
+ghost use Rattle.texture_page.specs.Page.{clut_place, index_at};
 ghost use Rattle.span_lanes.specs.Cost.{texel_steps};
 
 use crate::colors::{colors_of, modulated_by, shifts_of};
 use crate::coordinates::Coordinates;
-use crate::lanes::{Lanes, both, mark_texel};
-use crate::pixel::read_texel;
+use crate::lanes::{Lanes, both, drawn_bits};
+use crate::pixel::cell_or_zero;
 use crate::{Paint, Span, Texture};
 use blend_dither::blend_lanes;
+use px_num::Cell;
 use px_num::lanes::{add, mul, shifted_down, splat, sub_or_zero};
 use std::simd::prelude::*;
 use std::sync::ledger::Ledger;
+use texture_page::{clut_cell, index_of};
 use vram_store::mask::{force_lanes, open_bits};
 use vram_store::{Steps, Vram};
 
-fn put_texel(cells: &mut [u16; 16], bits: u16, j: u8, texel: u16) -> u16
-    requires lane { j < 16 }
-    requires clear { bit bits j ≡ 0 }
-    ensures cell { slice_index cells.new j ≡ texel }
-    ensures long { length cells.new ≡ length cells.old }
-    ensures here { bit result j ≡ (if texel == 0 then 0 else 1) }
-    ensures other_cells { (i : ℕ) → i ≢ j → slice_index cells.new i ≡ slice_index cells.old i }
-    ensures other_bits { (i : ℕ) → i ≢ j → bit result i ≡ bit bits i }
+// The halfwords of k cells, one by one.
+fn read_cells<L: Ledger>(vram: &Vram, cells: &[Cell; 16], k: u8, steps: &mut Steps<L>) -> [u16; 16]
+    requires few { k ≤ 16 }
+    requires in_row { (j : ℕ) → j < k → (cell_at cells.now j).x < 1024 }
+    requires in_height { (j : ℕ) → j < k → (cell_at cells.now j).y < height_of vram.now }
+    ensures long { length result ≡ 16 }
+    ensures value { (j : ℕ) → j < k → slice_index result j ≡ at_cell vram.now (cell_at cells.now j) }
+    ensures cost { steps.new ≤ steps.old + k }
 {
-    cells[j as usize] = texel;
-    mark_texel(bits, j, texel)
+    let mut halfwords = [0; 16];
+    for j in 0..k {
+        let cell = cells[j as usize];
+        halfwords[j as usize] = vram.get(cell.x, cell.y, steps);
+    }
+    halfwords
 }
 
-// The texels at k coordinates, one by one, with a bit for each that is drawn.
+fn entry_of(texture: &Texture, u: u16, h: u16) -> Cell
+    requires texture { IsTexture texture.now }
+    requires depth { texture.now.page.depth < 2 }
+    requires byte { u ≤ 255 }
+    ensures value { result ≡ clut_place texture.now.clut (index_at texture.now.page texture.now.window u h) }
+    ensures in_row { result.x < 1024 }
+{
+    let index = index_of(&texture.page, &texture.window, u as u8, h);
+    clut_cell(texture.clut, index)
+}
+
+// The entries of the palette for k halfwords of texels, one by one.
+fn read_entries<L: Ledger>(
+    vram: &Vram,
+    texture: &Texture,
+    us: &[u16; 16],
+    halfwords: &[u16; 16],
+    k: u8,
+    steps: &mut Steps<L>,
+) -> [u16; 16]
+    requires texture { IsTexture texture.now }
+    requires depth { texture.now.page.depth < 2 }
+    requires across { AreCoordinates us.now }
+    requires few { k ≤ 16 }
+    ensures long { length result ≡ 16 }
+    ensures value { (j : ℕ) → j < k → slice_index result j
+        ≡ at_cell vram.now (clut_place texture.now.clut (index_at texture.now.page texture.now.window (slice_index us.now j) (slice_index halfwords.now j))) }
+    ensures cost { steps.new ≤ steps.old + k }
+{
+    let mut entries = [0; 16];
+    for j in 0..k {
+        let cell = entry_of(texture, us[j as usize], halfwords[j as usize]);
+        entries[j as usize] = cell_or_zero(vram, cell, steps);
+    }
+    entries
+}
+
+// k texels by their columns and the cells that they stand in, one by one.
 fn read_texels<L: Ledger>(
     vram: &Vram,
     texture: &Texture,
     at: &Coordinates,
+    cells: &[Cell; 16],
     k: u8,
     steps: &mut Steps<L>,
-) -> Lanes
+) -> [u16; 16]
     requires texture { IsTexture texture.now }
     requires page { texture.now.page.y + 255 < height_of vram.now }
     requires across { AreCoordinates at.now.us }
     requires down { AreCoordinates at.now.vs }
     requires few { k ≤ 16 }
-    ensures texels { HasTexels texture.now at.now.us at.now.vs vram.now k result.cells result.bits }
+    requires cells { take k cells.now ≡ texel_cells texture.now at.now.us at.now.vs k }
+    ensures long { length result ≡ 16 }
+    ensures value { (j : ℕ) → j < k → slice_index result j ≡ texel texture.now (slice_index at.now.us j) (slice_index at.now.vs j) vram.now }
     ensures cost { steps.new ≤ steps.old + texel_steps texture.now.page.depth * k }
 {
-    let mut cells = [0; 16];
-    let mut bits = 0;
-    for j in 0..k {
-        let u = at.us[j as usize] as u8;
-        let v = at.vs[j as usize] as u8;
-        let texel = read_texel(vram, texture, u, v, steps);
-        bits = put_texel(&mut cells, bits, j, texel);
+    let halfwords = read_cells(vram, cells, k, steps);
+    if texture.page.depth < 2 {
+        read_entries(vram, texture, &at.us, &halfwords, k, steps)
+    } else {
+        halfwords
     }
-    Lanes { cells, bits }
 }
 
 // Bit 15 of each lane.
@@ -171,6 +217,7 @@ pub(crate) fn collect_textured<L: Ledger>(
     span: &Span,
     texture: &Texture,
     at: &Coordinates,
+    cells: &[Cell; 16],
     first: u16,
     k: u8,
     steps: &mut Steps<L>,
@@ -182,19 +229,20 @@ pub(crate) fn collect_textured<L: Ledger>(
     requires within { first + k ≤ span.now.n }
     requires texture { texture_of span.now.paint ≡ Some texture.now }
     requires at { HasCoordinates span.now.paint (span.now.x + first) span.now.y first k at.now.us at.now.vs }
+    requires cells { take k cells.now ≡ texel_cells texture.now at.now.us at.now.vs k }
     ensures lanes { HasLanes (later (shade span.now) first) span.now.brush.mask (1024 * span.now.y + (span.now.x + first)) k vram.now result.cells result.bits }
     ensures cost { steps.new ≤ steps.old + (1 + texel_steps texture.now.page.depth * k) }
 {
     let x = span.x + first;
     let brush = span.brush;
     let back = vram.load16(x, span.y, k, steps);
-    let read = read_texels(vram, texture, at, k, steps);
-    let texels = u16x16::from_array(read.cells);
+    let read = read_texels(vram, texture, at, cells, k, steps);
+    let texels = u16x16::from_array(read);
     let dither = is_dithered(brush.dither, texture.raw);
     let front = fronts(texture.raw, &span.paint, dither, x, span.y, k, texels);
     let plotted = plotted_lanes(brush.semi, brush.mode, back, texels, front);
     Lanes {
         cells: force_lanes(brush.mask, plotted).to_array(),
-        bits: both(open_bits(brush.mask, back), read.bits),
+        bits: both(open_bits(brush.mask, back), drawn_bits(texels)),
     }
 }

@@ -1,4 +1,4 @@
-use Rattle.std.proofs.Common.{arith}
+use Rattle.std.proofs.Common.{sym, ◌∙◌, arith}
 use Rattle.span_lanes.proofs.ColorLemmas.{inside_later}
 use Rattle.span_lanes.proofs.BlindLemmas.{span_blind}
 use Rattle.span_lanes.proofs.CostLemmas.{textured_cost}
@@ -10,14 +10,14 @@ coordinates_of-at-requires-clause-inside g c =
     let span = c.args.span.now in
     inside_later span.paint span.x span.y span.n c.args.first c.args.k c.requires.within c.requires.span.inside
 
-pub reads_itself-requires-clause-texture : goal.reads_itself-requires-clause-texture
-reads_itself-requires-clause-texture g c = rw c.requires.texture at c.requires.span.texture
+pub texels_at-cells-requires-clause-texture : goal.texels_at-cells-requires-clause-texture
+texels_at-cells-requires-clause-texture g c = rw c.requires.texture at c.requires.span.texture
 
 pub store_chunk-requires-clause-blind : goal.store_chunk-requires-clause-blind
 store_chunk-requires-clause-blind g c =
     let span = c.args.span.now in
     let t = c.args.texture.now in
-    let cells = cells_same span.paint t span.x span.y c.args.first _ _ c.args.k c.args.k c.coordinates_of-at.ensures (omega arith) in
+    let cells = cells_same span.paint t span.x span.y c.args.first _ _ c.args.k c.args.k c.coordinates_of-at.ensures (omega arith) ∙ sym c.texels_at-cells.ensures in
     span_blind span c.args.first c.args.k c.args.vram.now c.requires.span c.requires.within
     (λ h. let known = rw (c.requires.texture, cells) at h in absurd (cc (c.reads_itself.ensures.pairs.1 known, c.if-reads_itself.false)))
 
@@ -25,7 +25,7 @@ pub returns-then-reads_itself-clause-cost : goal.returns-then-reads_itself-claus
 returns-then-reads_itself-clause-cost g c =
     let span = c.args.span.now in
     let t = c.args.texture.now in
-    let cells = cells_same span.paint t span.x span.y c.args.first _ _ c.args.k c.args.k c.coordinates_of-at.ensures (omega arith) in
+    let cells = cells_same span.paint t span.x span.y c.args.first _ _ c.args.k c.args.k c.coordinates_of-at.ensures (omega arith) ∙ sym c.texels_at-cells.ensures in
     let cost = rw (← c.reads_itself.ensures.value, c.if-reads_itself.true) at (textured_cost span t c.args.first c.args.k _ c.requires.texture cells) in
     rw cost (rw c.requires.texture at c.draw_cells.ensures.cost)
 
@@ -33,6 +33,6 @@ pub returns-else-reads_itself-clause-cost : goal.returns-else-reads_itself-claus
 returns-else-reads_itself-clause-cost g c =
     let span = c.args.span.now in
     let t = c.args.texture.now in
-    let cells = cells_same span.paint t span.x span.y c.args.first _ _ c.args.k c.args.k c.coordinates_of-at.ensures (omega arith) in
+    let cells = cells_same span.paint t span.x span.y c.args.first _ _ c.args.k c.args.k c.coordinates_of-at.ensures (omega arith) ∙ sym c.texels_at-cells.ensures in
     let cost = rw (← c.reads_itself.ensures.value, c.if-reads_itself.false) at (textured_cost span t c.args.first c.args.k _ c.requires.texture cells) in
     omega (arith, cost, c.collect_textured-lanes.ensures.cost, c.store_chunk.ensures.cost)

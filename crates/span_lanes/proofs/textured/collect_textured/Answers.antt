@@ -27,8 +27,7 @@ returns-clause-lanes g c = record {
       let place : 1024 * span.y + (span.x + c.args.first + j) ≡ 1024 * span.y + (span.x + c.args.first) + j = omega arith in
       let content = c.load16-back.ensures.lanes.cells j lt in
       let here = ap (λ (k : ℕ). get_or c.args.vram.now k 0) place ∙ sym content in
-      let read = c.read_texels-read.ensures.texels in
-      let same = rw (c.requires.at.u j lt, c.requires.at.v j lt) at (read.texel_is j lt) in
+      let same = rw (c.requires.at.u j lt, c.requires.at.v j lt) at (c.read_texels-read.ensures.value j lt) in
       let color : ℕ = paint_color span.paint x span.y in
       let shift : ℤ = shift_of (span.brush.dither && not t.raw) x span.y in
       let u : ℕ = paint_u span.paint x span.y i in
@@ -41,6 +40,6 @@ returns-clause-lanes g c = record {
       (c.plotted_lanes-plotted.ensures.value j in_lanes)
       (c.both.ensures j in_lanes)
       (rw content at (c.open_bits.ensures j in_lanes))
-      (read.drawn j lt)
+      (c.drawn_bits.ensures j in_lanes)
       (c.force_lanes.ensures.value j in_lanes);
 }
