@@ -6,6 +6,7 @@
 
 mod bits;
 mod regs;
+mod shape;
 
 pub use regs::{Regs, clears};
 
@@ -40,6 +41,22 @@ mod tests {
         raised.env(1, 0x800);
         assert_eq!(rt; raised.status(true, false), 0x1580_2000);
         assert!(rt; raised.irq());
+    }
+
+    #[test]
+    fn the_picture_has_the_shape_of_its_ranges(rt: HostRuntime) {
+        for (word, shape) in [
+            (0x0800_0000, Some((256, 240))),
+            (0x0800_0001, Some((320, 240))),
+            (0x0800_0040, Some((364, 240))),
+            (0x0800_0027, Some((640, 480))),
+            (0x0620_0200, None),
+            (0x0704_0100, None),
+        ] {
+            let mut regs = Regs::new();
+            regs.gp1(word);
+            assert_eq!(rt; regs.shape(), shape, "after {word}");
+        }
     }
 
     #[test]

@@ -1,0 +1,27 @@
+-- The shape of the shown picture (psx-spx, "GPU Display Control Commands (GP1)": horizontal and vertical display range, display mode).
+use Rattle.std.specs.Prelude.{ℕ, ◌+◌, ◌-◌, ◌*◌, ◌/◌, ◌%◌, ◌^◌, ◌==◌, ◌&&◌, ◌||◌, Option, Some, None, if◌then◌else◌}
+use Rattle.gp1_status.specs.Registers.{Registers, bit}
+
+-- the cycles that a pixel lasts
+abbrev pub cycles_of : (mode : ℕ) → ℕ
+cycles_of mode =
+    if bit mode 6 == 1 then 7 else
+    (if mode % 4 == 0 then 10 else
+    (if mode % 4 == 1 then 8 else
+    (if mode % 4 == 2 then 5 else 4)))
+
+-- the difference in cycles, rounded to a multiple of 4; nothing where the right end isn't above the left (our own rule)
+abbrev pub width_of : (hrange mode : ℕ) → ℕ
+width_of hrange mode = ((hrange / 2 ^ 12 - hrange % 2 ^ 12) / cycles_of mode + 2) / 4 * 4
+
+-- the difference in lines, twice that where the picture is interlaced with 480 lines
+abbrev pub lines_of : (vrange mode : ℕ) → ℕ
+lines_of vrange mode =
+    let lines = vrange / 2 ^ 10 - vrange % 2 ^ 10 in
+    if (bit mode 2 == 1) && (bit mode 5 == 1) then 2 * lines else lines
+
+abbrev pub shape_of : Registers → Option (ℕ × ℕ)
+shape_of r =
+    let width = width_of r.hrange r.mode in
+    let lines = lines_of r.vrange r.mode in
+    if (width == 0) || (lines == 0) then None else Some (width, lines)
