@@ -8,7 +8,7 @@ run: $(PLAYER)
 	$(PLAYER) vram < $(EXAMPLE) > vram.bin
 	@echo "vram.bin: 512 rows of 1024 cells; README.md says how to look at it"
 
-$(PLAYER): $(shell find crates -name '*.rt' -o -name '*.antt')
+$(PLAYER): $(shell find crates -name out -prune -o \( -name '*.rt' -o -name '*.antt' \) -print)
 	cd crates/psxgpu_tool && rt run -- play < stdin > /dev/null
 
 test:
