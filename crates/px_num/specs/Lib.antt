@@ -1,4 +1,5 @@
 pub mod Floor
 pub mod Fold
+pub mod Height
 pub mod Lanes
 pub mod Number
