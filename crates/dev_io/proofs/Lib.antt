@@ -1,3 +1,4 @@
 pub mod Appended
 pub mod Gives
 pub mod Parts
+pub mod Writing

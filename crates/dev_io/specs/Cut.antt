@@ -1,7 +1,9 @@
 -- A source in memory that gives its bytes in pieces and fails where it is told to (our own rule).
-use Rattle.std.specs.Prelude.{◌+◌, ◌-◌, ◌^◌, ◌==◌, List, ℕ, Option, Some, None, max, min, drop, length, slice_get, if◌then◌else◌}
+use Rattle.std.specs.Prelude.{◌+◌, ◌-◌, ◌^◌, ◌==◌, List, ℕ, Option, Some, None, max, min, drop, length, slice_get}
+use Rattle.std.specs.Prelude.{if◌then◌else◌}
 
--- the bytes left, the greatest sizes of the pieces, the calls that gave a byte, the calls that fail, all calls, and the failed ones
+-- the bytes left, the greatest sizes of the pieces, the calls that gave a byte, the calls that fail, all calls, and the
+-- failed ones
 pub record CutState : Type 0 where
   pub left : List ℕ
   pub pieces : List ℕ

@@ -1,5 +1,7 @@
--- What the calls of a source and a sink do (our own rules). Where bytes are told, they are a list; where they are not, None.
-use Rattle.std.specs.Prelude.{◌≡◌, ◌≤◌, ◌<◌, ◌+◌, ◌-◌, ◌^◌, ◌++◌, List, [], ℕ, Option, None, Some, length, take, min}
+-- What the calls of a source and a sink do (our own rules). Where bytes are told, they are a list; where they are not,
+-- None.
+use Rattle.std.specs.Prelude.{◌≡◌, ◌≤◌, ◌<◌, ◌+◌, ◌-◌, ◌^◌, ◌++◌, List, [], ℕ, Option, None, Some, Result, length}
+use Rattle.std.specs.Prelude.{take, min, OnOk, OnErr}
 
 -- a count of faults rose, or stands at its end, 2^64 - 1
 abbrev pub Rose : ℕ → ℕ → Type 0
@@ -36,3 +38,12 @@ pub record AppendsPart (before now : Option (List ℕ)) (piece : List ℕ) : Typ
   pub count : ℕ
   pub part : count < length piece
   pub held : now ≡ appended before (take count piece)
+
+-- What a call that writes these bytes does to a sink, seen by the bytes that it holds and its count of faults: Ok
+-- where all of them were appended, and else a proper prefix, and the count rose.
+pub record Writes {Value Error Sink : Type 0} (held : Sink → Option (List ℕ)) (failures : Sink → ℕ) (before now : Sink)
+    (bytes : List ℕ) (result : Result Value Error) : Type 0 where
+  pub ok : OnOk result (held now ≡ appended (held before) bytes)
+  pub failed : OnErr result (AppendsPart (held before) (held now) bytes)
+  pub cause : OnErr result (Rose (failures before) (failures now))
+  pub faults : failures before ≤ failures now

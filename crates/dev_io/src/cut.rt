@@ -1,5 +1,6 @@
 // A source in memory that gives its bytes in pieces, and fails where it is told to.
-ghost use Rattle.std.specs.Prelude.{◌≡◌, ◌≤◌, ◌<◌, ◌↔◌, List, ℕ, Some, drop, length, Contains, IfOk, IsErr, OnErr, MatchResult};
+ghost use Rattle.std.specs.Prelude.{◌≡◌, ◌≤◌, ◌<◌, ◌↔◌, List, ℕ, Some, drop, length, Contains, IfOk, IsErr, OnErr};
+ghost use Rattle.std.specs.Prelude.{MatchResult};
 ghost use Rattle.std.specs.Vec.{vec_len};
 ghost use Rattle.dev_io.specs.Cut.{CutState, most_of, gives_now, after_giving, after_failing};
 ghost use Rattle.dev_io.specs.Device.{Rose, Gives, IsAtEnd};
@@ -84,7 +85,8 @@ impl Source for CutSource {
         // It fails exactly at the calls that it was told, and gives as much as it may.
         ensures fails { IsErr result ↔ Contains self.old.fails self.old.calls }
         ensures count { IfOk result (λ n. n ≡ gives_now self.old (length buf.old)) }
-        ensures state { MatchResult result (λ n. self.new ≡ after_giving self.old n) (λ _. self.new ≡ after_failing self.old) }
+        ensures state { MatchResult result (λ n. self.new ≡ after_giving self.old n)
+            (λ _. self.new ≡ after_failing self.old) }
     {
         let call = self.calls;
         self.calls = call.saturating_add(1);

@@ -1,6 +1,6 @@
 // Sources and sinks: the bytes that they tell of, and a count of faults that never falls.
 ghost use Rattle.std.specs.Prelude.{◌≡◌, ◌≤◌, ◌<◌, List, ℕ, Option, length, flat_map, IfSome, IfOk, IfErr, OnOk, OnErr};
-ghost use Rattle.dev_io.specs.Device.{Rose, Gives, IsAtEnd, Accepts, AppendsPart, appended};
+ghost use Rattle.dev_io.specs.Device.{Rose, Gives, IsAtEnd, Accepts, Writes};
 
 use arrayvec::ArrayVec;
 
@@ -46,10 +46,7 @@ pub trait Sink {
 /// Writes the whole piece. After a failure a proper prefix of it was appended, so an empty piece never fails.
 #[tactic(auto, using(crate::proofs::Appended::write_steps))]
 pub fn write_all<K: Sink>(sink: &mut K, piece: &[u8]) -> Result<(), Failed>
-    ensures ok { OnOk result (K.held sink.new ≡ appended (K.held sink.old) piece.now) }
-    ensures failed { OnErr result (AppendsPart (K.held sink.old) (K.held sink.new) piece.now) }
-    ensures cause { OnErr result (Rose (K.faults sink.old) (K.faults sink.new)) }
-    ensures faults { K.faults sink.old ≤ K.faults sink.new }
+    ensures { Writes K.held K.faults sink.old sink.new piece.now result }
 {
     let mut at = 0;
     while at < piece.len() {
@@ -63,10 +60,7 @@ const GATHERED: usize = 128;
 
 /// Writes the pieces, one after another. Where they are few bytes together, the sink is called for all of them at once.
 pub fn write_pieces<K: Sink>(sink: &mut K, pieces: &[&[u8]]) -> Result<(), Failed>
-    ensures ok { OnOk result (K.held sink.new ≡ appended (K.held sink.old) (flat_map (λ piece. piece.now) pieces.now)) }
-    ensures failed { OnErr result (AppendsPart (K.held sink.old) (K.held sink.new) (flat_map (λ piece. piece.now) pieces.now)) }
-    ensures cause { OnErr result (Rose (K.faults sink.old) (K.faults sink.new)) }
-    ensures faults { K.faults sink.old ≤ K.faults sink.new }
+    ensures { Writes K.held K.faults sink.old sink.new (flat_map (λ piece. piece.now) pieces.now) result }
 {
     match gather(pieces) {
         Some(gathered) => write_all(sink, gathered.as_slice()),
@@ -87,10 +81,7 @@ fn gather(pieces: &[&[u8]]) -> Option<ArrayVec<u8, GATHERED>>
 
 /// Writes the pieces, one after another, each by itself.
 fn write_each<K: Sink>(sink: &mut K, pieces: &[&[u8]]) -> Result<(), Failed>
-    ensures ok { OnOk result (K.held sink.new ≡ appended (K.held sink.old) (flat_map (λ piece. piece.now) pieces.now)) }
-    ensures failed { OnErr result (AppendsPart (K.held sink.old) (K.held sink.new) (flat_map (λ piece. piece.now) pieces.now)) }
-    ensures cause { OnErr result (Rose (K.faults sink.old) (K.faults sink.new)) }
-    ensures faults { K.faults sink.old ≤ K.faults sink.new }
+    ensures { Writes K.held K.faults sink.old sink.new (flat_map (λ piece. piece.now) pieces.now) result }
 {
     for piece in pieces {
         write_all(sink, piece)?;

@@ -1,39 +1,36 @@
 // A sink in memory that fails where it is told to.
-ghost use Rattle.std.specs.Prelude.{◌≡◌, ◌≤◌, ◌<◌, ◌↔◌, ◌⊎◌, List, ℕ, [], Some, length, Contains, IfOk, IsErr, OnErr, MatchResult};
-ghost use Rattle.std.specs.Vec.{vec_len, vec_capacity};
+ghost use Rattle.std.specs.Prelude.{◌≡◌, ◌≤◌, ◌<◌, ◌↔◌, ◌⊎◌, List, ℕ, [], Some, length, Contains, IfOk, IsErr, OnErr};
+ghost use Rattle.std.specs.Prelude.{MatchResult};
 ghost use Rattle.dev_io.specs.Device.{Rose, Accepts};
 ghost use Rattle.dev_io.specs.Memory.{FailState, takes_next, after_part, after_fault};
 
 use crate::device::{Failed, Sink};
+use crate::memory::MemSink;
 use px_num::OutOfMemory;
 use std::alloc::Global;
 use std::marker::Model;
 
-/// A sink in memory that holds at most `room` bytes, takes at most `piece` bytes a call (0 counts as 1), and fails at the
-/// calls named in `fails`, which are numbered from 0. A call for which there is no room fails too.
+/// A sink in memory that holds at most `room` bytes, takes at most `piece` bytes a call (0 counts as 1), and fails at
+/// the calls named in `fails`, which are numbered from 0. A call for which there is no room fails too.
 #[derive(Drop)]
 pub struct FailSink {
-    bytes: Vec<u8>,
-    room: usize,
+    sink: MemSink,
     piece: u32,
     fails: Vec<u64>,
     calls: u64,
-    faults: u64,
 }
 
 impl Model for FailSink {
     ghost Value = { FailState };
 
     ghost view = { λ s. record {
-      held = s.bytes.items;
-      room = s.room;
+      held = s.sink.held;
+      room = s.sink.room;
       piece = s.piece;
       fails = s.fails.items;
       calls = s.calls;
-      faults = s.faults;
+      faults = s.sink.faults;
     } };
-
-    ghost invariant = { λ s. (vec_len s.bytes ≤ s.room) × (s.room ≤ vec_capacity s.bytes) };
 }
 
 impl FailSink {
@@ -48,24 +45,19 @@ impl FailSink {
           faults = 0;
         }) }
     {
-        match Vec::with_capacity(alloc, room) {
-            Ok(bytes) => Ok(FailSink {
-                bytes,
-                room,
-                piece,
-                fails,
-                calls: 0,
-                faults: 0,
-            }),
-            Err(_) => Err(OutOfMemory),
-        }
+        Ok(FailSink {
+            sink: MemSink::new(alloc, room)?,
+            piece,
+            fails,
+            calls: 0,
+        })
     }
 
     /// The bytes held.
     pub fn bytes(&self) -> &[u8]
         ensures { result.now ≡ self.now.held }
     {
-        &self.bytes
+        self.sink.bytes()
     }
 }
 
@@ -84,23 +76,15 @@ impl Sink for FailSink {
         ensures fails { IsErr result ↔ (Contains self.old.fails self.old.calls
             ⊎ ((0 < length piece.now) × (self.old.room ≤ length self.old.held))) }
         ensures count { IfOk result (λ n. n ≡ takes_next self.old (length piece.now)) }
-        ensures state { MatchResult result (λ n. self.new ≡ after_part self.old piece.now n) (λ _. self.new ≡ after_fault self.old) }
+        ensures state { MatchResult result (λ n. self.new ≡ after_part self.old piece.now n)
+            (λ _. self.new ≡ after_fault self.old) }
     {
         let call = self.calls;
         self.calls = call.saturating_add(1);
         if self.fails.contains(&call) {
-            self.faults = self.faults.saturating_add(1);
-            return Err(Failed);
+            return self.sink.refuse();
         }
         let most = piece.len().min(self.piece.max(1) as usize);
-        let n = most.min(self.room - self.bytes.len());
-        if n == 0 && !piece.is_empty() {
-            self.faults = self.faults.saturating_add(1);
-            return Err(Failed);
-        }
-        match self.bytes.extend_from_slice(&piece[..n]) {
-            Ok(()) => Ok(n),
-            Err(_) => unreachable!(),
-        }
+        self.sink.write(&piece[..most])
     }
 }

@@ -1,5 +1,6 @@
 // A source and a sink in memory, which tell their bytes.
-ghost use Rattle.std.specs.Prelude.{◌≡◌, ◌≤◌, ◌<◌, ◌-◌, ◌↔◌, List, ℕ, [], Some, drop, min, length, IfOk, IsOk, IsErr, OnErr, MatchResult};
+ghost use Rattle.std.specs.Prelude.{◌≡◌, ◌≤◌, ◌<◌, ◌-◌, ◌↔◌, List, ℕ, [], Some, drop, min, length, IfOk, IsOk, IsErr};
+ghost use Rattle.std.specs.Prelude.{OnErr, MatchResult};
 ghost use Rattle.std.specs.Vec.{vec_len, vec_capacity};
 ghost use Rattle.dev_io.specs.Device.{Rose, Gives, IsAtEnd, Accepts};
 ghost use Rattle.dev_io.specs.Memory.{SinkState, takes_now, after_taking, after_refusing};
@@ -98,6 +99,16 @@ impl MemSink {
     {
         &self.bytes
     }
+
+    // A call that fails: nothing is taken, and it is counted.
+    pub(crate) fn refuse(&mut self) -> Result<usize, Failed>
+        ensures refused { IsErr result }
+        ensures state { self.new ≡ after_refusing self.old }
+        ensures faults { self.old.faults ≤ self.new.faults }
+    {
+        self.faults = self.faults.saturating_add(1);
+        Err(Failed)
+    }
 }
 
 impl Sink for MemSink {
@@ -114,12 +125,12 @@ impl Sink for MemSink {
         // It fails exactly where there is something to take and no room, and takes as much as there is room for.
         ensures full { IsErr result ↔ ((0 < length piece.now) × (self.old.room ≤ length self.old.held)) }
         ensures count { IfOk result (λ n. n ≡ takes_now self.old (length piece.now)) }
-        ensures state { MatchResult result (λ n. self.new ≡ after_taking self.old piece.now n) (λ _. self.new ≡ after_refusing self.old) }
+        ensures state { MatchResult result (λ n. self.new ≡ after_taking self.old piece.now n)
+            (λ _. self.new ≡ after_refusing self.old) }
     {
         let n = piece.len().min(self.room - self.bytes.len());
         if n == 0 && !piece.is_empty() {
-            self.faults = self.faults.saturating_add(1);
-            return Err(Failed);
+            return self.refuse();
         }
         match self.bytes.extend_from_slice(&piece[..n]) {
             Ok(()) => Ok(n),
