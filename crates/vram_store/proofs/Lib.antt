@@ -1,7 +1,10 @@
+pub mod Choices
 pub mod ChunkLaw
 pub mod Drawn
 pub mod Lanes
 pub mod Loaded
 pub mod MaskLemmas
 pub mod Ones
+pub mod Puts
 pub mod TopBits
+pub mod Zeros

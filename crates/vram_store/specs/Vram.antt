@@ -1,5 +1,6 @@
 -- Video memory as the list of its cells, row by row (psx-spx, "GPU Video Memory (VRAM)").
-use Rattle.std.specs.Prelude.{◌≡◌, ◌≢◌, ◌<◌, ◌≤◌, ◌/◌, ◌%◌, ◌^◌, ◌⊎◌, ℕ, List, ◌+◌, ◌*◌, length, slice_index, slice_set, replicate}
+use Rattle.std.specs.Prelude.{◌≡◌, ◌≢◌, ◌<◌, ◌≤◌, ◌/◌, ◌%◌, ◌^◌, ◌⊎◌, ℕ, List, ◌++◌, ◌+◌, ◌-◌, ◌*◌, length, slice_index, slice_set, replicate}
+use Rattle.px_num.specs.Height.{short_height, tall_height}
 
 -- how many rows of 1024 cells there are
 abbrev pub height_of : List ℕ → ℕ
@@ -19,7 +20,15 @@ zeros n = replicate n 0
 
 -- the first video memory (our own rule: it starts as zeros)
 unfoldable pub blank : List ℕ
-blank = zeros 524288
+blank = zeros (1024 * short_height)
+
+-- the cells of so many rows behind those that are there; no proof computes them
+abbrev pub rows_behind : (height : ℕ) → List ℕ → List ℕ
+rows_behind height m = zeros (1024 * height - length m)
+
+-- the tall profile (our own rule): rows of zeros stand behind those of the console, and no cell changes
+unfoldable pub tall : List ℕ → List ℕ
+tall m = m ++ rows_behind tall_height m
 
 -- sixteen lanes: n cells from number start on, and then 0
 pub record IsLoaded (m : List ℕ) (start n : ℕ) (lanes : List ℕ) : Type 0 where
@@ -39,3 +48,9 @@ pub record IsStored (old : List ℕ) (start n : ℕ) (lanes : List ℕ) (mask : 
   pub written : (j : ℕ) → j < n → bit mask j ≡ 1 → slice_index new (start + j) ≡ slice_index lanes j
   pub masked : (j : ℕ) → j < n → bit mask j ≢ 1 → slice_index new (start + j) ≡ slice_index old (start + j)
   pub others : (k : ℕ) → (k < start) ⊎ (start + n ≤ k) → slice_index new k ≡ slice_index old k
+
+-- the sixteen cells from number start on have become these lanes, and all others stayed
+pub record IsPut (old : List ℕ) (start : ℕ) (lanes new : List ℕ) : Type 0 where
+  pub count : length new ≡ length old
+  pub written : (j : ℕ) → j < 16 → slice_index new (start + j) ≡ slice_index lanes j
+  pub others : (k : ℕ) → (k < start) ⊎ (start + 16 ≤ k) → slice_index new k ≡ slice_index old k

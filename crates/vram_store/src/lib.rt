@@ -7,9 +7,11 @@
 
 ghost use Rattle.std.specs.Prelude.{◌≡◌, ◌<◌};
 
+pub mod laws;
 pub mod mask;
 mod steps;
 mod vram;
+mod whole;
 
 pub use steps::Steps;
 pub use vram::Vram;

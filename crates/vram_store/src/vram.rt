@@ -1,16 +1,22 @@
 // The cells, and the four accesses that count.
-ghost use Rattle.std.specs.Prelude.{◌≡◌, ◌≤◌, ◌<◌, ◌+◌, ◌*◌, ℕ, List, length, vec_len, IfOk};
-ghost use Rattle.vram_store.specs.Vram.{at, height_of, set, zeros, blank, IsLoaded, IsStored};
+ghost use Rattle.std.specs.Prelude.{◌≡◌, ◌≤◌, ◌<◌, ◌+◌, ◌*◌, ◌++◌, ◌-◌, ℕ, List, length, vec_len, vec_capacity, IfOk};
+ghost use Rattle.px_num.specs.Height.{IsHeight, tall_height};
+ghost use Rattle.vram_store.specs.Vram.{at, height_of, set, zeros, blank, tall, IsLoaded, IsStored};
 
 use crate::steps::Steps;
+use crate::whole::{first_lanes, load_whole, masked_lanes, store_whole};
 use px_num::OutOfMemory;
+use px_num::lanes::splat;
 use std::alloc::{AllocError, Global};
 use std::marker::Model;
 use std::simd::prelude::*;
 use std::sync::ledger::Ledger;
 
 /// How many cells the console's video memory has: 512 rows of 1024.
-const CELLS: usize = 524_288;
+const SHORT_CELLS: usize = 524_288;
+
+/// How many cells it has in the tall profile: 1024 rows of 1024.
+const TALL_CELLS: usize = 1_048_576;
 
 /// Video memory. Contracts see it as the list of its halfwords, row by row.
 #[derive(Drop)]
@@ -19,41 +25,75 @@ pub struct Vram {
 }
 
 impl Model for Vram {
+    ghost use Rattle.std.specs.Prelude.{ℕ, List, vec_len, vec_capacity};
+    ghost use Rattle.vram_store.specs.Room.{KeepsRoom};
+
     ghost Value = { List ℕ };
 
     ghost view = { λ v. v.cells.items };
 
-    ghost invariant = { λ v. vec_len v.cells ≡ 524288 };
+    ghost invariant = { λ v. KeepsRoom (vec_len v.cells) (vec_capacity v.cells) };
 }
 
-// The length is a variable here, so that no proof computes the list.
+// Cells of zeros with room for more. Both numbers are variables here, so that no proof computes the list.
 #[tactic(auto, unfolding(crate::specs::Vram::zeros))]
-fn zeroed(alloc: Global, n: usize) -> Result<Vec<u16>, AllocError>
+fn zeroed(alloc: Global, n: usize, room: usize) -> Result<Vec<u16>, AllocError>
+    requires { n ≤ room }
     ensures items { IfOk result (λ v. v.items ≡ zeros n) }
     ensures len { IfOk result (λ v. vec_len v ≡ n) }
+    ensures room { IfOk result (λ v. room ≤ vec_capacity v) }
 {
-    vec![in alloc; 0u16; n]
+    let mut cells = vec![in alloc; 0u16; room]?;
+    cells.truncate(n);
+    Ok(cells)
+}
+
+// Appends zeros up to a length for which there is room.
+fn lengthen(cells: &mut Vec<u16>, n: usize)
+    requires shorter { vec_len cells.old ≤ n }
+    requires room { n ≤ vec_capacity cells.old }
+    ensures items { cells.new.items ≡ cells.old.items ++ zeros (n - vec_len cells.old) }
+    ensures len { vec_len cells.new ≡ n }
+    ensures room { n ≤ vec_capacity cells.new }
+{
+    for i in cells.len()..n {
+        let _ = i;
+        match cells.push(0) {
+            Ok(()) => {}
+            Err(_) => unreachable!(),
+        }
+    }
 }
 
 impl Vram {
-    /// Video memory of 512 rows, where every cell is 0. Refused where memory runs out.
+    /// Video memory of 512 rows, where every cell is 0. The memory for 1024 rows is had here, so that no later call
+    /// needs any. Refused where memory runs out.
     #[tactic(auto, unfolding(crate::specs::Vram::blank))]
     pub fn new(alloc: Global) -> Result<Self, OutOfMemory>
         ensures cells { IfOk result (λ vram. vram ≡ blank) }
         ensures long { IfOk result (λ vram. length vram ≡ 1024 * 512) }
     {
-        match zeroed(alloc, CELLS) {
+        match zeroed(alloc, SHORT_CELLS, TALL_CELLS) {
             Ok(cells) => Ok(Vram { cells }),
             Err(_) => Err(OutOfMemory),
         }
     }
 
-    /// How many rows of 1024 cells there are.
+    /// Makes the height 1024 rows: rows 512 to 1023 are zeros, and all other cells stay. Where it is 1024 already,
+    /// nothing changes. No step is taken.
+    #[tactic(auto, unfolding(crate::specs::Vram::tall))]
+    pub fn set_tall(&mut self)
+        ensures cells { self.new ≡ tall self.old }
+        ensures long { length self.new ≡ 1024 * tall_height }
+    {
+        lengthen(&mut self.cells, TALL_CELLS);
+    }
+
+    /// How many rows of 1024 cells there are: 512 or 1024.
     pub fn height(&self) -> u16
         ensures rows { result ≡ height_of self.now }
         ensures cells { length self.now ≡ 1024 * result }
-        ensures some { 1 ≤ result }
-        ensures most { result ≤ 1024 }
+        ensures known { IsHeight result }
     {
         (self.cells.len() / 1024) as u16
     }
@@ -92,12 +132,11 @@ impl Vram {
     {
         steps.tick();
         let start = 1024 * y as usize + x as usize;
-        let lanes = if n == 16 {
-            load_lanes(&self.cells[start..start + 16])
+        if start + 16 <= self.cells.len() {
+            first_lanes(n, load_whole(&self.cells, start), splat(0))
         } else {
-            load_lanes(&self.cells[start..start + n as usize])
-        };
-        u16x16::from_array(lanes)
+            u16x16::from_array(load_lanes(&self.cells[start..start + n as usize]))
+        }
     }
 
     /// Writes those of the first `n` lanes whose bit of the mask is 1 to row `y` from column `x` on. All
@@ -121,12 +160,31 @@ impl Vram {
     {
         steps.tick();
         let start = 1024 * y as usize + x as usize;
-        let lanes = lanes.to_array();
-        if n == 16 && mask == 0xffff {
-            store_lanes(&mut self.cells, start, 16, &lanes, 0xffff);
+        if start + 16 <= self.cells.len() {
+            store_first(&mut self.cells, start, n, lanes, mask);
         } else {
-            store_lanes(&mut self.cells, start, n as usize, &lanes, mask);
+            store_lanes(&mut self.cells, start, n as usize, &lanes.to_array(), mask);
         }
+    }
+}
+
+// Puts sixteen cells, of which those change that are among the first n and whose bit of the mask is 1.
+#[inline(always)]
+fn store_first(cells: &mut [u16], start: usize, n: u8, lanes: u16x16, mask: u16)
+    requires few { n ≤ 16 }
+    requires long { length lanes ≡ 16 }
+    requires in_cells { start + 16 ≤ length cells.old }
+    ensures { IsStored cells.old start n lanes mask cells.new }
+{
+    if n == 16 && mask == 0xffff {
+        store_whole(cells, start, lanes);
+    } else {
+        let old = load_whole(cells, start);
+        store_whole(
+            cells,
+            start,
+            first_lanes(n, masked_lanes(mask, lanes, old), old),
+        );
     }
 }
 
