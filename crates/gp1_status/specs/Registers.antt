@@ -1,6 +1,7 @@
 -- The registers of the GPU, the words that write them, and the status word
 -- (psx-spx, "GPU Rendering Attributes", "GPU Display Control Commands (GP1)", "GPU Status Register").
 use Rattle.std.specs.Prelude.{◌≡◌, ℕ, ◌+◌, ◌-◌, ◌*◌, ◌/◌, ◌%◌, ◌^◌, ◌<◌, ◌≤◌, ◌⊎◌, Bool, true, false, Option, Some, None, if◌then◌else◌, nat_le, ◌==◌, ◌&&◌, unwrap_or}
+use Rattle.px_num.specs.Height.{IsHeight}
 
 -- the values of the registers, and how many rows video memory has
 pub record Registers : Type 0 where
@@ -19,10 +20,6 @@ pub record Registers : Type 0 where
   pub mode : ℕ
   pub held : ℕ
   pub height : ℕ
-
--- the heights of video memory
-abbrev pub IsHeight : ℕ → Type 0
-IsHeight height = (height ≡ 512) ⊎ (height ≡ 1024)
 
 -- bit j of a number
 abbrev pub bit : ℕ → ℕ → ℕ

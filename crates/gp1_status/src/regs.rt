@@ -1,12 +1,16 @@
 // The registers: their values, what writes them, and the status word.
 ghost use Rattle.std.specs.Prelude.{◌≡◌, ℕ, ◌+◌, ◌-◌, ◌*◌, ◌/◌, ◌%◌, ◌^◌, ◌<◌, ◌≤◌, true};
-ghost use Rattle.gp1_status.specs.Registers.{IsHeight, bit, reset, status_of, request_of, info_of, env_of, page_of, gp1_of, is_clearing};
+ghost use Rattle.px_num.specs.Height.{IsHeight, short_height, tall_height, height_of_profile};
+ghost use Rattle.gp1_status.specs.Registers.{bit, reset, status_of, request_of, info_of, env_of, page_of, gp1_of, is_clearing};
 
 use crate::bits::join;
 use std::marker::Model;
 
-/// The rows of the console's video memory.
-const SHORT: u16 = 512;
+/// How many rows the console's video memory has.
+const SHORT_HEIGHT: u16 = 512;
+
+/// How many rows video memory has in the tall profile.
+const TALL_HEIGHT: u16 = 1024;
 
 /// The registers that GP0(E1h) to GP0(E6h) and GP1 write, the interrupt, the latch of the read port, and
 /// the height of video memory, by which the registers that hold a Y are as wide as they are.
@@ -43,7 +47,7 @@ impl Model for Regs {
 impl Regs {
     /// The state after a reset, with the latch 0 and a height of 512 rows.
     pub fn new() -> Self
-        ensures { result ≡ reset 0 512 }
+        ensures { result ≡ reset 0 short_height }
     {
         Regs {
             e1: 0,
@@ -60,8 +64,15 @@ impl Regs {
             vrange: 0x4_0010,
             mode: 0,
             held: 0,
-            height: SHORT,
+            height: SHORT_HEIGHT,
         }
+    }
+
+    /// Makes the height 1024 rows. All values stay; from now on bit 11 of the draw mode and every Y can be had in full.
+    pub fn set_tall(&mut self)
+        ensures { self.new ≡ record self.old { height = tall_height } }
+    {
+        self.height = TALL_HEIGHT;
     }
 
     /// GP0(E1h), the draw mode: texture page, blending, dither and texture flips. Bit 11 is the page's
@@ -182,6 +193,13 @@ impl Regs {
         self.height
     }
 
+    /// Whether video memory has 1024 rows.
+    pub fn is_tall(&self) -> bool
+        ensures { self.now.height ≡ height_of_profile result }
+    {
+        self.height == TALL_HEIGHT
+    }
+
     /// Sets the interrupt bit, as GP0(1Fh) does.
     pub fn raise(&mut self)
         ensures { self.new ≡ record self.old { irq = true } }
@@ -280,14 +298,24 @@ impl Regs {
     fn high_page_bit(&self, word: u32) -> u32
         ensures { result ≡ word / 2 ^ 11 % (self.now.height / 512) }
     {
-        (word >> 11) % u32::from(self.height / 512)
+        if self.height == SHORT_HEIGHT {
+            0
+        } else if self.height == TALL_HEIGHT {
+            word >> 11 & 1
+        } else {
+            (word >> 11) % u32::from(self.height / 512)
+        }
     }
 
     // X and Y of a word, with Y below the height.
     fn place(&self, word: u32) -> u32
         ensures { result ≡ word % (1024 * self.now.height) }
     {
-        word % (1024 * u32::from(self.height))
+        if self.height == SHORT_HEIGHT {
+            word % 0x8_0000
+        } else {
+            word % (1024 * u32::from(self.height))
+        }
     }
 
     /// The status word. `idle` says whether the splitter of GP0's words is idle, and `sending` whether
