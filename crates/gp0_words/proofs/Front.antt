@@ -33,7 +33,7 @@ need_of k start more len tail =
     let test : nat_lt (length (start ++ more)) (start_len k) ≡ false = le-ltb _ _ (omega (arith, length-append start more)) in
     rw (test, front, back, tail_need-tail k start more tail, length-append) (omega arith)
 
-packet_need-is : (p : List ℕ) → IsPacket p → packet_need (kind_of (slice_index p 0)) p ≡ length p
+pub packet_need-is : (p : List ℕ) → IsPacket p → packet_need (kind_of (slice_index p 0)) p ≡ length p
 packet_need-is p h =
     let k = kind_of (slice_index p 0) in
     subst (λ (l : List ℕ). packet_need k l ≡ length l) (sym h.parts) (need_of k h.start h.more h.len h.tail)

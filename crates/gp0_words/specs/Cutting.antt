@@ -1,9 +1,11 @@
 -- What a packet is, and what the items of packets are.
-use Rattle.std.specs.Prelude.{◌≡◌, ℕ, true, false, List, [], ◌∷◌, ◌++◌, length, slice_index}
+use Rattle.std.specs.Prelude.{◌≡◌, ◌<◌, ◌⊎◌, ℕ, true, false, List, [], ◌∷◌, ◌++◌, length, flat_map, map, slice_index}
 use Rattle.gp0_words.specs.Kinds.{kind_of, start_len, data_words_of, is_end}
 use Rattle.gp0_words.specs.Items.{Items, Rest}
 use Rattle.gp0_words.specs.declared.kind.Kind.{Kind}
 use Rattle.gp0_words.specs.declared.kind.Kind.TheVariants.{Plain, Load, Polyline}
+use Rattle.gp0_words.specs.declared.item.Item.{Item}
+use Rattle.gp0_words.specs.declared.item.Item.TheVariants.{Whole, Joint, Finish, Pixels}
 use Rattle.gp0_words.specs.declared.pending.Pending.TheVariants as pending
 
 -- joints of one word whose words aren't end words, and an end word
@@ -42,3 +44,53 @@ PacketsAreCut =
 -- No packet is a proper prefix of another.
 abbrev pub IsPrefixFree : Type 0
 IsPrefixFree = (p q a b : List ℕ) → IsPacket p → IsPacket q → p ++ a ≡ q ++ b → p ≡ q
+
+-- ---- the items of one packet
+
+-- a joint from each vertex to the next, all of the command's colour, and the end
+abbrev pub flat_tail_items : (command vertex : ℕ) → List ℕ → List Item
+flat_tail_items command vertex [] = []
+flat_tail_items command vertex (w ∷ []) = Finish w ∷ []
+flat_tail_items command vertex (w ∷ v ∷ ws) = Joint command command vertex command w ∷ flat_tail_items command w (v ∷ ws)
+
+-- a joint from each colour and vertex to the next, and the end
+abbrev pub shaded_tail_items : (command color vertex : ℕ) → List ℕ → List Item
+shaded_tail_items command color vertex [] = []
+shaded_tail_items command color vertex (c ∷ []) = Finish c ∷ []
+shaded_tail_items command color vertex (c ∷ v ∷ ws) = Joint command color vertex c v ∷ shaded_tail_items command c v ws
+
+-- a plain packet has no item behind its first, a load one for each data word, a polyline its joints and its end
+abbrev pub items_behind : Kind → (start more : List ℕ) → List Item
+items_behind (Plain n) start more = []
+items_behind Load start more = map Pixels more
+items_behind (Polyline true) start more = shaded_tail_items (slice_index start 0) (slice_index start 2) (slice_index start 3) more
+items_behind (Polyline false) start more = flat_tail_items (slice_index start 0) (slice_index start 2) more
+
+-- The items of a packet are those of its form.
+abbrev pub PacketsHaveTheirItems : Type 0
+PacketsHaveTheirItems =
+    (packet : List ℕ) (p : IsPacket packet) → Items packet ≡ Whole p.start ∷ items_behind (kind_of (slice_index packet 0)) p.start p.more
+
+-- ---- every list of words
+
+abbrev pub ArePackets : List (List ℕ) → Type 0
+ArePackets [] = Unit {0}
+ArePackets (packet ∷ packets) = IsPacket packet × ArePackets packets
+
+-- the words begin a packet and are not all of it
+pub record BeginsPacket (words : List ℕ) : Type 0 where
+  pub more : List ℕ
+  pub some : 0 < length more
+  pub packet : IsPacket (words ++ more)
+
+-- the words are packets, one after another, and then a part of one, or nothing
+pub record IsCutUp (words : List ℕ) : Type 0 where
+  pub packets : List (List ℕ)
+  pub rest : List ℕ
+  pub parts : words ≡ flat_map (λ packet. packet) packets ++ rest
+  pub whole : ArePackets packets
+  pub part : (rest ≡ []) ⊎ BeginsPacket rest
+
+-- Every list of words is packets and a proper prefix of one.
+abbrev pub AllIsCutUp : Type 0
+AllIsCutUp = (words : List ℕ) → IsCutUp words

@@ -2,3 +2,4 @@ pub mod Cutting
 pub mod Items
 pub mod Kinds
 pub mod Next
+pub mod Pushed

@@ -57,3 +57,10 @@ IsPending (pending.Poly command color vertex None) =
     IsPolyline command × (is_set command 28 ≡ false → color ≡ command)
 IsPending (pending.Poly command color vertex (Some half)) =
     IsPolyline command × (is_set command 28 ≡ true) × (is_end half ≡ false)
+
+-- how many data words are wanted
+abbrev pub wanted : Pending → ℕ
+wanted pending.Idle = 0
+wanted (pending.Packet words) = 0
+wanted (pending.Pixels left) = left
+wanted (pending.Poly command color vertex half) = 0

@@ -1,11 +1,12 @@
 // One word more, on what is pending.
-ghost use Rattle.std.specs.Prelude.{◌≡◌, ◌<◌, ◌≤◌, None, Some, length, slice_index};
-ghost use Rattle.gp0_words.specs.Kinds.{kind_of, start_len};
-ghost use Rattle.gp0_words.specs.Next.{next_pending, next_item, pending_behind, collected_pending, collected_item, IsPending};
+ghost use Rattle.std.specs.Prelude.{◌≡◌, ◌<◌, ◌≤◌, ◌+◌, ℕ, IsTrue, false, nat_lt, None, Some, length, slice_index};
+ghost use Rattle.gp0_words.specs.Kinds.{kind_of, start_len, first_len_of};
+ghost use Rattle.gp0_words.specs.Next.{wanted, next_pending, next_item, pending_behind, collected_pending, collected_item, IsPending};
 
 use crate::item::Item;
-use crate::kind::{Kind, bit, data_count, ends_polyline, read_kind, start_count};
+use crate::kind::{Kind, bit, data_count, ends_polyline, first_len, read_kind, start_count};
 use crate::words::Words;
+use std::mem;
 
 /// What a stream of words leaves behind its last whole packet.
 ///
@@ -130,6 +131,57 @@ fn next_vertex(command: u32, color: u32, vertex: u32, word: u32) -> (Pending, Op
     }
 }
 
+/// How many data words a load still wants, 0 where none is open.
+pub fn wanted(pending: &Pending) -> u32
+    ensures { result ≡ wanted pending.now }
+{
+    match pending {
+        Pending::Pixels { left } => *left,
+        Pending::Idle | Pending::Packet { .. } | Pending::Poly { .. } => 0,
+    }
+}
+
+/// What is pending behind a data word of a load that wanted so many.
+pub fn pixels_after(left: u32) -> Pending
+    requires { 0 < left }
+    ensures { (word : ℕ) → result ≡ next_pending (Pending.Pixels left) word }
+{
+    if left > 1 {
+        Pending::Pixels { left: left - 1 }
+    } else {
+        Pending::Idle
+    }
+}
+
+/// Whether these words, which begin a packet, want more than one word more.
+fn want_more(words: &Words) -> bool
+    requires { 0 < length words.now }
+    ensures { result ≡ nat_lt (length words.now + 1) (first_len_of (slice_index words.now 0)) }
+{
+    let slice = words.as_slice();
+    slice.len() + 1 < first_len(slice[0])
+}
+
+/// Takes a word in place where it is one more of a begun packet and not its last, and says whether it is; else nothing
+/// changes.
+pub fn extend(pending: &mut Pending, word: u32) -> bool
+    requires { IsPending pending.old }
+    ensures taken { IsTrue result → (pending.new ≡ next_pending pending.old word) × (next_item pending.old word ≡ None) }
+    ensures others { result ≡ false → pending.new ≡ pending.old }
+{
+    match pending {
+        Pending::Packet { words } => {
+            if want_more(words) {
+                words.push(word);
+                true
+            } else {
+                false
+            }
+        }
+        Pending::Idle | Pending::Pixels { .. } | Pending::Poly { .. } => false,
+    }
+}
+
 /// One word more: what is pending after it, and the item that it completes.
 pub fn take_word(pending: Pending, word: u32) -> (Pending, Option<Item>)
     requires { IsPending pending }
@@ -146,14 +198,7 @@ pub fn take_word(pending: Pending, word: u32) -> (Pending, Option<Item>)
             words.push(word);
             collect(words)
         }
-        Pending::Pixels { left } => {
-            let pending = if left > 1 {
-                Pending::Pixels { left: left - 1 }
-            } else {
-                Pending::Idle
-            };
-            (pending, Some(Item::Pixels { word }))
-        }
+        Pending::Pixels { left } => (pixels_after(left), Some(Item::Pixels { word })),
         Pending::Poly {
             command,
             color,
@@ -164,4 +209,19 @@ pub fn take_word(pending: Pending, word: u32) -> (Pending, Option<Item>)
             Some(half) => joint(command, color, vertex, half, word),
         },
     }
+}
+
+/// The same in place: the item that one word more completes. The words of an item are moved only where it is whole.
+pub fn take(pending: &mut Pending, word: u32) -> Option<Item>
+    requires { IsPending pending.old }
+    ensures pending { pending.new ≡ next_pending pending.old word }
+    ensures item { result ≡ next_item pending.old word }
+{
+    if extend(pending, word) {
+        return None;
+    }
+    let before = mem::replace(pending, Pending::Idle);
+    let (after, item) = take_word(before, word);
+    *pending = after;
+    item
 }

@@ -1,12 +1,14 @@
 // The stream, cut word by word.
-ghost use Rattle.std.specs.Prelude.{◌≡◌, ◌↔◌, ℕ, List, [], ◌∷◌, ◌++◌, IsTrue, option_to_list};
+ghost use Rattle.std.specs.Prelude.{◌≡◌, ◌↔◌, ℕ, Some, List, [], ◌∷◌, ◌++◌, IsTrue, false, option_to_list};
 ghost use Rattle.gp0_words.specs.Items.{Items, Rest, IsIdle};
+ghost use Rattle.gp0_words.specs.Kinds.{class_of};
 ghost use Rattle.gp0_words.specs.Next.{next_pending, next_item, IsPending};
+ghost use Rattle.gp0_words.specs.Pushed.{IsPushed};
+ghost use Rattle.gp0_words.specs.declared.item.Item.TheVariants.{Whole, Pixels};
 
 use crate::item::Item;
-use crate::pending::{Pending, take_word};
+use crate::pending::{Pending, pixels_after, take, wanted};
 use std::marker::Model;
-use std::mem;
 
 /// Cuts a stream of words into items, word by word.
 ///
@@ -56,10 +58,30 @@ impl Splitter {
         // The bounds that every splitter keeps.
         ensures bounds { IsPending self.old × IsPending self.new }
     {
-        let pending = mem::replace(&mut self.pending, Pending::Idle);
-        let (pending, item) = take_word(pending, word);
-        self.pending = pending;
-        item
+        take(&mut self.pending, word)
+    }
+
+    /// Takes the next word where it is two pixels of a load, and says whether it is; else nothing changes. It does what `push` does
+    /// then, and sooner.
+    pub fn push_pixels(&mut self, word: u32) -> bool
+        ensures pixels { IsTrue result → IsPushed self.old self.new word (Some (Pixels word)) }
+        ensures others { result ≡ false → self.new ≡ self.old }
+    {
+        let left = wanted(&self.pending);
+        if left == 0 {
+            return false;
+        }
+        self.pending = pixels_after(left);
+        true
+    }
+
+    /// Whether the next word is a register's, at an idle splitter: `push` answers it as a packet of one word, and the splitter
+    /// stays as it is.
+    pub fn passes(&self, word: u32) -> bool
+        ensures packet { IsTrue result → IsPushed self.now self.now word (Some (Whole (word ∷ []))) }
+        ensures class { IsTrue result → class_of word ≡ 7 }
+    {
+        word >> 29 == 7 && self.is_idle()
     }
 
     /// Drops all that is pending: it stands for the empty list.
