@@ -5,10 +5,6 @@ use Rattle.px_num.specs.Number.{signed_11}
 use Rattle.px_num.specs.declared.shape.Cell.{Cell}
 use Rattle.px_num.specs.declared.shape.Vertex.{Vertex}
 
--- the rows of video memory: the one place that the masks on the Y of a cell come from
-abbrev pub rows : ℕ
-rows = 512
-
 -- a colour, or the value of a register
 abbrev pub low_24 : ℕ → ℕ
 low_24 word = word % 2 ^ 24
@@ -27,9 +23,9 @@ vertex_of place color texcoord = record {
   v = texcoord / 2 ^ 8 % 2 ^ 8;
 }
 
--- a corner of a copy, load or store
-abbrev pub cell_of : ℕ → Cell
-cell_of corner = record { x = corner % 1024; y = high_half corner % rows }
+-- a corner of a copy, load or store, whose Y wraps at the height of video memory
+abbrev pub cell_of : (height corner : ℕ) → Cell
+cell_of height corner = record { x = corner % 1024; y = high_half corner % height }
 
 -- ((SW - 1) and 3FFh) + 1 and ((SH - 1) and 1FFh) + 1: a copy, load or store is never empty
 abbrev pub width_of : ℕ → ℕ

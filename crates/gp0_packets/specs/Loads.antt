@@ -24,15 +24,15 @@ IsOfNoLoad packet.Finish = Unit {0}
 IsOfNoLoad (packet.Env index value) = Unit {0}
 
 -- a load, for as many data words as follow these words
-pub record IsLoadOf (words : List ℕ) (found : Packet) : Type 0 where
-  pub is : found ≡ load_of words
+pub record IsLoadOf (height : ℕ) (words : List ℕ) (found : Packet) : Type 0 where
+  pub is : found ≡ load_of height words
   pub count : data_words_of (slice_index words 2) ≡ (width_of (slice_index words 2) * height_of (slice_index words 2) + 1) / 2
 
 -- a packet fits the kind of its first word
-abbrev pub OpensLoad : Kind → (words : List ℕ) → Packet → Type 0
-OpensLoad (Plain len) words found = IsOfNoLoad found
-OpensLoad Load words found = IsLoadOf words found
-OpensLoad (Polyline shaded) words found = IsOfNoLoad found
+abbrev pub OpensLoad : (height : ℕ) → Kind → (words : List ℕ) → Packet → Type 0
+OpensLoad height (Plain len) words found = IsOfNoLoad found
+OpensLoad height Load words found = IsLoadOf height words found
+OpensLoad height (Polyline shaded) words found = IsOfNoLoad found
 
 abbrev pub LoadsAreOpened : Type 0
-LoadsAreOpened = (words : List ℕ) → OpensLoad (kind_of (slice_index words 0)) words (whole_of words)
+LoadsAreOpened = (height : ℕ) (words : List ℕ) → OpensLoad height (kind_of (slice_index words 0)) words (whole_of height words)

@@ -6,7 +6,7 @@ use Rattle.gp0_words.specs.Kinds.{is_set, class_of, opcode_of, first_len_of}
 use Rattle.gp0_words.specs.declared.item.Item.{Item}
 use Rattle.gp0_words.specs.declared.item.Item.TheVariants as item
 use Rattle.px_num.specs.declared.shape.Vertex.{Vertex}
-use Rattle.gp0_packets.specs.Fields.{rows, low_24, high_half, vertex_of, cell_of, width_of, height_of, fill_color_of}
+use Rattle.gp0_packets.specs.Fields.{low_24, high_half, vertex_of, cell_of, width_of, height_of, fill_color_of}
 use Rattle.gp0_packets.specs.declared.packet.Packet.{Packet}
 use Rattle.gp0_packets.specs.declared.packet.Packet.TheVariants as packet
 
@@ -83,25 +83,26 @@ rectangle_of words =
 -- ---- transfers
 
 -- X and 3F0h; width ((SW and 3FFh) + 0Fh) and not 0Fh; height SH and 1FFh
-unfoldable pub fill_of : List ℕ → Packet
-fill_of words =
+unfoldable pub fill_of : (height : ℕ) → List ℕ → Packet
+fill_of height words =
     let corner = slice_index words 1 in
     let size = slice_index words 2 in
-    packet.Fill (fill_color_of (slice_index words 0)) (corner % 1024 / 16 * 16) (high_half corner % rows)
+    packet.Fill (fill_color_of (slice_index words 0)) (corner % 1024 / 16 * 16) (high_half corner % height)
     ((size % 2 ^ 10 + 15) / 16 * 16) (high_half size % 2 ^ 9)
 
-unfoldable pub copy_of : List ℕ → Packet
-copy_of words =
-    packet.Copy (cell_of (slice_index words 1)) (cell_of (slice_index words 2)) (width_of (slice_index words 3)) (height_of (slice_index words 3))
+unfoldable pub copy_of : (height : ℕ) → List ℕ → Packet
+copy_of height words =
+    packet.Copy (cell_of height (slice_index words 1)) (cell_of height (slice_index words 2))
+    (width_of (slice_index words 3)) (height_of (slice_index words 3))
 
-unfoldable pub load_of : List ℕ → Packet
-load_of words =
-    let target = cell_of (slice_index words 1) in
+unfoldable pub load_of : (height : ℕ) → List ℕ → Packet
+load_of height words =
+    let target = cell_of height (slice_index words 1) in
     packet.Load target.x target.y (width_of (slice_index words 2)) (height_of (slice_index words 2))
 
-unfoldable pub store_of : List ℕ → Packet
-store_of words =
-    let source = cell_of (slice_index words 1) in
+unfoldable pub store_of : (height : ℕ) → List ℕ → Packet
+store_of height words =
+    let source = cell_of height (slice_index words 1) in
     packet.Store source.x source.y (width_of (slice_index words 2)) (height_of (slice_index words 2))
 
 -- ---- all others
@@ -112,29 +113,30 @@ environment_of word =
     if nat_le 0xe1 (opcode_of word) && nat_le (opcode_of word) 0xe6 then packet.Env (opcode_of word - 0xe0) (low_24 word) else packet.Nop
 
 -- 02h is a fill and 1Fh an interrupt; the others of class 0 do nothing
-unfoldable pub other_of : List ℕ → Packet
-other_of words =
-    if opcode_of (slice_index words 0) == 0x02 then fill_of words else
+unfoldable pub other_of : (height : ℕ) → List ℕ → Packet
+other_of height words =
+    if opcode_of (slice_index words 0) == 0x02 then fill_of height words else
     (if opcode_of (slice_index words 0) == 0x1f then packet.Irq else packet.Nop)
 
 -- a whole item, by the class of its first word
-unfoldable pub whole_of : List ℕ → Packet
-whole_of words =
+unfoldable pub whole_of : (height : ℕ) → List ℕ → Packet
+whole_of height words =
     let class = class_of (slice_index words 0) in
     if class == 1 then polygon_of words else
     (if class == 2 then line_of words else
     (if class == 3 then rectangle_of words else
-    (if class == 4 then copy_of words else
-    (if class == 5 then load_of words else
-    (if class == 6 then store_of words else
-    (if class == 7 then environment_of (slice_index words 0) else other_of words))))))
+    (if class == 4 then copy_of height words else
+    (if class == 5 then load_of height words else
+    (if class == 6 then store_of height words else
+    (if class == 7 then environment_of (slice_index words 0) else other_of height words))))))
 
--- a whole item without words, or whose number of words isn't the one that its first word asks for, is none
-abbrev pub packet_of : Item → Packet
-packet_of (item.Whole words) =
+-- The packet of an item at a height of video memory. A whole item without words, or whose number of words isn't the one that its first
+-- word asks for, is none.
+abbrev pub packet_of : (height : ℕ) → Item → Packet
+packet_of height (item.Whole words) =
     if length words == 0 then packet.Nop else
-    (if length words == first_len_of (slice_index words 0) then whole_of words else packet.Nop)
-packet_of (item.Joint command from_color from_vertex to_color to_vertex) =
+    (if length words == first_len_of (slice_index words 0) then whole_of height words else packet.Nop)
+packet_of height (item.Joint command from_color from_vertex to_color to_vertex) =
     segment_of command from_color from_vertex to_color to_vertex
-packet_of (item.Finish word) = packet.Finish
-packet_of (item.Pixels word) = packet.Pixels word
+packet_of height (item.Finish word) = packet.Finish
+packet_of height (item.Pixels word) = packet.Pixels word

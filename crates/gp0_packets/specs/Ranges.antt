@@ -2,7 +2,6 @@
 use Rattle.std.specs.Prelude.{◌≡◌, ℕ, ◌%◌, ◌^◌, ◌<◌, ◌≤◌, ℤ, pos, negsuc, ◌≤ℤ◌}
 use Rattle.px_num.specs.declared.shape.Cell.{Cell}
 use Rattle.px_num.specs.declared.shape.Vertex.{Vertex}
-use Rattle.gp0_packets.specs.Fields.{rows}
 use Rattle.gp0_packets.specs.declared.packet.Packet.{Packet}
 use Rattle.gp0_packets.specs.declared.packet.Packet.TheVariants as packet
 
@@ -17,11 +16,11 @@ pub record IsVertexInRange (vertex : Vertex) : Type 0 where
   pub place : IsPlace vertex.x vertex.y
   pub color_fits : vertex.color < 2 ^ 24
 
-pub record IsFillInRange (color x y w h : ℕ) : Type 0 where
+pub record IsFillInRange (height color x y w h : ℕ) : Type 0 where
   pub color_fits : color < 2 ^ 15
   pub x_fits : x < 1024
   pub x_step : x % 16 ≡ 0
-  pub y_fits : y < rows
+  pub y_fits : y < height
   pub w_fits : w ≤ 1024
   pub w_step : w % 16 ≡ 0
   pub h_fits : h ≤ 511
@@ -33,9 +32,9 @@ pub record IsRectInRange (x y : ℤ) (w h color : ℕ) : Type 0 where
   pub color_fits : color < 2 ^ 24
 
 -- a rectangle of cells that is never empty
-pub record IsTransferInRange (x y w h : ℕ) : Type 0 where
+pub record IsTransferInRange (height x y w h : ℕ) : Type 0 where
   pub x_fits : x < 1024
-  pub y_fits : y < rows
+  pub y_fits : y < height
   pub w_some : 1 ≤ w
   pub w_fits : w ≤ 1024
   pub h_some : 1 ≤ h
@@ -51,25 +50,26 @@ pub record IsSegmentInRange (a b : Vertex) : Type 0 where
   pub first : IsVertexInRange a
   pub second : IsVertexInRange b
 
-pub record IsCopyInRange (from to : Cell) (w h : ℕ) : Type 0 where
-  pub source : IsTransferInRange from.x from.y w h
-  pub target : IsTransferInRange to.x to.y w h
+pub record IsCopyInRange (height : ℕ) (from to : Cell) (w h : ℕ) : Type 0 where
+  pub source : IsTransferInRange height from.x from.y w h
+  pub target : IsTransferInRange height to.x to.y w h
 
 pub record IsEnvInRange (index value : ℕ) : Type 0 where
   pub index_some : 1 ≤ index
   pub index_fits : index ≤ 6
   pub value_fits : value < 2 ^ 24
 
-abbrev pub IsInRange : Packet → Type 0
-IsInRange packet.Nop = Unit {0}
-IsInRange packet.Irq = Unit {0}
-IsInRange (packet.Fill color x y w h) = IsFillInRange color x y w h
-IsInRange (packet.Poly four a b c d shaded textured semi raw clut page) = IsPolyInRange a b c d
-IsInRange (packet.Segment a b semi) = IsSegmentInRange a b
-IsInRange (packet.Rect x y w h color textured semi raw u v clut) = IsRectInRange x y w h color
-IsInRange (packet.Copy from to w h) = IsCopyInRange from to w h
-IsInRange (packet.Load x y w h) = IsTransferInRange x y w h
-IsInRange (packet.Store x y w h) = IsTransferInRange x y w h
-IsInRange (packet.Pixels word) = Unit {0}
-IsInRange packet.Finish = Unit {0}
-IsInRange (packet.Env index value) = IsEnvInRange index value
+-- with the Y of every cell below the height
+abbrev pub IsInRange : (height : ℕ) → Packet → Type 0
+IsInRange height packet.Nop = Unit {0}
+IsInRange height packet.Irq = Unit {0}
+IsInRange height (packet.Fill color x y w h) = IsFillInRange height color x y w h
+IsInRange height (packet.Poly four a b c d shaded textured semi raw clut page) = IsPolyInRange a b c d
+IsInRange height (packet.Segment a b semi) = IsSegmentInRange a b
+IsInRange height (packet.Rect x y w h color textured semi raw u v clut) = IsRectInRange x y w h color
+IsInRange height (packet.Copy from to w h) = IsCopyInRange height from to w h
+IsInRange height (packet.Load x y w h) = IsTransferInRange height x y w h
+IsInRange height (packet.Store x y w h) = IsTransferInRange height x y w h
+IsInRange height (packet.Pixels word) = Unit {0}
+IsInRange height packet.Finish = Unit {0}
+IsInRange height (packet.Env index value) = IsEnvInRange index value

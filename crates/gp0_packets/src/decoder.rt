@@ -1,6 +1,7 @@
 // The packet that an item is.
-ghost use Rattle.std.specs.Prelude.{◌≡◌, ◌<◌, length, slice_index};
+ghost use Rattle.std.specs.Prelude.{◌≡◌, ◌<◌, ◌≤◌, ℕ, length, slice_index};
 ghost use Rattle.gp0_words.specs.Kinds.{class_of, opcode_of, first_len_of};
+ghost use Rattle.px_num.specs.Height.{height_of_profile};
 ghost use Rattle.gp0_packets.specs.Packets.{environment_of, other_of, whole_of, packet_of};
 ghost use Rattle.gp0_packets.specs.Ranges.{IsInRange};
 
@@ -12,11 +13,17 @@ use crate::rectangle::rectangle;
 use crate::transfer::{copy, fill, load, store};
 use gp0_words::{Item, first_len};
 
+/// How many rows the console's video memory has.
+const SHORT_HEIGHT: u16 = 512;
+
+/// How many rows video memory has in the tall profile.
+const TALL_HEIGHT: u16 = 1024;
+
 /// A word of class 7: a register is set, or nothing happens.
 #[tactic(auto, unfolding(crate::specs::Packets::environment_of))]
 fn environment(word: u32) -> Packet
     ensures value { result ≡ environment_of word }
-    ensures ranges { IsInRange result }
+    ensures ranges { (height : ℕ) → IsInRange height result }
 {
     let opcode = word >> 24;
     if 0xe1 <= opcode && opcode <= 0xe6 {
@@ -31,14 +38,15 @@ fn environment(word: u32) -> Packet
 
 /// A packet of class 0: a fill, an interrupt, or nothing.
 #[tactic(auto, unfolding(crate::specs::Packets::other_of))]
-fn other(words: &[u32]) -> Packet
+fn other(words: &[u32], height: u16) -> Packet
     requires some { 0 < length words.now }
     requires fill { opcode_of (slice_index words.now 0) ≡ 0x02 → length words.now ≡ 3 }
-    ensures value { result ≡ other_of words.now }
-    ensures ranges { IsInRange result }
+    requires rows { 1 ≤ height }
+    ensures value { result ≡ other_of height words.now }
+    ensures ranges { IsInRange height result }
 {
     match words[0] >> 24 {
-        0x02 => fill(words),
+        0x02 => fill(words, height),
         0x1f => Packet::Irq,
         _ => Packet::Nop,
     }
@@ -46,30 +54,32 @@ fn other(words: &[u32]) -> Packet
 
 /// The packet of a whole item, with as many words as its first word asks for.
 #[tactic(auto, unfolding(crate::specs::Packets::whole_of))]
-fn whole(words: &[u32]) -> Packet
+fn whole(words: &[u32], height: u16) -> Packet
     requires some { 0 < length words.now }
     requires len { length words.now ≡ first_len_of (slice_index words.now 0) }
-    ensures value { result ≡ whole_of words.now }
-    ensures ranges { IsInRange result }
+    requires rows { 1 ≤ height }
+    ensures value { result ≡ whole_of height words.now }
+    ensures ranges { IsInRange height result }
 {
     let command = words[0];
     match command >> 29 {
         1 => polygon(words),
         2 => line(words),
         3 => rectangle(words),
-        4 => copy(words),
-        5 => load(words),
-        6 => store(words),
+        4 => copy(words, height),
+        5 => load(words, height),
+        6 => store(words, height),
         7 => environment(command),
-        _ => other(words),
+        _ => other(words, height),
     }
 }
 
-/// The packet that an item is. It is total: a `Whole` whose number of words is not the one that its first word
-/// asks for, which no splitter gives, is `Nop`.
-pub fn decode(item: &Item) -> Packet
-    ensures value { result ≡ packet_of item.now }
-    ensures ranges { IsInRange result }
+/// The packet that an item is, where video memory has 1024 rows if it is tall and else 512: by them the Y of a fill, copy,
+/// load and store wraps. It is total: a `Whole` whose number of words is not the one that its first word asks for, which
+/// no splitter gives, is `Nop`.
+pub fn decode(item: &Item, tall: bool) -> Packet
+    ensures value { result ≡ packet_of (height_of_profile tall) item.now }
+    ensures ranges { IsInRange (height_of_profile tall) result }
 {
     match item {
         Item::Whole { words } => {
@@ -77,7 +87,7 @@ pub fn decode(item: &Item) -> Packet
             if words.is_empty() {
                 Packet::Nop
             } else if words.len() == first_len(words[0]) {
-                whole(words)
+                whole(words, if tall { TALL_HEIGHT } else { SHORT_HEIGHT })
             } else {
                 Packet::Nop
             }

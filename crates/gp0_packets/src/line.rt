@@ -1,5 +1,5 @@
 // Lines and the first segments of polylines.
-ghost use Rattle.std.specs.Prelude.{◌≡◌, ◌+◌, length, slice_index};
+ghost use Rattle.std.specs.Prelude.{◌≡◌, ◌+◌, length, slice_index, ℕ};
 ghost use Rattle.std.specs.Int.{bit_at};
 ghost use Rattle.gp0_packets.specs.Packets.{line_of, segment_of};
 ghost use Rattle.gp0_packets.specs.Ranges.{IsInRange};
@@ -16,7 +16,7 @@ pub fn segment(
     to_vertex: u32,
 ) -> Packet
     ensures value { result ≡ segment_of command from_color from_vertex to_color to_vertex }
-    ensures ranges { IsInRange result }
+    ensures ranges { (height : ℕ) → IsInRange height result }
 {
     Packet::Segment {
         a: vertex_at(from_vertex, from_color, 0),
@@ -30,7 +30,7 @@ pub fn segment(
 pub fn line(words: &[u32]) -> Packet
     requires { length words.now ≡ 3 + bit_at (slice_index words.now 0) 28 }
     ensures value { result ≡ line_of words.now }
-    ensures ranges { IsInRange result }
+    ensures ranges { (height : ℕ) → IsInRange height result }
 {
     let command = words[0];
     if bit(command, 28) {

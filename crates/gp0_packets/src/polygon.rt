@@ -1,5 +1,5 @@
 // Triangles and quads.
-ghost use Rattle.std.specs.Prelude.{◌≡◌, ◌+◌, ◌-◌, ◌*◌, ◌<◌, ◌≤◌, if◌then◌else◌, length, slice_index};
+ghost use Rattle.std.specs.Prelude.{◌≡◌, ◌+◌, ◌-◌, ◌*◌, ◌<◌, ◌≤◌, if◌then◌else◌, length, slice_index, ℕ};
 ghost use Rattle.std.specs.Int.{bit_at};
 ghost use Rattle.gp0_words.specs.Kinds.{is_set, polygon_len_of};
 ghost use Rattle.gp0_packets.specs.Packets.{stride_of, corner_of, attribute_of, polygon_of};
@@ -67,7 +67,7 @@ fn attribute_at(words: &[u32], i: usize) -> u16
 pub fn polygon(words: &[u32]) -> Packet
     requires { length words.now ≡ polygon_len_of (slice_index words.now 0) }
     ensures value { result ≡ polygon_of words.now }
-    ensures ranges { IsInRange result }
+    ensures ranges { (height : ℕ) → IsInRange height result }
 {
     let command = words[0];
     let four = bit(command, 27);

@@ -1,5 +1,5 @@
 // Rectangles.
-ghost use Rattle.std.specs.Prelude.{◌≡◌, ◌/◌, ◌%◌, ◌^◌, ◌<◌, length, slice_index};
+ghost use Rattle.std.specs.Prelude.{◌≡◌, ◌/◌, ◌%◌, ◌^◌, ◌<◌, length, slice_index, ℕ};
 ghost use Rattle.gp0_words.specs.Kinds.{rectangle_len_of};
 ghost use Rattle.gp0_packets.specs.Packets.{size_code_of, side_of, size_word_of, rectangle_of};
 ghost use Rattle.gp0_packets.specs.Ranges.{IsInRange};
@@ -41,7 +41,7 @@ fn rectangle_sides(words: &[u32]) -> (u16, u16)
 pub fn rectangle(words: &[u32]) -> Packet
     requires { length words.now ≡ rectangle_len_of (slice_index words.now 0) }
     ensures value { result ≡ rectangle_of words.now }
-    ensures ranges { IsInRange result }
+    ensures ranges { (height : ℕ) → IsInRange height result }
 {
     let command = words[0];
     let textured = bit(command, 26);

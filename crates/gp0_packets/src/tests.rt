@@ -9,7 +9,7 @@ fn last_packet(words: &[u32]) -> (Packet, u8, u32) {
     let mut last = (Packet::Nop, 0, 0);
     for word in words {
         if let Some(item) = splitter.push(*word) {
-            last = (decode(&item), class_of(&item), head_of(&item));
+            last = (decode(&item, false), class_of(&item), head_of(&item));
         }
     }
     last

@@ -1,24 +1,22 @@
 // Fills, copies, loads and stores.
 ghost use Rattle.std.specs.Prelude.{◌≡◌, ◌<◌, ◌≤◌, length};
-ghost use Rattle.gp0_packets.specs.Fields.{rows, cell_of, width_of, height_of};
+ghost use Rattle.gp0_packets.specs.Fields.{cell_of, width_of, height_of};
 ghost use Rattle.gp0_packets.specs.Packets.{fill_of, copy_of, load_of, store_of};
 ghost use Rattle.gp0_packets.specs.Ranges.{IsInRange};
 
 use crate::packet::Packet;
 use px_num::{Cell, wrap_at, wrap_x};
 
-/// The rows of video memory.
-const ROWS: u16 = 512;
-
-/// The cell that a corner word names.
-fn cell_at(corner: u32) -> Cell
-    ensures value { result ≡ cell_of corner }
+/// The cell that a corner word names, with its Y wrapped at a height.
+fn cell_at(corner: u32, height: u16) -> Cell
+    requires { 1 ≤ height }
+    ensures value { result ≡ cell_of height corner }
     ensures column { result.x < 1024 }
-    ensures row { result.y < rows }
+    ensures row { result.y < height }
 {
     Cell {
         x: wrap_x(corner),
-        y: wrap_at(corner >> 16, ROWS),
+        y: wrap_at(corner >> 16, height),
     }
 }
 
@@ -32,7 +30,7 @@ fn width(size: u32) -> u16
 }
 
 /// The height of a size word, where 0 stands for 512.
-fn height(size: u32) -> u16
+fn rows(size: u32) -> u16
     ensures value { result ≡ height_of size }
     ensures some { 1 ≤ result }
     ensures most { result ≤ 512 }
@@ -42,10 +40,11 @@ fn height(size: u32) -> u16
 
 /// A fill by its words.
 #[tactic(auto, unfolding(crate::specs::Packets::fill_of))]
-pub fn fill(words: &[u32]) -> Packet
-    requires { length words.now ≡ 3 }
-    ensures value { result ≡ fill_of words.now }
-    ensures ranges { IsInRange result }
+pub fn fill(words: &[u32], height: u16) -> Packet
+    requires len { length words.now ≡ 3 }
+    requires some { 1 ≤ height }
+    ensures value { result ≡ fill_of height words.now }
+    ensures ranges { IsInRange height result }
 {
     let command = words[0];
     let corner = words[1];
@@ -53,7 +52,7 @@ pub fn fill(words: &[u32]) -> Packet
     Packet::Fill {
         color: (command >> 3 & 31 | (command >> 11 & 31) << 5 | (command >> 19 & 31) << 10) as u16,
         x: (corner & 0x3ff & !0xf) as u16,
-        y: wrap_at(corner >> 16, ROWS),
+        y: wrap_at(corner >> 16, height),
         w: ((size & 0x3ff) + 0xf & !0xf) as u16,
         h: (size >> 16 & 0x1ff) as u16,
     }
@@ -61,50 +60,53 @@ pub fn fill(words: &[u32]) -> Packet
 
 /// A copy by its words.
 #[tactic(auto, unfolding(crate::specs::Packets::copy_of))]
-pub fn copy(words: &[u32]) -> Packet
-    requires { length words.now ≡ 4 }
-    ensures value { result ≡ copy_of words.now }
-    ensures ranges { IsInRange result }
+pub fn copy(words: &[u32], height: u16) -> Packet
+    requires len { length words.now ≡ 4 }
+    requires some { 1 ≤ height }
+    ensures value { result ≡ copy_of height words.now }
+    ensures ranges { IsInRange height result }
 {
     let size = words[3];
     Packet::Copy {
-        from: cell_at(words[1]),
-        to: cell_at(words[2]),
+        from: cell_at(words[1], height),
+        to: cell_at(words[2], height),
         w: width(size),
-        h: height(size),
+        h: rows(size),
     }
 }
 
 /// A load by its words, without its data.
 #[tactic(auto, unfolding(crate::specs::Packets::load_of))]
-pub fn load(words: &[u32]) -> Packet
-    requires { length words.now ≡ 3 }
-    ensures value { result ≡ load_of words.now }
-    ensures ranges { IsInRange result }
+pub fn load(words: &[u32], height: u16) -> Packet
+    requires len { length words.now ≡ 3 }
+    requires some { 1 ≤ height }
+    ensures value { result ≡ load_of height words.now }
+    ensures ranges { IsInRange height result }
 {
-    let Cell { x, y } = cell_at(words[1]);
+    let Cell { x, y } = cell_at(words[1], height);
     let size = words[2];
     Packet::Load {
         x,
         y,
         w: width(size),
-        h: height(size),
+        h: rows(size),
     }
 }
 
 /// A store by its words.
 #[tactic(auto, unfolding(crate::specs::Packets::store_of))]
-pub fn store(words: &[u32]) -> Packet
-    requires { length words.now ≡ 3 }
-    ensures value { result ≡ store_of words.now }
-    ensures ranges { IsInRange result }
+pub fn store(words: &[u32], height: u16) -> Packet
+    requires len { length words.now ≡ 3 }
+    requires some { 1 ≤ height }
+    ensures value { result ≡ store_of height words.now }
+    ensures ranges { IsInRange height result }
 {
-    let Cell { x, y } = cell_at(words[1]);
+    let Cell { x, y } = cell_at(words[1], height);
     let size = words[2];
     Packet::Store {
         x,
         y,
         w: width(size),
-        h: height(size),
+        h: rows(size),
     }
 }

@@ -2,4 +2,4 @@ use Rattle.gp0_packets.proofs.Opened.{whole-opens}
 use Rattle.gp0_packets.proofs.laws.loads_are_opened.Goals as goal
 
 pub returns : goal.returns
-returns c = λ words. whole-opens words
+returns c = λ height words. whole-opens height words
