@@ -1,12 +1,12 @@
 // What can be told of notes, and telling a list of it.
-ghost use Rattle.std.specs.Prelude.{◌≡◌, map, vec_len};
+ghost use Rattle.std.specs.Prelude.{◌≡◌, ◌<◌, length, map, slice_index, vec_len};
 ghost use Rattle.gpu_taps.specs.Tally.{Reading, reading_after};
 
 use crate::tap::Tap;
 use gp0_packets::Note;
 
-/// What can be told of notes. A tap in a box is one, so that what tells a list of taps is generic in them and
-/// lends out no boxed tap.
+/// What can be told of notes, and asked what it says. A tap in a box is one, so that what tells a list of taps is
+/// generic in them and lends out no boxed tap.
 pub trait Listener: Drop {
     /// What it says.
     ghost heard: { Self → Reading };
@@ -14,6 +14,19 @@ pub trait Listener: Drop {
     /// Tells it a note.
     fn tell(&mut self, note: &Note)
         ensures { heard self.new ≡ reading_after note.now (heard self.old) };
+
+    /// The kind of what it says.
+    fn kind(&self) -> u8
+        ensures { result ≡ (heard self.now).kind };
+
+    /// How many numbers it says.
+    fn len(&self) -> u32
+        ensures { result ≡ length (heard self.now).numbers };
+
+    /// Number `i` of what it says, from 0 on.
+    fn number(&self, i: u32) -> u64
+        requires { i < length (heard self.now).numbers }
+        ensures { result ≡ slice_index (heard self.now).numbers i };
 }
 
 impl Listener for Box<dyn Tap> {
@@ -21,6 +34,18 @@ impl Listener for Box<dyn Tap> {
 
     fn tell(&mut self, note: &Note) {
         (**self).note(note)
+    }
+
+    fn kind(&self) -> u8 {
+        (**self).kind()
+    }
+
+    fn len(&self) -> u32 {
+        (**self).len()
+    }
+
+    fn number(&self, i: u32) -> u64 {
+        (**self).number(i)
     }
 }
 

@@ -1,5 +1,5 @@
 // The tap of kind 1.
-ghost use Rattle.std.specs.Prelude.{◌≡◌, ◌<◌, ◌≤◌, IfOk, [], length, slice_index};
+ghost use Rattle.std.specs.Prelude.{◌≡◌, ◌<◌, ◌≤◌, None, IfOk, [], length, slice_index};
 ghost use Rattle.gpu_taps.specs.Tally.{note_number, trace_numbers};
 
 use crate::tap::Tap;
@@ -40,7 +40,7 @@ impl Tap for Trace {
 
     #[tactic(auto, unfolding(crate::specs::Tally::tally, crate::specs::Tally::reading_after))]
     fn note(&mut self, note: &Note) {
-        self.notes.push_back(*note);
+        self.notes.push_back(without_area(note));
     }
 
     fn len(&self) -> u32 {
@@ -49,6 +49,19 @@ impl Tap for Trace {
 
     fn number(&self, i: u32) -> u64 {
         number_of(&self.notes, i)
+    }
+}
+
+/// A note without its area, which no number of a trace shows. It is built from its members: to copy the whole would wait for
+/// the writes of its parts.
+fn without_area(note: &Note) -> Note
+    ensures { result ≡ record { event = note.now.event; class = note.now.class; head = note.now.head; area = None } }
+{
+    Note {
+        event: note.event,
+        class: note.class,
+        head: note.head,
+        area: None,
     }
 }
 
