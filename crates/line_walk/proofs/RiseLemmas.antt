@@ -1,14 +1,15 @@
 -- A step along a segment stays between its ends.
-use Rattle.std.proofs.Common.{ℕ, suc, ◌+◌, ◌*◌, ◌≤◌, ◌<◌, ◌≡◌, ◌≢◌, ℤ, pos, negsuc, ◌+ℤ◌, ◌-ℤ◌, ◌*ℤ◌, ◌≤ℤ◌, ◌<ℤ◌, Bool, true, false, cond, eqb, refl, ap, arith}
+use Rattle.std.proofs.Common.{ℕ, suc, ◌+◌, ◌-◌, ◌*◌, ◌/◌, ◌%◌, ◌^◌, ◌≤◌, ◌<◌, ◌≡◌, ◌≢◌, ℤ, pos, negsuc, ◌+ℤ◌, ◌-ℤ◌, ◌*ℤ◌, ◌≤ℤ◌, ◌<ℤ◌, Bool, true, false, cond, eqb, refl, ap, sym, arith, unsigned_abs}
 use Rattle.std.specs.Int.{int_min, int_max}
 use Rattle.std.proofs.lemmas.Int.{ints, clamps, by_lt_z}
 use Rattle.std.proofs.lemmas.Bool.Decides.{nat_tests}
 use Rattle.std.proofs.Math.Nat.{mul-le-mul_right}
+use Rattle.std.proofs.lemmas.Nat.{div-mul-add}
 use borrow.Author.Differences.{up, down}
 use Rattle.px_num.specs.Floor.{IsFloor}
 use Rattle.px_num.proofs.FloorLemmas.{floor_is}
-use Rattle.px_num.proofs.Ring.{at, add, mul, same}
-use Rattle.line_walk.specs.Line.{Ends, rise, along, steps_of, len_of, point_of, IsAmid, IsBetweenEnds}
+use Rattle.px_num.proofs.Ring.{at, add, sub, mul, same, at_most, below}
+use Rattle.line_walk.specs.Line.{Ends, rise, along, channel_along, color_along, steps_of, len_of, point_of, IsAmid, IsBetweenEnds}
 
 le_ups : (x y : ℤ) → x ≤ℤ y → up x + down y ≤ up y + down x
 le_ups x y h = omega (arith, ints)
@@ -75,3 +76,66 @@ point_of-between s k within = record {
   across = along-amid s.first.x s.second.x (steps_of s) k (omega arith);
   down = along-amid s.first.y s.second.y (steps_of s) k (omega arith);
 }
+
+-- ---- the change as a quotient of plain numbers
+
+floor_only : (p q a : ℤ) (b : ℕ) → IsFloor p a (pos b) → IsFloor q a (pos b) → p ≡ q
+floor_only p q a b f g =
+    by_lt_z p q
+    (λ less. let m = mul_mono b (p +ℤ pos 1) q (omega (arith, ints)) in absurd (omega (arith, ints, f.next, g.reached)))
+    (λ le. by_lt_z q p
+    (λ less. let m = mul_mono b (q +ℤ pos 1) p (omega (arith, ints)) in absurd (omega (arith, ints, g.next, f.reached)))
+    (λ ge. omega (arith, ints)))
+
+division : (a b q : ℕ) → 0 < b → q ≡ a / b → (q * b ≤ a) × (a < q * b + b)
+division a b q some e = rw e (omega arith)
+
+up_floor : (d n k q : ℕ) → 0 < n → q ≡ (2 * k * d + n) / (2 * n) → IsFloor (pos q) (pos (2 * k) *ℤ pos d +ℤ pos n) (pos (2 * n))
+up_floor d n k q some e =
+    let parts = division (2 * k * d + n) (2 * n) q (omega arith) e in
+    record {
+      reached = at_most (mul (at (pos q)) (at (pos (2 * n)))) (add (mul (at (pos (2 * k))) (at (pos d))) (at (pos n))) (omega (arith, parts));
+      next = below (add (mul (at (pos (2 * k))) (at (pos d))) (at (pos n))) (mul (add (at (pos q)) (at (pos 1))) (at (pos (2 * n)))) (omega (arith, parts));
+    }
+
+down_floor : (e n k q : ℕ) → 0 < n → q ≡ (2 * k * suc e + (n - 1)) / (2 * n)
+    → IsFloor (pos 0 -ℤ pos q) (pos (2 * k) *ℤ negsuc e +ℤ pos n) (pos (2 * n))
+down_floor e n k q some is =
+    let parts = division (2 * k * suc e + (n - 1)) (2 * n) q (omega arith) is in
+    record {
+      reached = at_most (mul (sub (at (pos 0)) (at (pos q))) (at (pos (2 * n)))) (add (mul (at (pos (2 * k))) (at (negsuc e))) (at (pos n))) (omega (arith, parts));
+      next = below (add (mul (at (pos (2 * k))) (at (negsuc e))) (at (pos n))) (mul (add (sub (at (pos 0)) (at (pos q))) (at (pos 1))) (at (pos (2 * n)))) (omega (arith, parts));
+    }
+
+pub rise-up : (d : ℤ) (n k q : ℕ) → 0 < n → pos 0 ≤ℤ d → q ≡ (2 * k * unsigned_abs d + n) / (2 * n) → pos q ≡ rise d n k
+unfolding rise
+rise-up (pos d) n k q some h e = floor_only _ _ _ (2 * n) (up_floor d n k q some e) (floor_is _ (pos (2 * n)) (omega (arith, ints)))
+rise-up (negsuc d) n k q some h e = absurd (omega (arith, ints))
+
+pub rise-down : (d : ℤ) (n k q : ℕ) → 0 < n → d <ℤ pos 0 → q ≡ (2 * k * unsigned_abs d + (n - 1)) / (2 * n) → (pos 0 -ℤ pos q) ≡ rise d n k
+unfolding rise
+rise-down (pos d) n k q some h e = absurd (omega (arith, ints))
+rise-down (negsuc d) n k q some h e = floor_only _ _ _ (2 * n) (down_floor d n k q some e) (floor_is _ (pos (2 * n)) (omega (arith, ints)))
+
+-- ---- a value that stays
+
+rise-none : (n k : ℕ) → 0 < n → pos 0 ≡ rise (pos 0) n k
+rise-none n k some =
+    let is : 2 * k * 0 + n ≡ 0 * (2 * n) + n = omega arith in
+    let none : 0 ≡ (2 * k * 0 + n) / (2 * n) = sym (rw is (div-mul-add 0 (2 * n) n (omega arith))) in
+    rise-up (pos 0) n k 0 some (omega (arith, ints)) none
+
+by_none : (t : Bool) (v n k : ℕ) → t ≡ eqb n 0 → unsigned_abs (cond t (pos v) (pos v +ℤ rise (pos v -ℤ pos v) n k)) ≡ v
+by_none true v n k e = refl
+by_none false v n k e =
+    let some : 0 < n = grind (arith, nat_tests) in
+    let stays : (pos v -ℤ pos v) ≡ pos 0 = omega (arith, ints) in
+    let none : rise (pos v -ℤ pos v) n k ≡ pos 0 = rw stays (sym (rise-none n k some)) in
+    rw none (omega (arith, ints))
+
+channel-same : (v n k : ℕ) → channel_along v v n k ≡ v
+channel-same v n k = by_none (eqb n 0) v n k refl
+
+pub color-same : (color n k : ℕ) → color_along color color n k ≡ color % 2 ^ 24
+color-same color n k =
+    rw (channel-same (color % 256) n k, channel-same (color / 2 ^ 8 % 256) n k, channel-same (color / 2 ^ 16 % 256) n k) (omega arith)

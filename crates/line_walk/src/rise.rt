@@ -1,14 +1,36 @@
 // One value along a segment.
-ghost use Rattle.std.specs.Prelude.{◌≡◌, ◌≤◌, ◌<◌, ◌-ℤ◌, unsigned_abs};
+ghost use Rattle.std.specs.Prelude.{◌≡◌, ◌≤◌, ◌<◌, ◌+◌, ◌*◌, ◌/◌, ◌-ℤ◌, unsigned_abs};
 ghost use Rattle.line_walk.specs.Line.{rise, along, IsAmid};
-
-use px_num::floor_div;
 
 // A value that changes from one end to the other.
 #[derive(Clone, Copy)]
 pub(crate) struct Run {
     pub(crate) from: i32,
     pub(crate) to: i32,
+}
+
+// The quotient of 2 k d + start over 2 n, where start is less than 2 n.
+fn quotient(d: u32, n: u32, k: u32, start: u32) -> u32
+    requires near { d ≤ 1023 }
+    requires some { 0 < n }
+    requires steps { n ≤ 1023 }
+    requires k { k ≤ n }
+    requires start { start ≤ n }
+    ensures { result ≡ (2 * k * d + start) / (2 * n) }
+{
+    (2 * k * d + start) / (2 * n)
+}
+
+// The same where the value changes by 1 at each step, or by less.
+fn distance(d: u32, n: u32, k: u32, start: u32) -> u32
+    requires near { d ≤ 1023 }
+    requires some { 0 < n }
+    requires steps { n ≤ 1023 }
+    requires k { k ≤ n }
+    requires start { start ≤ n }
+    ensures { result ≡ (2 * k * d + start) / (2 * n) }
+{
+    if d == n { k } else { quotient(d, n, k, start) }
 }
 
 // How much a value has changed at step k of n, if it changes by d in all.
@@ -19,8 +41,12 @@ fn rise(d: i64, n: u32, k: u32) -> i64
     requires k { k ≤ n }
     ensures { result ≡ rise d n k }
 {
-    let grown = (2 * k) as i64 * d + n as i64;
-    floor_div(grown, (2 * n) as i64)
+    let far = d.unsigned_abs() as u32;
+    if d >= 0 {
+        distance(far, n, k, n) as i64
+    } else {
+        0 - distance(far, n, k, n - 1) as i64
+    }
 }
 
 // The value at step k of n.

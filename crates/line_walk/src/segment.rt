@@ -77,7 +77,7 @@ impl Segment {
         Vertex {
             x: along(&across, self.steps, k),
             y: along(&down, self.steps, k),
-            color: color_along(self.a.color, self.b.color, self.steps, k),
+            color: color_at(self.a.color, self.b.color, self.steps, k),
             u: 0,
             v: 0,
         }
@@ -110,4 +110,18 @@ fn color_along(from: u32, to: u32, n: u32, k: u32) -> u32
     let green = channel_along((from >> 8 & 0xff) as u8, (to >> 8 & 0xff) as u8, n, k);
     let blue = channel_along((from >> 16 & 0xff) as u8, (to >> 16 & 0xff) as u8, n, k);
     red | green << 8 | blue << 16
+}
+
+// The same, and sooner where both ends have one colour.
+fn color_at(from: u32, to: u32, n: u32, k: u32) -> u32
+    requires steps { n ≤ 1023 }
+    requires k { k ≤ n }
+    ensures value { result ≡ color_along from to n k }
+    ensures channels { result < 2 ^ 24 }
+{
+    if from == to {
+        from % 0x100_0000
+    } else {
+        color_along(from, to, n, k)
+    }
 }

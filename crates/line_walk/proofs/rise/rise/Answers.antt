@@ -1,20 +1,23 @@
-use Rattle.std.proofs.Common.{◌*◌, ◌<◌, ◌^◌, pos, ◌+ℤ◌, ◌*ℤ◌, w64, SFits, rules, arith, unsigned_abs}
-use Rattle.std.proofs.lemmas.Int.{to_z-of_z, to_z_pos, ints, fits_signed_mul, unsigned_abs-mul}
-use Rattle.std.proofs.lemmas.Nat.{mul-le}
-use Rattle.line_walk.specs.Line.{rise}
+use Rattle.std.proofs.Common.{◌<◌, ◌^◌, ◌≡◌, ◌+◌, ◌-◌, ◌*◌, ◌/◌, unsigned_abs, pos, ◌-ℤ◌, ◌≤ℤ◌, ◌<ℤ◌, w64, SFits, arith}
+use Rattle.std.proofs.lemmas.Int.{to_z-of_z, to_z_pos, ints}
+use Rattle.line_walk.proofs.RiseLemmas.{rise-up, rise-down}
 use Rattle.line_walk.proofs.rise.rise.Goals as goal
 
-pub returns : goal.returns
-unfolding rise
-returns c =
+pub returns-then-d-ge0 : goal.returns-then-d-ge0
+returns-then-d-ge0 c =
+    let low : c.distance.result < 2 ^ 63 = omega arith in
     let d_fits = c.ranges.d in
-    let k_low : 2 * c.args.k < 2 ^ 63 = omega arith in
-    let n_low : c.args.n < 2 ^ 63 = omega arith in
-    let m_low : 2 * c.args.n < 2 ^ 63 = omega arith in
-    let small = mul-le (2 * c.args.k) (unsigned_abs c.args.d) 2046 1023 (omega arith) c.requires.near in
-    let size = unsigned_abs-mul (pos (2 * c.args.k)) c.args.d in
-    let product_fits : SFits w64 (pos (2 * c.args.k) *ℤ c.args.d) = fits_signed_mul w64 (pos (2 * c.args.k)) c.args.d 2046 1023 (omega arith) c.requires.near (omega arith) in
-    let sum_fits : SFits w64 (pos (2 * c.args.k) *ℤ c.args.d +ℤ pos c.args.n) = omega (arith, ints, small, size) in
-    let divisor_fits : SFits w64 (pos (2 * c.args.n)) = omega (arith, ints) in
-    let fits : SFits w64 c.floor_div.result = search rules in
-    simp to_z-of_z (simp (to_z-of_z, to_z_pos) at c.floor_div.ensures.value)
+    let far : c.unsigned_abs-far.result ≡ unsigned_abs c.args.d = simp to_z-of_z at c.unsigned_abs-far.ensures.value in
+    let is : c.distance.result ≡ (2 * c.args.k * unsigned_abs c.args.d + c.args.n) / (2 * c.args.n) = rw (← far) c.distance.ensures in
+    let not_less : pos 0 ≤ℤ c.args.d = omega (arith, ints, simp to_z-of_z at c.if-d-ge0.true) in
+    simp to_z_pos (rise-up c.args.d c.args.n c.args.k c.distance.result c.requires.some not_less is)
+
+pub returns-else-d-ge0 : goal.returns-else-d-ge0
+returns-else-d-ge0 c =
+    let low : c.distance-else-d-ge0.result < 2 ^ 63 = omega arith in
+    let d_fits = c.ranges.d in
+    let fits : SFits w64 (pos 0 -ℤ pos c.distance-else-d-ge0.result) = omega (arith, ints) in
+    let far : c.unsigned_abs-far.result ≡ unsigned_abs c.args.d = simp to_z-of_z at c.unsigned_abs-far.ensures.value in
+    let is : c.distance-else-d-ge0.result ≡ (2 * c.args.k * unsigned_abs c.args.d + (c.args.n - 1)) / (2 * c.args.n) = rw (← far) c.distance-else-d-ge0.ensures in
+    let less : c.args.d <ℤ pos 0 = omega (arith, ints, simp to_z-of_z at c.if-d-ge0.false) in
+    simp (to_z_pos, to_z-of_z) (rise-down c.args.d c.args.n c.args.k c.distance-else-d-ge0.result c.requires.some less is)
