@@ -3,10 +3,10 @@ use Rattle.std.proofs.Common.{ℕ, ◌+◌, ◌-◌, ◌*◌, ◌/◌, ◌^◌, 
 use Rattle.std.proofs.Math.Nat.{mul-le-mul_left, mul-le-mul_right, lt_of_mul-lt-mul_left}
 use Rattle.std.proofs.lemmas.Nat.{div-mul-add}
 
-split : (x a : ℕ) → 0 < a → (x / a * a ≤ x) × (x < x / a * a + a)
+pub split : (x a : ℕ) → 0 < a → (x / a * a ≤ x) × (x < x / a * a + a)
 split x a some = omega arith
 
-divided : (x p q : ℕ) → q * p ≤ x → x < q * p + p → x / p ≡ q
+pub divided : (x p q : ℕ) → q * p ≤ x → x < q * p + p → x / p ≡ q
 divided x p q low high =
     let e : x ≡ q * p + (x - q * p) = omega arith in
     ap (λ z. z / p) e ∙ div-mul-add q p (x - q * p) (omega arith)
@@ -43,5 +43,5 @@ reciprocal_bound s a p some bound =
     let one = mul-le-mul_right (p / a + 1) bound in
     omega (arith, one, whole.0)
 
-pub square_bound : (a : ℕ) → a ≤ 1045506 → 255 * a * a < 2 ^ 48
+pub square_bound : (a : ℕ) → a ≤ 1045506 → 255 * a * a < 2 ^ 56
 square_bound a h = let one = mul-le-mul_right a h in omega (arith, one)

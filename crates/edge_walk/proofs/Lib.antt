@@ -2,6 +2,8 @@ pub mod Corner
 pub mod Decided
 pub mod DivisorLemmas
 pub mod InBox
+pub mod LineLemmas
 pub mod MixLemmas
+pub mod NearLemmas
 pub mod RowLemmas
 pub mod SpanLemmas

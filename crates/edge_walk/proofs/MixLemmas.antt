@@ -1,10 +1,10 @@
 -- Edge values of the cells inside, and the bound of an area.
-use Rattle.std.proofs.Common.{ℕ, ◌+◌, ◌*◌, ◌/◌, ◌≤◌, ◌≡◌, ℤ, pos, ◌+ℤ◌, ◌-ℤ◌, ◌*ℤ◌, ◌≤ℤ◌, int_lt, Bool, true, false, cond, ◌&&◌, IsTrue, unsigned_abs, refl, sym, ap, ◌∙◌, arith}
+use Rattle.std.proofs.Common.{ℕ, ◌+◌, ◌*◌, ◌/◌, ◌%◌, ◌^◌, ◌≤◌, ◌<◌, ◌≡◌, ℤ, pos, ◌+ℤ◌, ◌-ℤ◌, ◌*ℤ◌, ◌≤ℤ◌, int_lt, Bool, true, false, cond, ◌&&◌, IsTrue, unsigned_abs, refl, sym, ap, ◌∙◌, arith}
 use Rattle.std.proofs.lemmas.Int.{ints, unsigned_abs-mul}
-use Rattle.std.proofs.lemmas.Nat.{mul-le}
+use Rattle.std.proofs.lemmas.Nat.{mul-le, div-mul-add}
 use Rattle.px_num.specs.declared.shape.Vertex.{Vertex}
 use Rattle.edge_walk.specs.Triangle.{Corners, corners, oriented, doubled_area, edge, is_on_side, is_within, is_kept_edge, IsNear, IsUpright}
-use Rattle.edge_walk.specs.Attribute.{weight, mixed_of, attribute, step_of, AreBytes}
+use Rattle.edge_walk.specs.Attribute.{weight, mixed_of, attribute, step_of, AreBytes, HasColor}
 use borrow.Author.Differences.{up, down}
 use Rattle.px_num.proofs.Ring.{at, add, sub, mul, same}
 use Rattle.edge_walk.specs.declared.divisor.Divisor.{Divisor}
@@ -172,3 +172,31 @@ lane_is a b c which x y j m n k start area step upright inside is_m is_n is_k su
       high = rw natural (omega (arith, ints, bytes_bound m' n' k' p q s bytes.first bytes.second bytes.third, sum, sum', area_is));
       value = rw (natural, ← whole) refl;
     }
+
+-- ---- vertices that agree
+
+same_over : (m n k p s : ℕ) → s ≡ m + n + k → 0 < s → (m * p + n * p + k * p) / s ≡ p
+same_over m n k p s is some =
+    let e : m * p + n * p + k * p ≡ p * s + 0 = omega (arith, ap (λ z. p * z) is) in
+    ap (λ z. z / s) e ∙ div-mul-add p s 0 some
+
+pub same_mixed : (a b c : Vertex) (which p : ℕ) (x y : ℤ) → IsUpright (corners a b c) → IsTrue (is_within (corners a b c) x y)
+    → attribute which a ≡ p → attribute which b ≡ p → attribute which c ≡ p → mixed_of (corners a b c) which x y ≡ p
+unfolding mixed_of
+same_mixed a b c which p x y upright inside e f g =
+    let edges = edges_of a b c x y upright inside in
+    let m = weight b c x y in
+    let n = weight c a x y in
+    let k = weight a b x y in
+    let sum = sum_is a b c x y m n k (weight_is b c x y edges.bc_low) (weight_is c a x y edges.ca_low) (weight_is a b x y edges.ab_low) in
+    let whole : unsigned_abs (doubled_area (corners a b c)) ≡ m + n + k = ap unsigned_abs (sym sum) in
+    rw (e, f, g) (same_over m n k p (unsigned_abs (doubled_area (corners a b c))) whole (omega (arith, ints, upright.area)))
+
+-- the colour of a cell of such a triangle
+pub same_color : (a b c : Vertex) (t : Corners) (color : ℕ) (x y : ℤ) → corners a b c ≡ oriented t → IsUpright (corners a b c) → IsTrue (is_within (corners a b c) x y)
+    → color ≡ a.color % 2 ^ 24 → b.color % 2 ^ 24 ≡ color → c.color % 2 ^ 24 ≡ color → HasColor t x y color
+same_color a b c t color x y same upright inside e f g = record {
+  red = ap (λ w. mixed_of w 0 x y) (sym same) ∙ same_mixed a b c 0 (color % 256) x y upright inside (omega (arith, e)) (omega (arith, f)) (omega (arith, g));
+  green = ap (λ w. mixed_of w 1 x y) (sym same) ∙ same_mixed a b c 1 (color / 256 % 256) x y upright inside (omega (arith, e)) (omega (arith, f)) (omega (arith, g));
+  blue = ap (λ w. mixed_of w 2 x y) (sym same) ∙ same_mixed a b c 2 (color / 65536 % 256) x y upright inside (omega (arith, e)) (omega (arith, f)) (omega (arith, g));
+}

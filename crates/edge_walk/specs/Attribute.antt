@@ -1,5 +1,5 @@
 -- Colour and texture coordinates of a triangle's cells (our own rule).
-use Rattle.std.specs.Prelude.{ℕ, ◌+◌, ◌*◌, ◌/◌, ◌%◌, ◌^◌, ◌==◌, ◌≤◌, if◌then◌else◌, unsigned_abs, ℤ, pos, ◌-ℤ◌, ◌*ℤ◌}
+use Rattle.std.specs.Prelude.{ℕ, ◌+◌, ◌*◌, ◌/◌, ◌%◌, ◌^◌, ◌==◌, ◌≡◌, ◌≤◌, if◌then◌else◌, unsigned_abs, ℤ, pos, ◌-ℤ◌, ◌*ℤ◌}
 use Rattle.px_num.specs.declared.shape.Vertex.{Vertex}
 use Rattle.edge_walk.specs.Triangle.{Corners, edge, doubled_area, oriented}
 
@@ -39,3 +39,9 @@ step_of t which =
     pos 0 -ℤ pos (attribute which t.first) *ℤ (t.third.y -ℤ t.second.y)
     -ℤ pos (attribute which t.second) *ℤ (t.first.y -ℤ t.third.y)
     -ℤ pos (attribute which t.third) *ℤ (t.second.y -ℤ t.first.y)
+
+-- a colour in 24 bits is that of an inside cell
+pub record HasColor (t : Corners) (x y : ℤ) (color : ℕ) : Type 0 where
+  pub red : attribute_at t 0 x y ≡ color % 256
+  pub green : attribute_at t 1 x y ≡ color / 256 % 256
+  pub blue : attribute_at t 2 x y ≡ color / 65536 % 256

@@ -2,9 +2,9 @@
 use Rattle.std.specs.Prelude.{ℕ, ◌+◌, ◌/◌, ◌^◌, ◌<◌, ◌≤◌, ◌≡◌}
 use Rattle.edge_walk.specs.declared.divisor.Divisor.{Divisor}
 
--- what a sum is multiplied by: the 48 bits below the product's quotient are its fraction
+-- what a sum is multiplied by: the 56 bits below the product's quotient are its fraction
 abbrev pub reciprocal_of : ℕ → ℕ
-reciprocal_of area = 2 ^ 48 / area + 1
+reciprocal_of area = 2 ^ 56 / area + 1
 
 abbrev pub divisor_of : ℕ → Divisor
 divisor_of area = record { area = area; reciprocal = reciprocal_of area }

@@ -2,5 +2,6 @@ pub mod Attribute
 pub mod Divisor
 pub mod Extent
 pub mod Held
+pub mod Line
 pub mod Row
 pub mod Triangle

@@ -1,14 +1,14 @@
 // Exact quotients by an area, without a division for each.
 ghost use Rattle.std.specs.Prelude.{◌≡◌, ◌*◌, ◌/◌, ◌<◌, ◌≤◌};
 
-/// A doubled area, and 2^48 over it, rounded up past the quotient.
+/// A doubled area, and 2^56 over it, rounded up past the quotient.
 ///
 /// The sum of an attribute is at most 255 times the area. The product of such a sum and the reciprocal is less than
-/// 2^48 over the area above 2^48 times the exact quotient, so it has the same whole part.
+/// 2^56 over the area above 2^56 times the exact quotient, so it has the same whole part.
 #[derive(Clone, Copy)]
 pub(crate) struct Divisor {
     area: u32,
-    reciprocal: u64,
+    pub(crate) reciprocal: u64,
 }
 
 impl Divisor {
@@ -20,7 +20,7 @@ impl Divisor {
     {
         Divisor {
             area,
-            reciprocal: (1 << 48) / area as u64 + 1,
+            reciprocal: (1 << 56) / area as u64 + 1,
         }
     }
 
@@ -30,6 +30,6 @@ impl Divisor {
         requires sum { sum ≤ 255 * self.now.area }
         ensures { result ≡ sum / self.now.area }
     {
-        (sum as u64 * self.reciprocal >> 48) as u8
+        (sum as u64 * self.reciprocal >> 56) as u8
     }
 }

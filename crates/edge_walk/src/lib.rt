@@ -8,10 +8,12 @@
 mod divisor;
 mod edge;
 mod extent;
+mod line;
 mod mix;
 mod rows;
 mod triangle;
 
+pub use line::RowLine;
 pub use triangle::Tri;
 
 #[cfg(test)]

@@ -73,8 +73,8 @@ pub(crate) fn mixed(w: &Weights, a: u8, b: u8, c: u8, divisor: &Divisor) -> u8
 // An attribute in one row: j cells from the start it is `start + step * j` over the doubled area.
 #[derive(Drop)]
 pub(crate) struct RowMix {
-    start: u32,
-    step: i64,
+    pub(crate) start: u32,
+    pub(crate) step: i64,
 }
 
 fn slope(a: u8, down: i64) -> i64
@@ -110,8 +110,7 @@ pub(crate) fn row_mix(a: &Vertex, b: &Vertex, c: &Vertex, which: u8, weights: &W
     requires bound { weights.now.first + weights.now.second + weights.now.third ≤ 1045506 }
     ensures start { result.start ≡ weights.now.first * attribute which a.now + weights.now.second * attribute which b.now + weights.now.third * attribute which c.now }
     ensures step { result.step ≡ step_of (corners a.now b.now c.now) which }
-    ensures start_small { result.start ≤ 266604030 }
-    ensures step_small { unsigned_abs result.step ≤ 390915 }
+    ensures bound { result.start ≤ 255 * (weights.now.first + weights.now.second + weights.now.third) }
     ensures bytes { AreBytes which (corners a.now b.now c.now) }
 {
     let first = attribute(a, which);
@@ -126,36 +125,4 @@ pub(crate) fn row_mix(a: &Vertex, b: &Vertex, c: &Vertex, which: u8, weights: &W
         start: weighted(weights, first, second, third),
         step: opposite_sum(&slopes),
     }
-}
-
-fn lane_value(mix: &RowMix, j: u8, divisor: &Divisor) -> u8
-    requires divisor { IsDivisor divisor.now }
-    requires start { mix.now.start ≤ 266604030 }
-    requires step { unsigned_abs mix.now.step ≤ 390915 }
-    requires low { pos 0 ≤ℤ (pos mix.now.start +ℤ mix.now.step *ℤ pos j) }
-    requires high { unsigned_abs (pos mix.now.start +ℤ mix.now.step *ℤ pos j) ≤ 255 * divisor.now.area }
-    ensures { result ≡ unsigned_abs (pos mix.now.start +ℤ mix.now.step *ℤ pos j) / divisor.now.area }
-{
-    let sum = mix.start as i64 + mix.step * j as i64;
-    divisor.quotient(sum as u32)
-}
-
-// The attributes of n cells of a row, and 0 after them.
-pub(crate) fn row_lanes(mix: &RowMix, n: u8, divisor: &Divisor) -> [u16; 16]
-    requires count { n ≤ 16 }
-    requires divisor { IsDivisor divisor.now }
-    requires start { mix.now.start ≤ 266604030 }
-    requires step { unsigned_abs mix.now.step ≤ 390915 }
-    requires low { (j : ℕ) → j < n → pos 0 ≤ℤ (pos mix.now.start +ℤ mix.now.step *ℤ pos j) }
-    requires high { (j : ℕ) → j < n → unsigned_abs (pos mix.now.start +ℤ mix.now.step *ℤ pos j) ≤ 255 * divisor.now.area }
-    ensures long { length result ≡ 16 }
-    ensures value { (j : ℕ) → j < n → slice_index result j ≡ unsigned_abs (pos mix.now.start +ℤ mix.now.step *ℤ pos j) / divisor.now.area }
-    ensures bytes { (j : ℕ) → slice_index result j ≤ 255 }
-    ensures rest { (j : ℕ) → n ≤ j → slice_index result j ≡ 0 }
-{
-    let mut lanes = [0; 16];
-    for j in 0..n {
-        lanes[j as usize] = lane_value(mix, j, divisor) as u16;
-    }
-    lanes
 }

@@ -2,7 +2,8 @@
 use crate::divisor::Divisor;
 use crate::edge::{all_three, doubled_area, is_on_side, is_small};
 use crate::extent::bounding_box;
-use crate::mix::{attribute, mixed, row_lanes, row_mix, weights_at};
+use crate::line::{RowLine, keep_first};
+use crate::mix::{attribute, mixed, row_mix, weights_at};
 use crate::rows::{Limits, row_limits};
 use px_num::{Box2, Vertex};
 use std::marker::Model;
@@ -48,10 +49,11 @@ struct Upright {
 
 impl Tri {
     ghost use Rattle.std.specs.Option.{is_some};
-    ghost use Rattle.std.specs.Prelude.{◌≡◌, SomeIff, MatchOption, IsTrue, ◌↔◌, pos, ℤ, false, ◌≤◌, ◌<◌, ◌+ℤ◌, ℕ, length, slice_index};
+    ghost use Rattle.std.specs.Prelude.{◌≡◌, ◌^◌, IfSome, SomeIff, MatchOption, IsTrue, ◌↔◌, pos, ℤ, false, ◌≤◌, ◌<◌, ◌+ℤ◌, ℕ, length, slice_index};
     ghost use Rattle.px_num.specs.Lanes.{EachLane};
-    ghost use Rattle.edge_walk.specs.Attribute.{attribute_at};
+    ghost use Rattle.edge_walk.specs.Attribute.{attribute_at, HasColor};
     ghost use Rattle.edge_walk.specs.Extent.{bounding_box};
+    ghost use Rattle.edge_walk.specs.Line.{IsRowLine};
     ghost use Rattle.edge_walk.specs.Row.{IsInBox, IsRowSpan};
     ghost use Rattle.edge_walk.specs.Triangle.{corners, oriented, IsDrawn, IsUpright, is_drawn, is_inside};
 
@@ -153,6 +155,32 @@ impl Tri {
         )
     }
 
+    /// The colour of all cells inside, where the three vertices have the same.
+    pub fn one_color(&self) -> Option<u32>
+        ensures low { IfSome result (λ color. color < 2 ^ 24) }
+        ensures value { IfSome result (λ color. (x y : ℤ) → IsTrue (is_inside self.now x y) → HasColor self.now x y color) }
+    {
+        let t = self.upright();
+        let color = t.a.color % 0x100_0000;
+        if t.b.color % 0x100_0000 == color && t.c.color % 0x100_0000 == color {
+            Some(color)
+        } else {
+            None
+        }
+    }
+
+    /// `attr_at` along a row, from a cell inside to the right.
+    pub fn row_line(&self, which: u8, x: i32, y: i32) -> RowLine
+        requires which { which ≤ 4 }
+        requires inside { IsTrue (is_inside self.now x y) }
+        ensures { IsRowLine self.now which x y result }
+    {
+        let t = self.upright();
+        let weights = weights_at(&t.a, &t.b, &t.c, x, y);
+        let mix = row_mix(&t.a, &t.b, &t.c, which, &weights);
+        RowLine::of(&mix, &self.divisor)
+    }
+
     /// `attr_at` of the `n` cells inside from (x, y) to the right, and 0 in the lanes from `n` on.
     pub fn attr_lanes(&self, which: u8, x: i32, y: i32, n: u8) -> u16x16
         requires which { which ≤ 4 }
@@ -164,9 +192,6 @@ impl Tri {
         ensures bytes { EachLane (λ j. slice_index result j ≤ 255) }
         ensures rest { (j : ℕ) → n ≤ j → slice_index result j ≡ 0 }
     {
-        let t = self.upright();
-        let weights = weights_at(&t.a, &t.b, &t.c, x, y);
-        let mix = row_mix(&t.a, &t.b, &t.c, which, &weights);
-        u16x16::from_array(row_lanes(&mix, n, &self.divisor))
+        keep_first(self.row_line(which, x, y).lanes(0), n)
     }
 }

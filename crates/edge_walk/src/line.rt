@@ -1,0 +1,186 @@
+// An attribute along a row.
+ghost use Rattle.std.specs.Prelude.{◌≡◌, ◌+◌, ◌-◌, ◌*◌, ◌/◌, ◌%◌, ◌^◌, ◌≤◌, ◌<◌, ℕ, length, slice_index};
+ghost use Rattle.px_num.specs.Lanes.{EachLane};
+ghost use Rattle.edge_walk.specs.Divisor.{IsDivisor};
+ghost use Rattle.edge_walk.specs.Line.{wrapped, scaled, line_value};
+
+use crate::divisor::Divisor;
+use crate::mix::RowMix;
+use std::simd::prelude::*;
+
+/// An attribute along a row of cells. It is the top byte of a number of 64 bits that grows by the same step from
+/// cell to cell, and wraps.
+#[derive(Clone, Copy)]
+pub struct RowLine {
+    first: u64,
+    step: u64,
+}
+
+// A size, or what it is when it is counted down from 2^64.
+#[inline(always)]
+fn wrapped(falls: bool, size: u64) -> u64
+    ensures { result ≡ wrapped falls size }
+{
+    if falls { 0u64.wrapping_sub(size) } else { size }
+}
+
+// A step over the area.
+#[inline(always)]
+#[tactic(auto, unfolding(crate::specs::Line::scaled))]
+fn scaled(step: i64, by: u64) -> u64
+    ensures { result ≡ scaled step by }
+{
+    wrapped(step < 0, step.unsigned_abs().wrapping_mul(by))
+}
+
+impl RowLine {
+    // The sums of a row over the area.
+    #[inline(always)]
+    pub(crate) fn of(mix: &RowMix, divisor: &Divisor) -> RowLine
+        requires divisor { IsDivisor divisor.now }
+        requires start { mix.now.start ≤ 255 * divisor.now.area }
+        ensures first { result.first ≡ mix.now.start * divisor.now.reciprocal }
+        ensures step { result.step ≡ scaled mix.now.step divisor.now.reciprocal }
+    {
+        RowLine {
+            first: mix.start as u64 * divisor.reciprocal,
+            step: scaled(mix.step, divisor.reciprocal),
+        }
+    }
+
+    // The number i cells further.
+    #[inline(always)]
+    fn sum(&self, i: u32) -> u64
+        ensures { result ≡ (self.now.first + self.now.step * i) % 2 ^ 64 }
+    {
+        self.first.wrapping_add(self.step.wrapping_mul(i as u64))
+    }
+
+    // The step in 32 bits, rounded.
+    #[inline(always)]
+    fn short_step(&self) -> u32
+        ensures { result ≡ (self.now.step + 2 ^ 31) % 2 ^ 64 / 2 ^ 32 }
+    {
+        (self.step.wrapping_add(0x8000_0000) >> 32) as u32
+    }
+
+    /// The attribute at sixteen cells, the first of them `at` cells from the line's own.
+    ///
+    /// They are reckoned in 32 bits from the one in the middle.
+    #[inline(always)]
+    #[tactic(auto, unfolding(crate::specs::Line::line_value))]
+    pub fn lanes(&self, at: u16) -> u16x16
+        ensures long { length result ≡ 16 }
+        ensures value { EachLane (λ j. slice_index result j ≡ line_value self.now at j) }
+        ensures bytes { EachLane (λ j. slice_index result j ≤ 255) }
+    {
+        let middle = (self.sum(at as u32 + 8) >> 32) as u32;
+        top_bytes(stepped(middle.wrapping_add(8), self.short_step()))
+    }
+}
+
+const RAMP: [u32; 16] = [
+    0xffff_fff8,
+    0xffff_fff9,
+    0xffff_fffa,
+    0xffff_fffb,
+    0xffff_fffc,
+    0xffff_fffd,
+    0xffff_fffe,
+    0xffff_ffff,
+    0,
+    1,
+    2,
+    3,
+    4,
+    5,
+    6,
+    7,
+];
+
+// The numbers of sixteen lanes less 8, which wrap.
+#[inline(always)]
+fn ramp() -> u32x16
+    ensures long { length result ≡ 16 }
+    ensures value { EachLane (λ j. slice_index result j ≡ (j + (2 ^ 32 - 8)) % 2 ^ 32) }
+{
+    u32x16::from_array(RAMP)
+}
+
+// The products, which wrap.
+#[inline(always)]
+fn times(a: u32x16, b: u32) -> u32x16
+    requires { length a ≡ 16 }
+    ensures long { length result ≡ 16 }
+    ensures value { EachLane (λ j. slice_index result j ≡ slice_index a j * b % 2 ^ 32) }
+{
+    a * u32x16::splat(b)
+}
+
+// The sums, which wrap.
+#[inline(always)]
+fn plus(a: u32x16, b: u32) -> u32x16
+    requires { length a ≡ 16 }
+    ensures long { length result ≡ 16 }
+    ensures value { EachLane (λ j. slice_index result j ≡ (slice_index a j + b) % 2 ^ 32) }
+{
+    a + u32x16::splat(b)
+}
+
+// Sixteen numbers that grow by a step and wrap, the ninth of them given.
+#[inline(always)]
+fn stepped(middle: u32, step: u32) -> u32x16
+    ensures long { length result ≡ 16 }
+    ensures value { EachLane (λ j. slice_index result j ≡ ((j + (2 ^ 32 - 8)) % 2 ^ 32 * step % 2 ^ 32 + middle) % 2 ^ 32) }
+{
+    plus(times(ramp(), step), middle)
+}
+
+#[inline(always)]
+fn high8(a: u32x16) -> u32x16
+    requires { length a ≡ 16 }
+    ensures long { length result ≡ 16 }
+    ensures value { EachLane (λ j. slice_index result j ≡ slice_index a j / 2 ^ 24) }
+{
+    a >> u32x16::splat(24)
+}
+
+#[inline(always)]
+fn narrow(a: u32x16) -> u16x16
+    requires long { length a ≡ 16 }
+    requires bytes { EachLane (λ j. slice_index a j ≤ 255) }
+    ensures long { length result ≡ 16 }
+    ensures value { EachLane (λ j. slice_index result j ≡ slice_index a j) }
+{
+    a.cast::<u16>()
+}
+
+// The top bytes of sixteen numbers.
+#[inline(always)]
+fn top_bytes(a: u32x16) -> u16x16
+    requires long { length a ≡ 16 }
+    requires word { EachLane (λ j. slice_index a j < 2 ^ 32) }
+    ensures long { length result ≡ 16 }
+    ensures value { EachLane (λ j. slice_index result j ≡ slice_index a j / 2 ^ 24) }
+    ensures bytes { EachLane (λ j. slice_index result j ≤ 255) }
+{
+    narrow(high8(a))
+}
+
+// The first n of sixteen numbers, and then zeros.
+pub(crate) fn keep_first(lanes: u16x16, n: u8) -> u16x16
+    requires few { n ≤ 16 }
+    requires long { length lanes ≡ 16 }
+    requires bytes { EachLane (λ j. slice_index lanes j ≤ 255) }
+    ensures long { length result ≡ 16 }
+    ensures value { (j : ℕ) → j < n → slice_index result j ≡ slice_index lanes j }
+    ensures bytes { EachLane (λ j. slice_index result j ≤ 255) }
+    ensures rest { (j : ℕ) → n ≤ j → slice_index result j ≡ 0 }
+{
+    let all = lanes.to_array();
+    let mut kept = [0; 16];
+    for j in 0..n {
+        kept[j as usize] = all[j as usize];
+    }
+    u16x16::from_array(kept)
+}
