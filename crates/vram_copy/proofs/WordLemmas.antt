@@ -1,41 +1,79 @@
 -- Words of two pixels.
-use Rattle.std.proofs.Common.{◌≡◌, ◌≢◌, ◌≤◌, ◌+◌, ◌*◌, ◌/◌, ◌^◌, ℕ, List, length, arith, ap, ◌∙◌}
+use Rattle.std.proofs.Common.{◌≡◌, ◌<◌, ◌≤◌, ◌+◌, ◌-◌, ◌*◌, ◌/◌, ◌%◌, ◌^◌, min, ℕ, List, arith, refl}
+use Rattle.std.proofs.lemmas.Nat.{div-mul-add, mod-mul-add}
 use Rattle.px_num.specs.declared.shape.Cell.{Cell}
 use Rattle.vram_store.specs.Vram.{height_of, at}
+use Rattle.vram_store.specs.Plot.{plot}
+use Rattle.vram_copy.specs.Places.{IsPlace}
+use Rattle.vram_copy.specs.declared.cursor.Place.{Place}
 use Rattle.vram_copy.specs.declared.transfer.Transfer.{Transfer}
-use Rattle.vram_copy.specs.Words.{pixel_cell, pixels_next, pixels_from, word_of, LoadWord, StoreWord}
+use Rattle.vram_copy.specs.Words.{pixel_cell, half_of, LoadWord, StoreWord}
 
-pub load_is : (height : ℕ) (m : List ℕ) (mask : ℕ) (job : Transfer) (word n : ℕ) → length m ≡ 1024 * height → n ≡ pixels_next job
-    → pixels_from height m mask job word n ≡ LoadWord m mask job word
-unfolding LoadWord
-load_is height m mask job word n long few =
-    let e : height ≡ length m / 1024 = omega arith in
-    ap (λ rows. pixels_from rows m mask job word n) e ∙ ap (λ k. pixels_from (height_of m) m mask job word k) few
+-- the cell at a place
+pub cell_is : (height : ℕ) (job : Transfer) (place : Place) (i x y : ℕ) → IsPlace job.w place i
+    → x ≡ (job.x + place.column) % 1024 → y ≡ (job.y + place.row) % height
+    → ◌≡◌ {A = Cell} (record { x = x; y = y }) (pixel_cell height job i)
+cell_is height job place i x y is e f =
+    let q : i / job.w ≡ place.row = rw is.number (div-mul-add place.row job.w place.column is.column) in
+    let r : i % job.w ≡ place.column = rw is.number (mod-mul-add place.row job.w place.column is.column) in
+    rw (e, f, q, r) refl
 
-pub store_is : (height : ℕ) (m : List ℕ) (job : Transfer) (n : ℕ) → length m ≡ 1024 * height → n ≡ pixels_next job
-    → word_of height m job n ≡ StoreWord m job
-unfolding StoreWord
-store_is height m job n long few =
-    let e : height ≡ length m / 1024 = omega arith in
-    ap (λ rows. word_of rows m job n) e ∙ ap (λ k. word_of (height_of m) m job k) few
+two_left : (n at : ℕ) → at + 1 < n → min 2 (n - at) ≡ 2
+two_left n at more = omega arith
 
-read_at : (height : ℕ) (m : List ℕ) (job : Transfer) (i k half : ℕ) (cell : Cell) → cell ≡ pixel_cell height job i → half ≡ at m cell.x cell.y → i ≡ k
-    → half ≡ at m (pixel_cell height job k).x (pixel_cell height job k).y
-read_at height m job i k half cell e f g = f ∙ ap (λ (c : Cell). at m c.x c.y) (e ∙ ap (pixel_cell height job) g)
+one_left : (n at : ℕ) → at < n → n ≤ at + 1 → min 2 (n - at) ≡ 1
+one_left n at some last = omega arith
 
-pub two_halves : (height : ℕ) (m : List ℕ) (job : Transfer) (n low high word : ℕ) (first second : Cell) → n ≡ 2
+first_half : (word : ℕ) → half_of word 0 ≡ word % 2 ^ 16
+first_half word = omega arith
+
+second_half : (word : ℕ) → word < 2 ^ 32 → half_of word 1 ≡ word / 2 ^ 16
+second_half word fits = omega arith
+
+no_more : (n : ℕ) → n + 0 ≡ n
+no_more n = omega arith
+
+pub load_two : (height : ℕ) (m now new : List ℕ) (mask : ℕ) (job : Transfer) (word low high : ℕ) (first second : Cell) → height ≡ height_of m → word < 2 ^ 32
     → first ≡ pixel_cell height job job.at → second ≡ pixel_cell height job (job.at + 1)
-    → low ≡ at m first.x first.y → high ≡ at m second.x second.y → word ≡ low + high * 2 ^ 16
-    → word ≡ word_of height m job n
-two_halves height m job n low high word first second two e f a b w =
-    let lows = read_at height m job job.at (job.at + 0) low first e a (omega arith) in
-    let highs = read_at height m job (job.at + 1) (job.at + 1) high second f b (omega arith) in
-    rw two (omega (arith, lows, highs, w))
+    → now ≡ plot m mask first.x first.y low → low ≡ word % 2 ^ 16 → job.at + 1 < job.w * job.h
+    → new ≡ plot now mask second.x second.y high → high ≡ word / 2 ^ 16
+    → new ≡ LoadWord m mask job word
+unfolding LoadWord
+load_two height m now new mask job word low high first second rows fits e f one lows more two highs =
+    let twice = two_left (job.w * job.h) job.at more in
+    rw (twice, two, one, e, f, lows, highs, ← rows, no_more job.at, first_half word, second_half word fits) refl
 
-pub one_half : (height : ℕ) (m : List ℕ) (job : Transfer) (n low word : ℕ) (first : Cell) → n ≢ 2 → 1 ≤ n → n ≤ 2
-    → first ≡ pixel_cell height job job.at → low ≡ at m first.x first.y → word ≡ low + 0 * 2 ^ 16
-    → word ≡ word_of height m job n
-one_half height m job n low word first not_two some few e a w =
-    let one : n ≡ 1 = omega arith in
-    let lows = read_at height m job job.at (job.at + 0) low first e a (omega arith) in
-    rw one (omega (arith, lows, w))
+pub load_one : (height : ℕ) (m new : List ℕ) (mask : ℕ) (job : Transfer) (word low : ℕ) (first : Cell) → height ≡ height_of m
+    → first ≡ pixel_cell height job job.at → new ≡ plot m mask first.x first.y low → low ≡ word % 2 ^ 16
+    → job.at < job.w * job.h → job.w * job.h ≤ job.at + 1
+    → new ≡ LoadWord m mask job word
+unfolding LoadWord
+load_one height m new mask job word low first rows e one lows some last =
+    let once = one_left (job.w * job.h) job.at some last in
+    rw (once, one, e, lows, ← rows, no_more job.at, first_half word) refl
+
+pub store_two : (height : ℕ) (m : List ℕ) (job : Transfer) (word low high : ℕ) (first second : Cell) → height ≡ height_of m
+    → first ≡ pixel_cell height job job.at → second ≡ pixel_cell height job (job.at + 1)
+    → low ≡ at m first.x first.y → job.at + 1 < job.w * job.h → high ≡ at m second.x second.y
+    → word ≡ low + high * 2 ^ 16 → word ≡ StoreWord m job
+unfolding StoreWord
+store_two height m job word low high first second rows e f lows more highs joined =
+    let twice = two_left (job.w * job.h) job.at more in
+    rw (twice, joined, lows, highs, e, f, ← rows, no_more job.at) (omega arith)
+
+pub store_one : (height : ℕ) (m : List ℕ) (job : Transfer) (word low : ℕ) (first : Cell) → height ≡ height_of m
+    → first ≡ pixel_cell height job job.at → low ≡ at m first.x first.y
+    → job.at < job.w * job.h → job.w * job.h ≤ job.at + 1
+    → word ≡ low + 0 * 2 ^ 16 → word ≡ StoreWord m job
+unfolding StoreWord
+store_one height m job word low first rows e lows some last joined =
+    let once = one_left (job.w * job.h) job.at some last in
+    rw (once, joined, lows, e, ← rows, no_more job.at) (omega arith)
+
+-- two pixels on
+pub two_on : (width at : ℕ) (first second third : Place) → IsPlace width first at
+    → ((i : ℕ) → IsPlace width first i → IsPlace width second (i + 1)) → ((i : ℕ) → IsPlace width second i → IsPlace width third (i + 1))
+    → IsPlace width third (at + 2)
+two_on width at first second third is one two =
+    let same : at + 1 + 1 ≡ at + 2 = omega arith in
+    rw (← same) (two (at + 1) (one at is))

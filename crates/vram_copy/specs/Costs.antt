@@ -35,7 +35,8 @@ chunk_cost source target n = if has_copy_hazard source target n then 3 * n else 
 -- the chunk that begins at cell i, if one does
 abbrev pub cell_cost : Cell → Cell → ℕ → ℕ → ℕ
 cell_cost source target w i =
-    if begins_chunk source target i then chunk_cost (right source i) (right target i) (chunk_at source target w i) else 0
+    if begins_chunk source target i
+    then chunk_cost (right source i) (right target i) (chunk_at source target w i) else 0
 
 -- the chunks that begin at the first n cells of a row of w
 abbrev pub cost_below : Cell → Cell → ℕ → ℕ → ℕ
@@ -47,7 +48,8 @@ row_cost source target w = cost_below source target w w
 
 -- h rows
 abbrev pub rows_cost : ℕ → Cell → Cell → ℕ → ℕ → ℕ
-rows_cost height source target w h = each_below (λ j sum. sum + row_cost (down height source j) (down height target j) w) h 0
+rows_cost height source target w h =
+    each_below (λ j sum. sum + row_cost (down height source j) (down height target j) w) h 0
 
 -- a rectangle
 unfoldable pub copy_cost : ℕ → Cell → Cell → ℕ → ℕ → ℕ

@@ -2,5 +2,6 @@ pub mod Copy
 pub mod Costs
 pub mod Fill
 pub mod Laws
+pub mod Places
 pub mod Rect
 pub mod Words

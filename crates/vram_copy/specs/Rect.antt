@@ -1,5 +1,5 @@
 -- Cells of rectangles, which go on at the other side of video memory (psx-spx, "GPU Memory Transfer Commands").
-use Rattle.std.specs.Prelude.{ℕ, ◌+◌, ◌%◌}
+use Rattle.std.specs.Prelude.{ℕ, ◌+◌, ◌%◌, ◌<◌, ◌≤◌}
 use Rattle.px_num.specs.declared.shape.Cell.{Cell}
 
 -- the cell so many columns to the right; X wraps at 1024
@@ -9,3 +9,7 @@ right cell i = record { x = (cell.x + i) % 1024; y = cell.y }
 -- the cell so many rows below; Y wraps at the height
 abbrev pub down : ℕ → Cell → ℕ → Cell
 down height cell j = record { x = cell.x; y = (cell.y + j) % height }
+
+-- n cells to the right of one, itself the first, that lie in one row of video memory of a height
+abbrev pub LieInRow : (height : ℕ) → Cell → (n : ℕ) → Type 0
+LieInRow height cell n = (cell.x + n ≤ 1024) × (cell.y < height)

@@ -30,7 +30,8 @@ half_of word i = word / 2 ^ (16 * i) % 2 ^ 16
 -- the first n pixels of a word are plotted, one after another
 abbrev pub pixels_from : ℕ → List ℕ → ℕ → Transfer → ℕ → ℕ → List ℕ
 pixels_from height m mask job word n =
-    each_below (λ i cells. plot cells mask (pixel_cell height job (job.at + i)).x (pixel_cell height job (job.at + i)).y (half_of word i)) n m
+    each_below
+    (λ i cells. let cell = pixel_cell height job (job.at + i) in plot cells mask cell.x cell.y (half_of word i)) n m
 
 -- the pixels of a word are plotted; the spare half of an odd count is dropped
 unfoldable pub LoadWord : List ℕ → ℕ → Transfer → ℕ → List ℕ
@@ -39,7 +40,8 @@ LoadWord m mask job word = pixels_from (height_of m) m mask job word (pixels_nex
 -- the next n pixels as a word, the first in the low half
 abbrev pub word_of : ℕ → List ℕ → Transfer → ℕ → ℕ
 word_of height m job n =
-    each_below (λ i word. word + at m (pixel_cell height job (job.at + i)).x (pixel_cell height job (job.at + i)).y * 2 ^ (16 * i)) n 0
+    each_below
+    (λ i word. let cell = pixel_cell height job (job.at + i) in word + at m cell.x cell.y * 2 ^ (16 * i)) n 0
 
 -- the next pixels as a word; the spare half of an odd count is 0
 unfoldable pub StoreWord : List ℕ → Transfer → ℕ

@@ -4,6 +4,7 @@ ghost use Rattle.overlap_guard.specs.Hazard.{has_copy_hazard};
 ghost use Rattle.vram_store.specs.Vram.{bit, height_of};
 ghost use Rattle.vram_store.specs.Plot.{is_kept};
 ghost use Rattle.vram_copy.specs.Copy.{Copy, copied_row, copied_run};
+ghost use Rattle.vram_copy.specs.Rect.{LieInRow};
 ghost use Rattle.vram_copy.specs.Costs.{chunk_len, chunk_cost, row_cost, copy_cost};
 
 use crate::cells::{cell_down, cell_right};
@@ -92,8 +93,8 @@ fn copy_chunk<L: Ledger>(
     steps: &mut Steps<L>,
 )
     requires count { (1 ≤ n) × (n ≤ 16) }
-    requires source_in { (from.x + n ≤ 1024) × (from.y < height_of vram.old) }
-    requires target_in { (to.x + n ≤ 1024) × (to.y < height_of vram.old) }
+    requires source_in { LieInRow (height_of vram.old) from n }
+    requires target_in { LieInRow (height_of vram.old) to n }
     ensures cells { vram.new ≡ copied_run vram.old mask from to n }
     ensures long { length vram.new ≡ length vram.old }
     ensures cost { steps.new ≤ steps.old + chunk_cost from to n }
@@ -114,8 +115,8 @@ fn copy_in_turn<L: Ledger>(
     n: u8,
     steps: &mut Steps<L>,
 )
-    requires source_in { (from.x + n ≤ 1024) × (from.y < height_of vram.old) }
-    requires target_in { (to.x + n ≤ 1024) × (to.y < height_of vram.old) }
+    requires source_in { LieInRow (height_of vram.old) from n }
+    requires target_in { LieInRow (height_of vram.old) to n }
     ensures cells { vram.new ≡ copied_run vram.old mask from to n }
     ensures long { length vram.new ≡ length vram.old }
     ensures cost { steps.new ≤ steps.old + 3 * n }
@@ -143,8 +144,8 @@ fn copy_at_once<L: Ledger>(
     steps: &mut Steps<L>,
 )
     requires count { (1 ≤ n) × (n ≤ 16) }
-    requires source_in { (from.x + n ≤ 1024) × (from.y < height_of vram.old) }
-    requires target_in { (to.x + n ≤ 1024) × (to.y < height_of vram.old) }
+    requires source_in { LieInRow (height_of vram.old) from n }
+    requires target_in { LieInRow (height_of vram.old) to n }
     requires free { has_copy_hazard from to n ≡ false }
     ensures cells { vram.new ≡ copied_run vram.old mask from to n }
     ensures long { length vram.new ≡ length vram.old }
@@ -159,7 +160,7 @@ fn copy_at_once<L: Ledger>(
 // A bit for each of n cells of a row, 0 where the cell stays as it is and 1 where a plot writes it.
 fn open_cells<L: Ledger>(vram: &Vram, mask: u8, to: Cell, n: u8, steps: &mut Steps<L>) -> u16
     requires count { (1 ≤ n) × (n ≤ 16) }
-    requires target_in { (to.x + n ≤ 1024) × (to.y < height_of vram.now) }
+    requires target_in { LieInRow (height_of vram.now) to n }
     ensures bits { (j : ℕ) → j < n
         → bit result j ≡ (if is_kept mask (slice_index vram.now (1024 * to.y + to.x + j)) then 0 else 1) }
     ensures cost { steps.new ≤ steps.old + 1 }

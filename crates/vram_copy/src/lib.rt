@@ -11,12 +11,14 @@ ghost use Rattle.std.specs.Prelude.{◌≡◌, ◌<◌, ◌%◌};
 
 mod cells;
 mod copies;
+mod cursor;
 mod fills;
 pub mod laws;
 mod plots;
 mod transfer;
 
 pub use copies::copy;
+pub use cursor::Cursor;
 pub use fills::fill;
 pub use transfer::{Transfer, load_word, store_word};
 

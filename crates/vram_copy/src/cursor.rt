@@ -1,0 +1,173 @@
+// A transfer with the place of its next pixel.
+ghost use Rattle.std.specs.Prelude.{ℕ, ◌≡◌, ◌≤◌, ◌<◌, ◌+◌, ◌*◌, ◌/◌, ◌%◌, ◌^◌, length, nat_lt};
+ghost use Rattle.vram_copy.specs.Places.{IsPlace};
+ghost use Rattle.vram_copy.specs.Words.{advanced, pixel_cell, pixels_next, LoadWord, StoreWord};
+
+use crate::plots::plot_pixel;
+use crate::transfer::Transfer;
+use px_num::{Cell, wrap_at, wrap_x};
+use std::marker::Model;
+use std::sync::ledger::Ledger;
+use vram_store::{Steps, Vram};
+
+// Where a pixel lies in its rectangle.
+#[derive(Clone, Copy)]
+struct Place {
+    column: u16,
+    row: u16,
+}
+
+/// A transfer with the column and the row of its next pixel beside it, so that no pixel costs a division. Contracts see
+/// it as the transfer.
+#[derive(Drop)]
+pub struct Cursor {
+    job: Transfer,
+    place: Place,
+}
+
+impl Model for Cursor {
+    ghost use Rattle.vram_copy.specs.Places.{IsPlace};
+    ghost use Rattle.vram_copy.specs.declared.transfer.Transfer.{Transfer};
+
+    ghost Value = { Transfer };
+
+    ghost view = { λ c. c.job };
+
+    ghost invariant = { λ c. IsPlace c.job.w c.place c.job.at };
+}
+
+// The cell at a place.
+fn cell_at(job: &Transfer, place: Place, height: u16) -> Cell
+    requires rows { 1 ≤ height }
+    ensures value { (i : ℕ) → IsPlace job.now.w place i → result ≡ pixel_cell height job.now i }
+    ensures in_row { result.x < 1024 }
+    ensures in_height { result.y < height }
+{
+    Cell {
+        x: wrap_x(job.x as u32 + place.column as u32),
+        y: wrap_at(job.y as u32 + place.row as u32, height),
+    }
+}
+
+// The place behind another one.
+fn place_behind(job: &Transfer, place: Place) -> Place
+    requires column { place.column < job.now.w }
+    requires more { place.row * job.now.w + place.column < job.now.w * job.now.h }
+    ensures { (i : ℕ) → IsPlace job.now.w place i → IsPlace job.now.w result (i + 1) }
+{
+    let width = job.w;
+    if place.column + 1 == width {
+        Place {
+            column: 0,
+            row: place.row + 1,
+        }
+    } else {
+        Place {
+            column: place.column + 1,
+            row: place.row,
+        }
+    }
+}
+
+impl Cursor {
+    /// A transfer, wherever it is.
+    pub fn new(job: Transfer) -> Cursor
+        requires { job.at < job.w * job.h }
+        ensures { result ≡ job }
+    {
+        let place = Place {
+            column: (job.at % job.w as u32) as u16,
+            row: (job.at / job.w as u32) as u16,
+        };
+        Cursor { job, place }
+    }
+
+    /// The transfer.
+    pub fn job(&self) -> Transfer
+        ensures { result ≡ self.now }
+    {
+        self.job
+    }
+
+    /// Whether a pixel is left.
+    pub fn has_more(&self) -> bool
+        ensures { result ≡ nat_lt self.now.at (self.now.w * self.now.h) }
+    {
+        self.job.at < self.job.w as u32 * self.job.h as u32
+    }
+
+    /// Plots the next two pixels from a word, the low half first, under the mask setting. Where one pixel is left, the
+    /// high half is dropped.
+    pub fn load_word<L: Ledger>(
+        &mut self,
+        vram: &mut Vram,
+        mask: u8,
+        word: u32,
+        steps: &mut Steps<L>,
+    )
+        requires more { self.old.at < self.old.w * self.old.h }
+        ensures cells { vram.new ≡ LoadWord vram.old mask self.old word }
+        ensures long { length vram.new ≡ length vram.old }
+        ensures job { self.new ≡ advanced self.old }
+        ensures cost { steps.new ≤ steps.old + 2 * pixels_next self.old }
+    {
+        let height = vram.height();
+        let first = self.place;
+        let to = cell_at(&self.job, first, height);
+        plot_pixel(vram, mask, to, low_half(word), steps);
+        let second = place_behind(&self.job, first);
+        if self.job.at + 1 < self.job.w as u32 * self.job.h as u32 {
+            let to = cell_at(&self.job, second, height);
+            plot_pixel(vram, mask, to, high_half(word), steps);
+            self.place = place_behind(&self.job, second);
+            self.job.at += 2;
+        } else {
+            self.place = second;
+            self.job.at += 1;
+        }
+    }
+
+    /// The next two pixels as a word, the low half first, as video memory is now. Where one pixel is left, the high
+    /// half is 0.
+    pub fn store_word<L: Ledger>(&mut self, vram: &Vram, steps: &mut Steps<L>) -> u32
+        requires more { self.old.at < self.old.w * self.old.h }
+        ensures word { result ≡ StoreWord vram.now self.old }
+        ensures job { self.new ≡ advanced self.old }
+        ensures cost { steps.new ≡ steps.old + pixels_next self.old }
+    {
+        let height = vram.height();
+        let first = self.place;
+        let from = cell_at(&self.job, first, height);
+        let low = vram.get(from.x, from.y, steps);
+        let second = place_behind(&self.job, first);
+        if self.job.at + 1 < self.job.w as u32 * self.job.h as u32 {
+            let from = cell_at(&self.job, second, height);
+            let high = vram.get(from.x, from.y, steps);
+            self.place = place_behind(&self.job, second);
+            self.job.at += 2;
+            joined(low, high)
+        } else {
+            self.place = second;
+            self.job.at += 1;
+            joined(low, 0)
+        }
+    }
+}
+
+fn low_half(word: u32) -> u16
+    ensures { result ≡ word % 2 ^ 16 }
+{
+    (word & 0xffff) as u16
+}
+
+fn high_half(word: u32) -> u16
+    ensures { result ≡ word / 2 ^ 16 }
+{
+    (word >> 16) as u16
+}
+
+fn joined(low: u16, high: u16) -> u32
+    ensures { result ≡ low + high * 2 ^ 16 }
+{
+    low as u32 | (high as u32) << 16
+}
