@@ -14,13 +14,14 @@ pub cells_append : (by_cell : Cell → List ℕ → Option ℕ) (mask : ℕ) (ce
 cells_append by_cell mask [] more m = refl
 cells_append by_cell mask (cell ∷ cells) more m = cells_append by_cell mask cells more (draw_at mask (1024 * cell.y + cell.x) (by_cell cell m) m)
 
-row_more : (x y n : ℕ) → row_cells x y (suc n) ≡ row_cells x y n ++ cell_in_row x y n ∷ []
+-- one cell more
+pub row_more : (x y n : ℕ) → row_cells x y (suc n) ≡ row_cells x y n ++ cell_in_row x y n ∷ []
 unfolding row_cells
 row_more x y n =
     ap (λ (k : ℕ). map (cell_in_row x y) (range_with_len 0 k)) (sym (add-one n))
     ∙ map-range_with_len_more (cell_in_row x y) 0 n n (omega arith)
 
-row_none : (x y : ℕ) → row_cells x y 0 ≡ []
+pub row_none : (x y : ℕ) → row_cells x y 0 ≡ []
 unfolding row_cells
 row_none x y = refl
 

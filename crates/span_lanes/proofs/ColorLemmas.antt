@@ -1,5 +1,5 @@
 -- Colours by their channels.
-use Rattle.std.proofs.Common.{◌≡◌, ◌≤◌, ◌<◌, ℕ, ◌+◌, ◌*◌, ◌∙◌, ap, List, map, length, get_or, pos, ℤ, to_z, of_z, w16, SFits, arith}
+use Rattle.std.proofs.Common.{◌≡◌, ◌≤◌, ◌<◌, ℕ, ◌+◌, ◌*◌, ◌%◌, ◌^◌, ◌∙◌, ap, refl, Bool, false, List, map, length, get_or, pos, ℤ, to_z, of_z, w16, SFits, arith}
 use Rattle.std.proofs.lemmas.Int.{ints, to_z-of_z}
 use Rattle.std.proofs.lemmas.List.{get_or-map, length-map}
 use Rattle.px_num.specs.Lanes.{EachLane}
@@ -7,7 +7,8 @@ use Rattle.blend_dither.specs.Color.{red_of, green_of, blue_of, IsShift}
 use Rattle.span_lanes.specs.declared.span.Paint.{Paint}
 use Rattle.span_lanes.specs.declared.span.Paint.TheVariants.{Flat, Shaded, TexturedTri, TexturedRow}
 use Rattle.edge_walk.specs.Triangle.{Corners}
-use Rattle.span_lanes.specs.Shade.{HasInside, AreInside}
+use Rattle.edge_walk.specs.Attribute.{HasColor}
+use Rattle.span_lanes.specs.Shade.{HasInside, AreInside, shift_of, color_in}
 
 pub red_mixed : (r g b : ℕ) → r ≤ 255 → red_of (r + 256 * g + 65536 * b) ≡ r
 red_mixed r g b low = omega arith
@@ -42,3 +43,26 @@ read_back xs long small i lt =
     get_or-map (to_z w16) (map (of_z w16) xs) i 0 (pos 0) there_too
     ∙ ap (to_z w16) (get_or-map (of_z w16) xs i (pos 0) 0 there)
     ∙ to_z-of_z w16 (get_or xs i (pos 0)) (small_fits (get_or xs i (pos 0)) (small i lt))
+
+-- the first cell is inside
+pub inside_first : (paint : Paint) (x y n : ℕ) → 1 ≤ n → HasInside paint x y n → HasInside paint x y 1
+inside_first (Flat color) x y n some inside = inside
+inside_first (Shaded tri) x y n some inside = λ i lt. inside i (omega arith)
+inside_first (TexturedTri tri texture) x y n some inside = λ i lt. inside i (omega arith)
+inside_first (TexturedRow color texture u v flip) x y n some inside = inside
+
+-- ---- dither offsets
+
+pub no_shift : (dither : Bool) (x y : ℕ) → dither ≡ false → shift_of dither x y ≡ pos 0
+unfolding shift_of
+no_shift dither x y none = rw none refl
+
+-- they repeat after four cells
+pub shift_again : (dither : Bool) (x next y j : ℕ) → next % 4 ≡ (x + j) % 4 → shift_of dither (x + j) y ≡ shift_of dither next y
+unfolding shift_of
+shift_again dither x next y j e = rw e refl
+
+-- a triangle of one colour
+pub one_in : (tri : Corners) (x y color : ℕ) → color < 2 ^ 24 → HasColor tri (pos x) (pos y) color → color ≡ color_in tri x y
+unfolding color_in
+one_in tri x y color low has = rw (has.red, has.green, has.blue) (omega (arith, low))

@@ -65,3 +65,11 @@ pub textured_cost : (span : Span) (t : Texture) (first k : ℕ) (cells : List Ce
     → chunk_cost span first k ≡ steps_of (has_texture_hazard cells (palette_of t) (target span.x span.y first) k) (texel_steps t.page.depth) k
 unfolding has_hazard
 textured_cost span t first k cells e same = rw (e, same) refl
+
+one_step : (hazard : Bool) (d k : ℕ) → 1 ≤ k → 1 ≤ steps_of hazard d k
+one_step true d k some = grind arith
+one_step false d k some = omega arith
+
+-- a chunk may take a step
+pub chunk_step : (span : Span) (first k : ℕ) → 1 ≤ k → 1 ≤ chunk_cost span first k
+chunk_step span first k some = one_step (has_hazard span first k) (paint_steps span.paint) k some

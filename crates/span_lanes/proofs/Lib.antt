@@ -1,7 +1,14 @@
+pub mod ApartLemmas
+pub mod BackLemmas
 pub mod BlindLemmas
 pub mod CellsLemmas
+pub mod ChunkLemmas
 pub mod ColorLemmas
 pub mod CostLemmas
 pub mod DrawnBits
+pub mod NibbleLemmas
 pub mod PlainLemmas
+pub mod PlanLemmas
+pub mod SameLemmas
+pub mod SolidLemmas
 pub mod TexelLemmas

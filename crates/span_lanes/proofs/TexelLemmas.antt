@@ -12,7 +12,7 @@ use Rattle.vram_store.specs.Vram.{at}
 use Rattle.vram_store.specs.Plot.{is_kept, forced, written_over}
 use Rattle.vram_store.specs.Chunk.{IsLane}
 use Rattle.blend_dither.specs.Color.{packed_pixel}
-use Rattle.texture_page.specs.Page.{texel_place, clut_place, index_at, windowed}
+use Rattle.texture_page.specs.Page.{texel_place, clut_place, index_at, index_in, windowed}
 use Rattle.span_lanes.specs.declared.span.Brush.{Brush}
 use Rattle.span_lanes.specs.declared.span.Texture.{Texture}
 use Rattle.span_lanes.specs.declared.span.Paint.{Paint}
@@ -58,6 +58,13 @@ pub texel_entry : (t : Texture) (u v : ℕ) (m : List ℕ) (cell : Cell) (h : �
 unfolding texel
 texel_entry t u v m cell h low e read =
     rw (low_depth t.page.depth low) (ap (λ (k : ℕ). at_cell m (clut_place t.clut (index_at t.page t.window u k))) (read ∙ ap (at_cell m) e))
+
+-- a texel of four bits by the entry of its index
+pub texel_four : (t : Texture) (u v : ℕ) (m : List ℕ) (across h e : ℕ) → t.page.depth ≡ 0 → across ≡ windowed t.window.mask_x t.window.off_x u
+    → h ≡ at_cell m (texel_place t.page t.window u v) → e ≡ at_cell m (clut_place t.clut (index_in 0 across h)) → e ≡ texel t u v m
+texel_four t u v m across h e four window read entry =
+    let here : index_in 0 across h ≡ index_at t.page t.window u h = rw (window, four) refl in
+    entry ∙ ap (λ (i : ℕ). at_cell m (clut_place t.clut i)) here ∙ texel_entry t u v m (texel_place t.page t.window u v) h (omega (arith, four)) refl read
 
 -- the cells of texels by their coordinates are those of the paint
 pub cells_same : (paint : Paint) (t : Texture) (x y first : ℕ) (us vs : List ℕ) (k n : ℕ) → HasCoordinates paint (x + first) y first n us vs → k ≤ n

@@ -4,7 +4,8 @@ use Rattle.std.specs.List.{range_with_len}
 use Rattle.px_num.specs.declared.shape.Cell.{Cell}
 use Rattle.vram_store.specs.Plot.{draw_at}
 
--- the cells of a list in its order: each takes its pixel, or none, from video memory as it is by then, and is plotted under the mask setting
+-- the cells of a list in its order: each takes its pixel, or none, from video memory as it is by then, and is plotted
+-- under the mask setting
 abbrev pub Cells : (Cell → List ℕ → Option ℕ) → ℕ → List Cell → List ℕ → List ℕ
 Cells shade mask [] m = m
 Cells shade mask (cell ∷ cells) m = Cells shade mask cells (draw_at mask (1024 * cell.y + cell.x) (shade cell m) m)

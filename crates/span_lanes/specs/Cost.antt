@@ -18,7 +18,8 @@ texture_steps (Some t) = texel_steps t.page.depth
 abbrev pub paint_steps : Paint → ℕ
 paint_steps paint = texture_steps (texture_of paint)
 
--- a chunk of n cells whose pixels read d cells each: without a hazard its own cells are read and written in one step each
+-- a chunk of n cells whose pixels read d cells each: without a hazard its own cells are read and written in one step
+-- each
 abbrev pub steps_of : Bool → ℕ → ℕ → ℕ
 steps_of hazard d n = if hazard then (d + 2) * n else 2 + d * n
 

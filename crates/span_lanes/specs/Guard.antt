@@ -1,5 +1,6 @@
 -- When a chunk of a span reads what it writes itself (our own rule: every pixel reads video memory as it is then).
-use Rattle.std.specs.Prelude.{ℕ, ◌+◌, ◌*◌, ◌/◌, ◌%◌, ◌==◌, Bool, false, List, Option, None, Some, if◌then◌else◌, map, slice_index}
+use Rattle.std.specs.Prelude.{ℕ, ◌≤◌, ◌+◌, ◌*◌, ◌/◌, ◌%◌, ◌==◌, Bool, false, List, Option, None, Some, if◌then◌else◌}
+use Rattle.std.specs.Prelude.{map, slice_index}
 use Rattle.std.specs.Option.{MatchOption}
 use Rattle.std.specs.List.{range_with_len}
 use Rattle.px_num.specs.declared.shape.Cell.{Cell}
@@ -34,10 +35,12 @@ palette_of t =
 abbrev pub target : ℕ → ℕ → ℕ → Cell
 target x y first = record { x = x + first; y = y }
 
--- of n cells of a row that begins at (x, y), from a first one on, one reads as its texel what an earlier one writes, or one writes in the palette
+-- of n cells of a row that begins at (x, y), from a first one on, one reads as its texel what an earlier one writes, or
+-- one writes in the palette
 abbrev pub PaintHazard : Paint → ℕ → ℕ → ℕ → ℕ → Type 0
 PaintHazard paint x y first n =
-    MatchOption (texture_of paint) ⊥ (λ t. HasTextureHazard (paint_texels paint t x y first n) (palette_of t) (target x y first) n)
+    MatchOption (texture_of paint) ⊥
+    (λ t. HasTextureHazard (paint_texels paint t x y first n) (palette_of t) (target x y first) n)
 
 -- n cells of a span from a first one on do
 abbrev pub HasHazard : Span → ℕ → ℕ → Type 0
@@ -47,7 +50,8 @@ HasHazard span first n = PaintHazard span.paint span.x span.y first n
 
 abbrev pub has_paint_hazard : Option Texture → Paint → ℕ → ℕ → ℕ → ℕ → Bool
 has_paint_hazard None paint x y first n = false
-has_paint_hazard (Some t) paint x y first n = has_texture_hazard (paint_texels paint t x y first n) (palette_of t) (target x y first) n
+has_paint_hazard (Some t) paint x y first n =
+    has_texture_hazard (paint_texels paint t x y first n) (palette_of t) (target x y first) n
 
 unfoldable pub has_hazard : Span → ℕ → ℕ → Bool
 has_hazard span first n = has_paint_hazard (texture_of span.paint) span.paint span.x span.y first n
@@ -56,4 +60,18 @@ has_hazard span first n = has_paint_hazard (texture_of span.paint) span.paint sp
 
 -- the cells of n texels by their coordinates
 unfoldable pub texel_cells : Texture → List ℕ → List ℕ → ℕ → List Cell
-texel_cells t us vs n = map (λ j. texel_place t.page t.window (slice_index us j) (slice_index vs j)) (range_with_len 0 n)
+texel_cells t us vs n =
+    map (λ j. texel_place t.page t.window (slice_index us j) (slice_index vs j)) (range_with_len 0 n)
+
+-- ---- spans apart
+
+-- how many cells wide the texels of a page stand
+abbrev pub page_width : ℕ → ℕ
+page_width depth =
+    if depth == 0 then 64
+    else (if depth == 1 then 128
+    else 256)
+
+-- no cells of a span read what they write
+pub record IsApart (span : Span) : Type 0 where
+  pub free : (first n : ℕ) → first + n ≤ span.n → HasHazard span first n → ⊥

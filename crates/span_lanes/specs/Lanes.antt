@@ -1,9 +1,13 @@
 -- The parts of the pixels of a chunk, lane by lane.
-use Rattle.std.specs.Prelude.{ℕ, Bool, ◌≡◌, ◌+◌, ◌<◌, ◌≤◌, ℤ, pos, List, length, slice_index, slice_index_or}
+use Rattle.std.specs.Prelude.{ℕ, Bool, false, ◌≡◌, ◌+◌, ◌<◌, ◌≤◌, ◌⊎◌, ℤ, pos, List, Some, length, slice_index}
+use Rattle.std.specs.Prelude.{slice_index_or}
 use Rattle.px_num.specs.Lanes.{EachLane}
 use Rattle.blend_dither.specs.Color.{IsShift, tone_of, red_of, green_of, blue_of}
+use Rattle.vram_store.specs.Plot.{is_testing, written_over}
+use Rattle.span_lanes.specs.declared.span.Brush.{Brush}
 use Rattle.span_lanes.specs.declared.span.Paint.{Paint}
-use Rattle.span_lanes.specs.Shade.{shift_of}
+use Rattle.span_lanes.specs.declared.span.Span.{Span}
+use Rattle.span_lanes.specs.Shade.{shift_of, shade}
 use Rattle.span_lanes.specs.Paints.{paint_color, paint_u, paint_v}
 
 -- sixteen channels of eight bits
@@ -29,10 +33,14 @@ pub record AreShifts (shifts : List ℤ) : Type 0 where
   pub long : length shifts ≡ 16
   pub small : EachLane (λ i. IsShift (slice_index_or shifts i (pos 0)))
 
--- the tone of a paint at a cell
-abbrev pub tone_at : Paint → Bool → ℕ → ℕ → ℕ
-tone_at paint dither x y =
-    tone_of (red_of (paint_color paint x y)) (green_of (paint_color paint x y)) (blue_of (paint_color paint x y)) (shift_of dither x y)
+-- the dither offsets of sixteen cells from (x, y) on, or zeros
+pub record AreShiftsAt (dither : Bool) (x y : ℕ) (shifts : List ℤ) : Type 0 where
+  pub small : AreShifts shifts
+  pub value : EachLane (λ i. slice_index_or shifts i (pos 0) ≡ shift_of dither (x + i) y)
+
+-- the tone of a colour with a dither offset
+abbrev pub tone_with : ℕ → ℤ → ℕ
+tone_with color shift = tone_of (red_of color) (green_of color) (blue_of color) shift
 
 -- sixteen coordinates of a texel
 pub record AreCoordinates (coordinates : List ℕ) : Type 0 where
@@ -45,3 +53,12 @@ pub record HasCoordinates (paint : Paint) (x y first n : ℕ) (us vs : List ℕ)
   pub down : AreCoordinates vs
   pub u : (j : ℕ) → j < n → slice_index us j ≡ paint_u paint (x + j) y (first + j)
   pub v : (j : ℕ) → j < n → slice_index vs j ≡ paint_v paint (x + j) y (first + j)
+
+-- a halfword that does for what a cell holds: it is the cell's, unless pixels are neither blended nor tested
+abbrev pub DoesFor : Brush → ℕ → ℕ → Type 0
+DoesFor brush cell h = (h ≡ cell) ⊎ ((brush.semi ≡ false) × (is_testing brush.mask ≡ false))
+
+-- whatever video memory holds, each cell of a span becomes this halfword
+pub record IsSolid (span : Span) (h : ℕ) : Type 0 where
+  pub same : (i : ℕ) (m now : List ℕ) → shade span i now ≡ shade span i m
+  pub written : (i cell : ℕ) (m : List ℕ) → written_over span.brush.mask cell (shade span i m) ≡ Some h

@@ -1,7 +1,12 @@
 pub mod Cells
+pub mod Chunk
 pub mod Cost
 pub mod Guard
+pub mod Hues
 pub mod Lanes
 pub mod Laws
 pub mod Paints
+pub mod Plan
 pub mod Shade
+pub mod Texels
+pub mod Track

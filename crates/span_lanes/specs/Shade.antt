@@ -1,10 +1,13 @@
--- The pixel that a span draws at one of its cells (psx-spx, "GPU Rendering Attributes"; the exact whole numbers are our own rule).
-use Rattle.std.specs.Prelude.{ℕ, ◌+◌, ◌-◌, ◌*◌, ◌%◌, ◌<◌, ◌≤◌, ◌==◌, ◌&&◌, ℤ, pos, IsTrue, Bool, false, not, List, Option, None, Some, IfSome, if◌then◌else◌, nat_lt}
+-- The pixel that a span draws at one of its cells (psx-spx, "GPU Rendering Attributes"; the exact whole numbers are our
+-- own rule).
+use Rattle.std.specs.Prelude.{ℕ, ◌+◌, ◌-◌, ◌*◌, ◌%◌, ◌<◌, ◌≤◌, ◌==◌, ◌&&◌, ℤ, pos, IsTrue, Bool, false, not, List}
+use Rattle.std.specs.Prelude.{Option, None, Some, IfSome, if◌then◌else◌, nat_lt}
 use Rattle.px_num.specs.declared.shape.Cell.{Cell}
 use Rattle.vram_store.specs.Vram.{at, bit}
 use Rattle.vram_store.specs.Plot.{drawn_lanes}
 use Rattle.texture_page.specs.Page.{IsPage, IsWindow, texel_place, clut_place, index_at}
-use Rattle.blend_dither.specs.Color.{dither_offset, tone_of, red_of, green_of, blue_of, modulated_of, blended_of, packed_pixel}
+use Rattle.blend_dither.specs.Color.{dither_offset, tone_of, red_of, green_of, blue_of, modulated_of, blended_of}
+use Rattle.blend_dither.specs.Color.{packed_pixel}
 use Rattle.edge_walk.specs.Triangle.{Corners, is_inside}
 use Rattle.edge_walk.specs.Attribute.{attribute_at}
 use Rattle.span_lanes.specs.declared.span.Brush.{Brush}
@@ -60,7 +63,8 @@ at_cell m cell = at m cell.x cell.y
 -- the texel at a pair of coordinates, its cell and its palette's entry as they are in video memory
 unfoldable pub texel : Texture → ℕ → ℕ → List ℕ → ℕ
 texel t u v m =
-    if nat_lt t.page.depth 2 then at_cell m (clut_place t.clut (index_at t.page t.window u (at_cell m (texel_place t.page t.window u v))))
+    if nat_lt t.page.depth 2
+    then at_cell m (clut_place t.clut (index_at t.page t.window u (at_cell m (texel_place t.page t.window u v))))
     else at_cell m (texel_place t.page t.window u v)
 
 -- the U of cell i of a row: from cell to cell one more, or one less where it is flipped
@@ -80,7 +84,8 @@ blended_if semi mode back front = if semi then blended_of mode back front else f
 -- the pixel of a colour
 unfoldable pub flat_pixel : Brush → ℕ → ℤ → ℕ → Option ℕ
 flat_pixel brush color shift back =
-    Some (packed_pixel (blended_if brush.semi brush.mode back (tone_of (red_of color) (green_of color) (blue_of color) shift)) false false)
+    let front = tone_of (red_of color) (green_of color) (blue_of color) shift in
+    Some (packed_pixel (blended_if brush.semi brush.mode back front) false false)
 
 -- bit 15 of a texel
 abbrev pub is_high : ℕ → Bool
@@ -94,7 +99,8 @@ front_of raw color shift t = if raw then t else modulated_of t (red_of color) (g
 unfoldable pub textured_pixel : Brush → Bool → ℕ → ℤ → ℕ → ℕ → Option ℕ
 textured_pixel brush raw color shift back t =
     if t == 0 then None
-    else Some (packed_pixel (blended_if (brush.semi && is_high t) brush.mode back (front_of raw color shift t)) (is_high t) false)
+    else Some (packed_pixel
+    (blended_if (brush.semi && is_high t) brush.mode back (front_of raw color shift t)) (is_high t) false)
 
 -- red, green, blue, u or v of a triangle at a cell
 abbrev pub attribute_in : Corners → ℕ → ℕ → ℕ → ℕ
@@ -114,7 +120,8 @@ paint_pixel (TexturedTri tri texture) brush x y i m =
     textured_pixel brush texture.raw (color_in tri x y) (shift_of (brush.dither && not texture.raw) x y) (at m x y)
     (texel texture (attribute_in tri 3 x y) (attribute_in tri 4 x y) m)
 paint_pixel (TexturedRow color texture u v flip) brush x y i m =
-    textured_pixel brush texture.raw color (shift_of (brush.dither && not texture.raw) x y) (at m x y) (texel texture (row_u u flip i) v m)
+    textured_pixel brush texture.raw color (shift_of (brush.dither && not texture.raw) x y) (at m x y)
+    (texel texture (row_u u flip i) v m)
 
 -- the pixel of cell i of a span
 unfoldable pub shade : Span → ℕ → List ℕ → Option ℕ

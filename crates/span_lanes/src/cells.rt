@@ -29,7 +29,8 @@ pub(crate) fn draw_cell<L: Ledger>(vram: &mut Vram, span: &Span, i: u16, steps: 
     requires span { IsSpan span.now }
     requires height { LiesIn (height_of vram.old) span.now }
     requires within { i < span.now.n }
-    ensures cells { vram.new ≡ draw_lane (shade span.now) span.now.brush.mask (1024 * span.now.y + span.now.x) i vram.old }
+    ensures cells { vram.new
+        ≡ draw_lane (shade span.now) span.now.brush.mask (1024 * span.now.y + span.now.x) i vram.old }
     ensures long { length vram.new ≡ length vram.old }
     ensures cost { steps.new ≤ steps.old + (paint_steps span.now.paint + 2) }
 {

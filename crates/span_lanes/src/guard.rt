@@ -23,18 +23,6 @@ pub(crate) fn texture_of(paint: &Paint) -> Option<Texture>
     }
 }
 
-fn texel_at(texture: &Texture, at: &Coordinates, j: u8) -> Cell
-    requires texture { IsTexture texture.now }
-    requires across { AreCoordinates at.now.us }
-    requires down { AreCoordinates at.now.vs }
-    requires lane { j < 16 }
-    ensures { result ≡ texel_place texture.now.page texture.now.window (slice_index at.now.us j) (slice_index at.now.vs j) }
-{
-    let u = at.us[j as usize] as u8;
-    let v = at.vs[j as usize] as u8;
-    texel_cell(&texture.page, &texture.window, u, v)
-}
-
 // The cells of k texels by their coordinates.
 pub(crate) fn texels_at(texture: &Texture, at: &Coordinates, k: u8) -> [Cell; 16]
     requires texture { IsTexture texture.now }
@@ -43,11 +31,25 @@ pub(crate) fn texels_at(texture: &Texture, at: &Coordinates, k: u8) -> [Cell; 16
     requires few { k ≤ 16 }
     ensures { take k result ≡ texel_cells texture.now at.now.us at.now.vs k }
 {
+    let us = at.us.to_array();
+    let vs = at.vs.to_array();
     let mut cells = [Cell { x: 0, y: 0 }; 16];
     for j in 0..k {
-        cells[j as usize] = texel_at(texture, at, j);
+        cells[j as usize] = texel_at(texture, &us, &vs, j);
     }
     cells
+}
+
+fn texel_at(texture: &Texture, us: &[u16; 16], vs: &[u16; 16], j: u8) -> Cell
+    requires texture { IsTexture texture.now }
+    requires across { AreCoordinates us.now }
+    requires down { AreCoordinates vs.now }
+    requires lane { j < 16 }
+    ensures { result ≡ texel_place texture.now.page texture.now.window (slice_index us.now j) (slice_index vs.now j) }
+{
+    let u = us[j as usize] as u8;
+    let v = vs[j as usize] as u8;
+    texel_cell(&texture.page, &texture.window, u, v)
 }
 
 fn palette(texture: &Texture) -> Option<Strip>

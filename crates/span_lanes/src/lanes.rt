@@ -8,7 +8,7 @@ use std::simd::prelude::*;
 /// Sixteen halfwords, and a bit for each that is stored.
 #[derive(Clone, Copy)]
 pub(crate) struct Lanes {
-    pub(crate) cells: [u16; 16],
+    pub(crate) cells: u16x16,
     pub(crate) bits: u16,
 }
 

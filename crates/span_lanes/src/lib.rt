@@ -9,17 +9,26 @@
 ghost use Rattle.std.specs.Prelude.{◌≡◌, ◌≤◌, ◌<◌, ◌+◌, pos, IsTrue};
 ghost use Rattle.edge_walk.specs.Triangle.{is_inside};
 
+mod apart;
+mod back;
 mod cells;
 mod colors;
 mod coordinates;
 mod draw;
+mod fetch;
 mod guard;
+mod hues;
 mod lanes;
 pub mod laws;
+mod nibbles;
 mod pixel;
+mod places;
 mod plain;
+mod plan;
+mod solid;
 mod span;
 mod textured;
+mod track;
 
 pub use draw::draw_span;
 pub use span::{Brush, Paint, Span, Texture};

@@ -2,8 +2,10 @@
 ghost use Rattle.std.specs.Prelude.{◌≡◌, ◌≤◌, ◌<◌, ◌+◌, ◌&&◌, ◌*◌, not, pos, IsTrue};
 ghost use Rattle.blend_dither.specs.Color.{IsShift};
 ghost use Rattle.edge_walk.specs.Triangle.{is_inside};
+ghost use Rattle.px_num.specs.Height.{short_height};
 ghost use Rattle.vram_store.specs.Vram.{at, height_of};
-ghost use Rattle.span_lanes.specs.Shade.{IsTexture, IsSpan, LiesIn, texel, row_u, shift_of, blended_if, front_of, flat_pixel, textured_pixel, shade, attribute_in, color_in};
+ghost use Rattle.span_lanes.specs.Shade.{IsTexture, IsSpan, LiesIn, texel, row_u, shift_of, blended_if, front_of};
+ghost use Rattle.span_lanes.specs.Shade.{flat_pixel, textured_pixel, shade, attribute_in, color_in};
 ghost use Rattle.span_lanes.specs.Cost.{texel_steps, paint_steps};
 
 use crate::{Brush, Paint, Span, Texture};
@@ -26,19 +28,15 @@ pub(crate) fn u_of(u: u8, flip: bool, i: u16) -> u8
     }
 }
 
-// A cell as it is, or 0 below the last row.
-//
-// The rows of palettes are below 512 and those of video memory may be any number here, so they are compared.
-pub(crate) fn cell_or_zero<L: Ledger>(vram: &Vram, cell: Cell, steps: &mut Steps<L>) -> u16
+// A cell of a palette, whose row is one of the first 512.
+pub(crate) fn palette_entry<L: Ledger>(vram: &Vram, cell: Cell, steps: &mut Steps<L>) -> u16
     requires in_row { cell.x < 1024 }
+    requires in_height { cell.y < short_height }
     ensures value { result ≡ at vram.now cell.x cell.y }
     ensures cost { steps.new ≤ steps.old + 1 }
 {
-    if cell.y < vram.height() {
-        vram.get(cell.x, cell.y, steps)
-    } else {
-        0
-    }
+    let _height = vram.height();
+    vram.get(cell.x, cell.y, steps)
 }
 
 // A texel as it is in video memory.
@@ -59,7 +57,7 @@ pub(crate) fn read_texel<L: Ledger>(
     let h = vram.get(cell.x, cell.y, steps);
     if texture.page.depth < 2 {
         let index = index_of(&texture.page, &texture.window, u, h);
-        cell_or_zero(vram, clut_cell(texture.clut, index), steps)
+        palette_entry(vram, clut_cell(texture.clut, index), steps)
     } else {
         h
     }

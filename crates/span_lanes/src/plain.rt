@@ -1,15 +1,18 @@
 // Chunks without a texture, all their lanes at once.
-ghost use Rattle.std.specs.Prelude.{◌≡◌, ◌≤◌, ◌<◌, ◌+◌, ◌*◌, ◌^◌, None, ℕ, length, slice_index};
+ghost use Rattle.std.specs.Prelude.{◌≡◌, ◌≤◌, ◌<◌, ◌+◌, ◌*◌, ◌%◌, ◌^◌, None, false, pos, length, slice_index};
+ghost use Rattle.std.specs.Prelude.{slice_index_or};
 ghost use Rattle.px_num.specs.Lanes.{EachLane};
 ghost use Rattle.vram_store.specs.Vram.{height_of};
-ghost use Rattle.vram_store.specs.Plot.{later};
-ghost use Rattle.vram_store.specs.Chunk.{HasLanes};
-ghost use Rattle.span_lanes.specs.Shade.{IsSpan, LiesIn, HasInside, texture_of, blended_if, shade};
-ghost use Rattle.span_lanes.specs.Lanes.{tone_at};
+ghost use Rattle.span_lanes.specs.Chunk.{IsChunk, HasChunk};
+ghost use Rattle.span_lanes.specs.Shade.{IsSpan, LiesIn, texture_of, blended_if, shade};
+ghost use Rattle.span_lanes.specs.Hues.{hue_at, AreHues};
+ghost use Rattle.span_lanes.specs.Lanes.{AreShifts, AreShiftsAt, tone_with};
 
-use crate::colors::{colors_of, shifts_of, tones_of};
+use crate::Span;
+use crate::back::back_of;
+use crate::colors::{Shifts, tones_of};
+use crate::hues::{Hues, hue_lanes};
 use crate::lanes::Lanes;
-use crate::{Paint, Span};
 use blend_dither::{blend_lanes, tone};
 use px_num::lanes::splat;
 use std::simd::prelude::*;
@@ -24,7 +27,8 @@ fn blend_lanes_if(semi: bool, mode: u8, back: u16x16, front: u16x16) -> u16x16
     requires low { EachLane (λ i. slice_index front i < 2 ^ 15) }
     ensures long { length result ≡ 16 }
     ensures low { EachLane (λ i. slice_index result i < 2 ^ 15) }
-    ensures value { EachLane (λ i. slice_index result i ≡ blended_if semi mode (slice_index back i) (slice_index front i)) }
+    ensures value { EachLane (λ i. slice_index result i
+        ≡ blended_if semi mode (slice_index back i) (slice_index front i)) }
 {
     if semi {
         blend_lanes(mode, back, front)
@@ -33,59 +37,61 @@ fn blend_lanes_if(semi: bool, mode: u8, back: u16x16, front: u16x16) -> u16x16
     }
 }
 
-// The tones of a paint at k cells from (x, y) on, by their channels.
-fn mixed_tones(paint: &Paint, dither: bool, x: u16, y: u16, k: u8) -> u16x16
-    requires some { 1 ≤ k }
-    requires few { k ≤ 16 }
-    requires in_row { x ≤ 1024 }
-    requires inside { HasInside paint.now x y k }
+// The tones of sixteen cells from cell `first` on, by their channels.
+#[inline(always)]
+fn mixed_tones(hues: &Hues, shifts: Shifts, first: u16) -> u16x16
+    requires shifts { AreShifts shifts.lanes }
     ensures long { length result ≡ 16 }
     ensures low { EachLane (λ i. slice_index result i < 2 ^ 15) }
-    ensures value { (j : ℕ) → j < k → slice_index result j ≡ tone_at paint.now dither (x + j) y }
+    ensures value { EachLane (λ j. slice_index result j
+        ≡ tone_with (hue_at hues.now first j) (slice_index_or shifts.lanes j (pos 0))) }
 {
-    tones_of(colors_of(paint, x, y, k), shifts_of(dither, x, y))
+    tones_of(hue_lanes(hues, first), shifts)
 }
 
-// The tones of a paint at k cells from (x, y) on. One colour without dither has one tone.
-#[tactic(auto, unfolding(crate::specs::Shade::shift_of))]
-fn paint_tones(paint: &Paint, dither: bool, x: u16, y: u16, k: u8) -> u16x16
-    requires some { 1 ≤ k }
-    requires few { k ≤ 16 }
-    requires in_row { x ≤ 1024 }
-    requires inside { HasInside paint.now x y k }
+// The tones of sixteen cells from cell `first` on. One colour without dither has one tone.
+#[inline(always)]
+fn hue_tones(hues: &Hues, dither: bool, shifts: Shifts, first: u16) -> u16x16
+    requires shifts { AreShifts shifts.lanes }
+    requires none { dither ≡ false → EachLane (λ i. slice_index_or shifts.lanes i (pos 0) ≡ pos 0) }
     ensures long { length result ≡ 16 }
     ensures low { EachLane (λ i. slice_index result i < 2 ^ 15) }
-    ensures value { (j : ℕ) → j < k → slice_index result j ≡ tone_at paint.now dither (x + j) y }
+    ensures value { EachLane (λ j. slice_index result j
+        ≡ tone_with (hue_at hues.now first j) (slice_index_or shifts.lanes j (pos 0))) }
 {
-    match paint {
-        Paint::Flat { color } if !dither => splat(tone(*color, 0)),
-        _ => mixed_tones(paint, dither, x, y, k),
+    match hues {
+        Hues::One { color } if !dither => splat(tone(*color, 0)),
+        _ => mixed_tones(hues, shifts, first),
     }
 }
 
 // The pixels of k cells of a span without a texture, all of them read in video memory as it is.
+#[inline(always)]
 pub(crate) fn collect_plain<L: Ledger>(
     vram: &Vram,
     span: &Span,
+    hues: &Hues,
+    shifts: Shifts,
     first: u16,
     k: u8,
     steps: &mut Steps<L>,
 ) -> Lanes
     requires span { IsSpan span.now }
     requires height { LiesIn (height_of vram.now) span.now }
-    requires some { 1 ≤ k }
-    requires few { k ≤ 16 }
-    requires within { first + k ≤ span.now.n }
+    requires chunk { IsChunk span.now first k }
     requires plain { texture_of span.now.paint ≡ None }
-    ensures lanes { HasLanes (later (shade span.now) first) span.now.brush.mask (1024 * span.now.y + (span.now.x + first)) k vram.now result.cells result.bits }
+    requires fourth { first % 4 ≡ 0 }
+    requires hues { AreHues span.now.paint span.now.x span.now.y span.now.n hues.now }
+    requires shifts { AreShiftsAt span.now.brush.dither span.now.x span.now.y shifts.lanes }
+    ensures lanes { HasChunk span.now first k vram.now result }
     ensures cost { steps.new ≤ steps.old + 1 }
 {
     let x = span.x + first;
-    let back = vram.load16(x, span.y, k, steps);
-    let tones = paint_tones(&span.paint, span.brush.dither, x, span.y, k);
+    let back = back_of(vram, &span.brush, x, span.y, k, steps);
+    let tones = hue_tones(hues, span.brush.dither, shifts, first);
     let plotted = blend_lanes_if(span.brush.semi, span.brush.mode, back, tones);
     Lanes {
-        cells: force_lanes(span.brush.mask, plotted).to_array(),
+        cells: force_lanes(span.brush.mask, plotted),
         bits: open_bits(span.brush.mask, back),
     }
 }

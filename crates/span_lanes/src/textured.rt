@@ -1,23 +1,30 @@
 // Textured chunks, all their lanes at once.
-ghost use Rattle.std.specs.Prelude.{◌≡◌, ◌≤◌, ◌<◌, ◌+◌, ◌*◌, ◌%◌, ◌^◌, ◌==◌, ◌&&◌, if◌then◌else◌, not, false, Some, ℕ, take, length, slice_index};
+ghost use Rattle.std.specs.Prelude.{◌≡◌, ◌≤◌, ◌<◌, ◌+◌, ◌*◌, ◌%◌, ◌^◌, ◌==◌, ◌&&◌, if◌then◌else◌, false, pos, Some, ℕ};
+ghost use Rattle.std.specs.Prelude.{take, length, slice_index, slice_index_or};
 ghost use Rattle.blend_dither.specs.Color.{modulated_of, packed_pixel, blended_of, red_of, green_of, blue_of};
+ghost use Rattle.px_num.specs.Height.{short_height};
 ghost use Rattle.px_num.specs.Lanes.{EachLane};
 ghost use Rattle.vram_store.specs.Vram.{bit, height_of};
-ghost use Rattle.vram_store.specs.Plot.{later};
-ghost use Rattle.vram_store.specs.Chunk.{HasLanes};
-ghost use Rattle.span_lanes.specs.Shade.{IsTexture, IsSpan, LiesIn, HasInside, texture_of, shift_of, is_high, blended_if, front_of, at_cell, texel, shade};
-ghost use Rattle.span_lanes.specs.Paints.{paint_color};
-ghost use Rattle.span_lanes.specs.Lanes.{AreCoordinates, HasCoordinates};
+ghost use Rattle.span_lanes.specs.Chunk.{IsChunk, HasChunk};
+ghost use Rattle.span_lanes.specs.Shade.{IsTexture, IsSpan, LiesIn, texture_of, is_high, blended_if, front_of, at_cell};
+ghost use Rattle.span_lanes.specs.Shade.{shade};
+ghost use Rattle.span_lanes.specs.Hues.{hue_at};
+ghost use Rattle.span_lanes.specs.Plan.{IsPlan, HasTexels};
+ghost use Rattle.span_lanes.specs.Lanes.{AreShifts, AreCoordinates};
 ghost use Rattle.span_lanes.specs.Guard.{texel_cells};
 ghost use Rattle.overlap_guard.specs.Hazard.{cell_at};
 ghost use Rattle.texture_page.specs.Page.{clut_place, index_at};
 ghost use Rattle.span_lanes.specs.Cost.{texel_steps};
+ghost use Rattle.span_lanes.specs.Texels.{AreTexels};
 
-use crate::colors::{colors_of, modulated_by, shifts_of};
+use crate::back::back_of;
+use crate::colors::{Shifts, modulated_by};
 use crate::coordinates::Coordinates;
+use crate::hues::{Hues, hue_lanes};
 use crate::lanes::{Lanes, both, drawn_bits};
-use crate::pixel::cell_or_zero;
-use crate::{Paint, Span, Texture};
+use crate::pixel::palette_entry;
+use crate::plan::Plan;
+use crate::{Span, Texture};
 use blend_dither::blend_lanes;
 use px_num::Cell;
 use px_num::lanes::{add, mul, shifted_down, splat, sub_or_zero};
@@ -50,13 +57,14 @@ fn entry_of(texture: &Texture, u: u16, h: u16) -> Cell
     requires byte { u ≤ 255 }
     ensures value { result ≡ clut_place texture.now.clut (index_at texture.now.page texture.now.window u h) }
     ensures in_row { result.x < 1024 }
+    ensures in_height { result.y < short_height }
 {
     let index = index_of(&texture.page, &texture.window, u as u8, h);
     clut_cell(texture.clut, index)
 }
 
 // The entries of the palette for k halfwords of texels, one by one.
-fn read_entries<L: Ledger>(
+pub(crate) fn read_entries<L: Ledger>(
     vram: &Vram,
     texture: &Texture,
     us: &[u16; 16],
@@ -70,19 +78,20 @@ fn read_entries<L: Ledger>(
     requires few { k ≤ 16 }
     ensures long { length result ≡ 16 }
     ensures value { (j : ℕ) → j < k → slice_index result j
-        ≡ at_cell vram.now (clut_place texture.now.clut (index_at texture.now.page texture.now.window (slice_index us.now j) (slice_index halfwords.now j))) }
+        ≡ at_cell vram.now (clut_place texture.now.clut
+        (index_at texture.now.page texture.now.window (slice_index us.now j) (slice_index halfwords.now j))) }
     ensures cost { steps.new ≤ steps.old + k }
 {
     let mut entries = [0; 16];
     for j in 0..k {
         let cell = entry_of(texture, us[j as usize], halfwords[j as usize]);
-        entries[j as usize] = cell_or_zero(vram, cell, steps);
+        entries[j as usize] = palette_entry(vram, cell, steps);
     }
     entries
 }
 
 // k texels by their columns and the cells that they stand in, one by one.
-fn read_texels<L: Ledger>(
+pub(crate) fn read_texels<L: Ledger>(
     vram: &Vram,
     texture: &Texture,
     at: &Coordinates,
@@ -97,12 +106,12 @@ fn read_texels<L: Ledger>(
     requires few { k ≤ 16 }
     requires cells { take k cells.now ≡ texel_cells texture.now at.now.us at.now.vs k }
     ensures long { length result ≡ 16 }
-    ensures value { (j : ℕ) → j < k → slice_index result j ≡ texel texture.now (slice_index at.now.us j) (slice_index at.now.vs j) vram.now }
+    ensures value { AreTexels texture.now at.now k vram.now result }
     ensures cost { steps.new ≤ steps.old + texel_steps texture.now.page.depth * k }
 {
     let halfwords = read_cells(vram, cells, k, steps);
     if texture.page.depth < 2 {
-        read_entries(vram, texture, &at.us, &halfwords, k, steps)
+        read_entries(vram, texture, &at.us.to_array(), &halfwords, k, steps)
     } else {
         halfwords
     }
@@ -123,7 +132,8 @@ fn choose(bits: u16x16, first: u16x16, second: u16x16) -> u16x16
     requires long { (length bits ≡ 16) × (length first ≡ 16) × (length second ≡ 16) }
     requires low { EachLane (λ i. slice_index bits i ≤ 1) }
     ensures long { length result ≡ 16 }
-    ensures value { EachLane (λ i. slice_index result i ≡ (if slice_index bits i == 1 then slice_index first i else slice_index second i)) }
+    ensures value { EachLane (λ i. slice_index result i
+        ≡ (if slice_index bits i == 1 then slice_index first i else slice_index second i)) }
 {
     let firsts = mul(bits, first);
     let seconds = mul(sub_or_zero(splat(1), bits), second);
@@ -135,7 +145,8 @@ fn with_high(lanes: u16x16, bits: u16x16) -> u16x16
     requires long { (length lanes ≡ 16) × (length bits ≡ 16) }
     requires low { EachLane (λ i. slice_index bits i ≤ 1) }
     ensures long { length result ≡ 16 }
-    ensures value { EachLane (λ i. slice_index result i ≡ packed_pixel (slice_index lanes i) (slice_index bits i == 1) false) }
+    ensures value { EachLane (λ i. slice_index result i
+        ≡ packed_pixel (slice_index lanes i) (slice_index bits i == 1) false) }
 {
     let above = mul(shifted_down(lanes, 15), splat(0x8000));
     let below = sub_or_zero(lanes, above);
@@ -165,84 +176,73 @@ fn plotted_lanes(semi: bool, mode: u8, back: u16x16, texels: u16x16, front: u16x
     requires long { (length back ≡ 16) × (length texels ≡ 16) × (length front ≡ 16) }
     ensures long { length result ≡ 16 }
     ensures value { EachLane (λ i. slice_index result i
-        ≡ packed_pixel (blended_if (semi && is_high (slice_index texels i)) mode (slice_index back i) (slice_index front i)) (is_high (slice_index texels i)) false) }
+        ≡ packed_pixel
+        (blended_if (semi && is_high (slice_index texels i)) mode (slice_index back i) (slice_index front i))
+        (is_high (slice_index texels i)) false) }
 {
     let bits = high_bits(texels);
     with_high(blend_high(semi, mode, back, front, bits), bits)
 }
 
-// k texels under the colours of a paint from (x, y) on.
-fn modulated(paint: &Paint, dither: bool, x: u16, y: u16, k: u8, texels: u16x16) -> u16x16
-    requires some { 1 ≤ k }
-    requires few { k ≤ 16 }
-    requires in_row { x ≤ 1024 }
-    requires inside { HasInside paint.now x y k }
+// Sixteen texels under the colours from cell `first` on.
+#[inline(always)]
+fn modulated(hues: &Hues, shifts: Shifts, first: u16, texels: u16x16) -> u16x16
+    requires shifts { AreShifts shifts.lanes }
     requires long { length texels ≡ 16 }
     ensures long { length result ≡ 16 }
-    ensures value { (j : ℕ) → j < k → slice_index result j
-        ≡ modulated_of (slice_index texels j) (red_of (paint_color paint.now (x + j) y)) (green_of (paint_color paint.now (x + j) y))
-        (blue_of (paint_color paint.now (x + j) y)) (shift_of dither (x + j) y) }
+    ensures value { EachLane (λ j. slice_index result j
+        ≡ modulated_of (slice_index texels j) (red_of (hue_at hues.now first j)) (green_of (hue_at hues.now first j))
+        (blue_of (hue_at hues.now first j)) (slice_index_or shifts.lanes j (pos 0))) }
 {
-    modulated_by(texels, colors_of(paint, x, y, k), shifts_of(dither, x, y))
+    modulated_by(texels, hue_lanes(hues, first), shifts)
 }
 
-// The colours of k texels from (x, y) on, or the texels themselves.
+// The colours of sixteen texels from cell `first` on, or the texels themselves.
+#[inline(always)]
 #[tactic(auto, unfolding(crate::specs::Shade::front_of))]
-fn fronts(raw: bool, paint: &Paint, dither: bool, x: u16, y: u16, k: u8, texels: u16x16) -> u16x16
-    requires some { 1 ≤ k }
-    requires few { k ≤ 16 }
-    requires in_row { x ≤ 1024 }
-    requires inside { HasInside paint.now x y k }
+fn fronts(raw: bool, hues: &Hues, shifts: Shifts, first: u16, texels: u16x16) -> u16x16
+    requires shifts { AreShifts shifts.lanes }
     requires long { length texels ≡ 16 }
     ensures long { length result ≡ 16 }
-    ensures value { (j : ℕ) → j < k → slice_index result j
-        ≡ front_of raw (paint_color paint.now (x + j) y) (shift_of dither (x + j) y) (slice_index texels j) }
+    ensures value { EachLane (λ j. slice_index result j
+        ≡ front_of raw (hue_at hues.now first j) (slice_index_or shifts.lanes j (pos 0)) (slice_index texels j)) }
 {
     if raw {
         texels
     } else {
-        modulated(paint, dither, x, y, k, texels)
+        modulated(hues, shifts, first, texels)
     }
 }
 
-fn is_dithered(dither: bool, raw: bool) -> bool
-    ensures { result ≡ (dither && not raw) }
-{
-    dither && !raw
-}
-
 // The pixels of k cells of a textured span, all of them read in video memory as it is.
+#[inline(always)]
 pub(crate) fn collect_textured<L: Ledger>(
     vram: &Vram,
     span: &Span,
     texture: &Texture,
-    at: &Coordinates,
-    cells: &[Cell; 16],
+    plan: &Plan,
+    texels: u16x16,
     first: u16,
     k: u8,
     steps: &mut Steps<L>,
 ) -> Lanes
     requires span { IsSpan span.now }
     requires height { LiesIn (height_of vram.now) span.now }
-    requires some { 1 ≤ k }
-    requires few { k ≤ 16 }
-    requires within { first + k ≤ span.now.n }
+    requires chunk { IsChunk span.now first k }
+    requires whole { first % 16 ≡ 0 }
     requires texture { texture_of span.now.paint ≡ Some texture.now }
-    requires at { HasCoordinates span.now.paint (span.now.x + first) span.now.y first k at.now.us at.now.vs }
-    requires cells { take k cells.now ≡ texel_cells texture.now at.now.us at.now.vs k }
-    ensures lanes { HasLanes (later (shade span.now) first) span.now.brush.mask (1024 * span.now.y + (span.now.x + first)) k vram.now result.cells result.bits }
-    ensures cost { steps.new ≤ steps.old + (1 + texel_steps texture.now.page.depth * k) }
+    requires plan { IsPlan span.now texture.now plan.now }
+    requires texels { HasTexels span.now texture.now first k vram.now texels }
+    ensures lanes { HasChunk span.now first k vram.now result }
+    ensures cost { steps.new ≤ steps.old + 1 }
 {
     let x = span.x + first;
     let brush = span.brush;
-    let back = vram.load16(x, span.y, k, steps);
-    let read = read_texels(vram, texture, at, cells, k, steps);
-    let texels = u16x16::from_array(read);
-    let dither = is_dithered(brush.dither, texture.raw);
-    let front = fronts(texture.raw, &span.paint, dither, x, span.y, k, texels);
+    let back = back_of(vram, &brush, x, span.y, k, steps);
+    let front = fronts(texture.raw, &plan.hues, plan.shifts, first, texels);
     let plotted = plotted_lanes(brush.semi, brush.mode, back, texels, front);
     Lanes {
-        cells: force_lanes(brush.mask, plotted).to_array(),
+        cells: force_lanes(brush.mask, plotted),
         bits: both(open_bits(brush.mask, back), drawn_bits(texels)),
     }
 }

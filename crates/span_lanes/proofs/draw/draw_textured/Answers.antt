@@ -1,38 +1,14 @@
-use Rattle.std.proofs.Common.{sym, ◌∙◌, arith}
-use Rattle.span_lanes.proofs.ColorLemmas.{inside_later}
-use Rattle.span_lanes.proofs.BlindLemmas.{span_blind}
-use Rattle.span_lanes.proofs.CostLemmas.{textured_cost}
-use Rattle.span_lanes.proofs.TexelLemmas.{cells_same}
+use Rattle.span_lanes.proofs.PlanLemmas.{coordinates_here}
 use Rattle.span_lanes.proofs.draw.draw_textured.Goals as goal
 
-pub coordinates_of-at-requires-clause-inside : goal.coordinates_of-at-requires-clause-inside
-coordinates_of-at-requires-clause-inside g c =
+pub draw_apart-requires-clause-at : goal.draw_apart-requires-clause-at
+draw_apart-requires-clause-at g c =
     let span = c.args.span.now in
-    inside_later span.paint span.x span.y span.n c.args.first c.args.k c.requires.within c.requires.span.inside
+    let at = c.track_lanes-at.ensures in
+    coordinates_here span.paint span.x span.y span.n c.args.first c.args.k c.args.plan.now.track _ _ c.requires.plan.track c.requires.chunk.within c.requires.chunk.few at.across at.down at.u at.v
 
-pub texels_at-cells-requires-clause-texture : goal.texels_at-cells-requires-clause-texture
-texels_at-cells-requires-clause-texture g c = rw c.requires.texture at c.requires.span.texture
-
-pub store_chunk-requires-clause-blind : goal.store_chunk-requires-clause-blind
-store_chunk-requires-clause-blind g c =
+pub draw_guarded-requires-clause-at : goal.draw_guarded-requires-clause-at
+draw_guarded-requires-clause-at g c =
     let span = c.args.span.now in
-    let t = c.args.texture.now in
-    let cells = cells_same span.paint t span.x span.y c.args.first _ _ c.args.k c.args.k c.coordinates_of-at.ensures (omega arith) ∙ sym c.texels_at-cells.ensures in
-    span_blind span c.args.first c.args.k c.args.vram.now c.requires.span c.requires.within
-    (λ h. let known = rw (c.requires.texture, cells) at h in absurd (cc (c.reads_itself.ensures.pairs.1 known, c.if-reads_itself.false)))
-
-pub returns-then-reads_itself-clause-cost : goal.returns-then-reads_itself-clause-cost
-returns-then-reads_itself-clause-cost g c =
-    let span = c.args.span.now in
-    let t = c.args.texture.now in
-    let cells = cells_same span.paint t span.x span.y c.args.first _ _ c.args.k c.args.k c.coordinates_of-at.ensures (omega arith) ∙ sym c.texels_at-cells.ensures in
-    let cost = rw (← c.reads_itself.ensures.value, c.if-reads_itself.true) at (textured_cost span t c.args.first c.args.k _ c.requires.texture cells) in
-    rw cost (rw c.requires.texture at c.draw_cells.ensures.cost)
-
-pub returns-else-reads_itself-clause-cost : goal.returns-else-reads_itself-clause-cost
-returns-else-reads_itself-clause-cost g c =
-    let span = c.args.span.now in
-    let t = c.args.texture.now in
-    let cells = cells_same span.paint t span.x span.y c.args.first _ _ c.args.k c.args.k c.coordinates_of-at.ensures (omega arith) ∙ sym c.texels_at-cells.ensures in
-    let cost = rw (← c.reads_itself.ensures.value, c.if-reads_itself.false) at (textured_cost span t c.args.first c.args.k _ c.requires.texture cells) in
-    omega (arith, cost, c.collect_textured-lanes.ensures.cost, c.store_chunk.ensures.cost)
+    let at = c.track_lanes-at.ensures in
+    coordinates_here span.paint span.x span.y span.n c.args.first c.args.k c.args.plan.now.track _ _ c.requires.plan.track c.requires.chunk.within c.requires.chunk.few at.across at.down at.u at.v

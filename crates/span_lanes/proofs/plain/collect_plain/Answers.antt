@@ -1,29 +1,35 @@
-use Rattle.std.proofs.Common.{ℕ, ◌≡◌, ◌<◌, ◌+◌, ◌*◌, get_or, sym, ap, ◌∙◌, arith}
+use Rattle.std.proofs.Common.{ℕ, ◌≡◌, ◌<◌, ◌+◌, ◌*◌, Bool, cond, get_or, ap, ◌∙◌, arith}
 use Rattle.span_lanes.specs.Shade.{flat_pixel, shift_of}
 use Rattle.span_lanes.specs.Paints.{paint_color}
-use Rattle.span_lanes.proofs.ColorLemmas.{inside_later}
+use Rattle.span_lanes.specs.Lanes.{DoesFor}
+use Rattle.span_lanes.proofs.BackLemmas.{flat_back, kept_back}
+use Rattle.span_lanes.proofs.ColorLemmas.{shift_again, no_shift}
 use Rattle.span_lanes.proofs.PlainLemmas.{shade_plain, plain_is, plain_lane}
 use Rattle.span_lanes.proofs.plain.collect_plain.Goals as goal
-
-pub paint_tones-tones-requires-clause-inside : goal.paint_tones-tones-requires-clause-inside
-paint_tones-tones-requires-clause-inside g c =
-    let span = c.args.span.now in
-    inside_later span.paint span.x span.y span.n c.args.first c.args.k c.requires.within c.requires.span.inside
 
 pub returns-clause-lanes : goal.returns-clause-lanes
 returns-clause-lanes g c = record {
   lane = λ j lt.
       let span = c.args.span.now in
       let in_lanes : j < 16 = omega arith in
+      let x : ℕ = span.x + c.args.first + j in
+      let same_x : span.x + (c.args.first + j) ≡ x = omega arith in
       let place : 1024 * span.y + (span.x + c.args.first + j) ≡ 1024 * span.y + (span.x + c.args.first) + j = omega arith in
-      let content = c.load16-back.ensures.lanes.cells j lt in
-      let here = ap (λ (k : ℕ). get_or c.args.vram.now k 0) place ∙ sym content in
-      let color : ℕ = paint_color span.paint (span.x + c.args.first + j) span.y in
+      let cell : ℕ = get_or c.args.vram.now (1024 * span.y + (span.x + c.args.first) + j) 0 in
+      let back : DoesFor span.brush cell (get_or c.back_of-back.result j 0) = c.back_of-back.ensures.value j lt in
+      let here : get_or c.args.vram.now (1024 * span.y + (span.x + c.args.first + j)) 0 ≡ cell = ap (λ (k : ℕ). get_or c.args.vram.now k 0) place in
+      let color : ℕ = paint_color span.paint x span.y in
+      let hue = rw same_x at (c.requires.hues c.args.first j in_lanes (omega arith)) in
+      let again = c.requires.shifts.value j in_lanes ∙ shift_again span.brush.dither span.x x span.y j (omega (arith, c.requires.fourth)) in
       plain_lane span.brush.mask _ _ _ _ _
-      (shade_plain span (c.args.first + j) (span.x + c.args.first + j) c.args.vram.now c.requires.plain (omega arith)
-      ∙ ap (flat_pixel span.brush color (shift_of span.brush.dither (span.x + c.args.first + j) span.y)) here
-      ∙ plain_is span.brush color _ _ _ _ (c.paint_tones-tones.ensures.value j lt)
+      (shade_plain span (c.args.first + j) x c.args.vram.now c.requires.plain (omega arith)
+      ∙ ap (flat_pixel span.brush color (shift_of span.brush.dither x span.y)) here
+      ∙ flat_back span.brush color (shift_of span.brush.dither x span.y) cell _ back
+      ∙ plain_is span.brush color _ _ _ _ (rw (hue, again) at (c.hue_tones-tones.ensures.value j in_lanes))
       (c.blend_lanes_if-plotted.ensures.value j in_lanes) (c.blend_lanes_if-plotted.ensures.low j in_lanes))
-      (rw content at (c.open_bits.ensures j in_lanes))
+      (c.open_bits.ensures j in_lanes ∙ ap (λ (b : Bool). cond b 0 1) (kept_back span.brush cell _ back))
       (c.force_lanes.ensures.value j in_lanes);
 }
+
+pub hue_tones-tones-requires-clause-none : goal.hue_tones-tones-requires-clause-none
+hue_tones-tones-requires-clause-none g c none i lt = c.requires.shifts.value i lt ∙ no_shift c.args.span.now.brush.dither (c.args.span.now.x + i) c.args.span.now.y none

@@ -1,7 +1,7 @@
 use Rattle.std.proofs.Common.{◌≡◌, ◌<◌, ◌+◌, ℕ, slice_index}
 use Rattle.span_lanes.specs.Shade.{row_u}
 use Rattle.span_lanes.specs.Lanes.{AreCoordinates}
-use Rattle.span_lanes.proofs.coordinates.row_columns.Given as goal
+use Rattle.span_lanes.proofs.track.row_columns.Given as goal
 
 abbrev pub invariant-loop-j : goal.invariant-loop-j
 invariant-loop-j l = record {

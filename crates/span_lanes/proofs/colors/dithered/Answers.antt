@@ -1,7 +1,7 @@
 use Rattle.std.proofs.Common.{◌∙◌, arith}
 use Rattle.std.proofs.lemmas.List.{length-map}
 use Rattle.span_lanes.proofs.ColorLemmas.{read_back}
-use Rattle.span_lanes.proofs.colors.shifts_of.Goals as goal
+use Rattle.span_lanes.proofs.colors.dithered.Goals as goal
 
 pub returns-clause-small : goal.returns-clause-small
 returns-clause-small c =

@@ -1,0 +1,35 @@
+-- Four bits of a halfword, and tables of sixteen bytes.
+use Rattle.std.proofs.Common.{◌≡◌, ◌<◌, ℕ, zero, suc, ◌+◌, ◌-◌, ◌*◌, ◌/◌, ◌%◌, ◌^◌, List, [], ◌∷◌, length, get_or, w8, refl, ap, ◌∙◌, arith}
+use lib.Lanes.{Each1}
+use borrow.Rule.Simd.Moves.{SwzOk, swz_l}
+use Rattle.std.proofs.lemmas.Simd.{SwzOk-from_below, length-swz_l, get_or-swz_l_below}
+use Rattle.px_num.specs.Lanes.{EachLane}
+use Rattle.texture_page.specs.Page.{index_in}
+
+by_bits : (h odd upper at : ℕ) → odd < 2 → upper < 2 → at ≡ odd + 2 * upper → h * ((16 - odd * 15) * (256 - upper * 255)) % 2 ^ 16 / 2 ^ 12 ≡ h / 2 ^ (4 * at) % 16
+by_bits h zero zero at a b e = rw e (omega arith)
+by_bits h (suc zero) zero at a b e = rw e (omega arith)
+by_bits h zero (suc zero) at a b e = rw e (omega arith)
+by_bits h (suc zero) (suc zero) at a b e = rw e (omega arith)
+by_bits h (suc (suc odd)) upper at a b e = absurd (omega arith)
+by_bits h odd (suc (suc upper)) at a b e = absurd (omega arith)
+
+pub nibble_is : (a h : ℕ) → h * ((16 - a % 2 * 15) * (256 - a / 2 % 2 * 255)) % 2 ^ 16 / 2 ^ 12 ≡ index_in 0 a h
+nibble_is a h = by_bits h (a % 2) (a / 2 % 2) (a % 4) (omega arith) (omega arith) (omega arith)
+
+each1 : (P : ℕ → Type 0) (xs : List ℕ) → ((i : ℕ) → i < length xs → P (get_or xs i 0)) → Each1 P xs
+each1 P [] f = tt
+each1 P (x ∷ xs) f = (f 0 (omega arith), each1 P xs (λ i lt. f (suc i) (omega arith)))
+
+-- positions in a table
+module _ (table at : List ℕ) (long : length at ≡ 16) (low : EachLane (λ i. get_or at i 0 < 16)) where
+  pub table_fits : SwzOk w8 16 16 0 at
+  table_fits = SwzOk-from_below w8 16 1 16 0 at refl (omega (arith, long)) (each1 (λ j. j < 16) at (λ i lt. low i (omega (arith, long))))
+
+  pub table_long : length (swz_l w8 16 table 0 at) ≡ 16
+  table_long = length-swz_l w8 16 table 0 at ∙ long
+
+  pub table_at : (i : ℕ) → i < 16 → get_or (swz_l w8 16 table 0 at) i 0 ≡ get_or table (get_or at i 0) 0
+  table_at i lt =
+      let block : 16 * ((0 + i) / 16) + get_or at i 0 ≡ get_or at i 0 = omega (arith, lt) in
+      get_or-swz_l_below w8 16 table 0 at i (omega (arith, long)) (low i lt) ∙ ap (λ k. get_or table k 0) block

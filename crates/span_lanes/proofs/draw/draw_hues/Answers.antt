@@ -1,0 +1,43 @@
+use Rattle.std.proofs.Common.{arith, ◌+◌}
+use Rattle.span_lanes.proofs.ColorLemmas.{inside_first}
+use Rattle.span_lanes.proofs.ChunkLemmas.{AreDrawn, drawn_start, drawn_next, all_cells, all_cost}
+use Rattle.span_lanes.proofs.draw.draw_hues.Given.{Over}
+use Rattle.span_lanes.proofs.draw.draw_hues.Goals.{After-draw_plain-then-rest-gt0}
+use Rattle.span_lanes.proofs.draw.draw_hues.Goals as goal
+
+pub loop-c-init : goal.loop-c-init
+loop-c-init g c = drawn_start c.args.span.now c.args.steps.now c.args.vram.now
+
+pub loop-c-preserved : goal.loop-c-preserved
+loop-c-preserved g c =
+    drawn_next c.args.span.now c.loop-c.c _ _ _ _ _ _ _ _ c.loop-c.invariant (omega arith) (omega arith) (omega arith)
+    c.draw_plain.ensures.cells c.draw_plain.ensures.long c.draw_plain.ensures.cost
+
+-- the last chunk, which is not whole
+last : (g : Over) → (c : After-draw_plain-then-rest-gt0 g) → AreDrawn c.args.span.now (c.loop-c.c + 1) c.args.steps.now c.draw_plain-then-rest-gt0.new.steps c.args.vram.now c.draw_plain-then-rest-gt0.new.vram
+last g c =
+    drawn_next c.args.span.now c.loop-c.c _ _ _ _ _ _ _ _ c.loop-c.invariant (omega arith) (omega arith) (omega arith)
+    c.draw_plain-then-rest-gt0.ensures.cells c.draw_plain-then-rest-gt0.ensures.long c.draw_plain-then-rest-gt0.ensures.cost
+
+pub returns-then-rest-gt0-clause-cells : goal.returns-then-rest-gt0-clause-cells
+returns-then-rest-gt0-clause-cells g c = all_cells c.args.span.now (c.loop-c.c + 1) _ _ _ _ (last g (goal.at.returns-then-rest-gt0-clause-cells g c).After-draw_plain-then-rest-gt0) (omega arith)
+
+pub returns-then-rest-gt0-clause-cost : goal.returns-then-rest-gt0-clause-cost
+returns-then-rest-gt0-clause-cost g c = all_cost c.args.span.now (c.loop-c.c + 1) _ _ _ _ (last g (goal.at.returns-then-rest-gt0-clause-cost g c).After-draw_plain-then-rest-gt0) (omega arith)
+
+pub returns-else-rest-gt0-clause-cells : goal.returns-else-rest-gt0-clause-cells
+returns-else-rest-gt0-clause-cells g c = all_cells c.args.span.now c.loop-c.c _ _ _ _ c.loop-c.invariant (omega arith)
+
+pub returns-else-rest-gt0-clause-cost : goal.returns-else-rest-gt0-clause-cost
+returns-else-rest-gt0-clause-cost g c = all_cost c.args.span.now c.loop-c.c _ _ _ _ c.loop-c.invariant (omega arith)
+
+pub draw_plain-requires-clause-height : goal.draw_plain-requires-clause-height
+draw_plain-requires-clause-height g c = rw c.loop-c.invariant.long c.requires.height
+
+pub hues_of-hues-requires : goal.hues_of-hues-requires
+hues_of-hues-requires g c =
+    let span = c.args.span.now in
+    inside_first span.paint span.x span.y span.n c.requires.span.some c.requires.span.inside
+
+pub draw_plain-requires-clause-hues : goal.draw_plain-requires-clause-hues
+draw_plain-requires-clause-hues g c = c.hues_of-hues.ensures c.args.span.now.n c.requires.span.inside

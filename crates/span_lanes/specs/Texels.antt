@@ -1,0 +1,38 @@
+-- The texels of a chunk by their coordinates, lane by lane.
+use Rattle.std.specs.Prelude.{ℕ, ◌≡◌, ◌+◌, ◌<◌, ◌≤◌, List, slice_index}
+use Rattle.px_num.specs.Lanes.{EachLane}
+use Rattle.px_num.specs.declared.shape.Cell.{Cell}
+use Rattle.texture_page.specs.Page.{texel_place, windowed}
+use Rattle.span_lanes.specs.declared.coordinates.Coordinates.{Coordinates}
+use Rattle.span_lanes.specs.declared.span.Texture.{Texture}
+use Rattle.span_lanes.specs.Shade.{at_cell, texel}
+
+-- the cell of the texel of lane j
+abbrev pub lane_place : Texture → Coordinates → ℕ → Cell
+lane_place t at j = texel_place t.page t.window (slice_index at.us j) (slice_index at.vs j)
+
+-- the columns of the texels under the window
+abbrev pub AreAcross : Texture → Coordinates → List ℕ → Type 0
+AreAcross t at across =
+    EachLane (λ i. slice_index across i ≡ windowed t.window.mask_x t.window.off_x (slice_index at.us i))
+
+-- the first k lanes are the halfwords of the texels' cells
+abbrev pub AreHalfwords : Texture → Coordinates → (k : ℕ) → (m halfwords : List ℕ) → Type 0
+AreHalfwords t at k m halfwords = (j : ℕ) → j < k → slice_index halfwords j ≡ at_cell m (lane_place t at j)
+
+-- the first k lanes are the texels
+abbrev pub AreTexels : Texture → Coordinates → (k : ℕ) → (m lanes : List ℕ) → Type 0
+AreTexels t at k m lanes =
+    (j : ℕ) → j < k → slice_index lanes j ≡ texel t (slice_index at.us j) (slice_index at.vs j) m
+
+-- sixteen cells of a row from (x, y) on, side by side
+abbrev pub StandInRow : (xs ys : List ℕ) → (x y : ℕ) → Type 0
+StandInRow xs ys x y =
+    (x + 16 ≤ 1024) × EachLane (λ i. slice_index xs i ≡ x + i) × EachLane (λ i. slice_index ys i ≡ y)
+
+-- cells among those sixteen
+abbrev pub StandNear : (xs ys : List ℕ) → (x y : ℕ) → Type 0
+StandNear xs ys x y =
+    (x + 16 ≤ 1024)
+    × EachLane (λ i. (x ≤ slice_index xs i) × (slice_index xs i < x + 16))
+    × EachLane (λ i. slice_index ys i ≡ y)

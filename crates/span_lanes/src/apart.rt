@@ -1,0 +1,63 @@
+// Spans that lie apart from their texels and from their palette.
+ghost use Rattle.std.specs.Prelude.{◌≡◌, ◌≢◌, ◌≤◌, ◌<◌, ◌+◌, ◌/◌, ◌%◌, ◌⊎◌, ◌↔◌, Some, IsTrue};
+ghost use Rattle.span_lanes.specs.Shade.{IsSpan, IsTexture, texture_of};
+ghost use Rattle.span_lanes.specs.Guard.{IsApart, page_width};
+
+use crate::{Span, Texture};
+
+// Whether n cells from x on are none of those of a strip that does not wrap.
+fn lies_beside(first: u16, width: u16, x: u16, n: u16) -> bool
+    requires row { x + n ≤ 1024 }
+    requires strip { (first ≤ 1024) × (width ≤ 1024) }
+    ensures { IsTrue result ↔ ((first + width ≤ 1024) × ((x + n ≤ first) ⊎ (first + width ≤ x))) }
+{
+    first + width <= 1024 && (x + n <= first || first + width <= x)
+}
+
+// Whether a row is above or below the rows of a page.
+fn lies_outside(page: u16, y: u16) -> bool
+    requires { page ≤ 768 }
+    ensures { IsTrue result ↔ ((y < page) ⊎ (page + 255 < y)) }
+{
+    y < page || page + 255 < y
+}
+
+fn width_of(depth: u8) -> u16
+    ensures value { result ≡ page_width depth }
+    ensures few { result ≤ 256 }
+{
+    match depth {
+        0 => 64,
+        1 => 128,
+        _ => 256,
+    }
+}
+
+fn is_beside_page(span: &Span, texture: &Texture) -> bool
+    requires span { IsSpan span.now }
+    requires texture { IsTexture texture.now }
+    ensures { IsTrue result ↔ (((span.now.y < texture.now.page.y) ⊎ (texture.now.page.y + 255 < span.now.y))
+        ⊎ ((texture.now.page.x + page_width texture.now.page.depth ≤ 1024)
+        × ((span.now.x + span.now.n ≤ texture.now.page.x)
+        ⊎ (texture.now.page.x + page_width texture.now.page.depth ≤ span.now.x)))) }
+{
+    let outside = lies_outside(texture.page.y, span.y);
+    let beside = lies_beside(texture.page.x, width_of(texture.page.depth), span.x, span.n);
+    outside || beside
+}
+
+// Whether the palette, if there is one, has another row.
+fn is_off_palette(span: &Span, texture: &Texture) -> bool
+    ensures { IsTrue result ↔ ((2 ≤ texture.now.page.depth) ⊎ (texture.now.clut / 64 % 512 ≢ span.now.y)) }
+{
+    texture.page.depth >= 2 || texture.clut / 64 % 512 != span.y
+}
+
+// Whether a span is known to read nothing that it writes.
+pub(crate) fn is_apart(span: &Span, texture: &Texture) -> bool
+    requires span { IsSpan span.now }
+    requires texture { texture_of span.now.paint ≡ Some texture.now }
+    ensures { IsTrue result → IsApart span.now }
+{
+    is_beside_page(span, texture) && is_off_palette(span, texture)
+}

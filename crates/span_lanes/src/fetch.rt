@@ -1,0 +1,291 @@
+// Texels of a chunk that lies apart from them.
+ghost use Rattle.std.specs.Prelude.{◌≡◌, IsTrue, ◌≤◌, ◌<◌, ◌+◌, ◌*◌, ◌%◌, ◌^◌, ℕ, length, slice_index};
+ghost use Rattle.px_num.specs.Lanes.{EachLane};
+ghost use Rattle.vram_store.specs.Vram.{at, height_of};
+ghost use Rattle.texture_page.specs.Page.{clut_place};
+ghost use Rattle.span_lanes.specs.Shade.{IsTexture, at_cell};
+ghost use Rattle.span_lanes.specs.Lanes.{AreCoordinates};
+ghost use Rattle.span_lanes.specs.Cost.{texel_steps};
+ghost use Rattle.span_lanes.specs.Texels.{AreAcross, AreHalfwords, AreTexels, StandInRow, StandNear};
+
+use crate::Texture;
+use crate::coordinates::Coordinates;
+use crate::nibbles::{entries_at, indexes};
+use crate::places::places_of;
+use crate::textured::read_entries;
+use px_num::lanes::{add, shifted_down, splat, sub_or_zero};
+use std::simd::prelude::*;
+use std::sync::ledger::Ledger;
+use vram_store::{Steps, Vram};
+
+// The halfwords of k cells, one by one.
+#[inline(always)]
+fn gather<L: Ledger>(vram: &Vram, xs: u16x16, ys: u16x16, k: u8, steps: &mut Steps<L>) -> u16x16
+    requires few { k ≤ 16 }
+    requires in_row { EachLane (λ i. slice_index xs i < 1024) }
+    requires in_height { EachLane (λ i. slice_index ys i < height_of vram.now) }
+    ensures long { length result ≡ 16 }
+    ensures value { (j : ℕ) → j < k → slice_index result j ≡ at vram.now (slice_index xs j) (slice_index ys j) }
+    ensures cost { steps.new ≤ steps.old + k }
+{
+    let xs = xs.to_array();
+    let ys = ys.to_array();
+    let mut halfwords = [0; 16];
+    for j in 0..k {
+        halfwords[j as usize] = vram.get(xs[j as usize], ys[j as usize], steps);
+    }
+    u16x16::from_array(halfwords)
+}
+
+// The numbers of the lanes.
+#[inline(always)]
+fn ramp() -> u16x16
+    ensures long { length result ≡ 16 }
+    ensures value { EachLane (λ i. slice_index result i ≡ i) }
+{
+    u16x16::from_array([0, 1, 2, 3, 4, 5, 6, 7, 8, 9, 10, 11, 12, 13, 14, 15])
+}
+
+// Whether two vectors are the same.
+#[inline(always)]
+fn same(a: u16x16, b: u16x16) -> bool
+    requires { (length a ≡ 16) × (length b ≡ 16) }
+    ensures { IsTrue result → EachLane (λ i. slice_index a i ≡ slice_index b i) }
+{
+    a == b
+}
+
+// Whether sixteen cells stand side by side, from (x, y) on.
+#[inline(always)]
+fn stand_in_row(xs: u16x16, ys: u16x16, x: u16, y: u16) -> bool
+    requires long { (length xs ≡ 16) × (length ys ≡ 16) }
+    requires x { x < 1024 }
+    ensures { IsTrue result → StandInRow xs ys x y }
+{
+    let first = same(xs, add(splat(x), ramp()));
+    let second = same(ys, splat(y));
+    x + 16 <= 1024 && first && second
+}
+
+// Whether sixteen cells stand in a row of sixteen cells from (x, y) on.
+#[inline(always)]
+fn stand_near(xs: u16x16, ys: u16x16, x: u16, y: u16) -> bool
+    requires long { (length xs ≡ 16) × (length ys ≡ 16) }
+    requires in_row { EachLane (λ i. slice_index xs i < 1024) }
+    requires x { x < 1024 }
+    ensures { IsTrue result → StandNear xs ys x y }
+{
+    let far = sub_or_zero(xs, splat(x));
+    let none_before = same(xs, add(splat(x), far));
+    let none_after = same(shifted_down(far, 4), splat(0));
+    let one_row = same(ys, splat(y));
+    x + 16 <= 1024 && none_before && none_after && one_row
+}
+
+// The halfwords of cells in a row of sixteen cells from (x, y) on.
+#[inline(always)]
+fn near_halfwords<L: Ledger>(
+    vram: &Vram,
+    xs: u16x16,
+    x: u16,
+    y: u16,
+    steps: &mut Steps<L>,
+) -> u16x16
+    requires long { length xs ≡ 16 }
+    requires in_row { x + 16 ≤ 1024 }
+    requires in_height { y < height_of vram.now }
+    requires near { EachLane (λ i. (x ≤ slice_index xs i) × (slice_index xs i < x + 16)) }
+    ensures long { length result ≡ 16 }
+    ensures value { EachLane (λ i. slice_index result i ≡ at vram.now (slice_index xs i) y) }
+    ensures cost { steps.new ≤ steps.old + 1 }
+{
+    let cells = vram.load16(x, y, 16, steps);
+    entries_at(cells, sub_or_zero(xs, splat(x)))
+}
+
+// The halfwords of k cells: at once where they stand close by.
+#[inline(always)]
+fn close_halfwords<L: Ledger>(
+    vram: &Vram,
+    xs: u16x16,
+    ys: u16x16,
+    k: u8,
+    steps: &mut Steps<L>,
+) -> u16x16
+    requires some { 1 ≤ k }
+    requires few { k ≤ 16 }
+    requires long { (length xs ≡ 16) × (length ys ≡ 16) }
+    requires in_row { EachLane (λ i. slice_index xs i < 1024) }
+    requires in_height { EachLane (λ i. slice_index ys i < height_of vram.now) }
+    ensures long { length result ≡ 16 }
+    ensures value { (j : ℕ) → j < k → slice_index result j ≡ at vram.now (slice_index xs j) (slice_index ys j) }
+    ensures cost { steps.new ≤ steps.old + k }
+{
+    let x = xs.to_array()[0].min(xs.to_array()[15]);
+    let y = ys.to_array()[0];
+    if stand_near(xs, ys, x, y) {
+        near_halfwords(vram, xs, x, y, steps)
+    } else {
+        gather(vram, xs, ys, k, steps)
+    }
+}
+
+// The halfwords of k cells: at once where they stand side by side.
+#[inline(always)]
+fn halfwords_of<L: Ledger>(
+    vram: &Vram,
+    xs: u16x16,
+    ys: u16x16,
+    k: u8,
+    steps: &mut Steps<L>,
+) -> u16x16
+    requires some { 1 ≤ k }
+    requires few { k ≤ 16 }
+    requires long { (length xs ≡ 16) × (length ys ≡ 16) }
+    requires in_row { EachLane (λ i. slice_index xs i < 1024) }
+    requires in_height { EachLane (λ i. slice_index ys i < height_of vram.now) }
+    ensures long { length result ≡ 16 }
+    ensures value { (j : ℕ) → j < k → slice_index result j ≡ at vram.now (slice_index xs j) (slice_index ys j) }
+    ensures cost { steps.new ≤ steps.old + k }
+{
+    let x = xs.to_array()[0];
+    let y = ys.to_array()[0];
+    if stand_in_row(xs, ys, x, y) {
+        vram.load16(x, y, k, steps)
+    } else {
+        close_halfwords(vram, xs, ys, k, steps)
+    }
+}
+
+// The first sixteen entries of a palette, whose row is one of the first 512.
+#[inline(always)]
+fn sixteen_entries<L: Ledger>(vram: &Vram, clut: u16, steps: &mut Steps<L>) -> u16x16
+    ensures long { length result ≡ 16 }
+    ensures value { EachLane (λ i. slice_index result i ≡ at_cell vram.now (clut_place clut i)) }
+    ensures cost { steps.new ≤ steps.old + 1 }
+{
+    let _height = vram.height();
+    vram.load16(clut % 64 * 16, clut / 64 % 512, 16, steps)
+}
+
+// k texels of four bits by the halfwords of their cells.
+#[inline(always)]
+fn read_fours<L: Ledger>(
+    vram: &Vram,
+    texture: &Texture,
+    at: &Coordinates,
+    across: u16x16,
+    halfwords: u16x16,
+    k: u8,
+    steps: &mut Steps<L>,
+) -> u16x16
+    requires texture { IsTexture texture.now }
+    requires us { AreCoordinates at.now.us }
+    requires long { (length across ≡ 16) × (length halfwords ≡ 16) }
+    requires depth { texture.now.page.depth ≡ 0 }
+    requires some { 1 ≤ k }
+    requires few { k ≤ 16 }
+    requires across { AreAcross texture.now at.now across }
+    requires low { EachLane (λ i. slice_index across i ≤ 255) }
+    requires halfwords { AreHalfwords texture.now at.now k vram.now halfwords }
+    ensures long { length result ≡ 16 }
+    ensures value { AreTexels texture.now at.now k vram.now result }
+    ensures cost { steps.new ≤ steps.old + 1 }
+{
+    let entries = sixteen_entries(vram, texture.clut, steps);
+    entries_at(entries, indexes(across, halfwords))
+}
+
+// k texels of eight bits by the halfwords of their cells.
+#[inline(always)]
+fn read_eights<L: Ledger>(
+    vram: &Vram,
+    texture: &Texture,
+    at: &Coordinates,
+    halfwords: u16x16,
+    k: u8,
+    steps: &mut Steps<L>,
+) -> u16x16
+    requires texture { IsTexture texture.now }
+    requires us { AreCoordinates at.now.us }
+    requires long { length halfwords ≡ 16 }
+    requires depth { texture.now.page.depth ≡ 1 }
+    requires some { 1 ≤ k }
+    requires few { k ≤ 16 }
+    requires halfwords { AreHalfwords texture.now at.now k vram.now halfwords }
+    ensures long { length result ≡ 16 }
+    ensures value { AreTexels texture.now at.now k vram.now result }
+    ensures cost { steps.new ≤ steps.old + k }
+{
+    let us = at.us.to_array();
+    let entries = read_entries(vram, texture, &us, &halfwords.to_array(), k, steps);
+    u16x16::from_array(entries)
+}
+
+// k texels of fifteen bits, which are the halfwords of their cells.
+#[inline(always)]
+fn read_wholes(vram: &Vram, texture: &Texture, at: &Coordinates, halfwords: u16x16, k: u8) -> u16x16
+    requires texture { IsTexture texture.now }
+    requires long { length halfwords ≡ 16 }
+    requires depth { 2 ≤ texture.now.page.depth }
+    requires few { k ≤ 16 }
+    requires halfwords { AreHalfwords texture.now at.now k vram.now halfwords }
+    ensures long { length result ≡ 16 }
+    ensures value { AreTexels texture.now at.now k vram.now result }
+{
+    halfwords
+}
+
+// k texels by the halfwords of their cells.
+#[inline(always)]
+fn look_up<L: Ledger>(
+    vram: &Vram,
+    texture: &Texture,
+    at: &Coordinates,
+    across: u16x16,
+    halfwords: u16x16,
+    k: u8,
+    steps: &mut Steps<L>,
+) -> u16x16
+    requires texture { IsTexture texture.now }
+    requires us { AreCoordinates at.now.us }
+    requires long { (length across ≡ 16) × (length halfwords ≡ 16) }
+    requires some { 1 ≤ k }
+    requires few { k ≤ 16 }
+    requires across { AreAcross texture.now at.now across }
+    requires low { EachLane (λ i. slice_index across i ≤ 255) }
+    requires halfwords { AreHalfwords texture.now at.now k vram.now halfwords }
+    ensures long { length result ≡ 16 }
+    ensures value { AreTexels texture.now at.now k vram.now result }
+    ensures cost { steps.new + k ≤ steps.old + texel_steps texture.now.page.depth * k }
+{
+    match texture.page.depth {
+        0 => read_fours(vram, texture, at, across, halfwords, k, steps),
+        1 => read_eights(vram, texture, at, halfwords, k, steps),
+        _ => read_wholes(vram, texture, at, halfwords, k),
+    }
+}
+
+// k texels by their coordinates.
+#[inline(always)]
+pub(crate) fn read_apart<L: Ledger>(
+    vram: &Vram,
+    texture: &Texture,
+    at: &Coordinates,
+    k: u8,
+    steps: &mut Steps<L>,
+) -> u16x16
+    requires texture { IsTexture texture.now }
+    requires page { texture.now.page.y + 255 < height_of vram.now }
+    requires across { AreCoordinates at.now.us }
+    requires down { AreCoordinates at.now.vs }
+    requires some { 1 ≤ k }
+    requires few { k ≤ 16 }
+    ensures long { length result ≡ 16 }
+    ensures value { AreTexels texture.now at.now k vram.now result }
+    ensures cost { steps.new ≤ steps.old + texel_steps texture.now.page.depth * k }
+{
+    let places = places_of(texture, at);
+    let halfwords = halfwords_of(vram, places.xs, places.ys, k, steps);
+    look_up(vram, texture, at, places.across, halfwords, k, steps)
+}

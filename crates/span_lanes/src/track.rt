@@ -1,0 +1,112 @@
+// The texel coordinates of a span.
+ghost use Rattle.std.specs.Prelude.{◌≡◌, ◌≤◌, ◌<◌, ◌+◌, ℕ, pos, IsTrue, slice_index};
+ghost use Rattle.edge_walk.specs.Triangle.{is_inside};
+ghost use Rattle.span_lanes.specs.Shade.{HasInside, row_u};
+ghost use Rattle.span_lanes.specs.Lanes.{AreCoordinates};
+ghost use Rattle.span_lanes.specs.Track.{along_at, IsAlong, IsTrack};
+
+use crate::Paint;
+use crate::coordinates::Coordinates;
+use crate::hues::line_of;
+use crate::pixel::u_of;
+use edge_walk::{RowLine, Tri};
+use px_num::lanes::splat;
+use std::simd::prelude::*;
+
+// One coordinate of the texels of a span.
+#[derive(Clone, Copy)]
+pub(crate) enum Along {
+    Line { line: RowLine },
+    Row { u: u8, flip: bool },
+    Same { v: u8 },
+}
+
+// The columns and the rows of the texels of a span within their page.
+#[derive(Clone, Copy)]
+pub(crate) struct Track {
+    pub(crate) u: Along,
+    pub(crate) v: Along,
+}
+
+fn tri_track(tri: &Tri, x: u16, y: u16) -> Track
+    requires { IsTrue (is_inside tri.now (pos x) (pos y)) }
+    ensures u { IsAlong tri.now 3 x y result.u }
+    ensures v { IsAlong tri.now 4 x y result.v }
+{
+    Track {
+        u: Along::Line {
+            line: line_of(tri, 3, x, y),
+        },
+        v: Along::Line {
+            line: line_of(tri, 4, x, y),
+        },
+    }
+}
+
+// The texel coordinates of a paint from (x, y) to the right. Zeros without a texture.
+pub(crate) fn track_of(paint: &Paint, x: u16, y: u16) -> Track
+    requires { HasInside paint.now x y 1 }
+    ensures { (n : ℕ) → HasInside paint.now x y n → IsTrack paint.now x y n result }
+{
+    match paint {
+        Paint::Flat { .. } | Paint::Shaded { .. } => Track {
+            u: Along::Same { v: 0 },
+            v: Along::Same { v: 0 },
+        },
+        Paint::TexturedTri { tri, .. } => tri_track(tri, x, y),
+        Paint::TexturedRow { u, v, flip, .. } => Track {
+            u: Along::Row { u: *u, flip: *flip },
+            v: Along::Same { v: *v },
+        },
+    }
+}
+
+// The columns of sixteen texels of a row, from that of its cell `first` on.
+#[inline(always)]
+fn row_columns(u: u8, flip: bool, first: u16) -> u16x16
+    requires within { first + 16 ≤ 1024 }
+    ensures columns { AreCoordinates result }
+    ensures value { (j : ℕ) → j < 16 → slice_index result j ≡ row_u u flip (first + j) }
+{
+    let mut us = [0; 16];
+    for j in 0..16u16 {
+        us[j as usize] = u_of(u, flip, first + j) as u16;
+    }
+    u16x16::from_array(us)
+}
+
+fn same_rows(v: u8) -> u16x16
+    ensures rows { AreCoordinates result }
+    ensures value { (j : ℕ) → j < 16 → slice_index result j ≡ v }
+{
+    splat(v as u16)
+}
+
+// A coordinate of sixteen texels from that of cell `first` on.
+#[inline(always)]
+fn along_lanes(along: &Along, first: u16) -> u16x16
+    requires within { first + 16 ≤ 1024 }
+    ensures coordinates { AreCoordinates result }
+    ensures value { (j : ℕ) → j < 16 → slice_index result j ≡ along_at along.now first j }
+{
+    match along {
+        Along::Line { line } => line.lanes(first),
+        Along::Row { u, flip } => row_columns(*u, *flip, first),
+        Along::Same { v } => same_rows(*v),
+    }
+}
+
+// The texel coordinates of sixteen cells from cell `first` on.
+#[inline(always)]
+pub(crate) fn track_lanes(track: &Track, first: u16) -> Coordinates
+    requires within { first + 16 ≤ 1024 }
+    ensures across { AreCoordinates result.us }
+    ensures down { AreCoordinates result.vs }
+    ensures u { (j : ℕ) → j < 16 → slice_index result.us j ≡ along_at track.now.u first j }
+    ensures v { (j : ℕ) → j < 16 → slice_index result.vs j ≡ along_at track.now.v first j }
+{
+    Coordinates {
+        us: along_lanes(&track.u, first),
+        vs: along_lanes(&track.v, first),
+    }
+}
