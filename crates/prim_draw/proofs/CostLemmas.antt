@@ -1,0 +1,115 @@
+-- What is drawn costs at most four steps for each cell of its boxes.
+use Rattle.std.proofs.Common.{◌≡◌, ◌≤◌, ℕ, zero, suc, ◌+◌, ◌*◌, List, [], ◌∷◌, length, Option, None, Some, Bool, true, false, cond, arith}
+use Rattle.std.specs.List.{filter}
+use Rattle.std.proofs.lemmas.List.FromFn.{length-map-range_with_len}
+use Rattle.std.proofs.Math.Nat.{mul-suc}
+use Rattle.px_num.specs.declared.shape.Box2.{Box2}
+use Rattle.px_num.specs.declared.shape.Cell.{Cell}
+use Rattle.gp0_packets.specs.declared.packet.Packet.TheVariants as packet
+use Rattle.gp1_status.specs.Registers.{Registers}
+use Rattle.edge_walk.specs.Triangle.{Corners}
+use Rattle.line_walk.specs.Line.{Ends, is_near}
+use Rattle.span_lanes.specs.Cells.{cell_in_row, row_cells}
+use Rattle.span_lanes.proofs.CostLemmas.{cost_law as span_small}
+use Rattle.prim_draw.specs.Boxes.{block_of, count_in}
+use Rattle.prim_draw.specs.Costs.{side_by_side, triangle_rows_cost, inside_cost, triangle_cost, polygon_cost, tile_rows_cost, tile_span, all_cost, rectangle_cost, ends_cost, draw_cost, box_cost}
+use Rattle.prim_draw.specs.Laws.{CostLaw}
+use Rattle.prim_draw.specs.Lines.{placed_ends, segment_box}
+use Rattle.prim_draw.specs.Parts.{polygon, polygon_style, rectangle_style}
+use Rattle.prim_draw.specs.Rectangles.{extent_at, rectangle_box, tile_in}
+use Rattle.prim_draw.specs.Triangles.{draws, lower_half, triangle_box, triangle_coat, upper_half}
+use Rattle.prim_draw.specs.declared.boxes.Block.{Block}
+use Rattle.prim_draw.specs.declared.coat.Coat.{Coat}
+use Rattle.prim_draw.specs.declared.polygon.Polygon.{Polygon}
+use Rattle.prim_draw.specs.declared.rectangles.Extent.{Extent}
+use Rattle.prim_draw.specs.declared.rectangles.Tile.{Tile}
+use Rattle.prim_draw.specs.declared.style.Style.{Style}
+use Rattle.prim_draw.proofs.PointCounts.{points_small}
+
+-- ---- triangles
+
+side_small : (coat : Coat) (cells : List Cell) → side_by_side coat cells ≤ 4 * length cells
+side_small coat [] = omega arith
+side_small coat (cell ∷ cells) = span_small (record { x = cell.x; y = cell.y; n = length (cell ∷ cells); paint = coat.paint; brush = coat.brush })
+
+kept_one : (b : Bool) (cell : Cell) (cells : List Cell) (n : ℕ) → length cells ≤ n → length (cond b (cell ∷ cells) cells) ≤ suc n
+kept_one true cell cells n le = omega arith
+kept_one false cell cells n le = omega arith
+
+filter_small : (test : Cell → Bool) (cells : List Cell) → length (filter test cells) ≤ length cells
+filter_small test [] = omega arith
+filter_small test (cell ∷ cells) = kept_one (test cell) cell (filter test cells) (length cells) (filter_small test cells)
+
+row_length : (x y n : ℕ) → length (row_cells x y n) ≡ n
+unfolding row_cells
+row_length x y n = length-map-range_with_len (cell_in_row x y) 0 n
+
+more : (rows row w h : ℕ) → rows ≤ 4 * (w * h) → row ≤ 4 * w → rows + row ≤ 4 * (w * suc h)
+more rows row w h f g = omega (arith, f, g, mul-suc w h)
+
+triangle_rows_small : (coat : Coat) (t : Corners) (b : Block) (h : ℕ) → triangle_rows_cost coat t b h ≤ 4 * (b.w * h)
+triangle_rows_small coat t b zero = omega arith
+triangle_rows_small coat t b (suc h) =
+    let cells = row_cells b.x (b.y + h) b.w in
+    let row = side_small coat (filter (draws t) cells) in
+    let few = filter_small (draws t) cells in
+    let long = row_length b.x (b.y + h) b.w in
+    more (triangle_rows_cost coat t b h) (side_by_side coat (filter (draws t) cells)) b.w h (triangle_rows_small coat t b h) (omega (arith, row, few, long))
+
+inside_small : (coat : Coat) (t : Corners) (box : Option Box2) → inside_cost coat t box ≤ 4 * count_in box
+inside_small coat t None = omega arith
+inside_small coat t (Some b) = triangle_rows_small coat t (block_of b) (block_of b).h
+
+triangle_small : (r : Registers) (style : Style) (t : Corners) → triangle_cost r style t ≤ 4 * count_in (triangle_box r t)
+unfolding triangle_cost
+triangle_small r style t = inside_small (triangle_coat r style t) t (triangle_box r t)
+
+sum_small : (four : Bool) (a b c d : ℕ) → a ≤ c → b ≤ d → a + cond four b 0 ≤ c + cond four d 0
+sum_small true a b c d f g = omega arith
+sum_small false a b c d f g = omega arith
+
+-- ---- rectangles
+
+tile_rows_small : (tile : Tile) (e : Extent) (b : Block) (h : ℕ) → tile_rows_cost tile e b h ≤ 4 * (b.w * h)
+tile_rows_small tile e b zero = omega arith
+tile_rows_small tile e b (suc h) =
+    more (tile_rows_cost tile e b h) _ b.w h (tile_rows_small tile e b h) (span_small (tile_span tile e b (b.y + h)))
+
+all_small : (tile : Tile) (e : Extent) (box : Option Box2) → all_cost tile e box ≤ 4 * count_in box
+all_small tile e None = omega arith
+all_small tile e (Some b) = tile_rows_small tile e (block_of b) (block_of b).h
+
+rectangle_small : (r : Registers) (tile : Tile) (e : Extent) → rectangle_cost r tile e ≤ 4 * count_in (rectangle_box r e)
+unfolding rectangle_cost
+rectangle_small r tile e = all_small tile e (rectangle_box r e)
+
+-- ---- segments
+
+admitted : (near : Bool) (cost : ℕ) (box : Option Box2) → cost ≤ 4 * count_in box → cond near cost 0 ≤ 4 * count_in (cond near box None)
+admitted true cost box le = le
+admitted false cost box le = omega arith
+
+ends_small : (r : Registers) (s : Ends) → ends_cost r s ≤ 4 * count_in (segment_box r s)
+unfolding ends_cost segment_box
+ends_small r s = admitted (is_near s.first s.second) _ _ (points_small _ s)
+
+-- ---- packets
+
+pub cost_law : CostLaw
+unfolding draw_cost box_cost polygon_cost
+cost_law r (packet.Poly four a b c d shaded textured semi raw clut page) =
+    let style = polygon_style shaded textured semi raw clut a in
+    let p : Polygon = polygon four a b c d in
+    sum_small four _ _ _ _ (triangle_small r style (upper_half r p)) (triangle_small r style (lower_half r p))
+cost_law r (packet.Segment a b semi) = ends_small r (placed_ends r a b)
+cost_law r (packet.Rect x y w h color textured semi raw u v clut) =
+    rectangle_small r (tile_in r (rectangle_style color textured semi raw clut) u v) (extent_at r x y w h)
+cost_law r (packet.Fill color x y w h) = omega arith
+cost_law r (packet.Copy from to w h) = omega arith
+cost_law r (packet.Load x y w h) = omega arith
+cost_law r (packet.Store x y w h) = omega arith
+cost_law r (packet.Pixels word) = omega arith
+cost_law r (packet.Env index value) = omega arith
+cost_law r packet.Irq = omega arith
+cost_law r packet.Nop = omega arith
+cost_law r packet.Finish = omega arith

@@ -1,0 +1,162 @@
+-- The cells of a row that a triangle draws, as a run of cells.
+use Rattle.std.proofs.Common.{◌≡◌, ◌<◌, ◌≤◌, ℕ, zero, suc, ◌+◌, ◌-◌, min, ℤ, pos, ◌≤ℤ◌, ◌-ℤ◌, unsigned_abs, List, [], Option, length, ◌∷◌, ◌++◌, Bool, true, false, IsTrue, cond, map, inl, inr, refl, sym, ap, ◌∙◌, arith, add-one, append-nil}
+use Rattle.std.specs.List.{filter, range_with_len}
+use Rattle.std.proofs.lemmas.Bool.{cases_lt}
+use Rattle.std.proofs.lemmas.Int.{ints}
+use Rattle.std.proofs.lemmas.List.Elements.{filter-append}
+use Rattle.std.proofs.lemmas.List.FromFn.{length-map-range_with_len}
+use Rattle.px_num.specs.declared.shape.Cell.{Cell}
+use Rattle.edge_walk.specs.Row.{IsRowSpan, IsInBox}
+use Rattle.edge_walk.specs.Triangle.{Corners, is_inside}
+use Rattle.span_lanes.specs.Cells.{Cells, cell_in_row, row_cells}
+use Rattle.span_lanes.specs.Cost.{span_cost}
+use Rattle.span_lanes.specs.Shade.{paint_pixel, shade, shade_at}
+use Rattle.span_lanes.proofs.CellsLemmas.{cells_append, row_more, row_none, row_same}
+use Rattle.prim_draw.specs.Costs.{side_by_side}
+use Rattle.prim_draw.specs.declared.coat.Coat.{Coat}
+use Rattle.prim_draw.specs.Boxes.{cells_in_rows, row_box}
+use Rattle.prim_draw.specs.Triangles.{draws, pixel_at, IsAlike}
+use Rattle.prim_draw.specs.declared.boxes.Block.{Block}
+
+-- a test holds in a row from one column on, of so many cells, and nowhere else in its first w cells
+pub record HoldsInRun (test : Cell → Bool) (x y w first count : ℕ) : Type 0 where
+  pub below : (i : ℕ) → i < w → x + i < first → test (cell_in_row x y i) ≡ false
+  pub here : (i : ℕ) → i < w → first ≤ x + i → x + i < first + count → test (cell_in_row x y i) ≡ true
+  pub beyond : (i : ℕ) → i < w → first + count ≤ x + i → test (cell_in_row x y i) ≡ false
+
+module _ (test : Cell → Bool) (x y w first count : ℕ) (left : x ≤ first) (h : HoldsInRun test x y w first count) where
+  more : (n : ℕ) → filter test (row_cells x y (suc n)) ≡ filter test (row_cells x y n) ++ cond (test (cell_in_row x y n)) (cell_in_row x y n ∷ []) []
+  more n = ap (filter test) (row_more x y n) ∙ filter-append test (row_cells x y n) (cell_in_row x y n ∷ [])
+
+  outside : (n : ℕ) → test (cell_in_row x y n) ≡ false → filter test (row_cells x y (suc n)) ≡ filter test (row_cells x y n)
+  outside n e = more n ∙ rw e (append-nil _)
+
+  kept : (n : ℕ) → test (cell_in_row x y n) ≡ true → filter test (row_cells x y (suc n)) ≡ filter test (row_cells x y n) ++ cell_in_row x y n ∷ []
+  kept n e = more n ∙ rw e refl
+
+  part : ℕ → ℕ
+  part n = min (x + n - first) count
+
+  one : (n : ℕ) → n < w → filter test (row_cells x y n) ≡ row_cells first y (part n) → filter test (row_cells x y (suc n)) ≡ row_cells first y (part (suc n))
+  unfolding part
+  one n lt so_far = elim (cases_lt (x + n) first) [
+    | inl below ↦ let same : min (x + suc n - first) count ≡ min (x + n - first) count = omega (arith, below) in
+        outside n (h.below n lt below) ∙ so_far ∙ ap (row_cells first y) (sym same)
+    | inr from ↦ elim (cases_lt (x + n) (first + count)) [
+      | inl to ↦
+          let now : min (x + n - first) count ≡ x + n - first = omega (arith, to, from) in
+          let then_ : min (x + suc n - first) count ≡ suc (x + n - first) = omega (arith, to, from) in
+          let place : x + n ≡ first + (x + n - first) = omega (arith, from) in
+          kept n (h.here n lt from to)
+          ∙ ap (λ (cells : List Cell). cells ++ cell_in_row x y n ∷ []) (so_far ∙ ap (row_cells first y) now)
+          ∙ ap (λ (column : ℕ). row_cells first y (x + n - first) ++ record { x = column; y = y } ∷ []) place
+          ∙ sym (row_more first y (x + n - first))
+          ∙ ap (row_cells first y) (sym then_)
+      | inr beyond ↦ let same : min (x + suc n - first) count ≡ min (x + n - first) count = omega (arith, beyond) in
+          outside n (h.beyond n lt beyond) ∙ so_far ∙ ap (row_cells first y) (sym same)
+    ]
+  ]
+
+  all : (n : ℕ) → n ≤ w → filter test (row_cells x y n) ≡ row_cells first y (part n)
+  unfolding part
+  all zero le = let none : min (x + zero - first) count ≡ 0 = omega arith in rw (none, row_none x y, row_none first y) refl
+  all (suc n) le = one n (omega arith) (all n (omega arith))
+
+  -- the cells where the test holds
+  pub filtered : first + count ≤ x + w → filter test (row_cells x y w) ≡ row_cells first y count
+  unfolding part
+  filtered right = let whole : min (x + w - first) count ≡ count = omega (arith, left) in all w (omega arith) ∙ ap (row_cells first y) whole
+
+not_true : (b : Bool) → (IsTrue b → ⊥) → b ≡ false
+not_true true h = absurd (h refl)
+not_true false h = refl
+
+-- the first column of a run and its number of cells, from its ends
+pub record IsFound (t : Corners) (b : Block) (y x n : ℕ) : Type 0 where
+  pub some : 1 ≤ n
+  pub left : b.x ≤ x
+  pub right : x + n ≤ b.x + b.w
+  pub inside : (i : ℕ) → i < n → IsTrue (is_inside t (pos (x + i)) (pos y))
+  pub cells : HoldsInRun (draws t) b.x y b.w x n
+
+module _ (t : Corners) (b : Block) (y : ℕ) (first last : ℤ) (some : 1 ≤ b.w) (h : IsRowSpan t (pos y) (row_box b y) first last) where
+  pub first_in : (pos b.x ≤ℤ first) × (first ≤ℤ pos (b.x + b.w - 1))
+  first_in = (((h.cells first).1 (omega (arith, ints), h.order)).0).0
+
+  pub last_in : (pos b.x ≤ℤ last) × (last ≤ℤ pos (b.x + b.w - 1))
+  last_in = (((h.cells last).1 (h.order, omega (arith, ints))).0).0
+
+  in_box : (x : ℕ) → b.x ≤ x → x < b.x + b.w → IsInBox (row_box b y) (pos x) (pos y)
+  in_box x from to = ((omega (arith, ints, from), omega (arith, ints, to)), (omega (arith, ints), omega (arith, ints)))
+
+  pub found : IsFound t b y (unsigned_abs first) (unsigned_abs (last -ℤ first) + 1)
+  found =
+      let f = first_in in
+      let l = last_in in
+      record {
+        some = omega arith;
+        left = omega (arith, ints, f.0);
+        right = omega (arith, ints, f.0, f.1, l.0, l.1, h.order);
+        inside = λ i lt. ((h.cells (pos (unsigned_abs first + i))).1 (omega (arith, ints, f.0, lt), omega (arith, ints, f.0, lt, h.order))).1;
+        cells = record {
+          below = λ i lt under. not_true _ (λ inside. let u = (h.cells (pos (b.x + i))).0 (in_box (b.x + i) (omega arith) (omega (arith, lt)), inside) in absurd (omega (arith, ints, u.0, under, f.0)));
+          here = λ i lt from to. ((h.cells (pos (b.x + i))).1 (omega (arith, ints, from, f.0), omega (arith, ints, to, f.0, h.order))).1;
+          beyond = λ i lt over. not_true _ (λ inside. let u = (h.cells (pos (b.x + i))).0 (in_box (b.x + i) (omega arith) (omega (arith, lt)), inside) in absurd (omega (arith, ints, u.1, over, f.0, h.order)));
+        };
+      }
+
+-- no cell of a row is inside
+pub none_found : (t : Corners) (b : Block) (y : ℕ) → 1 ≤ b.w → ((x : ℤ) → IsInBox (row_box b y) x (pos y) → is_inside t x (pos y) ≡ false)
+    → filter (draws t) (row_cells b.x y b.w) ≡ []
+none_found t b y some none =
+    filtered (draws t) b.x y b.w b.x 0 (omega arith)
+    (record {
+      below = λ i lt under. absurd (omega (arith, under));
+      here = λ i lt from to. absurd (omega (arith, from, to));
+      beyond = λ i lt over. none (pos (b.x + i)) ((omega (arith, ints), omega (arith, ints, lt)), (omega (arith, ints), omega (arith, ints)));
+    })
+    (omega arith)
+    ∙ row_none b.x y
+
+-- ---- rows that are drawn one after another
+
+rows_more : (test : Cell → Bool) (x y w j : ℕ) → filter test (cells_in_rows x y w (j + 1)) ≡ filter test (cells_in_rows x y w j) ++ filter test (row_cells x (y + j) w)
+rows_more test x y w j = rw (add-one j) (filter-append test (cells_in_rows x y w j) (row_cells x (y + j) w))
+
+pub row_drawn : (pixel : Cell → List ℕ → Option ℕ) (mask : ℕ) (test : Cell → Bool) (x y w j : ℕ) (first before after : List ℕ)
+    → before ≡ Cells pixel mask (filter test (cells_in_rows x y w j)) first
+    → after ≡ Cells pixel mask (filter test (row_cells x (y + j) w)) before
+    → after ≡ Cells pixel mask (filter test (cells_in_rows x y w (j + 1))) first
+row_drawn pixel mask test x y w j first before after so_far here =
+    here
+    ∙ ap (Cells pixel mask (filter test (row_cells x (y + j) w))) so_far
+    ∙ sym (cells_append pixel mask (filter test (cells_in_rows x y w j)) (filter test (row_cells x (y + j) w)) first)
+    ∙ ap (λ (cells : List Cell). Cells pixel mask cells first) (sym (rows_more test x y w j))
+
+-- cells that stand side by side cost what their span does
+pub span_of_row : (coat : Coat) (x y n : ℕ) → 1 ≤ n
+    → side_by_side coat (row_cells x y n) ≡ span_cost (record { x = x; y = y; n = n; paint = coat.paint; brush = coat.brush })
+unfolding row_cells
+span_of_row coat x y zero some = absurd (omega arith)
+span_of_row coat x y (suc n) some =
+    let here : x + 0 ≡ x = omega arith in
+    let count : length (map (cell_in_row x y) (range_with_len 0 (suc n))) ≡ suc n = length-map-range_with_len (cell_in_row x y) 0 (suc n) in
+    ap (λ (column : ℕ). span_cost (record { x = column; y = y; n = length (map (cell_in_row x y) (range_with_len 0 (suc n))); paint = coat.paint; brush = coat.brush })) here
+    ∙ ap (λ (k : ℕ). span_cost (record { x = x; y = y; n = k; paint = coat.paint; brush = coat.brush })) count
+
+-- a span of such a paint is its cells
+pub span_pixels : (coat : Coat) (x y n : ℕ) (m : List ℕ) → IsAlike coat.paint
+    → Cells (shade_at (record { x = x; y = y; n = n; paint = coat.paint; brush = coat.brush })) coat.brush.mask (row_cells x y n) m
+    ≡ Cells (pixel_at coat) coat.brush.mask (row_cells x y n) m
+unfolding shade
+span_pixels coat x y n m h =
+    row_same (shade_at (record { x = x; y = y; n = n; paint = coat.paint; brush = coat.brush })) (pixel_at coat) coat.brush.mask x y n m
+    (λ i lt now.
+    let back : x + ((x + i) - x) ≡ x + i = omega arith in
+    ap (λ (column : ℕ). paint_pixel coat.paint coat.brush column y ((x + i) - x) now) back
+    ∙ h.alike coat.brush (x + i) y ((x + i) - x) 0 now)
+
+-- a row of one cell
+pub row_one : (x y : ℕ) → row_cells x y 1 ≡ record { x = x; y = y } ∷ []
+unfolding row_cells
+row_one x y = let here : x + 0 ≡ x = omega arith in ap (λ (column : ℕ). record { x = column; y = y } ∷ []) here

@@ -1,0 +1,80 @@
+-- Boxes of cells, and their cells in the order in which they are drawn.
+use Rattle.std.specs.Prelude.{ℕ, zero, suc, ◌+◌, ◌-◌, ◌*◌, ◌≤◌, List, [], ◌++◌, Option, None, Some, ◌||◌, if◌then◌else◌}
+use Rattle.std.specs.Prelude.{int_lt, unsigned_abs, pos, ◌-ℤ◌, ◌≤ℤ◌, ◌<ℤ◌}
+use Rattle.std.specs.Int.{int_min, int_max}
+use Rattle.px_num.specs.declared.shape.Box2.{Box2}
+use Rattle.px_num.specs.declared.shape.Cell.{Cell}
+use Rattle.gp1_status.specs.Registers.{Registers}
+use Rattle.span_lanes.specs.Cells.{row_cells}
+use Rattle.prim_draw.specs.Settings.{drawing_area}
+use Rattle.prim_draw.specs.declared.boxes.Block.{Block}
+
+-- a box, or none where it has no cell
+unfoldable pub some_box : Box2 → Option Box2
+some_box b = if int_lt b.x2 b.x1 || int_lt b.y2 b.y1 then None else Some b
+
+-- the cells that two boxes have in common
+unfoldable pub overlap : Box2 → Box2 → Box2
+overlap a b = record {
+  x1 = int_max a.x1 b.x1;
+  y1 = int_max a.y1 b.y1;
+  x2 = int_min a.x2 b.x2;
+  y2 = int_min a.y2 b.y2;
+}
+
+-- a box cut by the drawing area
+abbrev pub clipped : Registers → Box2 → Option Box2
+clipped r b = some_box (overlap b (drawing_area r))
+
+-- a box of cells of video memory, with at least one
+pub record IsOnScreen (height : ℕ) (b : Box2) : Type 0 where
+  pub left : pos 0 ≤ℤ b.x1
+  pub across : b.x1 ≤ℤ b.x2
+  pub right : b.x2 ≤ℤ pos 1023
+  pub top : pos 0 ≤ℤ b.y1
+  pub down : b.y1 ≤ℤ b.y2
+  pub bottom : b.y2 <ℤ pos height
+
+-- a box that lies in another
+pub record LiesIn (outer b : Box2) : Type 0 where
+  pub left : outer.x1 ≤ℤ b.x1
+  pub top : outer.y1 ≤ℤ b.y1
+  pub right : b.x2 ≤ℤ outer.x2
+  pub bottom : b.y2 ≤ℤ outer.y2
+
+-- a box of video memory by its first cell and its sides
+unfoldable pub block_of : Box2 → Block
+block_of b = record {
+  x = unsigned_abs b.x1;
+  y = unsigned_abs b.y1;
+  w = unsigned_abs (b.x2 -ℤ b.x1) + 1;
+  h = unsigned_abs (b.y2 -ℤ b.y1) + 1;
+}
+
+pub record IsBlock (height : ℕ) (b : Block) : Type 0 where
+  pub columns : 1 ≤ b.w
+  pub rows : 1 ≤ b.h
+  pub right : b.x + b.w ≤ 1024
+  pub bottom : b.y + b.h ≤ height
+
+-- h rows of w cells from (x, y) on: rows from the top, and each from left to right
+abbrev pub cells_in_rows : (x y w h : ℕ) → List Cell
+cells_in_rows x y w zero = []
+cells_in_rows x y w (suc h) = cells_in_rows x y w h ++ row_cells x (y + h) w
+
+-- all cells of a block
+abbrev pub cells_of : Block → List Cell
+cells_of b = cells_in_rows b.x b.y b.w b.h
+
+-- their number
+abbrev pub count_of : Block → ℕ
+count_of b = b.w * b.h
+
+-- the cells that none or a box has
+abbrev pub count_in : Option Box2 → ℕ
+count_in None = 0
+count_in (Some b) = count_of (block_of b)
+
+-- one row of a block, as a box
+abbrev pub row_box : Block → ℕ → Box2
+row_box b y = record { x1 = pos b.x; y1 = pos y; x2 = pos (b.x + b.w - 1); y2 = pos y }

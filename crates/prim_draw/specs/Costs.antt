@@ -1,0 +1,116 @@
+-- How many store steps a packet may take (our own rule).
+use Rattle.std.specs.Prelude.{ℕ, zero, suc, ◌+◌, ◌*◌, List, [], ◌∷◌, length, Option, None, Some, if◌then◌else◌}
+use Rattle.px_num.specs.declared.shape.Box2.{Box2}
+use Rattle.px_num.specs.declared.shape.Cell.{Cell}
+use Rattle.gp0_packets.specs.declared.packet.Packet.{Packet}
+use Rattle.gp0_packets.specs.declared.packet.Packet.TheVariants as packet
+use Rattle.gp1_status.specs.Registers.{Registers}
+use Rattle.edge_walk.specs.Triangle.{Corners}
+use Rattle.line_walk.specs.Line.{Ends, is_near, len_of, point_of}
+use Rattle.span_lanes.specs.declared.span.Span.{Span}
+use Rattle.span_lanes.specs.Cost.{span_cost}
+use Rattle.prim_draw.specs.Boxes.{block_of, count_in}
+use Rattle.prim_draw.specs.Lines.{is_in, placed_ends, segment_box}
+use Rattle.prim_draw.specs.Parts.{polygon, polygon_style, rectangle_style}
+use Rattle.prim_draw.specs.Rectangles.{column_of, extent_at, rectangle_box, row_of, tile_in, tile_paint}
+use Rattle.prim_draw.specs.Settings.{drawing_area}
+use Rattle.prim_draw.specs.Triangles.{lower_half, row_inside, triangle_box, triangle_coat, upper_half}
+use Rattle.prim_draw.specs.declared.boxes.Block.{Block}
+use Rattle.prim_draw.specs.declared.coat.Coat.{Coat}
+use Rattle.prim_draw.specs.declared.polygon.Polygon.{Polygon}
+use Rattle.prim_draw.specs.declared.rectangles.Extent.{Extent}
+use Rattle.prim_draw.specs.declared.rectangles.Tile.{Tile}
+use Rattle.prim_draw.specs.declared.style.Style.{Style}
+
+-- the drawn cells of a row, which stand side by side, as one span
+abbrev pub side_by_side : Coat → List Cell → ℕ
+side_by_side coat [] = 0
+side_by_side coat (cell ∷ cells) =
+    span_cost (record { x = cell.x; y = cell.y; n = length (cell ∷ cells); paint = coat.paint; brush = coat.brush })
+
+-- ---- triangles
+
+abbrev pub triangle_rows_cost : Coat → Corners → Block → ℕ → ℕ
+triangle_rows_cost coat t b zero = 0
+triangle_rows_cost coat t b (suc h) = triangle_rows_cost coat t b h + side_by_side coat (row_inside t b (b.y + h))
+
+abbrev pub inside_cost : Coat → Corners → Option Box2 → ℕ
+inside_cost coat t None = 0
+inside_cost coat t (Some b) = triangle_rows_cost coat t (block_of b) (block_of b).h
+
+unfoldable pub triangle_cost : Registers → Style → Corners → ℕ
+triangle_cost r style t = inside_cost (triangle_coat r style t) t (triangle_box r t)
+
+unfoldable pub polygon_cost : Registers → Style → Polygon → ℕ
+polygon_cost r style p =
+    triangle_cost r style (upper_half r p) + (if p.four then triangle_cost r style (lower_half r p) else 0)
+
+-- ---- rectangles
+
+-- row y of a block
+abbrev pub tile_span : Tile → Extent → Block → ℕ → Span
+tile_span tile e b y = record {
+  x = b.x;
+  y = y;
+  n = b.w;
+  paint = tile_paint tile (column_of e (record { x = b.x; y = y })) (row_of e (record { x = b.x; y = y }));
+  brush = tile.brush;
+}
+
+abbrev pub tile_rows_cost : Tile → Extent → Block → ℕ → ℕ
+tile_rows_cost tile e b zero = 0
+tile_rows_cost tile e b (suc h) = tile_rows_cost tile e b h + span_cost (tile_span tile e b (b.y + h))
+
+abbrev pub all_cost : Tile → Extent → Option Box2 → ℕ
+all_cost tile e None = 0
+all_cost tile e (Some b) = tile_rows_cost tile e (block_of b) (block_of b).h
+
+unfoldable pub rectangle_cost : Registers → Tile → Extent → ℕ
+rectangle_cost r tile e = all_cost tile e (rectangle_box r e)
+
+-- ---- segments
+
+-- 2 for each point in the drawing area
+abbrev pub points_cost : Box2 → Ends → ℕ → ℕ
+points_cost area s zero = 0
+points_cost area s (suc n) = points_cost area s n + (if is_in area (point_of s n) then 2 else 0)
+
+unfoldable pub ends_cost : Registers → Ends → ℕ
+ends_cost r s = if is_near s.first s.second then points_cost (drawing_area r) s (len_of s) else 0
+
+-- ---- packets
+
+-- in spans of sixteen cells
+unfoldable pub draw_cost : Registers → Packet → ℕ
+draw_cost r (packet.Poly four a b c d shaded textured semi raw clut page) =
+    polygon_cost r (polygon_style shaded textured semi raw clut a) (polygon four a b c d)
+draw_cost r (packet.Segment a b semi) = ends_cost r (placed_ends r a b)
+draw_cost r (packet.Rect x y w h color textured semi raw u v clut) =
+    rectangle_cost r (tile_in r (rectangle_style color textured semi raw clut) u v) (extent_at r x y w h)
+draw_cost r (packet.Fill color x y w h) = 0
+draw_cost r (packet.Copy from to w h) = 0
+draw_cost r (packet.Load x y w h) = 0
+draw_cost r (packet.Store x y w h) = 0
+draw_cost r (packet.Pixels word) = 0
+draw_cost r (packet.Env index value) = 0
+draw_cost r packet.Irq = 0
+draw_cost r packet.Nop = 0
+draw_cost r packet.Finish = 0
+
+-- four for each cell of the box of each triangle, segment or rectangle
+unfoldable pub box_cost : Registers → Packet → ℕ
+box_cost r (packet.Poly four a b c d shaded textured semi raw clut page) =
+    4 * count_in (triangle_box r (upper_half r (polygon four a b c d)))
+    + (if four then 4 * count_in (triangle_box r (lower_half r (polygon four a b c d))) else 0)
+box_cost r (packet.Segment a b semi) = 4 * count_in (segment_box r (placed_ends r a b))
+box_cost r (packet.Rect x y w h color textured semi raw u v clut) =
+    4 * count_in (rectangle_box r (extent_at r x y w h))
+box_cost r (packet.Fill color x y w h) = 0
+box_cost r (packet.Copy from to w h) = 0
+box_cost r (packet.Load x y w h) = 0
+box_cost r (packet.Store x y w h) = 0
+box_cost r (packet.Pixels word) = 0
+box_cost r (packet.Env index value) = 0
+box_cost r packet.Irq = 0
+box_cost r packet.Nop = 0
+box_cost r packet.Finish = 0

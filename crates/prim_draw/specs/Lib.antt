@@ -1,0 +1,10 @@
+pub mod Areas
+pub mod Boxes
+pub mod Costs
+pub mod Draw
+pub mod Laws
+pub mod Lines
+pub mod Parts
+pub mod Rectangles
+pub mod Settings
+pub mod Triangles

@@ -1,0 +1,108 @@
+-- Rectangles, cell by cell (psx-spx, "GPU Render Rectangle Commands"; that flips count modulo 256 is our own rule).
+use Rattle.std.specs.Prelude.{ℕ, ◌≤◌, ◌≤ℤ◌, negsuc, ◌==◌, ◌+◌, List, Option, None, Some, IfSome, ◌<◌, Bool, false, ◌||◌}
+use Rattle.std.specs.Prelude.{if◌then◌else◌, unsigned_abs, ℤ, pos, ◌+ℤ◌, ◌-ℤ◌}
+use Rattle.px_num.specs.declared.shape.Box2.{Box2}
+use Rattle.px_num.specs.declared.shape.Cell.{Cell}
+use Rattle.gp1_status.specs.Registers.{Registers, bit}
+use Rattle.span_lanes.specs.declared.span.Paint.{Paint}
+use Rattle.span_lanes.specs.declared.span.Paint.TheVariants.{Flat, TexturedRow}
+use Rattle.span_lanes.specs.declared.span.Texture.{Texture}
+use Rattle.span_lanes.specs.Shade.{HasInside, IsTexture, paint_pixel, row_u}
+use Rattle.span_lanes.specs.Cells.{Cells}
+use Rattle.prim_draw.specs.Boxes.{block_of, cells_of, clipped}
+use Rattle.prim_draw.specs.Settings.{brush_in, offset_x, offset_y, texture_in}
+use Rattle.prim_draw.specs.declared.boxes.Block.{Block}
+use Rattle.prim_draw.specs.declared.rectangles.Extent.{Extent}
+use Rattle.prim_draw.specs.declared.rectangles.Tile.{Tile}
+use Rattle.prim_draw.specs.declared.style.Style.{Style}
+
+-- w by h cells from a first one on, which is moved by the offset
+unfoldable pub extent_at : Registers → ℤ → ℤ → ℕ → ℕ → Extent
+extent_at r x y w h = record { left = x +ℤ offset_x r; top = y +ℤ offset_y r; w = w; h = h }
+
+-- within the reach of vertices and offsets, and no larger than a rectangle can be
+pub record IsExtent (e : Extent) : Type 0 where
+  pub left : negsuc 2047 ≤ℤ e.left
+  pub right : e.left ≤ℤ pos 2046
+  pub top : negsuc 2047 ≤ℤ e.top
+  pub bottom : e.top ≤ℤ pos 2046
+  pub wide : e.w ≤ 1023
+  pub high : e.h ≤ 511
+
+-- from the first cell to the last
+abbrev pub cells_box : Extent → Box2
+cells_box e = record {
+  x1 = e.left;
+  y1 = e.top;
+  x2 = e.left +ℤ pos e.w -ℤ pos 1;
+  y2 = e.top +ℤ pos e.h -ℤ pos 1;
+}
+
+-- its cells in the drawing area
+unfoldable pub rectangle_box : Registers → Extent → Option Box2
+rectangle_box r e = if (e.w == 0) || (e.h == 0) then None else clipped r (cells_box e)
+
+abbrev pub optional_texture : Registers → Bool → ℕ → Bool → Option Texture
+optional_texture r textured clut raw = if textured then Some (texture_in r clut raw) else None
+
+-- what a rectangle is drawn with; it is never dithered
+unfoldable pub tile_in : Registers → Style → (u v : ℕ) → Tile
+tile_in r style u v = record {
+  color = style.color;
+  texture = optional_texture r style.textured style.clut style.raw;
+  u = u;
+  v = v;
+  flip_x = bit r.e1 12 == 1;
+  flip_y = bit r.e1 13 == 1;
+  brush = brush_in r style.semi false;
+}
+
+-- the paint from a column and a row of the whole rectangle on
+abbrev pub paint_from : Tile → Option Texture → ℕ → ℕ → Paint
+paint_from tile None column row = Flat tile.color
+paint_from tile (Some texture) column row =
+    TexturedRow tile.color texture (row_u tile.u tile.flip_x column) (row_u tile.v tile.flip_y row) tile.flip_x
+
+unfoldable pub tile_paint : Tile → ℕ → ℕ → Paint
+tile_paint tile column row = paint_from tile tile.texture column row
+
+-- the column and the row of a cell in the whole rectangle
+abbrev pub column_of : Extent → Cell → ℕ
+column_of e cell = unsigned_abs (pos cell.x -ℤ e.left)
+
+abbrev pub row_of : Extent → Cell → ℕ
+row_of e cell = unsigned_abs (pos cell.y -ℤ e.top)
+
+-- the pixel, or none, at a cell, with video memory as it is then
+abbrev pub tile_pixel : Tile → Extent → Cell → List ℕ → Option ℕ
+tile_pixel tile e cell m = paint_pixel (tile_paint tile (column_of e cell) (row_of e cell)) tile.brush cell.x cell.y 0 m
+
+-- cells of a rectangle, one after another
+abbrev pub tiled_cells : Tile → Extent → List Cell → List ℕ → List ℕ
+tiled_cells tile e cells m = Cells (tile_pixel tile e) tile.brush.mask cells m
+
+-- a block of cells of a rectangle that has at most 1023 columns and as many rows
+pub record IsPartOf (e : Extent) (b : Block) : Type 0 where
+  pub left : e.left ≤ℤ pos b.x
+  pub top : e.top ≤ℤ pos b.y
+  pub right : pos (b.x + b.w) ≤ℤ (e.left +ℤ pos 1023)
+  pub bottom : pos (b.y + b.h) ≤ℤ (e.top +ℤ pos 1023)
+
+-- what video memory of a height can be drawn with
+pub record IsTile (height : ℕ) (tile : Tile) : Type 0 where
+  pub mask : tile.brush.mask ≤ 3
+  pub mode : tile.brush.mode ≤ 3
+  pub texture : IfSome tile.texture IsTexture
+  pub page : IfSome tile.texture (λ texture. texture.page.y + 255 < height)
+
+-- all cells of a box, in scan order
+abbrev pub drawn_all : Tile → Extent → Option Box2 → List ℕ → List ℕ
+drawn_all tile e None m = m
+drawn_all tile e (Some b) m = tiled_cells tile e (cells_of (block_of b)) m
+
+unfoldable pub drawn_rectangle : Registers → Tile → Extent → List ℕ → List ℕ
+drawn_rectangle r tile e m = drawn_all tile e (rectangle_box r e) m
+
+-- the cells may lie anywhere
+pub record IsFree (paint : Paint) : Type 0 where
+  pub inside : (x y n : ℕ) → HasInside paint x y n

@@ -1,0 +1,108 @@
+-- Triangles and quads, cell by cell (psx-spx, "GPU Render Polygon Commands"; which cells, is our own rule).
+use Rattle.std.specs.Prelude.{ℕ, ◌≡◌, ◌<◌, ◌≤◌, ◌+◌, List, [], Option, None, Some, Bool, IfSome, ◌||◌, if◌then◌else◌}
+use Rattle.std.specs.Prelude.{pos}
+use Rattle.std.specs.List.{filter}
+use Rattle.px_num.specs.declared.shape.Box2.{Box2}
+use Rattle.px_num.specs.declared.shape.Cell.{Cell}
+use Rattle.px_num.specs.declared.shape.Vertex.{Vertex}
+use Rattle.gp1_status.specs.Registers.{Registers}
+use Rattle.edge_walk.specs.Extent.{bounding_box}
+use Rattle.edge_walk.specs.Triangle.{Corners, corners, is_drawn, is_inside}
+use Rattle.span_lanes.specs.declared.span.Brush.{Brush}
+use Rattle.span_lanes.specs.declared.span.Paint.{Paint}
+use Rattle.span_lanes.specs.declared.span.Paint.TheVariants.{Flat, Shaded, TexturedTri}
+use Rattle.span_lanes.specs.Shade.{AreInside, HasInside, IsTexture, paint_pixel, texture_of}
+use Rattle.span_lanes.specs.Cells.{Cells, row_cells}
+use Rattle.prim_draw.specs.Boxes.{block_of, cells_of, clipped}
+use Rattle.prim_draw.specs.Settings.{brush_in, placed, texture_in}
+use Rattle.prim_draw.specs.declared.boxes.Block.{Block}
+use Rattle.prim_draw.specs.declared.coat.Coat.{Coat}
+use Rattle.prim_draw.specs.declared.polygon.Polygon.{Polygon}
+use Rattle.prim_draw.specs.declared.style.Style.{Style}
+use Rattle.prim_draw.specs.declared.triangles.Run.{Run}
+
+-- the pixel, or none, that a primitive draws at a cell, with video memory as it is then
+abbrev pub pixel_at : Coat → Cell → List ℕ → Option ℕ
+pixel_at coat cell m = paint_pixel coat.paint coat.brush cell.x cell.y 0 m
+
+-- cells with such a coat, one after another
+abbrev pub painted_cells : Coat → List Cell → List ℕ → List ℕ
+painted_cells coat cells m = Cells (pixel_at coat) coat.brush.mask cells m
+
+-- the triangle draws this cell
+abbrev pub draws : Corners → Cell → Bool
+draws t cell = is_inside t (pos cell.x) (pos cell.y)
+
+-- its box: none where the size rule refuses it, its area is 0 or no cell of its box lies in the drawing area
+unfoldable pub triangle_box : Registers → Corners → Option Box2
+triangle_box r t = if is_drawn t then clipped r (bounding_box t) else None
+
+-- textured, shaded or of the command's colour; where it is flat and untextured it is not dithered
+unfoldable pub triangle_paint : Registers → Style → Corners → Paint
+triangle_paint r style t =
+    if style.textured then TexturedTri t (texture_in r style.clut style.raw)
+    else (if style.shaded then Shaded t
+    else Flat style.color)
+
+unfoldable pub triangle_coat : Registers → Style → Corners → Coat
+triangle_coat r style t =
+    record { paint = triangle_paint r style t; brush = brush_in r style.semi (style.shaded || style.textured) }
+
+-- the cells of a box that the triangle draws, in scan order
+abbrev pub drawn_inside : Coat → Corners → Option Box2 → List ℕ → List ℕ
+drawn_inside coat t None m = m
+drawn_inside coat t (Some b) m = painted_cells coat (filter (draws t) (cells_of (block_of b))) m
+
+unfoldable pub drawn_triangle : Registers → Style → Corners → List ℕ → List ℕ
+drawn_triangle r style t m = drawn_inside (triangle_coat r style t) t (triangle_box r t) m
+
+-- three vertices of a packet
+abbrev pub placed_corners : Registers → Vertex → Vertex → Vertex → Corners
+placed_corners r a b c = corners (placed r a) (placed r b) (placed r c)
+
+-- the triangles of a polygon: 1-2-3, and 2-3-4 where it has four vertices
+abbrev pub upper_half : Registers → Polygon → Corners
+upper_half r p = placed_corners r p.a p.b p.c
+
+abbrev pub lower_half : Registers → Polygon → Corners
+lower_half r p = placed_corners r p.b p.c p.d
+
+-- a quad is two triangles, one after the other
+unfoldable pub drawn_polygon : Registers → Style → Polygon → List ℕ → List ℕ
+drawn_polygon r style p m =
+    if p.four then drawn_triangle r style (lower_half r p) (drawn_triangle r style (upper_half r p) m)
+    else drawn_triangle r style (upper_half r p) m
+
+-- ---- by rows
+
+-- the cells of row y of a block that the triangle draws
+abbrev pub row_inside : Corners → Block → ℕ → List Cell
+row_inside t b y = filter (draws t) (row_cells b.x y b.w)
+
+-- the cells of a run, or of none
+abbrev pub run_cells : Option Run → ℕ → List Cell
+run_cells None y = []
+run_cells (Some run) y = row_cells run.x y run.n
+
+-- cells of row y that a triangle draws, side by side
+pub record IsRun (t : Corners) (y : ℕ) (run : Run) : Type 0 where
+  pub some : 1 ≤ run.n
+  pub in_row : run.x + run.n ≤ 1024
+  pub inside : AreInside t run.x y run.n
+
+-- where the cells are inside of the triangle, they can be drawn with the paint
+pub record FitsTriangle (t : Corners) (paint : Paint) : Type 0 where
+  pub inside : (x y n : ℕ) → AreInside t x y n → HasInside paint x y n
+
+-- the pixel of a cell does not hang on its number in a row
+pub record IsAlike (paint : Paint) : Type 0 where
+  pub alike : (brush : Brush) (x y i j : ℕ) (m : List ℕ)
+      → paint_pixel paint brush x y i m ≡ paint_pixel paint brush x y j m
+
+-- what video memory of a height can be drawn with
+pub record IsCoat (height : ℕ) (coat : Coat) : Type 0 where
+  pub mask : coat.brush.mask ≤ 3
+  pub mode : coat.brush.mode ≤ 3
+  pub texture : IfSome (texture_of coat.paint) IsTexture
+  pub alike : IsAlike coat.paint
+  pub page : IfSome (texture_of coat.paint) (λ texture. texture.page.y + 255 < height)

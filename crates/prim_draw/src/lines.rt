@@ -1,0 +1,171 @@
+// Segments by points.
+ghost use Rattle.std.specs.Prelude.{◌≡◌, ◌≤◌, ◌<◌, ◌+◌, ◌*◌, IsTrue, length, pos, true, if◌then◌else◌};
+ghost use Rattle.px_num.specs.Fold.{each_below};
+ghost use Rattle.vram_store.specs.Vram.{height_of};
+ghost use Rattle.gp0_packets.specs.Ranges.{IsPlace};
+ghost use Rattle.line_walk.specs.Line.{len_of};
+ghost use Rattle.prim_draw.specs.Costs.{ends_cost, points_cost};
+ghost use Rattle.prim_draw.specs.Lines.{drawn_ends, drawn_point, drawn_points, ends_box, is_between, is_in};
+ghost use Rattle.prim_draw.specs.Lines.{placed_ends, segment_box};
+ghost use Rattle.prim_draw.specs.Settings.{IsArea};
+
+use crate::boxes::clipped;
+use crate::point::plot_color;
+use crate::settings::{brush_in, drawing_area, placed};
+use gp1_status::Regs;
+use line_walk::Segment;
+use px_num::{Box2, Cell, Vertex};
+use span_lanes::Brush;
+use std::marker::Model;
+use std::sync::ledger::Ledger;
+use vram_store::{Steps, Vram};
+
+fn is_in_columns(b: &Box2, p: &Vertex) -> bool
+    ensures { result ≡ is_between b.now.x1 b.now.x2 p.now.x }
+{
+    b.x1 <= p.x && p.x <= b.x2
+}
+
+fn is_in_rows(b: &Box2, p: &Vertex) -> bool
+    ensures { result ≡ is_between b.now.y1 b.now.y2 p.now.y }
+{
+    b.y1 <= p.y && p.y <= b.y2
+}
+
+// Whether a point lies in a box.
+#[tactic(auto, unfolding(crate::specs::Lines::is_in))]
+fn is_in(b: &Box2, p: &Vertex) -> bool
+    ensures { result ≡ is_in b.now p.now }
+{
+    is_in_columns(b, p) && is_in_rows(b, p)
+}
+
+// Draws a point that lies in the drawing area.
+fn draw_inside<L: Ledger>(
+    vram: &mut Vram,
+    area: &Box2,
+    brush: &Brush,
+    point: &Vertex,
+    steps: &mut Steps<L>,
+)
+    requires area { IsArea (height_of vram.old) area.now }
+    requires inside { is_in area.now point.now ≡ true }
+    requires mode { brush.now.mode ≤ 3 }
+    ensures cells { vram.new ≡ drawn_point area.now brush.now point.now vram.old }
+    ensures long { length vram.new ≡ length vram.old }
+    ensures cost { steps.new ≤ steps.old + 2 }
+{
+    let to = Cell {
+        x: point.x as u16,
+        y: point.y as u16,
+    };
+    plot_color(vram, brush, to, point.color, steps);
+}
+
+// Draws a point where it lies in the drawing area.
+fn draw_point<L: Ledger>(
+    vram: &mut Vram,
+    area: &Box2,
+    brush: &Brush,
+    point: &Vertex,
+    steps: &mut Steps<L>,
+)
+    requires area { IsArea (height_of vram.old) area.now }
+    requires mode { brush.now.mode ≤ 3 }
+    ensures cells { vram.new ≡ drawn_point area.now brush.now point.now vram.old }
+    ensures long { length vram.new ≡ length vram.old }
+    ensures cost { steps.new ≤ steps.old + (if is_in area.now point.now then 2 else 0) }
+{
+    if is_in(area, point) {
+        draw_inside(vram, area, brush, point, steps);
+    }
+}
+
+// Draws the points of a segment in their order.
+fn draw_points<L: Ledger>(
+    vram: &mut Vram,
+    area: &Box2,
+    brush: &Brush,
+    segment: &Segment,
+    steps: &mut Steps<L>,
+)
+    requires area { IsArea (height_of vram.old) area.now }
+    requires mode { brush.now.mode ≤ 3 }
+    ensures cells { vram.new ≡ drawn_points area.now brush.now segment.now (len_of segment.now) vram.old }
+    ensures long { length vram.new ≡ length vram.old }
+    ensures cost { steps.new ≤ steps.old + points_cost area.now segment.now (len_of segment.now) }
+{
+    for k in 0..segment.len() {
+        draw_point(vram, area, brush, &segment.point(k), steps);
+    }
+}
+
+/// The ends of a segment in their order, with the offset added.
+#[derive(Drop)]
+pub(crate) struct Ends {
+    first: Vertex,
+    second: Vertex,
+}
+
+impl Model for Ends {
+    ghost use Rattle.line_walk.specs.Line.{Ends, ends};
+
+    ghost Value = { Ends };
+
+    ghost view = { λ s. ends s.first s.second };
+}
+
+/// Two vertices of a packet, with the offset added.
+pub(crate) fn placed_ends(regs: &Regs, a: &Vertex, b: &Vertex) -> Ends
+    requires a { IsPlace a.now.x a.now.y }
+    requires b { IsPlace b.now.x b.now.y }
+    ensures { result ≡ placed_ends regs.now a.now b.now }
+{
+    Ends {
+        first: placed(regs, a),
+        second: placed(regs, b),
+    }
+}
+
+/// Draws a segment.
+pub(crate) fn draw_segment<L: Ledger>(
+    vram: &mut Vram,
+    regs: &Regs,
+    semi: bool,
+    ends: &Ends,
+    steps: &mut Steps<L>,
+)
+    requires rows { length vram.old ≡ 1024 * regs.now.height }
+    ensures cells { vram.new ≡ drawn_ends regs.now semi ends.now vram.old }
+    ensures long { length vram.new ≡ length vram.old }
+    ensures cost { steps.new ≤ steps.old + ends_cost regs.now ends.now }
+{
+    if let Some(segment) = Segment::new(ends.first, ends.second) {
+        let brush = brush_in(regs, semi, true);
+        draw_points(vram, &drawing_area(regs), &brush, &segment, steps);
+    }
+}
+
+#[tactic(auto, unfolding(crate::specs::Lines::ends_box))]
+fn ends_box(ends: &Ends) -> Box2
+    ensures { result ≡ ends_box ends.now }
+{
+    let (a, b) = (&ends.first, &ends.second);
+    Box2 {
+        x1: a.x.min(b.x),
+        y1: a.y.min(b.y),
+        x2: a.x.max(b.x),
+        y2: a.y.max(b.y),
+    }
+}
+
+/// The box of a segment in the drawing area. None where it has no cell or the size rule refuses the segment.
+#[tactic(auto, unfolding(crate::specs::Lines::segment_box))]
+pub(crate) fn segment_box(regs: &Regs, ends: &Ends) -> Option<Box2>
+    ensures value { result ≡ segment_box regs.now ends.now }
+{
+    match Segment::new(ends.first, ends.second) {
+        None => None,
+        Some(_) => clipped(regs, &ends_box(ends)),
+    }
+}

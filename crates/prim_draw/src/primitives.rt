@@ -1,0 +1,118 @@
+// What a packet draws.
+ghost use Rattle.std.specs.Prelude.{◌≡◌, ◌≤◌, ◌+◌, ◌*◌, length};
+ghost use Rattle.gp0_packets.specs.Ranges.{IsInRange, IsPolyInRange};
+ghost use Rattle.prim_draw.specs.Costs.{draw_cost, polygon_cost};
+ghost use Rattle.prim_draw.specs.Draw.{Draw};
+ghost use Rattle.prim_draw.specs.Triangles.{drawn_polygon};
+
+use crate::lines::{draw_segment, placed_ends};
+use crate::polygon::Polygon;
+use crate::rectangles::{extent_at, tile_in};
+use crate::style::Style;
+use crate::triangles::{draw_triangle, placed_corners};
+use gp0_packets::Packet;
+use gp1_status::Regs;
+use std::sync::ledger::Ledger;
+use vram_store::{Steps, Vram};
+
+// Draws a triangle, or a quad as two.
+#[tactic(auto, unfolding(crate::specs::Triangles::drawn_polygon, crate::specs::Costs::polygon_cost))]
+fn draw_polygon<L: Ledger>(
+    vram: &mut Vram,
+    regs: &Regs,
+    style: &Style,
+    polygon: &Polygon,
+    steps: &mut Steps<L>,
+)
+    requires range { IsPolyInRange polygon.now.a polygon.now.b polygon.now.c polygon.now.d }
+    requires rows { length vram.old ≡ 1024 * regs.now.height }
+    ensures cells { vram.new ≡ drawn_polygon regs.now style.now polygon.now vram.old }
+    ensures long { length vram.new ≡ length vram.old }
+    ensures cost { steps.new ≤ steps.old + polygon_cost regs.now style.now polygon.now }
+{
+    let Polygon { four, a, b, c, d } = polygon;
+    draw_triangle(vram, regs, style, &placed_corners(regs, a, b, c), steps);
+    if *four {
+        draw_triangle(vram, regs, style, &placed_corners(regs, b, c, d), steps);
+    }
+}
+
+/// Draws a polygon, a line or a rectangle. Any other packet changes nothing.
+///
+/// The outcome is that of one pixel after another: the cells of a triangle or rectangle from the top row
+/// down and in each row from left to right, and the points of a line in their order. Texture page, depth
+/// and blending mode are those of the registers, so that a textured polygon's own page is to be put there
+/// before.
+///
+/// Video memory and the registers must have the same height, and the packet be in the ranges of `decode`.
+#[tactic(auto, unfolding(crate::specs::Draw::Draw, crate::specs::Costs::draw_cost))]
+pub fn draw<L: Ledger>(vram: &mut Vram, regs: &Regs, packet: &Packet, steps: &mut Steps<L>)
+    requires range { IsInRange regs.now.height packet.now }
+    requires rows { length vram.old ≡ 1024 * regs.now.height }
+    ensures cells { vram.new ≡ Draw regs.now packet.now vram.old }
+    ensures long { length vram.new ≡ length vram.old }
+    ensures cost { steps.new ≤ steps.old + draw_cost regs.now packet.now }
+{
+    match *packet {
+        Packet::Poly {
+            four,
+            a,
+            b,
+            c,
+            d,
+            shaded,
+            textured,
+            semi,
+            raw,
+            clut,
+            page: _,
+        } => {
+            let style = Style {
+                shaded,
+                textured,
+                semi,
+                raw,
+                clut,
+                color: a.color,
+            };
+            let polygon = Polygon { four, a, b, c, d };
+            draw_polygon(vram, regs, &style, &polygon, steps);
+        }
+        Packet::Segment { a, b, semi } => {
+            draw_segment(vram, regs, semi, &placed_ends(regs, &a, &b), steps);
+        }
+        Packet::Rect {
+            x,
+            y,
+            w,
+            h,
+            color,
+            textured,
+            semi,
+            raw,
+            u,
+            v,
+            clut,
+        } => {
+            let style = Style {
+                shaded: false,
+                textured,
+                semi,
+                raw,
+                clut,
+                color,
+            };
+            let tile = tile_in(regs, &style, u, v);
+            tile.draw(vram, regs, &extent_at(regs, x, y, w, h), steps);
+        }
+        Packet::Nop
+        | Packet::Irq
+        | Packet::Fill { .. }
+        | Packet::Copy { .. }
+        | Packet::Load { .. }
+        | Packet::Store { .. }
+        | Packet::Pixels { .. }
+        | Packet::Finish
+        | Packet::Env { .. } => {}
+    }
+}
