@@ -1,6 +1,8 @@
 -- The drawing processor, as a machine over all the words that came since the last clearing
 -- (psx-spx, "GPU I/O Ports, DMA Channels, Commands, VRAM", "GPU Memory Transfer Commands").
-use Rattle.std.specs.Prelude.{ℕ, Bool, true, false, List, [], ◌∷◌, ◌++◌, Option, Some, None, is_some, if◌then◌else◌, length, slice_get, map}
+use Rattle.std.specs.Prelude.{ℕ, Bool, true, false, List, [], ◌∷◌, ◌++◌, Option, Some, None, is_some, if◌then◌else◌}
+use Rattle.std.specs.Prelude.{length, slice_get, map}
+use Rattle.px_num.specs.Height.{tall_height}
 use Rattle.gp0_words.specs.Items.{Items, Rest}
 use Rattle.gp0_words.specs.declared.item.Item.{Item}
 use Rattle.gp0_words.specs.declared.pending.Pending.{Pending}
@@ -9,9 +11,10 @@ use Rattle.gp0_packets.specs.Packets.{packet_of}
 use Rattle.gp0_packets.specs.declared.note.Note.{Note}
 use Rattle.gp0_packets.specs.declared.packet.Packet.{Packet}
 use Rattle.gp0_packets.specs.declared.packet.Packet.TheVariants as packet
-use Rattle.gp1_status.specs.Registers.{Registers, env_of, gp1_of, is_clearing, reset, status_of}
+use Rattle.gp1_status.specs.Registers.{Registers, env_of, gp1_of, is_clearing, page_of, reset, status_of}
 use Rattle.gpu_taps.specs.Tally.{Reading, reading_after}
-use Rattle.vram_store.specs.Vram.{blank}
+use Rattle.prim_draw.specs.Draw.{Draw}
+use Rattle.vram_store.specs.Vram.{blank, tall}
 use Rattle.vram_copy.specs.Fill.{Fill}
 use Rattle.vram_copy.specs.Copy.{Copy}
 use Rattle.vram_copy.specs.Words.{LoadWord, StoreWord, after_word}
@@ -34,6 +37,13 @@ pub record State : Type 0 where
 unfoldable pub first_state : State
 first_state = record { parts = record { m = blank; regs = reset 0 512; load = None; store = None }; words = [] }
 
+-- the tall profile (our own rule): video memory and the registers have 1024 rows, and all else stays
+abbrev pub tall_parts : Parts → Parts
+tall_parts p = record p { m = tall p.m; regs = record p.regs { height = tall_height } }
+
+unfoldable pub tall_state : State → State
+tall_state s = record s { parts = tall_parts s.parts }
+
 -- ---- one item
 
 -- a load or store at its first pixel
@@ -45,7 +55,15 @@ abbrev pub with_pixels : Parts → Option Transfer → ℕ → Parts
 with_pixels p None word = p
 with_pixels p (Some job) word = record p { m = LoadWord p.m p.regs.mask job word; load = after_word job }
 
--- what a packet does (polygons, lines and rectangles are not drawn yet)
+-- a textured polygon puts its own page attribute into the draw mode, also where nothing of it is drawn
+abbrev pub with_page : Registers → Bool → ℕ → Registers
+with_page r textured page = if textured then record r { e1 = page_of r.height page r.e1 } else r
+
+-- a packet is drawn with these registers, which stay
+abbrev pub drawn : Parts → Registers → Packet → Parts
+drawn p r what = record p { m = Draw r what p.m; regs = r }
+
+-- what a packet does
 unfoldable pub Effect : Parts → Packet → Parts
 Effect p (packet.Fill color x y w h) = record p { m = Fill p.m x y w h color }
 Effect p (packet.Copy from to w h) = record p { m = Copy p.m p.regs.mask from to w h }
@@ -54,9 +72,11 @@ Effect p (packet.Store x y w h) = record p { store = opened x y w h }
 Effect p (packet.Pixels word) = with_pixels p p.load word
 Effect p (packet.Env index value) = record p { regs = env_of p.regs index value }
 Effect p packet.Irq = record p { regs = record p.regs { irq = true } }
-Effect p (packet.Poly four a b c d shaded textured semi raw clut page) = p
-Effect p (packet.Segment a b semi) = p
-Effect p (packet.Rect x y w h color textured semi raw u v clut) = p
+Effect p (packet.Poly four a b c d shaded textured semi raw clut page) =
+    drawn p (with_page p.regs textured page) (packet.Poly four a b c d shaded textured semi raw clut page)
+Effect p (packet.Segment a b semi) = drawn p p.regs (packet.Segment a b semi)
+Effect p (packet.Rect x y w h color textured semi raw u v clut) =
+    drawn p p.regs (packet.Rect x y w h color textured semi raw u v clut)
 Effect p packet.Nop = p
 Effect p packet.Finish = p
 
@@ -68,18 +88,18 @@ new_item words word = slice_get (Items (words ++ word ∷ [])) (length (Items wo
 
 abbrev pub after_item : Parts → Option Item → Parts
 after_item p None = p
-after_item p (Some item) = Effect p (packet_of item)
+after_item p (Some item) = Effect p (packet_of p.regs.height item)
 
-abbrev pub noted : (event : ℕ) → Option Item → Option Note
-noted event None = None
-noted event (Some item) = Some (note_of event item)
+abbrev pub noted : Registers → (event : ℕ) → Option Item → Option Note
+noted r event None = None
+noted r event (Some item) = Some (note_of r event item)
 
 -- The word is appended. Where the words then have one item more, that item takes effect, and gives a note.
 unfoldable pub Feed : State → ℕ → State
 Feed s word = record { parts = after_item s.parts (new_item s.words word); words = s.words ++ word ∷ [] }
 
 unfoldable pub FeedNote : State → (event word : ℕ) → Option Note
-FeedNote s event word = noted event (new_item s.words word)
+FeedNote s event word = noted s.parts.regs event (new_item s.words word)
 
 -- what the taps read after a note, if there is one
 abbrev pub told_option : Option Note → List Reading → List Reading
@@ -102,12 +122,13 @@ pub record Taken : Type 0 where
   pub word : ℕ
   pub parts : Parts
 
--- A read while a store is open gives its next two pixels, which become the latch, and closes it after its last word. A read while
--- none is open gives the latch.
+-- A read while a store is open gives its next two pixels, which become the latch, and closes it after its last word. A
+-- read while none is open gives the latch.
 abbrev pub taken_from : Parts → Option Transfer → Taken
 taken_from p None = record { word = p.regs.held; parts = p }
 taken_from p (Some job) =
-    record { word = StoreWord p.m job; parts = record p { regs = record p.regs { held = StoreWord p.m job }; store = after_word job } }
+    let word = StoreWord p.m job in
+    record { word = word; parts = record p { regs = record p.regs { held = word }; store = after_word job } }
 
 unfoldable pub TakenWord : State → ℕ
 TakenWord s = (taken_from s.parts s.parts.store).word

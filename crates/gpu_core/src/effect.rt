@@ -1,51 +1,88 @@
 // What a packet does.
-ghost use Rattle.std.specs.Prelude.{◌≡◌, ◌≤◌, ◌+◌, ◌*◌, length};
+ghost use Rattle.std.specs.Prelude.{◌≡◌, ◌≤◌, ◌+◌, Some};
+ghost use Rattle.gp0_packets.specs.Packets.{environment_of};
 ghost use Rattle.gp0_packets.specs.Ranges.{IsInRange};
-ghost use Rattle.gpu_core.specs.Cost.{packet_cost};
-ghost use Rattle.gpu_core.specs.Kept.{IsOpen};
-ghost use Rattle.gpu_core.specs.Machine.{Parts, Effect};
+ghost use Rattle.gpu_core.specs.Area.{note_of};
+ghost use Rattle.gpu_core.specs.Cost.{item_cost, packet_cost};
+ghost use Rattle.gpu_core.specs.Machine.{Effect, after_item, with_page};
 
-use crate::transfer::{start, take_pixels};
-use gp0_packets::Packet;
+use crate::note::item_note;
+use crate::parts::Parts;
+use crate::transfer::start;
+use gp0_packets::{Note, Packet, decode};
+use gp0_words::Item;
 use gp1_status::Regs;
+use prim_draw::draw;
 use std::sync::ledger::Ledger;
-use vram_copy::{Transfer, copy, fill};
-use vram_store::{Steps, Vram};
+use vram_copy::{copy, fill};
+use vram_store::Steps;
 
-/// Carries out a packet.
-#[tactic(auto, unfolding(crate::specs::Machine::Effect, crate::specs::Cost::packet_cost))]
-pub(crate) fn carry_out<L: Ledger>(
-    vram: &mut Vram,
-    regs: &mut Regs,
-    load: &mut Option<Transfer>,
-    store: &mut Option<Transfer>,
-    packet: &Packet,
-    steps: &mut Steps<L>,
-)
-    requires range { IsInRange packet.now }
-    requires rows { length vram.old ≡ 1024 * regs.old.height }
-    requires load { IsOpen load.old }
-    requires store { IsOpen store.old }
-    ensures parts { ◌≡◌ {A = Parts} (record { m = vram.new; regs = regs.new; load = load.new; store = store.new })
-        (Effect (record { m = vram.old; regs = regs.old; load = load.old; store = store.old }) packet.now) }
-    ensures rows { length vram.new ≡ 1024 * regs.new.height }
-    ensures load { IsOpen load.new }
-    ensures store { IsOpen store.new }
-    ensures cost { steps.new ≤ steps.old
-        + packet_cost (record { m = vram.old; regs = regs.old; load = load.old; store = store.old }) packet.now }
+/// Puts a textured polygon's own page attribute into the draw mode.
+fn put_page(regs: &mut Regs, textured: bool, page: u16)
+    ensures value { regs.new ≡ with_page regs.old textured page }
+    ensures height { regs.new.height ≡ regs.old.height }
 {
-    match *packet {
-        Packet::Fill { color, x, y, w, h } => fill(vram, x, y, w, h, color, steps),
-        Packet::Copy { from, to, w, h } => copy(vram, regs.mask(), from, to, w, h, steps),
-        Packet::Load { x, y, w, h } => *load = start(x, y, w, h),
-        Packet::Store { x, y, w, h } => *store = start(x, y, w, h),
-        Packet::Pixels { word } => take_pixels(vram, regs, load, word, steps),
-        Packet::Env { index, value } => regs.env(index, value),
-        Packet::Irq => regs.raise(),
-        Packet::Nop
-        | Packet::Finish
-        | Packet::Poly { .. }
-        | Packet::Segment { .. }
-        | Packet::Rect { .. } => {}
+    if textured {
+        regs.page(page);
+    }
+}
+
+impl Parts {
+    /// Carries out an item that the event of this number completed, and answers its note, which is by the registers as
+    /// they were before.
+    pub(crate) fn take_item<L: Ledger>(
+        &mut self,
+        event: u64,
+        item: &Item,
+        steps: &mut Steps<L>,
+    ) -> Note
+        ensures note { result ≡ note_of self.old.regs event item.now }
+        ensures class { result.class ≤ 9 }
+        ensures effect { self.new ≡ after_item self.old (Some item.now) }
+        ensures cost { steps.new ≤ steps.old + item_cost self.old (Some item.now) }
+    {
+        let packet = decode(item, self.regs.is_tall());
+        let note = item_note(&self.regs, event, item, &packet);
+        self.carry_out(&packet, steps);
+        note
+    }
+
+    /// Carries out a packet.
+    #[tactic(auto, unfolding(crate::specs::Machine::Effect, crate::specs::Cost::packet_cost))]
+    pub(crate) fn carry_out<L: Ledger>(&mut self, packet: &Packet, steps: &mut Steps<L>)
+        requires range { IsInRange self.old.regs.height packet.now }
+        ensures effect { self.new ≡ Effect self.old packet.now }
+        ensures cost { steps.new ≤ steps.old + packet_cost self.old packet.now }
+    {
+        match *packet {
+            Packet::Fill { color, x, y, w, h } => fill(&mut self.vram, x, y, w, h, color, steps),
+            Packet::Copy { from, to, w, h } => {
+                copy(&mut self.vram, self.regs.mask(), from, to, w, h, steps);
+            }
+            Packet::Load { x, y, w, h } => self.load = start(x, y, w, h),
+            Packet::Store { x, y, w, h } => self.store = start(x, y, w, h),
+            Packet::Pixels { word } => self.take_pixels(word, steps),
+            Packet::Env { index, value } => self.regs.env(index, value),
+            Packet::Irq => self.regs.raise(),
+            Packet::Poly { textured, page, .. } => {
+                put_page(&mut self.regs, textured, page);
+                draw(&mut self.vram, &self.regs, packet, steps);
+            }
+            Packet::Segment { .. } | Packet::Rect { .. } => {
+                draw(&mut self.vram, &self.regs, packet, steps);
+            }
+            Packet::Nop | Packet::Finish => {}
+        }
+    }
+
+    /// Carries out a word of class 7.
+    #[tactic(auto, unfolding(crate::specs::Machine::Effect, gp0_packets::specs::Packets::environment_of))]
+    pub(crate) fn set_register(&mut self, word: u32)
+        ensures { self.new ≡ Effect self.old (environment_of word) }
+    {
+        let opcode = word >> 24;
+        if 0xe1 <= opcode && opcode <= 0xe6 {
+            self.regs.env((opcode - 0xe0) as u8, word & 0xff_ffff);
+        }
     }
 }

@@ -1,14 +1,13 @@
 // The machine.
-ghost use Rattle.std.specs.Prelude.{◌≡◌, ◌≤◌, ◌+◌, ◌*◌, length, map, IfOk, IfSome};
+ghost use Rattle.std.specs.Prelude.{◌≡◌, ◌≤◌, ◌+◌, ◌*◌, length, map, Some, None, IfOk, IfSome};
 ghost use Rattle.vram_store.specs.Vram.{blank};
 ghost use Rattle.gpu_core.specs.Cost.{FeedCost, TakeCost};
 ghost use Rattle.gpu_core.specs.Kept.{kept_of};
-ghost use Rattle.gpu_core.specs.Machine.{State, first_state, Feed, FeedNote, Gp1, Take, TakenWord, Idle, Status, told_option};
+ghost use Rattle.gpu_core.specs.Machine.{State, first_state, Feed, FeedNote, Gp1, Take, TakenWord, Idle, Status};
+ghost use Rattle.gpu_core.specs.Machine.{told_option, tall_state};
 
-use crate::effect::carry_out;
-use crate::note::item_note;
-use crate::transfer::take_word;
-use gp0_packets::{Note, decode};
+use crate::parts::Parts;
+use gp0_packets::Note;
 use gp0_words::Splitter;
 use gp1_status::{Regs, clears};
 use gpu_taps::{Listener, tell_all};
@@ -16,34 +15,30 @@ use px_num::OutOfMemory;
 use std::alloc::Global;
 use std::marker::Model;
 use std::sync::ledger::Ledger;
-use vram_copy::Transfer;
 use vram_store::{Steps, Vram};
 
 /// The drawing processor.
 #[derive(Drop)]
 pub struct Gpu {
-    vram: Vram,
-    regs: Regs,
+    parts: Parts,
     splitter: Splitter,
-    load: Option<Transfer>,
-    store: Option<Transfer>,
 }
 
 impl Model for Gpu {
-    ghost use Rattle.gpu_core.specs.Kept.{Kept, KeepsBounds};
+    ghost use Rattle.gpu_core.specs.Kept.{Kept, IsLinked};
 
     ghost Value = { Kept };
 
-    ghost use Rattle.gpu_core.specs.View.{kept, parts_of};
+    ghost use Rattle.gpu_core.specs.View.{kept};
 
     ghost view = { kept };
 
-    ghost invariant = { λ g. KeepsBounds (parts_of g) g.splitter };
+    ghost invariant = { λ g. IsLinked g.splitter g.parts.load };
 }
 
 impl Gpu {
-    /// The first state: video memory of zeros, the registers after a reset, and nothing unfinished. Refused where memory runs
-    /// out.
+    /// The first state: video memory of zeros, the registers after a reset, and nothing unfinished. Refused where
+    /// memory runs out.
     pub fn new(alloc: Global) -> Result<Gpu, OutOfMemory>
         ensures { IfOk result (λ gpu. gpu ≡ kept_of first_state) }
     {
@@ -61,17 +56,48 @@ impl Gpu {
         ensures { result ≡ kept_of first_state }
     {
         Gpu {
-            vram,
-            regs: Regs::new(),
+            parts: Parts::over(vram),
             splitter: Splitter::new(),
-            load: None,
-            store: None,
         }
     }
 
-    /// Takes a word of GP0 in the event of this number. Where it completes an item, the item takes effect, every listener of the
-    /// list is told its note, in order, and the note is answered. None comes exactly where no item was completed.
+    /// Makes the height of video memory 1024 rows: rows 512 to 1023 are zeros, and all cells, registers and pending
+    /// work stay. Where it is 1024 already nothing changes. No step is taken.
+    pub fn set_tall(&mut self)
+        ensures { (s : State) → kept_of s ≡ self.old → kept_of (tall_state s) ≡ self.new }
+    {
+        self.parts.set_tall();
+    }
+
+    /// Takes a word of GP0 in the event of this number. Where it completes an item, the item takes effect, every
+    /// listener of the list is told its note, in order, and the note is answered. None comes exactly where no item was
+    /// completed.
     pub fn gp0<T: Listener, L: Ledger>(
+        &mut self,
+        event: u64,
+        word: u32,
+        taps: &mut Vec<T>,
+        steps: &mut Steps<L>,
+    ) -> Option<Note>
+        ensures feed { (s : State) → kept_of s ≡ self.old → kept_of (Feed s word) ≡ self.new }
+        ensures note { (s : State) → kept_of s ≡ self.old → FeedNote s event word ≡ result }
+        ensures class { IfSome result (λ note. note.class ≤ 9) }
+        ensures taps { map T.heard taps.new.items ≡ told_option result (map T.heard taps.old.items) }
+        ensures cost { (s : State) → kept_of s ≡ self.old → steps.new ≤ steps.old + FeedCost s word }
+    {
+        if self.splitter.push_pixels(word) {
+            self.parts.take_pixels(word, steps);
+            return tell(taps, bare_note(event, 9, word));
+        }
+        if self.splitter.passes(word) {
+            self.parts.set_register(word);
+            return tell(taps, bare_note(event, 7, word));
+        }
+        self.push(event, word, taps, steps)
+    }
+
+    // The same for any word.
+    fn push<T: Listener, L: Ledger>(
         &mut self,
         event: u64,
         word: u32,
@@ -87,18 +113,8 @@ impl Gpu {
         match self.splitter.push(word) {
             None => None,
             Some(item) => {
-                let packet = decode(&item);
-                let note = item_note(event, &item, &packet);
-                carry_out(
-                    &mut self.vram,
-                    &mut self.regs,
-                    &mut self.load,
-                    &mut self.store,
-                    &packet,
-                    steps,
-                );
-                tell_all(taps, &note);
-                Some(note)
+                let note = self.parts.take_item(event, &item, steps);
+                tell(taps, note)
             }
         }
     }
@@ -107,11 +123,10 @@ impl Gpu {
     pub fn gp1(&mut self, word: u32)
         ensures { (s : State) → kept_of s ≡ self.old → kept_of (Gp1 s word) ≡ self.new }
     {
-        self.regs.gp1(word);
+        self.parts.gp1(word);
         if clears(word) {
             self.splitter.clear();
-            self.load = None;
-            self.store = None;
+            self.parts.clear();
         }
     }
 
@@ -121,15 +136,16 @@ impl Gpu {
         ensures state { (s : State) → kept_of s ≡ self.old → kept_of (Take s) ≡ self.new }
         ensures cost { (s : State) → kept_of s ≡ self.old → steps.new ≤ steps.old + TakeCost s }
     {
-        take_word(&self.vram, &mut self.regs, &mut self.store, steps)
+        self.parts.take_word(steps)
     }
 
     /// The status word.
     pub fn status(&self) -> u32
         ensures { (s : State) → kept_of s ≡ self.now → result ≡ Status s }
     {
-        self.regs
-            .status(self.splitter.is_idle(), self.store.is_some())
+        self.parts
+            .regs()
+            .status(self.splitter.is_idle(), self.parts.is_sending())
     }
 
     /// Whether no packet, load or polyline is unfinished.
@@ -143,13 +159,42 @@ impl Gpu {
     pub fn vram(&self) -> &Vram
         ensures { result.now ≡ self.now.parts.m }
     {
-        &self.vram
+        self.parts.vram()
+    }
+
+    /// How many rows video memory has.
+    pub fn height(&self) -> u16
+        ensures value { result ≡ self.now.parts.regs.height }
+        ensures rows { length self.now.parts.m ≡ 1024 * result }
+    {
+        self.parts.height()
     }
 
     /// The registers.
     pub fn regs(&self) -> &Regs
         ensures { result.now ≡ self.now.parts.regs }
     {
-        &self.regs
+        self.parts.regs()
     }
+}
+
+// A note without an area.
+fn bare_note(event: u64, class: u8, head: u32) -> Note
+    ensures { result ≡ record { event = event; class = class; head = head; area = None } }
+{
+    Note {
+        event,
+        class,
+        head,
+        area: None,
+    }
+}
+
+// Tells every listener of the list a note, in order, and hands it on.
+fn tell<T: Listener>(taps: &mut Vec<T>, note: Note) -> Option<Note>
+    ensures note { result ≡ Some note }
+    ensures taps { map T.heard taps.new.items ≡ told_option (Some note) (map T.heard taps.old.items) }
+{
+    tell_all(taps, &note);
+    Some(note)
 }

@@ -1,68 +1,61 @@
-use Rattle.std.proofs.Common.{Some, None, sym, ap, ◌∙◌, arith, refl}
-use Rattle.gp0_packets.specs.Packets.{packet_of}
-use Rattle.gpu_core.specs.Cost.{FeedCost, packet_cost}
+use Rattle.std.proofs.Common.{Some, sym, ap, ◌∙◌}
+use Rattle.gp0_words.specs.declared.item.Item.TheVariants as item
 use Rattle.gpu_core.specs.Kept.{Kept}
-use Rattle.gpu_core.specs.Machine.{Parts, Feed, FeedNote, Effect}
-use Rattle.gpu_core.proofs.Link.{linked}
-use Rattle.gpu_core.proofs.States.{new_item-is}
+use Rattle.gpu_core.specs.Machine.{Parts, Effect}
+use Rattle.gpu_core.proofs.Fed.{fed, data_effect, data_cost, data_note, register_packet, register_note}
+use Rattle.gpu_core.proofs.Link.{environment-keeps, linked}
 use Rattle.gpu_core.proofs.gpu.Gpu.gp0.Goals as goal
 
-pub invariant_of-self-in-Some : goal.invariant_of-self-in-Some
-invariant_of-self-in-Some g c =
-    let load = ap (λ (p : Parts). p.load) c.carry_out.ensures.parts in
-    let link = linked c.self.inside.splitter c.args.word c.in-Some.item
-    (record { m = c.self.inside.vram; regs = c.self.inside.regs; load = c.self.inside.load; store = c.self.inside.store })
-    c.in-Some.ensures.bounds.0 c.self.invariant.link (sym c.in-Some.ensures.answer) in
-    record {
-      link = rw (c.in-Some.ensures.pending, load, c.decode-packet.ensures.value) link;
-      load = c.carry_out.ensures.load;
-      store = c.carry_out.ensures.store;
-      rows = c.carry_out.ensures.rows;
-    }
+pub invariant_of-self : goal.invariant_of-self
+invariant_of-self g c =
+    let p : Parts = c.self.inside.parts in
+    let push = c.push_pixels.ensures.pixels c.if-push_pixels.true in
+    let load = ap (λ (p : Parts). p.load) (c.take_pixels.ensures.pixels ∙ sym (data_effect p c.args.word)) in
+    let link = linked p.regs.height c.self.inside.splitter c.args.word (item.Pixels c.args.word) p push.bounds.0 c.self.invariant (sym push.decided) in
+    rw (push.pending, load) link
 
-pub returns-in-None-clause-feed : goal.returns-in-None-clause-feed
-unfolding Feed
-returns-in-None-clause-feed g c = λ s e.
-    let kept = e ∙ sym c.self.view_is in
-    let held = ap (λ (k : Kept). k.pending) kept in
-    let new = new_item-is s.words c.args.word None (c.in-None.ensures.item s.words held) in
-    let rest = c.in-None.ensures.stands s.words held in
-    let f : Kept → Kept = λ k. record { parts = k.parts; pending = c.push.new.self } in
-    rw (new, rest) (ap f kept)
+pub invariant_of-self-then-passes : goal.invariant_of-self-then-passes
+invariant_of-self-then-passes g c =
+    let same = c.push_pixels.ensures.others c.if-push_pixels.false in
+    let load = ap (λ (p : Parts). p.load) c.set_register.ensures ∙ environment-keeps c.args.word c.self.inside.parts in
+    rw (same, load) c.self.invariant
 
-pub returns-in-None-clause-note : goal.returns-in-None-clause-note
-unfolding FeedNote
-returns-in-None-clause-note g c = λ s e.
-    let held = ap (λ (k : Kept). k.pending) (e ∙ sym c.self.view_is) in
-    rw (new_item-is s.words c.args.word None (c.in-None.ensures.item s.words held)) refl
+pub returns-then-push_pixels-clause-feed : goal.returns-then-push_pixels-clause-feed
+returns-then-push_pixels-clause-feed g c = λ s e.
+    let p : Parts = c.self.inside.parts in
+    let push = c.push_pixels.ensures.pixels c.if-push_pixels.true in
+    let is = fed s (record { parts = p; pending = c.self.inside.splitter }) _ c.args.event c.args.word _ (e ∙ sym c.self.view_is) push in
+    let f : Parts → Kept = λ p. record { parts = p; pending = c.push_pixels.new.self } in
+    is.feed ∙ ap f (data_effect p c.args.word ∙ sym c.take_pixels.ensures.pixels)
 
-pub returns-in-None-clause-cost : goal.returns-in-None-clause-cost
-unfolding FeedCost
-returns-in-None-clause-cost g c = λ s e.
-    let held = ap (λ (k : Kept). k.pending) (e ∙ sym c.self.view_is) in
-    rw (new_item-is s.words c.args.word None (c.in-None.ensures.item s.words held)) (omega arith)
+pub returns-then-push_pixels-clause-note : goal.returns-then-push_pixels-clause-note
+returns-then-push_pixels-clause-note g c = λ s e.
+    let p : Parts = c.self.inside.parts in
+    let push = c.push_pixels.ensures.pixels c.if-push_pixels.true in
+    let is = fed s (record { parts = p; pending = c.self.inside.splitter }) _ c.args.event c.args.word _ (e ∙ sym c.self.view_is) push in
+    is.note ∙ ap Some (data_note p.regs c.args.event c.args.word ∙ sym c.bare_note.ensures) ∙ sym c.tell.ensures.note
 
-pub returns-in-Some-clause-feed : goal.returns-in-Some-clause-feed
-unfolding Feed
-returns-in-Some-clause-feed g c = λ s e.
-    let kept = e ∙ sym c.self.view_is in
-    let held = ap (λ (k : Kept). k.pending) kept in
-    let new = new_item-is s.words c.args.word (Some c.in-Some.item) (c.in-Some.ensures.item s.words held) in
-    let rest = c.in-Some.ensures.stands s.words held in
-    let parts = ap (λ (k : Kept). Effect k.parts (packet_of c.in-Some.item)) kept ∙ ap (Effect _) (sym c.decode-packet.ensures.value) ∙ sym c.carry_out.ensures.parts in
-    let f : Parts → Kept = λ p. record { parts = p; pending = c.push.new.self } in
-    rw (new, rest) (ap f parts)
+pub returns-then-push_pixels-clause-cost : goal.returns-then-push_pixels-clause-cost
+returns-then-push_pixels-clause-cost g c = λ s e.
+    let p : Parts = c.self.inside.parts in
+    let push = c.push_pixels.ensures.pixels c.if-push_pixels.true in
+    let is = fed s (record { parts = p; pending = c.self.inside.splitter }) _ c.args.event c.args.word _ (e ∙ sym c.self.view_is) push in
+    rw (is.cost, data_cost p c.args.word) c.take_pixels.ensures.cost
 
-pub returns-in-Some-clause-note : goal.returns-in-Some-clause-note
-unfolding FeedNote
-returns-in-Some-clause-note g c = λ s e.
-    let held = ap (λ (k : Kept). k.pending) (e ∙ sym c.self.view_is) in
-    rw (new_item-is s.words c.args.word (Some c.in-Some.item) (c.in-Some.ensures.item s.words held)) (ap Some (sym c.item_note-note.ensures.value))
+pub returns-then-passes-clause-feed : goal.returns-then-passes-clause-feed
+returns-then-passes-clause-feed g c = λ s e.
+    let p : Parts = c.self.inside.parts in
+    let push = c.passes.ensures.packet c.if-passes.true in
+    let same = c.push_pixels.ensures.others c.if-push_pixels.false in
+    let is = fed s (record { parts = p; pending = c.push_pixels.new.self }) _ c.args.event c.args.word _ (rw same (e ∙ sym c.self.view_is)) push in
+    let f : Parts → Kept = λ p. record { parts = p; pending = c.push_pixels.new.self } in
+    is.feed ∙ ap f (ap (Effect p) (register_packet p.regs.height c.args.word (c.passes.ensures.class c.if-passes.true))
+    ∙ sym c.set_register.ensures)
 
-pub returns-in-Some-clause-cost : goal.returns-in-Some-clause-cost
-unfolding FeedCost
-returns-in-Some-clause-cost g c = λ s e.
-    let kept = e ∙ sym c.self.view_is in
-    let held = ap (λ (k : Kept). k.pending) kept in
-    let same = ap (λ (k : Kept). packet_cost k.parts (packet_of c.in-Some.item)) kept in
-    rw (new_item-is s.words c.args.word (Some c.in-Some.item) (c.in-Some.ensures.item s.words held), same, ← c.decode-packet.ensures.value) c.carry_out.ensures.cost
+pub returns-then-passes-clause-note : goal.returns-then-passes-clause-note
+returns-then-passes-clause-note g c = λ s e.
+    let p : Parts = c.self.inside.parts in
+    let push = c.passes.ensures.packet c.if-passes.true in
+    let same = c.push_pixels.ensures.others c.if-push_pixels.false in
+    let is = fed s (record { parts = p; pending = c.push_pixels.new.self }) _ c.args.event c.args.word _ (rw same (e ∙ sym c.self.view_is)) push in
+    is.note ∙ ap Some (register_note p.regs c.args.event c.args.word (c.passes.ensures.class c.if-passes.true) ∙ sym c.bare_note-then-passes.ensures) ∙ sym c.tell-then-passes.ensures.note
