@@ -1,19 +1,20 @@
 -- One step of a reader after another.
-use Rattle.std.proofs.Common.{◌≡◌, ◌≤◌, ◌<◌, ◌+◌, ◌-◌, ◌^◌, ◌++◌, ◌⊎◌, inl, inr, List, [], ◌∷◌, ℕ, zero, suc, Option, None, Some, true, false, length, nat_lt, replicate, refl, ap, append_assoc, length-append, length-take-le, take, take_all, sym, ◌∙◌, arith}
+use Rattle.std.proofs.Common.{◌≡◌, ◌≤◌, ◌<◌, ◌+◌, ◌-◌, ◌^◌, ◌++◌, ◌⊎◌, inl, inr, List, [], ◌∷◌, ℕ, zero, suc, Option}
+use Rattle.std.proofs.Common.{Ok, Err, true, false, length, nat_lt, replicate, refl, ap, append_assoc, length-append}
+use Rattle.std.proofs.Common.{length-take-le, take, take_all, sym, ◌∙◌, arith}
 use Rattle.dev_io.specs.Device.{prepended, IsAtEnd}
 use Rattle.dev_io.proofs.Parts.{prepended-nil, taken_on}
 use Rattle.byteorder.specs.Endian.{little_number}
-use Rattle.gpu_capture.specs.Capture.{Captured, ended, opened, first_difference, then_events, after_step, records, limit}
+use Rattle.gpu_capture.specs.Capture.{Captured, ended, opened, head_version, then_events, after_step, records, limit}
 use Rattle.gpu_capture.specs.Record.{word_step, IsWordStop}
-use Rattle.gpu_capture.specs.Reader.{IsWord, EndsWord, AreNeeded, Takes, StopsAt, SaysStop, SaysNoWord, capture_from, work_left}
+use Rattle.gpu_capture.specs.Reader.{IsWord, EndsWord, AreNeeded, Takes, StopsAt, SaysStop, SaysNoWord, capture_from}
+use Rattle.gpu_capture.specs.Reader.{work_left, tag_due, behind_word}
 use Rattle.gpu_capture.specs.declared.event.Event.{Event}
-use Rattle.gpu_capture.specs.declared.event.Event.TheVariants.{Read}
 use Rattle.gpu_capture.specs.declared.event.Stop.{Stop}
 use Rattle.gpu_capture.specs.declared.event.Stop.TheVariants.{End, NotCapture, BadRecord, TooLong, Truncated, ReadFault}
 use Rattle.gpu_capture.specs.declared.record.Due.{Due}
-use Rattle.gpu_capture.specs.declared.record.Due.TheVariants.{Tag}
 use Rattle.gpu_capture.specs.declared.record.Step.{Step}
-use Rattle.gpu_capture.specs.declared.record.Step.TheVariants.{Opens, Gives as GivesEvent, Reads, Closes}
+use Rattle.gpu_capture.specs.declared.record.Step.TheVariants.{Opens, Gives as GivesEvents, Closes}
 use Rattle.gpu_capture.specs.declared.progress.Progress.{Progress}
 
 past : (place : ℕ) → limit ≤ place → nat_lt place limit ≡ false
@@ -24,24 +25,31 @@ within place lt = grind arith
 
 -- ---- where no word can be had
 
-records_past : (at : Due) (place : ℕ) (bytes : List ℕ) → limit ≤ place → records at place bytes ≡ ended (TooLong limit) bytes
-records_past at place [] le = rw (past place le) refl
-records_past at place (a ∷ []) le = rw (past place le) refl
-records_past at place (a ∷ b ∷ []) le = rw (past place le) refl
-records_past at place (a ∷ b ∷ c ∷ []) le = rw (past place le) refl
-records_past at place (a ∷ b ∷ c ∷ d ∷ bytes) le = rw (past place le) refl
+records_past : (version : ℕ) (at : Due) (place : ℕ) (bytes : List ℕ) → limit ≤ place
+    → records version at place bytes ≡ ended version (TooLong limit) bytes
+records_past version at place [] le = rw (past place le) refl
+records_past version at place (a ∷ []) le = rw (past place le) refl
+records_past version at place (a ∷ b ∷ []) le = rw (past place le) refl
+records_past version at place (a ∷ b ∷ c ∷ []) le = rw (past place le) refl
+records_past version at place (a ∷ b ∷ c ∷ d ∷ bytes) le = rw (past place le) refl
 
-records_short : (at : Due) (place : ℕ) (bytes : List ℕ) → place < limit → length bytes < 4
-    → records at place bytes ≡ ended (Truncated (place + length bytes)) []
-records_short at place [] lt short = rw (within place lt) refl
-records_short at place (a ∷ []) lt short = rw (within place lt) refl
-records_short at place (a ∷ b ∷ []) lt short = rw (within place lt) refl
-records_short at place (a ∷ b ∷ c ∷ []) lt short = rw (within place lt) refl
-records_short at place (a ∷ b ∷ c ∷ d ∷ bytes) lt short = absurd (omega arith)
+records_short : (version : ℕ) (at : Due) (place : ℕ) (bytes : List ℕ) → place < limit → length bytes < 4
+    → records version at place bytes ≡ ended version (Truncated (place + length bytes)) []
+records_short version at place [] lt short = rw (within place lt) refl
+records_short version at place (a ∷ []) lt short = rw (within place lt) refl
+records_short version at place (a ∷ b ∷ []) lt short = rw (within place lt) refl
+records_short version at place (a ∷ b ∷ c ∷ []) lt short = rw (within place lt) refl
+records_short version at place (a ∷ b ∷ c ∷ d ∷ bytes) lt short = absurd (omega arith)
 
--- what the format says at a place behind the head where no read is still to be given
-at_word : (p : Progress) (bytes : List ℕ) → p.started ≡ true → p.reads ≡ 0 → capture_from p bytes ≡ records p.due p.place bytes
-at_word p bytes started none = rw (started, none) refl
+on : (version : ℕ) → 0 < version → nat_lt 0 version ≡ true
+on version lt = grind arith
+
+off : (version : ℕ) → version ≡ 0 → nat_lt 0 version ≡ false
+off version none = rw none refl
+
+-- what the format says at a place behind the head where no event is still to be given
+at_word : (p : Progress) (bytes : List ℕ) → 0 < p.version → p.left ≡ 0 → capture_from p bytes ≡ records p.version p.due p.place bytes
+at_word p bytes started none = rw (on p.version started, none) refl
 
 -- ---- none too many
 
@@ -56,17 +64,21 @@ none_needed p [] (x ∷ xs) is some = absurd cc
 none_needed p (x ∷ xs) more is some = absurd cc
 
 -- at most four bytes of a word
-word_needed : (p : Progress) (taken : List ℕ) → p.started ≡ true → p.reads ≡ 0 → p.place < limit → length taken ≤ 4 → AreNeeded p taken
+word_needed : (p : Progress) (taken : List ℕ) → 0 < p.version → p.left ≡ 0 → p.place < limit → length taken ≤ 4 → AreNeeded p taken
 word_needed p taken started none lt few part more is some =
     let short = part_shorter taken part more is some in
-    (p.place + length part, at_word p part started none ∙ records_short p.due p.place part lt (omega (arith, short, few)))
+    record {
+      version = p.version;
+      byte = p.place + length part;
+      is = at_word p part started none ∙ records_short p.version p.due p.place part lt (omega (arith, short, few));
+    }
 
 -- at most eight bytes of the head
-pub head_needed : (p : Progress) (taken : List ℕ) → p.started ≡ false → length taken ≤ 8 → AreNeeded p taken
+pub head_needed : (p : Progress) (taken : List ℕ) → p.version ≡ 0 → length taken ≤ 8 → AreNeeded p taken
 head_needed p taken unstarted few part more is some =
     let short = part_shorter taken part more is some in
     let e : nat_lt (length part) 8 ≡ true = grind (arith, short, few) in
-    (length part, rw (unstarted, e) refl)
+    record { version = 0; byte = length part; is = rw (off p.version unstarted, e) refl }
 
 -- a list in two ways in two parts: the first part of the one ends inside the first part of the other, or not
 pub split : (xs ys part more : List ℕ) → xs ++ ys ≡ part ++ more
@@ -85,23 +97,27 @@ needed_on : (p q : Progress) (xs ys : List ℕ) → ((rest : List ℕ) → captu
     → AreNeeded p xs → AreNeeded q ys → AreNeeded p (xs ++ ys)
 needed_on p q xs ys moved first next part more is some =
     elim (split xs ys part more is) [
-      | inl behind ↦ let short = next behind.0 more behind.2 some in (short.0, ap (capture_from p) behind.1 ∙ moved behind.0 ∙ short.1)
+      | inl behind ↦ let short = next behind.0 more behind.2 some in record {
+        version = short.version;
+        byte = short.byte;
+        is = ap (capture_from p) behind.1 ∙ moved behind.0 ∙ short.is;
+      }
       | inr inside ↦ first part inside.0 inside.1 inside.2
     ]
 
-no_word_says : (p : Progress) (stop : Stop) (taken : List ℕ) (now : Option (List ℕ)) → p.started ≡ true → p.reads ≡ 0
-    → SaysNoWord stop p.place taken now → SaysStop stop p taken now
+no_word_says : (p : Progress) (stop : Stop) (taken : List ℕ) (now : Option (List ℕ)) → 0 < p.version → p.left ≡ 0
+    → SaysNoWord stop p.place taken now → SaysStop stop p p.version taken now
 no_word_says p (TooLong byte) taken now started none says =
-    λ rest. rw (says.0, says.2) (at_word p rest started none ∙ records_past p.due p.place rest says.1)
+    λ rest. rw (says.0, says.2) (at_word p rest started none ∙ records_past p.version p.due p.place rest says.1)
 no_word_says p (Truncated byte) taken now started none says =
-    (rw says.2 (at_word p taken started none ∙ records_short p.due p.place taken says.0 says.1), says.3)
+    (rw says.2 (at_word p taken started none ∙ records_short p.version p.due p.place taken says.0 says.1), says.3)
 no_word_says p (ReadFault byte) taken now started none says =
-    rw says.2 (at_word p taken started none ∙ records_short p.due p.place taken says.0 says.1)
+    rw says.2 (at_word p taken started none ∙ records_short p.version p.due p.place taken says.0 says.1)
 no_word_says p End taken now started none says = absurd says
 no_word_says p (NotCapture byte) taken now started none says = absurd says
 no_word_says p (BadRecord byte word) taken now started none says = absurd says
 
-no_word_needed : (p : Progress) (stop : Stop) (taken : List ℕ) (now : Option (List ℕ)) → p.started ≡ true → p.reads ≡ 0
+no_word_needed : (p : Progress) (stop : Stop) (taken : List ℕ) (now : Option (List ℕ)) → 0 < p.version → p.left ≡ 0
     → SaysNoWord stop p.place taken now → AreNeeded p taken
 no_word_needed p (TooLong byte) taken now started none says = rw says.2 (none_needed p)
 no_word_needed p (Truncated byte) taken now started none says = word_needed p taken started none says.0 (omega (arith, says.1))
@@ -111,8 +127,8 @@ no_word_needed p (NotCapture byte) taken now started none says = absurd says
 no_word_needed p (BadRecord byte word) taken now started none says = absurd says
 
 -- where no word can be had, a reader stops
-pub no_word_stops : (p : Progress) (before now : Option (List ℕ)) (stop : Stop) → p.started ≡ true → p.reads ≡ 0
-    → EndsWord before now p.place stop → StopsAt p before now stop
+pub no_word_stops : (p : Progress) (before now : Option (List ℕ)) (stop : Stop) → 0 < p.version → p.left ≡ 0
+    → EndsWord before now p.place stop → StopsAt p p before now stop
 no_word_stops p before now stop started none lack = record {
   taken = lack.taken;
   bytes = lack.bytes;
@@ -123,71 +139,70 @@ no_word_stops p before now stop started none lack = record {
 -- ---- one word
 
 -- what a word says, and those behind it
-word_says : (p : Progress) (a b c d : ℕ) (bytes : List ℕ) → p.started ≡ true → p.reads ≡ 0 → p.place < limit
+word_says : (p : Progress) (a b c d : ℕ) (bytes : List ℕ) → 0 < p.version → p.left ≡ 0 → p.place < limit
     → capture_from p (a ∷ b ∷ c ∷ d ∷ bytes)
-    ≡ after_step (word_step p.due p.place (little_number 4 (a ∷ b ∷ c ∷ d ∷ []))) (λ next. records next (p.place + 4) bytes) bytes
+    ≡ after_step p.version (word_step p.version p.due p.place (little_number 4 (a ∷ b ∷ c ∷ d ∷ [])))
+    (λ next. records p.version next (p.place + 4) bytes) bytes
 word_says p a b c d bytes started none lt = at_word p (a ∷ b ∷ c ∷ d ∷ bytes) started none ∙ rw (within p.place lt) refl
 
 -- the same for the word that was taken
-took_says : (p : Progress) (before now : Option (List ℕ)) (word : ℕ) (step : Step) (rest : List ℕ) → p.started ≡ true → p.reads ≡ 0
-    → (took : IsWord before now p.place word) → step ≡ word_step p.due p.place word
-    → capture_from p ((took.a ∷ took.b ∷ took.c ∷ took.d ∷ []) ++ rest) ≡ after_step step (λ next. records next (p.place + 4) rest) rest
+took_says : (p : Progress) (before now : Option (List ℕ)) (word : ℕ) (step : Step) (rest : List ℕ) → 0 < p.version → p.left ≡ 0
+    → (took : IsWord before now p.place word) → step ≡ word_step p.version p.due p.place word
+    → capture_from p ((took.a ∷ took.b ∷ took.c ∷ took.d ∷ []) ++ rest)
+    ≡ after_step p.version step (λ next. records p.version next (p.place + 4) rest) rest
 took_says p before now word step rest started none took is =
     word_says p took.a took.b took.c took.d rest started none took.below_limit
-    ∙ ap (λ s. after_step s (λ next. records next (p.place + 4) rest) rest)
-    (ap (word_step p.due p.place) (sym took.word_is) ∙ sym is)
+    ∙ ap (λ s. after_step p.version s (λ next. records p.version next (p.place + 4) rest) rest)
+    (ap (word_step p.version p.due p.place) (sym took.word_is) ∙ sym is)
 
--- where a reader stands behind a word
-abbrev pub behind : ℕ → Due → ℕ → Progress
-behind place due reads = record { started = true; place = place + 4; due = due; reads = reads }
+-- where a reader stands behind a word, the format says what it says of the bytes there
+behind_says : (p : Progress) (next : Due) (repeated : Event) (left : ℕ) (rest : List ℕ) → 0 < p.version
+    → capture_from (behind_word p next repeated left) rest ≡ then_events (replicate left repeated) (records p.version next (p.place + 4) rest)
+behind_says p next repeated left rest started = rw (on p.version started) refl
 
-pub opens_word : (p : Progress) (before now : Option (List ℕ)) (word : ℕ) (next : Due) → p.started ≡ true → p.reads ≡ 0
-    → IsWord before now p.place word → Opens next ≡ word_step p.due p.place word → Takes p (behind p.place next 0) before now []
+pub opens_word : (p : Progress) (before now : Option (List ℕ)) (word : ℕ) (next : Due) → 0 < p.version → p.left ≡ 0
+    → IsWord before now p.place word → Opens next ≡ word_step p.version p.due p.place word
+    → Takes p (behind_word p next p.repeated 0) before now []
 opens_word p before now word next started none took is = record {
   taken = took.a ∷ took.b ∷ took.c ∷ took.d ∷ [];
   bytes = took.bytes;
   needed = word_needed p _ started none took.below_limit (omega arith);
-  says = λ rest. took_says p before now word (Opens next) rest started none took is;
+  says = λ rest. took_says p before now word (Opens next) rest started none took is
+      ∙ sym (behind_says p next p.repeated 0 rest started);
 }
 
-pub gives_word : (p : Progress) (before now : Option (List ℕ)) (word : ℕ) (event : Event) (next : Due) → p.started ≡ true → p.reads ≡ 0
-    → IsWord before now p.place word → GivesEvent event next ≡ word_step p.due p.place word → Takes p (behind p.place next 0) before now (event ∷ [])
-gives_word p before now word event next started none took is = record {
+-- the first of so many, and the others
+first_of_them : (event : Event) (count : ℕ) (more : Captured) → 1 ≤ count
+    → then_events (replicate count event) more ≡ then_events (event ∷ []) (then_events (replicate (count - 1) event) more)
+first_of_them event zero more some = absurd (omega arith)
+first_of_them event (suc n) more some = let e : suc n - 1 ≡ n = omega arith in rw e refl
+
+pub gives_word : (p : Progress) (before now : Option (List ℕ)) (word : ℕ) (event : Event) (count : ℕ) (next : Due) → 0 < p.version → p.left ≡ 0
+    → 1 ≤ count → IsWord before now p.place word → GivesEvents event count next ≡ word_step p.version p.due p.place word
+    → Takes p (behind_word p next event (count - 1)) before now (event ∷ [])
+gives_word p before now word event count next started none some took is = record {
   taken = took.a ∷ took.b ∷ took.c ∷ took.d ∷ [];
   bytes = took.bytes;
   needed = word_needed p _ started none took.below_limit (omega arith);
-  says = λ rest. took_says p before now word (GivesEvent event next) rest started none took is;
+  says = λ rest. took_says p before now word (GivesEvents event count next) rest started none took is
+      ∙ first_of_them event count (records p.version next (p.place + 4) rest) some
+      ∙ ap (then_events (event ∷ [])) (sym (behind_says p next event (count - 1) rest started));
 }
 
--- the first of so many reads, and the others
-first_read : (count : ℕ) (more : Captured) → 1 ≤ count
-    → then_events (replicate count Read) more ≡ then_events (Read ∷ []) (then_events (replicate (count - 1) Read) more)
-first_read zero more some = absurd (omega arith)
-first_read (suc n) more some = let e : suc n - 1 ≡ n = omega arith in rw e refl
-
-pub reads_word : (p : Progress) (before now : Option (List ℕ)) (word count : ℕ) → p.started ≡ true → p.reads ≡ 0 → 1 ≤ count
-    → IsWord before now p.place word → Reads count ≡ word_step p.due p.place word → Takes p (behind p.place Tag (count - 1)) before now (Read ∷ [])
-reads_word p before now word count started none some took is = record {
-  taken = took.a ∷ took.b ∷ took.c ∷ took.d ∷ [];
-  bytes = took.bytes;
-  needed = word_needed p _ started none took.below_limit (omega arith);
-  says = λ rest. took_says p before now word (Reads count) rest started none took is ∙ first_read count (records Tag (p.place + 4) rest) some;
-}
-
--- a read that is still to be given takes no byte
-pub gives_read : (p : Progress) (left : Option (List ℕ)) → p.started ≡ true → 1 ≤ p.reads
-    → Takes p (record { started = p.started; place = p.place; due = p.due; reads = p.reads - 1 }) left left (Read ∷ [])
-gives_read p left started some = record {
+-- an event that is still to be given takes no byte
+pub gives_repeated : (p : Progress) (left : Option (List ℕ)) → 0 < p.version → 1 ≤ p.left
+    → Takes p (record { version = p.version; place = p.place; due = p.due; repeated = p.repeated; left = p.left - 1 }) left left (p.repeated ∷ [])
+gives_repeated p left started some = record {
   taken = [];
   bytes = prepended-nil left;
   needed = none_needed p;
-  says = λ rest. rw started (first_read p.reads (records p.due p.place rest) some);
+  says = λ rest. rw (on p.version started) (first_of_them p.repeated p.left (records p.version p.due p.place rest) some);
 }
 
 -- a stop that a word decides
-word_stop_says : (p : Progress) (before now : Option (List ℕ)) (word : ℕ) (stop : Stop) → p.started ≡ true → p.reads ≡ 0
-    → (took : IsWord before now p.place word) → Closes stop ≡ word_step p.due p.place word → IsWordStop stop
-    → SaysStop stop p (took.a ∷ took.b ∷ took.c ∷ took.d ∷ []) now
+word_stop_says : (p : Progress) (before now : Option (List ℕ)) (word : ℕ) (stop : Stop) → 0 < p.version → p.left ≡ 0
+    → (took : IsWord before now p.place word) → Closes stop ≡ word_step p.version p.due p.place word → IsWordStop stop
+    → SaysStop stop p p.version (took.a ∷ took.b ∷ took.c ∷ took.d ∷ []) now
 word_stop_says p before now word End started none took is decided = λ rest. took_says p before now word (Closes End) rest started none took is
 word_stop_says p before now word (BadRecord byte tag) started none took is decided =
     λ rest. took_says p before now word (Closes (BadRecord byte tag)) rest started none took is
@@ -196,8 +211,8 @@ word_stop_says p before now word (Truncated byte) started none took is decided =
 word_stop_says p before now word (TooLong byte) started none took is decided = absurd decided
 word_stop_says p before now word (ReadFault byte) started none took is decided = absurd decided
 
-pub word_stops : (p : Progress) (before now : Option (List ℕ)) (word : ℕ) (stop : Stop) → p.started ≡ true → p.reads ≡ 0
-    → IsWord before now p.place word → Closes stop ≡ word_step p.due p.place word → IsWordStop stop → StopsAt p before now stop
+pub word_stops : (p : Progress) (before now : Option (List ℕ)) (word : ℕ) (stop : Stop) → 0 < p.version → p.left ≡ 0
+    → IsWord before now p.place word → Closes stop ≡ word_step p.version p.due p.place word → IsWordStop stop → StopsAt p p before now stop
 word_stops p before now word stop started none took is decided = record {
   taken = took.a ∷ took.b ∷ took.c ∷ took.d ∷ [];
   bytes = took.bytes;
@@ -219,36 +234,40 @@ takes_on p q r before mid now events first next = record {
   says = λ rest. rw (append_assoc first.taken next.taken rest) (first.says (next.taken ++ rest) ∙ next.says rest);
 }
 
-says_on : (p q : Progress) (stop : Stop) (xs ys : List ℕ) (now : Option (List ℕ))
+says_on : (p q : Progress) (version : ℕ) (stop : Stop) (xs ys : List ℕ) (now : Option (List ℕ))
     → ((rest : List ℕ) → capture_from p (xs ++ rest) ≡ capture_from q rest)
-    → SaysStop stop q ys now → SaysStop stop p (xs ++ ys) now
-says_on p q (ReadFault byte) xs ys now moved says = moved ys ∙ says
-says_on p q (Truncated byte) xs ys now moved says = (moved ys ∙ says.0, says.1)
-says_on p q End xs ys now moved says = λ rest. rw (append_assoc xs ys rest) (moved (ys ++ rest) ∙ says rest)
-says_on p q (NotCapture byte) xs ys now moved says = λ rest. rw (append_assoc xs ys rest) (moved (ys ++ rest) ∙ says rest)
-says_on p q (TooLong byte) xs ys now moved says = λ rest. rw (append_assoc xs ys rest) (moved (ys ++ rest) ∙ says rest)
-says_on p q (BadRecord byte word) xs ys now moved says = λ rest. rw (append_assoc xs ys rest) (moved (ys ++ rest) ∙ says rest)
+    → SaysStop stop q version ys now → SaysStop stop p version (xs ++ ys) now
+says_on p q version (ReadFault byte) xs ys now moved says = moved ys ∙ says
+says_on p q version (Truncated byte) xs ys now moved says = (moved ys ∙ says.0, says.1)
+says_on p q version End xs ys now moved says = λ rest. rw (append_assoc xs ys rest) (moved (ys ++ rest) ∙ says rest)
+says_on p q version (NotCapture byte) xs ys now moved says = λ rest. rw (append_assoc xs ys rest) (moved (ys ++ rest) ∙ says rest)
+says_on p q version (TooLong byte) xs ys now moved says = λ rest. rw (append_assoc xs ys rest) (moved (ys ++ rest) ∙ says rest)
+says_on p q version (BadRecord byte word) xs ys now moved says = λ rest. rw (append_assoc xs ys rest) (moved (ys ++ rest) ∙ says rest)
 
-pub stops_on : (p q : Progress) (before mid now : Option (List ℕ)) (stop : Stop)
-    → Takes p q before mid [] → StopsAt q mid now stop → StopsAt p before now stop
-stops_on p q before mid now stop first next = record {
+pub stops_on : (p q r : Progress) (before mid now : Option (List ℕ)) (stop : Stop)
+    → Takes p q before mid [] → StopsAt q r mid now stop → StopsAt p r before now stop
+stops_on p q r before mid now stop first next = record {
   taken = first.taken ++ next.taken;
   bytes = taken_on before mid now first.taken next.taken first.bytes next.bytes;
   needed = needed_on p q first.taken next.taken first.says first.needed next.needed;
-  says = says_on p q stop first.taken next.taken now first.says next.says;
+  says = says_on p q r.version stop first.taken next.taken now first.says next.says;
 }
 
 -- behind a word there is less to come
-pub behind_less : (p : Progress) (due : Due) (reads : ℕ) → p.place < limit → reads < 2 ^ 19 → work_left (behind p.place due reads) < work_left p
+pub behind_less : (p : Progress) (due : Due) (event : Event) (left : ℕ) → p.place < limit → left < 2 ^ 19
+    → work_left (behind_word p due event left) < work_left p
 unfolding work_left
-behind_less p due reads lt few = omega arith
+behind_less p due event left lt few = omega arith
 
 -- ---- the head
 
+no_version : (version : ℕ) (stop : Stop) (rest : List ℕ) → version ≡ 0 → ended 0 stop rest ≡ ended version stop rest
+no_version version stop rest none = rw none refl
+
 -- what the head and the bytes behind it say
-opened_says : (p : Progress) (bytes rest : List ℕ) → p.started ≡ false → length bytes ≡ 8 → capture_from p (bytes ++ rest) ≡ opened (first_difference bytes) rest
+opened_says : (p : Progress) (bytes rest : List ℕ) → p.version ≡ 0 → length bytes ≡ 8 → capture_from p (bytes ++ rest) ≡ opened (head_version bytes) rest
 opened_says p (a ∷ b ∷ c ∷ d ∷ e ∷ f ∷ g ∷ h ∷ []) rest unstarted eight =
-    let long : nat_lt (length (a ∷ b ∷ c ∷ d ∷ e ∷ f ∷ g ∷ h ∷ rest)) 8 ≡ false = grind arith in rw (unstarted, long) refl
+    let long : nat_lt (length (a ∷ b ∷ c ∷ d ∷ e ∷ f ∷ g ∷ h ∷ rest)) 8 ≡ false = grind arith in rw (off p.version unstarted, long) refl
 opened_says p [] rest unstarted eight = absurd (omega (arith, eight))
 opened_says p (a ∷ []) rest unstarted eight = absurd (omega (arith, eight))
 opened_says p (a ∷ b ∷ []) rest unstarted eight = absurd (omega (arith, eight))
@@ -262,44 +281,44 @@ opened_says p (a ∷ b ∷ c ∷ d ∷ e ∷ f ∷ g ∷ h ∷ i ∷ bytes) rest
 whole : (buf : List ℕ) (before now : Option (List ℕ)) → length buf ≡ 8 → before ≡ prepended (take 8 buf) now → before ≡ prepended buf now
 whole buf before now eight took = took ∙ ap (λ bytes. prepended bytes now) (take_all 8 buf (omega (arith, eight)))
 
-pub head_takes : (p : Progress) (buf : List ℕ) (before now : Option (List ℕ)) → p.started ≡ false → length buf ≡ 8
-    → before ≡ prepended (take 8 buf) now → first_difference buf ≡ None → Takes p (record { started = true; place = 8; due = Tag; reads = 0 }) before now []
-head_takes p buf before now unstarted eight took none = record {
+pub head_takes : (p : Progress) (buf : List ℕ) (before now : Option (List ℕ)) (version : ℕ) → p.version ≡ 0 → length buf ≡ 8
+    → before ≡ prepended (take 8 buf) now → head_version buf ≡ Ok version → 1 ≤ version → Takes p (tag_due version 8) before now []
+head_takes p buf before now version unstarted eight took is known = record {
   taken = buf;
   bytes = whole buf before now eight took;
   needed = head_needed p buf unstarted (omega (arith, eight));
-  says = λ rest. opened_says p buf rest unstarted eight ∙ ap (λ place. opened place rest) none;
+  says = λ rest. opened_says p buf rest unstarted eight ∙ ap (λ says. opened says rest) is ∙ rw (on version known) refl;
 }
 
-pub head_stops : (p : Progress) (buf : List ℕ) (before now : Option (List ℕ)) (place : ℕ) → p.started ≡ false → length buf ≡ 8
-    → before ≡ prepended (take 8 buf) now → first_difference buf ≡ Some place → StopsAt p before now (NotCapture place)
-head_stops p buf before now place unstarted eight took differs = record {
+pub head_stops : (p : Progress) (buf : List ℕ) (before now : Option (List ℕ)) (place : ℕ) → p.version ≡ 0 → length buf ≡ 8
+    → before ≡ prepended (take 8 buf) now → head_version buf ≡ Err place → StopsAt p p before now (NotCapture place)
+head_stops p buf before now place unstarted eight took is = record {
   taken = buf;
   bytes = whole buf before now eight took;
   needed = head_needed p buf unstarted (omega (arith, eight));
-  says = λ rest. opened_says p buf rest unstarted eight ∙ ap (λ place. opened place rest) differs;
+  says = λ rest. opened_says p buf rest unstarted eight ∙ ap (λ says. opened says rest) is ∙ no_version p.version (NotCapture place) rest unstarted;
 }
 
 -- fewer than eight bytes
-short_says : (p : Progress) (bytes : List ℕ) → p.started ≡ false → length bytes < 8 → capture_from p bytes ≡ ended (Truncated (length bytes)) []
-short_says p bytes unstarted short = let e : nat_lt (length bytes) 8 ≡ true = grind (arith, short) in rw (unstarted, e) refl
+short_says : (p : Progress) (bytes : List ℕ) → p.version ≡ 0 → length bytes < 8 → capture_from p bytes ≡ ended p.version (Truncated (length bytes)) []
+short_says p bytes unstarted short = let e : nat_lt (length bytes) 8 ≡ true = grind (arith, short) in rw (off p.version unstarted, e, unstarted) refl
 
-pub head_short : (p : Progress) (buf : List ℕ) (before now : Option (List ℕ)) (n : ℕ) → p.started ≡ false → n ≤ length buf → n < 8
-    → before ≡ prepended (take n buf) now → IsAtEnd now → StopsAt p before now (Truncated n)
+pub head_short : (p : Progress) (buf : List ℕ) (before now : Option (List ℕ)) (n : ℕ) → p.version ≡ 0 → n ≤ length buf → n < 8
+    → before ≡ prepended (take n buf) now → IsAtEnd now → StopsAt p p before now (Truncated n)
 head_short p buf before now n unstarted fits few took at_end =
     let long : length (take n buf) ≡ n = length-take-le n buf fits in record {
       taken = take n buf;
       bytes = took;
       needed = head_needed p (take n buf) unstarted (omega (arith, long, few));
-      says = (short_says p (take n buf) unstarted (omega (arith, long, few)) ∙ ap (λ byte. ended (Truncated byte) []) long, at_end);
+      says = (short_says p (take n buf) unstarted (omega (arith, long, few)) ∙ ap (λ byte. ended p.version (Truncated byte) []) long, at_end);
     }
 
-pub head_fails : (p : Progress) (buf : List ℕ) (before now : Option (List ℕ)) (n : ℕ) → p.started ≡ false → n ≤ length buf → n < 8
-    → before ≡ prepended (take n buf) now → StopsAt p before now (ReadFault n)
+pub head_fails : (p : Progress) (buf : List ℕ) (before now : Option (List ℕ)) (n : ℕ) → p.version ≡ 0 → n ≤ length buf → n < 8
+    → before ≡ prepended (take n buf) now → StopsAt p p before now (ReadFault n)
 head_fails p buf before now n unstarted fits few took =
     let long : length (take n buf) ≡ n = length-take-le n buf fits in record {
       taken = take n buf;
       bytes = took;
       needed = head_needed p (take n buf) unstarted (omega (arith, long, few));
-      says = short_says p (take n buf) unstarted (omega (arith, long, few)) ∙ ap (λ byte. ended (Truncated byte) []) long;
+      says = short_says p (take n buf) unstarted (omega (arith, long, few)) ∙ ap (λ byte. ended p.version (Truncated byte) []) long;
     }

@@ -1,13 +1,16 @@
 -- What the steps of a reader take from its source, and what the format says of that.
-use Rattle.std.specs.Prelude.{◌≡◌, ◌<◌, ◌≤◌, ℕ, List, [], ◌∷◌, ◌++◌, ◌+◌, ◌-◌, ◌*◌, ◌^◌, false, Option, length, replicate, if◌then◌else◌}
+use Rattle.std.specs.Prelude.{◌≡◌, ◌<◌, ◌≤◌, ℕ, List, [], ◌∷◌, ◌++◌, ◌+◌, ◌-◌, ◌*◌, ◌^◌, nat_lt, Option, length}
+use Rattle.std.specs.Prelude.{replicate, if◌then◌else◌}
 use Rattle.byteorder.specs.Endian.{little_number}
 use Rattle.dev_io.specs.Device.{prepended, IsAtEnd}
-use Rattle.gpu_capture.specs.Record.{IsDue}
+use Rattle.gpu_capture.specs.Record.{IsDue, IsEvent}
 use Rattle.gpu_capture.specs.Capture.{Captured, ended, then_events, records, capture, limit}
 use Rattle.gpu_capture.specs.declared.event.Event.{Event}
-use Rattle.gpu_capture.specs.declared.event.Event.TheVariants.{Read}
 use Rattle.gpu_capture.specs.declared.event.Stop.{Stop}
 use Rattle.gpu_capture.specs.declared.event.Stop.TheVariants.{TooLong, Truncated, ReadFault}
+use Rattle.gpu_capture.specs.declared.event.Event.TheVariants.{Stat}
+use Rattle.gpu_capture.specs.declared.record.Due.{Due}
+use Rattle.gpu_capture.specs.declared.record.Due.TheVariants.{Tag}
 use Rattle.gpu_capture.specs.declared.progress.Progress.{Progress}
 
 -- a word was taken
@@ -27,7 +30,8 @@ IsReadFault stop = ⊥
 -- the stop where a word that is due can't be had, after these bytes of it
 abbrev pub SaysNoWord : Stop → ℕ → List ℕ → Option (List ℕ) → Type 0
 SaysNoWord (TooLong byte) place taken now = (byte ≡ limit) × (limit ≤ place) × (taken ≡ [])
-SaysNoWord (Truncated byte) place taken now = (place < limit) × (length taken < 4) × (byte ≡ place + length taken) × IsAtEnd now
+SaysNoWord (Truncated byte) place taken now =
+    (place < limit) × (length taken < 4) × (byte ≡ place + length taken) × IsAtEnd now
 SaysNoWord (ReadFault byte) place taken now = (place < limit) × (length taken < 4) × (byte ≡ place + length taken)
 SaysNoWord stop place taken now = ⊥
 
@@ -41,44 +45,64 @@ pub record EndsWord (before now : Option (List ℕ)) (place : ℕ) (stop : Stop)
 pub record IsProgress (p : Progress) : Type 0 where
   pub due : IsDue p.due
   pub place : p.place < 2 ^ 31
-  pub reads : p.reads < 2 ^ 18
-  pub start : p.started ≡ false → p.place ≡ 0
+  pub left : p.left < 2 ^ 18
+  pub repeated : IsEvent p.repeated
+  pub version : p.version ≤ 3
+  pub start : p.version ≡ 0 → p.place ≡ 0
 
 -- what the bytes from a reader's place on say
 abbrev pub capture_from : Progress → List ℕ → Captured
-capture_from p bytes = if p.started then then_events (replicate p.reads Read) (records p.due p.place bytes) else capture bytes
+capture_from p bytes =
+    if nat_lt 0 p.version then then_events (replicate p.left p.repeated) (records p.version p.due p.place bytes)
+    else capture bytes
 
 -- a bound on the events and words that are still to come; each of them lowers it
 unfoldable pub work_left : Progress → ℕ
-work_left p = (2 ^ 31 - p.place) * 2 ^ 19 + p.reads
+work_left p = (2 ^ 31 - p.place) * 2 ^ 19 + p.left
+
+-- the bytes are too few for a word or an event that is due
+pub record IsCutShort (old : Progress) (bytes : List ℕ) : Type 0 where
+  pub version : ℕ
+  pub byte : ℕ
+  pub is : capture_from old bytes ≡ ended version (Truncated byte) []
 
 -- none of these bytes is one too many: a proper part of them is cut short before anything more is known
 abbrev pub AreNeeded : Progress → List ℕ → Type 0
-AreNeeded p taken = (part more : List ℕ) → taken ≡ part ++ more → (more ≡ [] → ⊥) → (byte : ℕ) × (capture_from p part ≡ ended (Truncated byte) [])
+AreNeeded p taken = (part more : List ℕ) → taken ≡ part ++ more → (more ≡ [] → ⊥) → IsCutShort p part
 
--- bytes were taken, none too many, and events were given: what the format says of those bytes and any rest is these events, and then
--- what it says of the rest from the new place on
+-- bytes were taken, none too many, and events were given: what the format says of those bytes and any rest is these
+-- events, and then what it says of the rest from the new place on
 pub record Takes (old new : Progress) (before now : Option (List ℕ)) (events : List Event) : Type 0 where
   pub taken : List ℕ
   pub bytes : before ≡ prepended taken now
   pub needed : AreNeeded old taken
   pub says : (rest : List ℕ) → capture_from old (taken ++ rest) ≡ then_events events (capture_from new rest)
 
--- What the format says of the bytes taken where a reader stops. No byte is taken past those that decide it. Where the source failed,
--- the bytes taken were not enough.
-abbrev pub SaysStop : Stop → Progress → List ℕ → Option (List ℕ) → Type 0
-SaysStop (ReadFault byte) old taken now = capture_from old taken ≡ ended (Truncated byte) []
-SaysStop (Truncated byte) old taken now = (capture_from old taken ≡ ended (Truncated byte) []) × IsAtEnd now
-SaysStop stop old taken now = (rest : List ℕ) → capture_from old (taken ++ rest) ≡ ended stop rest
+-- What the format says of the bytes taken where a reader stops, in a capture of this version. No byte is taken past
+-- those that decide it. Where the source failed, the bytes taken were not enough.
+abbrev pub SaysStop : Stop → Progress → ℕ → List ℕ → Option (List ℕ) → Type 0
+SaysStop (ReadFault byte) old version taken now = capture_from old taken ≡ ended version (Truncated byte) []
+SaysStop (Truncated byte) old version taken now =
+    (capture_from old taken ≡ ended version (Truncated byte) []) × IsAtEnd now
+SaysStop stop old version taken now = (rest : List ℕ) → capture_from old (taken ++ rest) ≡ ended version stop rest
 
-pub record StopsAt (old : Progress) (before now : Option (List ℕ)) (stop : Stop) : Type 0 where
+pub record StopsAt (old new : Progress) (before now : Option (List ℕ)) (stop : Stop) : Type 0 where
   pub taken : List ℕ
   pub bytes : before ≡ prepended taken now
   pub needed : AreNeeded old taken
-  pub says : SaysStop stop old taken now
+  pub says : SaysStop stop old new.version taken now
 
 -- where a new reader stands
 pub record IsStart (p : Progress) : Type 0 where
-  pub started : p.started ≡ false
+  pub version : p.version ≡ 0
   pub place : p.place ≡ 0
-  pub reads : p.reads ≡ 0
+  pub left : p.left ≡ 0
+
+-- where a reader stands that is to take a tag
+abbrev pub tag_due : ℕ → ℕ → Progress
+tag_due version place = record { version = version; place = place; due = Tag; repeated = Stat; left = 0 }
+
+-- where a reader stands behind a word
+abbrev pub behind_word : Progress → Due → Event → ℕ → Progress
+behind_word p due repeated left =
+    record { version = p.version; place = p.place + 4; due = due; repeated = repeated; left = left }

@@ -1,149 +1,112 @@
-// The events of a capture, one after another.
-ghost use Rattle.std.specs.Prelude.{◌≡◌, ◌<◌, ◌≤◌, ◌+◌, ◌^◌, None, [], ◌∷◌, IfSome, IfOk, IfErr, OnOk, OnErr, option_to_list, true, false, IsNone, IsSome};
+// The events of a capture, one after another, and the stop that a reader has answered.
+ghost use Rattle.std.specs.Prelude.{◌≡◌, ◌≤◌, ◌<◌, ◌+◌, ◌%◌, ◌^◌, [], ◌∷◌, None, Some, IfSome, IfOk, IfErr, OnOk, Err};
 ghost use Rattle.dev_io.specs.Device.{Rose};
 ghost use Rattle.gpu_capture.specs.Record.{IsEvent};
-ghost use Rattle.gpu_capture.specs.Capture.{first_difference};
-ghost use Rattle.gpu_capture.specs.Reader.{IsWord, EndsWord, IsProgress, Takes, StopsAt, IsReadFault, work_left};
+ghost use Rattle.gpu_capture.specs.Reader.{StopsAt, Takes, IsReadFault, IsStart, work_left, tag_due};
+ghost use Rattle.gpu_capture.specs.Capture.{IsVersion};
+ghost use Rattle.gpu_capture.specs.State.{ReaderState};
 
 use crate::event::{Event, Stop};
-use crate::progress::Progress;
-use crate::record::{Due, Step, read_step};
-use byteorder::{ByteOrder, LittleEndian};
-use dev_io::{Source, fill};
+use crate::progress::{Progress, advance, at_tag};
+use crate::record::Due;
+use dev_io::Source;
+use std::marker::Model;
 
-const LIMIT: u32 = 1 << 30;
-
-const HEAD: [u8; 8] = *b"PSXGPUC1";
-
-/// The word at a place. It is not asked for where it would begin at the limit.
-fn read_word<S: Source>(source: &mut S, place: u32) -> Result<u32, Stop>
-    requires { place < 2 ^ 31 }
-    ensures word { IfOk result (λ word. IsWord (S.left source.old) (S.left source.new) place word) }
-    ensures stop { IfErr result (λ stop. EndsWord (S.left source.old) (S.left source.new) place stop) }
-    ensures cause { IfErr result (λ stop. IsReadFault stop → Rose (S.faults source.old) (S.faults source.new)) }
-    ensures faults { S.faults source.old ≤ S.faults source.new }
-{
-    if place >= LIMIT {
-        return Err(Stop::TooLong { byte: LIMIT });
-    }
-    let mut bytes = [0u8; 4];
-    match fill(source, &mut bytes) {
-        Ok(4) => Ok(LittleEndian::read_u32(&bytes)),
-        Ok(n) => Err(Stop::Truncated {
-            byte: place + n as u32,
-        }),
-        Err(n) => Err(Stop::ReadFault {
-            byte: place + n as u32,
-        }),
-    }
+/// The events of a capture, one after another.
+///
+/// Contracts see how far it has come and the stop that it has answered. What the format says of the bytes that were
+/// taken and of any rest is the events given, and then what it says of the rest from the reader's place on.
+#[derive(Drop)]
+pub struct EventReader {
+    progress: Progress,
+    stop: Option<Stop>,
 }
 
-/// The first place at which the bytes differ from the head of a capture.
-fn difference(bytes: &[u8; 8]) -> Option<usize>
-    ensures place { result ≡ first_difference bytes.now }
-    ensures within { IfSome result (λ place. place < 8) }
-{
-    HEAD.iter().zip(bytes).position(|(a, b)| *a != *b)
+impl Model for EventReader {
+    ghost use Rattle.gpu_capture.specs.Reader.{IsProgress};
+    ghost use Rattle.gpu_capture.specs.State.{ReaderState};
+
+    ghost Value = { ReaderState };
+
+    ghost view = { λ r. record { progress = r.progress; stop = r.stop } };
+
+    ghost invariant = { λ r. IsProgress r.progress };
 }
 
-/// Takes the head, if it is still due.
-fn take_head<S: Source>(progress: &mut Progress, source: &mut S) -> Result<(), Stop>
-    requires { IsProgress progress.old }
-    ensures takes { OnOk result (Takes progress.old progress.new (S.left source.old) (S.left source.new) []) }
-    ensures started { OnOk result (progress.new.started ≡ true) }
-    ensures bounds { IsProgress progress.new }
-    ensures forward { OnOk result (work_left progress.new ≤ work_left progress.old) }
-    ensures stop { IfErr result (λ stop. StopsAt progress.old (S.left source.old) (S.left source.new) stop) }
-    ensures cause { IfErr result (λ stop. IsReadFault stop → Rose (S.faults source.old) (S.faults source.new)) }
-    ensures faults { S.faults source.old ≤ S.faults source.new }
-{
-    if progress.started {
-        return Ok(());
+impl EventReader {
+    /// A reader at the beginning of a capture. It takes no memory.
+    #[tactic(auto, unfolding(crate::specs::Reader::work_left))]
+    pub fn new() -> Self
+        ensures start { IsStart result.progress }
+        ensures work { work_left result.progress < 2 ^ 51 }
+        ensures stop { result.stop ≡ None }
+    {
+        EventReader {
+            progress: Progress {
+                version: 0,
+                place: 0,
+                due: Due::Tag,
+                repeated: Event::Stat,
+                left: 0,
+            },
+            stop: None,
+        }
     }
-    let mut bytes = [0u8; 8];
-    match fill(source, &mut bytes) {
-        Ok(8) => match difference(&bytes) {
-            None => {
-                *progress = Progress {
-                    started: true,
-                    place: 8,
-                    due: Due::Tag,
-                    reads: 0,
-                };
-                Ok(())
+
+    /// A reader of this version that is to take a tag at a place behind the head.
+    #[tactic(auto, unfolding(crate::specs::Reader::work_left))]
+    pub fn at(version: u8, byte: u32) -> Self
+        requires version { IsVersion version }
+        requires whole { byte % 4 ≡ 0 }
+        requires behind_head { (8 ≤ byte) × (byte ≤ 2 ^ 30) }
+        ensures place { result.progress ≡ tag_due version byte }
+        ensures work { work_left result.progress < 2 ^ 51 }
+        ensures stop { result.stop ≡ None }
+    {
+        EventReader {
+            progress: at_tag(version, byte),
+            stop: None,
+        }
+    }
+
+    /// The version of the capture, 0 until its head was read.
+    pub fn version(&self) -> u8
+        ensures value { result ≡ self.now.progress.version }
+        ensures known { result ≤ 3 }
+    {
+        self.progress.version
+    }
+
+    /// The next event. It takes no byte past those that the event or the stop needs. After a stop it answers the same
+    /// stop, and takes nothing.
+    pub fn next<S: Source>(&mut self, source: &mut S) -> Result<Event, Stop>
+        ensures takes { IfOk result (λ event.
+            Takes self.old.progress self.new.progress (S.left source.old) (S.left source.new) (event ∷ [])) }
+        ensures event { IfOk result IsEvent }
+        ensures forward { OnOk result (work_left self.new.progress < work_left self.old.progress) }
+        ensures version { OnOk result (1 ≤ self.new.progress.version) }
+        ensures running { OnOk result (self.old.stop ≡ None) }
+        ensures runs_on { OnOk result (self.new.stop ≡ None) }
+        ensures stop { self.old.stop ≡ None → IfErr result (λ stop.
+            StopsAt self.old.progress self.new.progress (S.left source.old) (S.left source.new) stop) }
+        ensures kept { IfErr result (λ stop. self.new.stop ≡ Some stop) }
+
+        // A stop that was answered before is answered again.
+        ensures again { IfSome self.old.stop (λ stop.
+            (result ≡ Err stop) × (self.new ≡ self.old) × (S.left source.new ≡ S.left source.old)) }
+        ensures cause { self.old.stop ≡ None → IfErr result (λ stop.
+            IsReadFault stop → Rose (S.faults source.old) (S.faults source.new)) }
+        ensures faults { S.faults source.old ≤ S.faults source.new }
+    {
+        if let Some(stop) = self.stop {
+            return Err(stop);
+        }
+        match advance(&mut self.progress, source) {
+            Ok(event) => Ok(event),
+            Err(stop) => {
+                self.stop = Some(stop);
+                Err(stop)
             }
-            Some(place) => Err(Stop::NotCapture { byte: place as u32 }),
-        },
-        Ok(n) => Err(Stop::Truncated { byte: n as u32 }),
-        Err(n) => Err(Stop::ReadFault { byte: n as u32 }),
-    }
-}
-
-/// Takes one word, or gives one of the reads that are still to be given.
-fn take_word<S: Source>(progress: &mut Progress, source: &mut S) -> Result<Option<Event>, Stop>
-    requires bounds { IsProgress progress.old }
-    requires started { progress.old.started ≡ true }
-    ensures takes { IfOk result (λ event. Takes progress.old progress.new (S.left source.old) (S.left source.new) (option_to_list event)) }
-    ensures started { OnOk result (progress.new.started ≡ true) }
-    ensures bounds { IsProgress progress.new }
-    ensures event { IfOk result (λ event. IfSome event IsEvent) }
-    ensures forward { OnOk result (work_left progress.new < work_left progress.old) }
-    ensures stop { IfErr result (λ stop. StopsAt progress.old (S.left source.old) (S.left source.new) stop) }
-    ensures cause { IfErr result (λ stop. IsReadFault stop → Rose (S.faults source.old) (S.faults source.new)) }
-    ensures faults { S.faults source.old ≤ S.faults source.new }
-{
-    if progress.reads > 0 {
-        progress.reads -= 1;
-        return Ok(Some(Event::Read));
-    }
-    let place = progress.place;
-    let word = read_word(source, place)?;
-    match read_step(progress.due, place, word) {
-        Step::Opens { next } => {
-            *progress = behind(place, next, 0);
-            Ok(None)
-        }
-        Step::Gives { event, next } => {
-            *progress = behind(place, next, 0);
-            Ok(Some(event))
-        }
-        Step::Reads { count } => {
-            *progress = behind(place, Due::Tag, count - 1);
-            Ok(Some(Event::Read))
-        }
-        Step::Closes { stop } => Err(stop),
-    }
-}
-
-/// Where a reader stands behind the word at a place.
-fn behind(place: u32, due: Due, reads: u32) -> Progress
-    requires { place < 2 ^ 30 }
-    ensures { result ≡ record { started = true; place = place + 4; due = due; reads = reads } }
-{
-    Progress {
-        started: true,
-        place: place + 4,
-        due,
-        reads,
-    }
-}
-
-/// The next event.
-pub(crate) fn advance<S: Source>(progress: &mut Progress, source: &mut S) -> Result<Event, Stop>
-    requires { IsProgress progress.old }
-    ensures takes { IfOk result (λ event. Takes progress.old progress.new (S.left source.old) (S.left source.new) (event ∷ [])) }
-    ensures bounds { IsProgress progress.new }
-    ensures event { IfOk result IsEvent }
-    ensures forward { OnOk result (work_left progress.new < work_left progress.old) }
-    ensures stop { IfErr result (λ stop. StopsAt progress.old (S.left source.old) (S.left source.new) stop) }
-    ensures cause { IfErr result (λ stop. IsReadFault stop → Rose (S.faults source.old) (S.faults source.new)) }
-    ensures faults { S.faults source.old ≤ S.faults source.new }
-{
-    take_head(progress, source)?;
-    'words: loop {
-        match take_word(progress, source)? {
-            Some(event) => return Ok(event),
-            None => {}
         }
     }
 }

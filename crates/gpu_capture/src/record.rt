@@ -1,8 +1,18 @@
 // What a word does, by the record that is open where it stands.
 ghost use Rattle.std.specs.Prelude.{◌≡◌, ◌<◌, ◌^◌, ◌/◌};
 ghost use Rattle.gpu_capture.specs.Record.{IsDue, IsStep, word_step, tag_step, address_step, ram_due, gp0_due};
+ghost use Rattle.gpu_capture.specs.Record.{started_by, IsBy, IsEvent};
 
 use crate::event::{Event, Stop};
+
+/// How many bytes main memory has.
+const MEMORY_BYTES: u32 = 0x20_0000;
+
+/// How many words main memory has.
+const MEMORY_WORDS: u32 = 524_288;
+
+/// The most events that a record without payload gives.
+const MOST_REPEATS: u32 = 262_144;
 
 /// The record that is open, by what its next word is.
 #[derive(Clone, Copy, Debug, PartialEq, Eq)]
@@ -18,11 +28,20 @@ pub enum Due {
     /// The word of a Gp1 record.
     Gp1,
     /// The address register of a DMA channel.
-    Madr { channel: u8 },
+    Madr { by: Start },
     /// The block register, behind the address register.
-    Bcr { channel: u8, madr: u32 },
+    Bcr { by: Start, madr: u32 },
     /// The control register, behind the two others.
-    Chcr { channel: u8, madr: u32, bcr: u32 },
+    Chcr { by: Start, madr: u32, bcr: u32 },
+}
+
+/// How a DMA channel is started.
+#[derive(Clone, Copy, Debug, PartialEq, Eq)]
+pub enum Start {
+    /// All that it moves is moved at once.
+    Dma { channel: u8 },
+    /// Nothing is moved before its first turn.
+    Begin,
 }
 
 /// What a word does.
@@ -30,84 +49,109 @@ pub enum Due {
 pub(crate) enum Step {
     /// It leads to another word of its record.
     Opens { next: Due },
-    /// It completes an event.
-    Gives { event: Event, next: Due },
-    /// It is so many reads.
-    Reads { count: u32 },
+    /// It completes an event, or is so many of it.
+    Gives { event: Event, count: u32, next: Due },
     /// It ends the capture.
     Closes { stop: Stop },
 }
 
-/// What a word does at a place, where a record is open.
-pub(crate) fn read_step(due: Due, place: u32, word: u32) -> Step
+/// What a word does at a place, where a record is open in a capture of this version.
+pub(crate) fn read_step(version: u8, due: Due, place: u32, word: u32) -> Step
     requires { IsDue due }
-    ensures value { result ≡ word_step due place word }
+    ensures value { result ≡ word_step version due place word }
     ensures bounds { IsStep result }
 {
     match due {
-        Due::Tag => tag(place, word),
+        Due::Tag => tag(version, place, word),
         Due::Address { count } => address(place, count, word),
         Due::Ram { address, left } => ram(address, left, word),
         Due::Gp0 { left } => Step::Gives {
             event: Event::Gp0 { word },
+            count: 1,
             next: gp0(left),
         },
         Due::Gp1 => Step::Gives {
             event: Event::Gp1 { word },
+            count: 1,
             next: Due::Tag,
         },
-        Due::Madr { channel } => Step::Opens {
-            next: Due::Bcr {
-                channel,
-                madr: word,
-            },
+        Due::Madr { by } => Step::Opens {
+            next: Due::Bcr { by, madr: word },
         },
-        Due::Bcr { channel, madr } => Step::Opens {
+        Due::Bcr { by, madr } => Step::Opens {
             next: Due::Chcr {
-                channel,
+                by,
                 madr,
                 bcr: word,
             },
         },
-        Due::Chcr { channel, madr, bcr } => Step::Gives {
-            event: Event::Dma {
-                channel,
-                madr,
-                bcr,
-                chcr: word,
-            },
+        Due::Chcr { by, madr, bcr } => Step::Gives {
+            event: started(by, madr, bcr, word),
+            count: 1,
             next: Due::Tag,
         },
     }
 }
 
-fn tag(place: u32, word: u32) -> Step
-    ensures value { result ≡ tag_step place word }
+// The event of a start with the values of its registers.
+fn started(by: Start, madr: u32, bcr: u32, chcr: u32) -> Event
+    requires { IsBy by }
+    ensures value { result ≡ started_by by madr bcr chcr }
+    ensures bounds { IsEvent result }
+{
+    match by {
+        Start::Dma { channel } => Event::Dma {
+            channel,
+            madr,
+            bcr,
+            chcr,
+        },
+        Start::Begin => Event::Begin { madr, bcr, chcr },
+    }
+}
+
+fn tag(version: u8, place: u32, word: u32) -> Step
+    ensures value { result ≡ tag_step version place word }
     ensures bounds { IsStep result }
 {
     let count = word & 0xff_ffff;
     match word >> 24 {
         0 if count == 0 => Step::Closes { stop: Stop::End },
-        1 if 1 <= count && count <= 524_288 => Step::Opens {
+        1 if 1 <= count && count <= MEMORY_WORDS => Step::Opens {
             next: Due::Address { count },
         },
         2 if 1 <= count => Step::Opens {
             next: Due::Gp0 { left: count },
         },
         3 if count == 1 => Step::Opens { next: Due::Gp1 },
-        4 if 1 <= count && count <= 262_144 => Step::Reads { count },
-        5 if count == 1 => Step::Gives {
-            event: Event::Stat,
-            next: Due::Tag,
-        },
+        4 if 1 <= count && count <= MOST_REPEATS => repeats(Event::Read, count),
+        5 if count == 1 => repeats(Event::Stat, 1),
         6 if count == 2 || count == 6 => Step::Opens {
             next: Due::Madr {
-                channel: count as u8,
+                by: Start::Dma {
+                    channel: count as u8,
+                },
             },
         },
+        7 if version >= 2 && count == 2 => Step::Opens {
+            next: Due::Madr { by: Start::Begin },
+        },
+        8 if version >= 2 && (1 <= count && count <= MOST_REPEATS) => repeats(Event::Turn, count),
+        9 if version >= 2 && (1 <= count && count <= MOST_REPEATS) => repeats(Event::Skip, count),
         _ => Step::Closes {
             stop: Stop::BadRecord { byte: place, word },
         },
+    }
+}
+
+// A record without payload, which is so many of an event.
+fn repeats(event: Event, count: u32) -> Step
+    ensures { result ≡ Step.Gives event count Due.Tag }
+{
+    Step::Gives {
+        event,
+        count,
+        next: Due::Tag,
     }
 }
 
@@ -116,7 +160,7 @@ fn address(place: u32, count: u32, word: u32) -> Step
     ensures value { result ≡ address_step place count word }
     ensures bounds { IsStep result }
 {
-    if word % 4 == 0 && word <= 0x20_0000 && word + 4 * count <= 0x20_0000 {
+    if word % 4 == 0 && word <= MEMORY_BYTES && word + 4 * count <= MEMORY_BYTES {
         Step::Opens {
             next: Due::Ram {
                 address: word,
@@ -132,7 +176,7 @@ fn address(place: u32, count: u32, word: u32) -> Step
 
 fn ram(address: u32, left: u32, word: u32) -> Step
     requires { IsDue (Due.Ram address left) }
-    ensures value { result ≡ word_step (Due.Ram address left) 0 word }
+    ensures value { result ≡ word_step 1 (Due.Ram address left) 0 word }
     ensures bounds { IsStep result }
 {
     let next = if left > 1 {
@@ -145,6 +189,7 @@ fn ram(address: u32, left: u32, word: u32) -> Step
     };
     Step::Gives {
         event: Event::Ram { address, word },
+        count: 1,
         next,
     }
 }

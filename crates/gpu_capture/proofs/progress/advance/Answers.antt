@@ -1,12 +1,12 @@
 use Rattle.std.proofs.Common.{arith}
 use Rattle.std.proofs.lemmas.Result.{err_from_is_err_and}
 use Rattle.gpu_capture.proofs.Steps.{takes_on, stops_on}
-use Rattle.gpu_capture.proofs.reader.advance.Goals as goal
+use Rattle.gpu_capture.proofs.progress.advance.Goals as goal
 
 pub returns-in_err-event-clause-stop : goal.returns-in_err-event-clause-stop
 returns-in_err-event-clause-stop g c =
     let p = err_from_is_err_and c.from_residual-in_err-event.result c.from_residual-in_err-event.ensures.1 in
-    rw (p.1, p.2) (stops_on _ _ _ _ _ _ c.words.invariant.takes c.in_err-event.ensures.stop)
+    rw (p.1, p.2) (stops_on _ _ _ _ _ _ _ c.words.invariant.takes c.in_err-event.ensures.stop)
 
 pub returns-in-Some-clause-takes : goal.returns-in-Some-clause-takes
 returns-in-Some-clause-takes g c =

@@ -1,0 +1,15 @@
+//! Laws of captures, each of them the contract of a function that does nothing.
+ghost use Rattle.gpu_capture.specs.Whole.{RecordsAreRead};
+ghost use Rattle.gpu_capture.specs.Written.{WrittenIsRead};
+
+/// What is written of events that a version allows, in at most 2^30 bytes, is read again as these events with End,
+/// whatever bytes follow.
+pub fn written_is_read()
+    ensures { WrittenIsRead }
+{}
+
+/// Records that a version allows, of any count, are read as their events, whatever bytes follow the End record behind
+/// them.
+pub fn records_are_read()
+    ensures { RecordsAreRead }
+{}
