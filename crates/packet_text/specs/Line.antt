@@ -16,29 +16,41 @@ status_line word = codes "status " ++ (word_text word ++ codes "\n")
 
 -- ---- notes
 
+-- class 0
+abbrev pub miscellaneous_name : (opcode : ℕ) → List ℕ
+miscellaneous_name opcode =
+    if opcode == 0x02 then codes "fill" else
+    (if opcode == 0x1f then codes "irq" else codes "nop")
+
+-- class 7
+abbrev pub environment_name : (opcode : ℕ) → List ℕ
+environment_name opcode = if nat_le 0xe1 opcode && nat_le opcode 0xe6 then codes "environment" else codes "nop"
+
 -- what an item of a class is called, by its head
 abbrev pub note_name : (class head : ℕ) → List ℕ
 note_name class head =
-    if class == 0 then (if opcode_of head == 0x02 then codes "fill" else (if opcode_of head == 0x1f then codes "irq" else codes "nop")) else
+    if class == 0 then miscellaneous_name (opcode_of head) else
     (if class == 1 then codes "polygon" else
     (if class == 2 then codes "line" else
     (if class == 3 then codes "rectangle" else
     (if class == 4 then codes "copy" else
     (if class == 5 then codes "load" else
     (if class == 6 then codes "store" else
-    (if class == 7 then (if nat_le 0xe1 (opcode_of head) && nat_le (opcode_of head) 0xe6 then codes "environment" else codes "nop") else
+    (if class == 7 then environment_name (opcode_of head) else
     (if class == 8 then codes "finish" else codes "pixels"))))))))
 
 -- the two corners of an area, or a dash
 abbrev pub area_text : Option Box2 → List ℕ
 area_text None = codes " -"
 area_text (Some area) =
-    codes " " ++ (signed_decimal area.x1 ++ (codes " " ++ (signed_decimal area.y1 ++ (codes " " ++ (signed_decimal area.x2 ++ (codes " " ++ signed_decimal area.y2))))))
+    codes " " ++ (signed_decimal area.x1 ++ (codes " " ++ (signed_decimal area.y1
+    ++ (codes " " ++ (signed_decimal area.x2 ++ (codes " " ++ signed_decimal area.y2))))))
 
 -- event, name, head, area
 unfoldable pub note_line : Note → List ℕ
 note_line note =
-    decimal note.event ++ (codes " " ++ (note_name note.class note.head ++ (codes " " ++ (word_text note.head ++ (area_text note.area ++ codes "\n")))))
+    decimal note.event ++ (codes " " ++ (note_name note.class note.head
+    ++ (codes " " ++ (word_text note.head ++ (area_text note.area ++ codes "\n")))))
 
 -- the line of a note in a list: pixels of a load have none
 abbrev pub listed : Note → List ℕ

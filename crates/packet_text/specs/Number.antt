@@ -13,3 +13,7 @@ hex_digits_of (suc n) number = hex_digits_of n (number / 16) ++ hex_digit (numbe
 -- a word in eight digits
 unfoldable pub word_text : ℕ → List ℕ
 word_text word = hex_digits_of 8 word
+
+-- an address of 24 bits in six digits
+unfoldable pub address_text : ℕ → List ℕ
+address_text address = hex_digits_of 6 address

@@ -1,7 +1,7 @@
 // The lines of words, of the status and of notes.
-ghost use Rattle.std.specs.Prelude.{◌≡◌, ◌≤◌, ◌++◌, codes, None, Some, OnOk, OnErr};
-ghost use Rattle.dev_io.specs.Device.{Rose, AppendsPart, appended};
-ghost use Rattle.packet_text.specs.Line.{word_line, status_line, note_name, area_text, note_line};
+ghost use Rattle.std.specs.Prelude.{◌≡◌, ◌≤◌, None, Some};
+ghost use Rattle.dev_io.specs.Device.{Writes};
+ghost use Rattle.packet_text.specs.Line.{word_line, status_line, note_name, note_line};
 
 use crate::number::{decimal_text, hex_digits, signed_text};
 use dev_io::{Failed, Sink, write_pieces};
@@ -12,10 +12,7 @@ use px_num::Box2;
 /// Writes the line of a word that was read: its eight hexadecimal digits.
 #[tactic(auto, unfolding(crate::specs::Line::word_line))]
 pub fn write_word<K: Sink>(out: &mut K, word: u32) -> Result<(), Failed>
-    ensures ok { OnOk result (K.held out.new ≡ appended (K.held out.old) (word_line word)) }
-    ensures failed { OnErr result (AppendsPart (K.held out.old) (K.held out.new) (word_line word)) }
-    ensures cause { OnErr result (Rose (K.faults out.old) (K.faults out.new)) }
-    ensures faults { K.faults out.old ≤ K.faults out.new }
+    ensures { Writes K.held K.faults out.old out.new (word_line word) result }
 {
     write_pieces(out, &[&hex_digits(word), b"\n"])
 }
@@ -23,26 +20,20 @@ pub fn write_word<K: Sink>(out: &mut K, word: u32) -> Result<(), Failed>
 /// Writes the status line: `status ` and eight hexadecimal digits.
 #[tactic(auto, unfolding(crate::specs::Line::status_line))]
 pub fn write_status<K: Sink>(out: &mut K, word: u32) -> Result<(), Failed>
-    ensures ok { OnOk result (K.held out.new ≡ appended (K.held out.old) (status_line word)) }
-    ensures failed { OnErr result (AppendsPart (K.held out.old) (K.held out.new) (status_line word)) }
-    ensures cause { OnErr result (Rose (K.faults out.old) (K.faults out.new)) }
-    ensures faults { K.faults out.old ≤ K.faults out.new }
+    ensures { Writes K.held K.faults out.old out.new (status_line word) result }
 {
     write_pieces(out, &[b"status ", &hex_digits(word), b"\n"])
 }
 
-/// Writes the line of a note: its event, its name, its head in eight hexadecimal digits, and the corners of its area, or
-/// a dash where it has none.
+/// Writes the line of a note: its event, its name, its head in eight hexadecimal digits, and the corners of its area,
+/// or a dash where it has none.
 pub fn write_note<K: Sink>(out: &mut K, note: &Note) -> Result<(), Failed>
     requires { note.now.class ≤ 9 }
-    ensures ok { OnOk result (K.held out.new ≡ appended (K.held out.old) (note_line note.now)) }
-    ensures failed { OnErr result (AppendsPart (K.held out.old) (K.held out.new) (note_line note.now)) }
-    ensures cause { OnErr result (Rose (K.faults out.old) (K.faults out.new)) }
-    ensures faults { K.faults out.old ≤ K.faults out.new }
+    ensures { Writes K.held K.faults out.old out.new (note_line note.now) result }
 {
     match &note.area {
-        None => write_bare(out, note.event, note.class, note.head),
-        Some(area) => write_with_area(out, note.event, note.class, note.head, area),
+        None => write_bare(out, note),
+        Some(area) => write_with_area(out, note, area),
     }
 }
 
@@ -72,37 +63,27 @@ fn name_of(class: u8, head: u32) -> &'static [u8]
 
 // The line of a note without an area.
 #[tactic(auto, unfolding(crate::specs::Line::note_line))]
-fn write_bare<K: Sink>(out: &mut K, event: u64, class: u8, head: u32) -> Result<(), Failed>
-    ensures ok { OnOk result (K.held out.new ≡ appended (K.held out.old) (note_line (record { event = event; class = class; head = head; area = None }))) }
-    ensures failed { OnErr result (AppendsPart (K.held out.old) (K.held out.new) (note_line (record { event = event; class = class; head = head; area = None }))) }
-    ensures cause { OnErr result (Rose (K.faults out.old) (K.faults out.new)) }
-    ensures faults { K.faults out.old ≤ K.faults out.new }
+fn write_bare<K: Sink>(out: &mut K, note: &Note) -> Result<(), Failed>
+    requires { note.now.area ≡ None }
+    ensures { Writes K.held K.faults out.old out.new (note_line note.now) result }
 {
     let mut number = Buffer::new();
-    let n = decimal_text(&mut number, event);
-    let name = name_of(class, head);
-    let digits = hex_digits(head);
-    write_pieces(out, &[n, b" ", name, b" ", &digits, b" -", b"\n"])
+    let event = decimal_text(&mut number, note.event);
+    let name = name_of(note.class, note.head);
+    let head = hex_digits(note.head);
+    write_pieces(out, &[event, b" ", name, b" ", &head, b" -", b"\n"])
 }
 
-// The line of a note with an area.
+// The line of a note with this area.
 #[tactic(auto, unfolding(crate::specs::Line::note_line))]
-fn write_with_area<K: Sink>(
-    out: &mut K,
-    event: u64,
-    class: u8,
-    head: u32,
-    area: &Box2,
-) -> Result<(), Failed>
-    ensures ok { OnOk result (K.held out.new ≡ appended (K.held out.old) (note_line (record { event = event; class = class; head = head; area = Some area.now }))) }
-    ensures failed { OnErr result (AppendsPart (K.held out.old) (K.held out.new) (note_line (record { event = event; class = class; head = head; area = Some area.now }))) }
-    ensures cause { OnErr result (Rose (K.faults out.old) (K.faults out.new)) }
-    ensures faults { K.faults out.old ≤ K.faults out.new }
+fn write_with_area<K: Sink>(out: &mut K, note: &Note, area: &Box2) -> Result<(), Failed>
+    requires { note.now.area ≡ Some area.now }
+    ensures { Writes K.held K.faults out.old out.new (note_line note.now) result }
 {
     let mut number = Buffer::new();
-    let n = decimal_text(&mut number, event);
-    let name = name_of(class, head);
-    let digits = hex_digits(head);
+    let event = decimal_text(&mut number, note.event);
+    let name = name_of(note.class, note.head);
+    let head = hex_digits(note.head);
     let mut left = Buffer::new();
     let x1 = signed_text(&mut left, &area.x1);
     let mut top = Buffer::new();
@@ -114,7 +95,7 @@ fn write_with_area<K: Sink>(
     write_pieces(
         out,
         &[
-            n, b" ", name, b" ", &digits, b" ", x1, b" ", y1, b" ", x2, b" ", y2, b"\n",
+            event, b" ", name, b" ", &head, b" ", x1, b" ", y1, b" ", x2, b" ", y2, b"\n",
         ],
     )
 }

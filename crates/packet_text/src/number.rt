@@ -1,7 +1,7 @@
 // Numbers as text.
 ghost use Rattle.std.specs.Prelude.{◌≡◌, ◌<◌, decimal};
 ghost use Rattle.std.specs.Fmt.{signed_decimal};
-ghost use Rattle.packet_text.specs.Number.{word_text, hex_digit};
+ghost use Rattle.packet_text.specs.Number.{word_text, address_text, hex_digit};
 
 use itoa::Buffer;
 
@@ -14,6 +14,20 @@ pub fn hex_digits(word: u32) -> [u8; 8]
     let mut rest = word;
     for i in 0..8 {
         digits[7 - i] = digit(rest % 16);
+        rest /= 16;
+    }
+    digits
+}
+
+/// The low 24 bits of an address in six hexadecimal digits, lower case.
+#[tactic(auto, unfolding(crate::specs::Number::address_text))]
+pub fn address_digits(address: u32) -> [u8; 6]
+    ensures { result ≡ address_text address }
+{
+    let mut digits = [0u8; 6];
+    let mut rest = address;
+    for i in 0..6 {
+        digits[5 - i] = digit(rest % 16);
         rest /= 16;
     }
     digits

@@ -1,0 +1,7 @@
+use Rattle.packet_text.specs.Tap.{item_line}
+use Rattle.packet_text.proofs.tap.write_item.Goals as goal
+
+pub returns : goal.returns
+unfolding item_line
+returns g c =
+    rw (← c.decimal_text-e.ensures, ← c.decimal_text-c.ensures, ← c.decimal_text-h.ensures) c.write_pieces.ensures
