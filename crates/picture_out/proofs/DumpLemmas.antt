@@ -1,13 +1,11 @@
 -- The bytes of cells, part by part.
-use Rattle.std.proofs.Common.{◌≡◌, ◌≤◌, ◌+◌, ◌*◌, ◌-◌, ◌++◌, ℕ, List, Option, length, take, drop, arith, refl, ap, sym, subst, ◌∙◌, slice_range}
+use Rattle.std.proofs.Common.{◌≡◌, ◌≤◌, ◌+◌, ◌*◌, ◌-◌, ◌++◌, ℕ, List, length, take, drop, arith, refl, ap, sym}
+use Rattle.std.proofs.Common.{subst, ◌∙◌, slice_range}
 use Rattle.std.proofs.lemmas.Grind.{flat_map-append, common_steps}
 use Rattle.std.proofs.lemmas.List.{drop-drop, take-append-drop, take_all}
 use Rattle.std.proofs.lemmas.Slice.{take-put_mid}
 use Rattle.std.proofs.Math.Seq.{take-add}
 use borrow.Rule.Slice.PartMut.{put_mid}
-use Rattle.dev_io.specs.Device.{AppendsPart, appended}
-use Rattle.dev_io.proofs.Appended.{appended-appended}
-use Rattle.dev_io.proofs.Parts.{part_after}
 use Rattle.picture_out.specs.Dump.{dump, cell_bytes}
 
 -- n cells more
@@ -35,15 +33,14 @@ whole_row m bytes y k so_far all long =
     rw (row_is m y) (sym all_of ∙ subst P e so_far)
 
 -- one row more
-pub rows_on : (before mid now : Option (List ℕ)) (m bytes : List ℕ) (y : ℕ) → mid ≡ appended before (dump (take (1024 * y) m))
-    → now ≡ appended mid bytes → bytes ≡ dump (slice_range m (1024 * y) (1024 * y + 1024))
-    → now ≡ appended before (dump (take (1024 * (y + 1)) m))
-rows_on before mid now m bytes y was took row =
+pub row_on : (m bytes : List ℕ) (y : ℕ) → bytes ≡ dump (slice_range m (1024 * y) (1024 * y + 1024))
+    → dump (take (1024 * (y + 1)) m) ≡ dump (take (1024 * y) m) ++ bytes
+row_on m bytes y row =
     let e : 1024 * (y + 1) ≡ 1024 * y + 1024 = omega arith in
-    rw (e, dump_more m (1024 * y) 1024, ← row_is m y, ← row)
-    (took ∙ ap (λ held. appended held bytes) was ∙ appended-appended before (dump (take (1024 * y) m)) bytes)
+    rw (e, dump_more m (1024 * y) 1024, ← row_is m y, ← row) refl
 
-dump_three : (m : List ℕ) (y : ℕ)
+-- the rows before one of them, it, and those after it
+pub dump_three : (m : List ℕ) (y : ℕ)
     → dump m ≡ dump (take (1024 * y) m) ++ (dump (slice_range m (1024 * y) (1024 * y + 1024)) ++ dump (drop 1024 (drop (1024 * y) m)))
 dump_three m y =
     rw (row_is m y)
@@ -51,13 +48,6 @@ dump_three m y =
     ∙ ap (λ bytes. dump (take (1024 * y) m) ++ bytes)
     (ap dump (sym (take-append-drop 1024 (drop (1024 * y) m)))
     ∙ flat_map-append cell_bytes (take 1024 (drop (1024 * y) m)) (drop 1024 (drop (1024 * y) m))))
-
--- a part of one row more
-pub row_part : (before mid now : Option (List ℕ)) (m bytes : List ℕ) (y : ℕ) → mid ≡ appended before (dump (take (1024 * y) m))
-    → AppendsPart mid now bytes → bytes ≡ dump (slice_range m (1024 * y) (1024 * y + 1024))
-    → AppendsPart before now (dump m)
-row_part before mid now m bytes y was part row =
-    rw (dump_three m y, ← row) (part_after before mid now (dump (take (1024 * y) m)) bytes (dump (drop 1024 (drop (1024 * y) m))) was part)
 
 pub length_put_mid : (xs ys : List ℕ) (a k : ℕ) → a + k ≤ length xs → length ys ≡ k → length (put_mid a k xs ys) ≡ length xs
 length_put_mid xs ys a k le long = grind (arith, common_steps)

@@ -1,6 +1,6 @@
 // The bytes of video memory.
-ghost use Rattle.std.specs.Prelude.{◌≡◌, ◌<◌, ◌≤◌, ◌+◌, ◌*◌, length, slice_range, OnOk, OnErr};
-ghost use Rattle.dev_io.specs.Device.{Rose, AppendsPart, appended};
+ghost use Rattle.std.specs.Prelude.{◌≡◌, ◌<◌, ◌≤◌, ◌+◌, ◌*◌, length, slice_range, OnOk};
+ghost use Rattle.dev_io.specs.Device.{Writes};
 ghost use Rattle.vram_store.specs.Vram.{height_of};
 ghost use Rattle.picture_out.specs.Dump.{dump, dump_cost};
 
@@ -16,10 +16,7 @@ pub fn write_vram<K: Sink, L: Ledger>(
     out: &mut K,
     steps: &mut Steps<L>,
 ) -> Result<(), Failed>
-    ensures ok { OnOk result (K.held out.new ≡ appended (K.held out.old) (dump vram.now)) }
-    ensures failed { OnErr result (AppendsPart (K.held out.old) (K.held out.new) (dump vram.now)) }
-    ensures cause { OnErr result (Rose (K.faults out.old) (K.faults out.new)) }
-    ensures faults { K.faults out.old ≤ K.faults out.new }
+    ensures writes { Writes K.held K.faults out.old out.new (dump vram.now) result }
     ensures cost { OnOk result (steps.new ≡ steps.old + dump_cost vram.now) }
     ensures cost_at_most { steps.new ≤ steps.old + dump_cost vram.now }
 {

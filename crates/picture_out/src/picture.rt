@@ -1,0 +1,224 @@
+// The shown picture as PPM.
+ghost use Rattle.std.specs.Prelude.{◌≡◌, ◌≤◌, ◌<◌, ◌+◌, ◌*◌, ◌/◌, ◌%◌, ◌^◌, take, decimal, IsSome, OnOk};
+ghost use Rattle.dev_io.specs.Device.{Writes};
+ghost use Rattle.vram_store.specs.Vram.{height_of};
+ghost use Rattle.gp1_status.specs.Shape.{shape_of};
+ghost use Rattle.picture_out.specs.Picture.{display_of, shown_cell, channel_byte, color_bytes, deep_bytes};
+ghost use Rattle.picture_out.specs.Picture.{numbered_pixel};
+ghost use Rattle.picture_out.specs.Picture.{pixels_from, picture_head, pixel_count, picture_of, picture};
+ghost use Rattle.picture_out.specs.Picture.{cells_of_pixel, picture_cost};
+
+use dev_io::{Failed, Sink, write_all, write_pieces};
+use gp1_status::Regs;
+use itoa::Buffer;
+use px_num::{wrap_at, wrap_x};
+use std::sync::ledger::Ledger;
+use vram_store::{Steps, Vram};
+
+/// How many pixels are given to the sink at once, at most.
+const PIECE: u32 = 1024;
+
+/// The part of video memory that is shown: from which cell on, how many pixels a row and how many rows, and whether a
+/// pixel has 24 bits.
+#[derive(Clone, Copy)]
+pub(crate) struct DisplayArea {
+    pub x: u16,
+    pub y: u16,
+    pub width: u16,
+    pub lines: u16,
+    pub is_deep: bool,
+}
+
+/// The width and height of the shown picture; none where it has no pixel.
+pub fn shape(regs: &Regs) -> Option<(u16, u16)>
+    ensures { result ≡ shape_of regs.now }
+{
+    regs.shape()
+}
+
+/// Writes the shown picture as PPM: `P6`, its width and height and `255` in lines, and then three bytes a pixel, red
+/// first, rows from the top.
+///
+/// It fails only where the sink does, and then a proper prefix of these bytes was written.
+pub fn write_ppm<K: Sink, L: Ledger>(
+    vram: &Vram,
+    regs: &Regs,
+    out: &mut K,
+    steps: &mut Steps<L>,
+) -> Result<(), Failed>
+    requires { IsSome (shape_of regs.now) }
+    ensures writes { Writes K.held K.faults out.old out.new (picture vram.now regs.now) result }
+    ensures cost { OnOk result (steps.new ≡ steps.old + picture_cost regs.now) }
+    ensures cost_at_most { steps.new ≤ steps.old + picture_cost regs.now }
+{
+    match shape(regs) {
+        None => unreachable!(),
+        Some((width, lines)) => write_picture(vram, display_area(regs, width, lines), out, steps),
+    }
+}
+
+// What is shown of a picture with this width and so many lines.
+fn display_area(regs: &Regs, width: u16, lines: u16) -> DisplayArea
+    ensures { result ≡ display_of regs.now (record { 0 = width; 1 = lines }) }
+{
+    let start = regs.start();
+    DisplayArea {
+        x: (start % 1024) as u16,
+        y: wrap_at(start / 1024, regs.height()),
+        width,
+        lines,
+        is_deep: regs.mode() >> 4 & 1 == 1,
+    }
+}
+
+// The head and the pixels.
+#[tactic(auto, unfolding(crate::specs::Picture::picture_of))]
+fn write_picture<K: Sink, L: Ledger>(
+    vram: &Vram,
+    shown: DisplayArea,
+    out: &mut K,
+    steps: &mut Steps<L>,
+) -> Result<(), Failed>
+    ensures writes { Writes K.held K.faults out.old out.new (picture_of vram.now shown) result }
+    ensures cost { OnOk result (steps.new ≡ steps.old + pixel_count shown * cells_of_pixel shown) }
+    ensures cost_at_most { steps.new ≤ steps.old + pixel_count shown * cells_of_pixel shown }
+{
+    write_head(shown, out)?;
+    write_pixels(vram, shown, out, steps)
+}
+
+#[tactic(auto, unfolding(crate::specs::Picture::picture_head))]
+fn write_head<K: Sink>(shown: DisplayArea, out: &mut K) -> Result<(), Failed>
+    ensures { Writes K.held K.faults out.old out.new (picture_head shown) result }
+{
+    let mut of_width = Buffer::new();
+    let width = decimal_text(&mut of_width, shown.width);
+    let mut of_lines = Buffer::new();
+    let lines = decimal_text(&mut of_lines, shown.lines);
+    write_pieces(out, &[b"P6\n", width, b" ", lines, b"\n255\n"])
+}
+
+// A number in decimal digits.
+fn decimal_text(buffer: &mut Buffer, n: u16) -> &[u8]
+    ensures { result.now ≡ decimal n }
+{
+    buffer.format(n).as_bytes()
+}
+
+// All pixels, some of them at once.
+fn write_pixels<K: Sink, L: Ledger>(
+    vram: &Vram,
+    shown: DisplayArea,
+    out: &mut K,
+    steps: &mut Steps<L>,
+) -> Result<(), Failed>
+    ensures writes { Writes K.held K.faults out.old out.new (pixels_from vram.now shown 0 (pixel_count shown)) result }
+    ensures cost { OnOk result (steps.new ≡ steps.old + pixel_count shown * cells_of_pixel shown) }
+    ensures cost_at_most { steps.new ≤ steps.old + pixel_count shown * cells_of_pixel shown }
+{
+    let all = shown.width as u32 * shown.lines as u32;
+    let mut done = 0;
+    while done < all {
+        let n = (all - done).min(PIECE);
+        let bytes = pixels(vram, shown, done, n, steps);
+        write_all(out, &bytes[..3 * n as usize])?;
+        done += n;
+    }
+    Ok(())
+}
+
+// The bytes of n pixels from number `first` on, and what is behind them.
+fn pixels<L: Ledger>(
+    vram: &Vram,
+    shown: DisplayArea,
+    first: u32,
+    n: u32,
+    steps: &mut Steps<L>,
+) -> [u8; 3072]
+    requires few { n ≤ 1024 }
+    requires within { first + n ≤ pixel_count shown }
+    ensures bytes { take (3 * n) result ≡ pixels_from vram.now shown first n }
+    ensures cost { steps.new ≡ steps.old + n * cells_of_pixel shown }
+{
+    let mut bytes = [0u8; 3072];
+    for i in 0..n {
+        let pixel = pixel(vram, shown, first + i, steps);
+        let at = 3 * i as usize;
+        bytes[at] = pixel[0];
+        bytes[at + 1] = pixel[1];
+        bytes[at + 2] = pixel[2];
+    }
+    bytes
+}
+
+// Pixel number k.
+#[tactic(auto, unfolding(crate::specs::Picture::numbered_pixel, crate::specs::Picture::cells_of_pixel))]
+fn pixel<L: Ledger>(vram: &Vram, shown: DisplayArea, k: u32, steps: &mut Steps<L>) -> [u8; 3]
+    requires { k < pixel_count shown }
+    ensures bytes { result ≡ numbered_pixel vram.now shown k }
+    ensures cost { steps.new ≡ steps.old + cells_of_pixel shown }
+{
+    let width = shown.width as u32;
+    let i = k % width;
+    let row = shown.y as u32 + k / width;
+    if shown.is_deep {
+        deep_pixel(vram, shown.x, row, i, steps)
+    } else {
+        color_pixel(cell(vram, shown.x as u32 + i, row, steps))
+    }
+}
+
+// A pixel of 15 bits.
+fn color_pixel(cell: u16) -> [u8; 3]
+    ensures { result ≡ color_bytes cell }
+{
+    [
+        channel(cell % 32),
+        channel(cell / 32 % 32),
+        channel(cell / 1024 % 32),
+    ]
+}
+
+// Five bits of a channel as eight.
+fn channel(c: u16) -> u8
+    requires { c < 32 }
+    ensures { result ≡ channel_byte c }
+{
+    (8 * c + c / 4) as u8
+}
+
+// Pixel i of a row, of 24 bits: its bytes lie in two cells side by side.
+fn deep_pixel<L: Ledger>(vram: &Vram, x: u16, row: u32, i: u32, steps: &mut Steps<L>) -> [u8; 3]
+    requires { i < 2 ^ 16 }
+    ensures bytes { result ≡ deep_bytes vram.now x row i }
+    ensures cost { steps.new ≡ steps.old + 2 }
+{
+    let column = x as u32 + 3 * i / 2;
+    let left = cell(vram, column, row, steps);
+    let right = cell(vram, column + 1, row, steps);
+    if i % 2 == 0 {
+        [low(left), high(left), low(right)]
+    } else {
+        [high(left), low(right), high(right)]
+    }
+}
+
+fn low(cell: u16) -> u8
+    ensures { result ≡ cell % 256 }
+{
+    (cell % 256) as u8
+}
+
+fn high(cell: u16) -> u8
+    ensures { result ≡ cell / 256 }
+{
+    (cell / 256) as u8
+}
+
+// The cell in a column and a row, both counted on behind the edges of video memory.
+fn cell<L: Ledger>(vram: &Vram, column: u32, row: u32, steps: &mut Steps<L>) -> u16
+    ensures value { result ≡ shown_cell vram.now column row }
+    ensures cost { steps.new ≡ steps.old + 1 }
+{
+    vram.get(wrap_x(column), wrap_at(row, vram.height()), steps)
+}
