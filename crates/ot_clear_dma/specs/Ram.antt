@@ -5,9 +5,13 @@ use Rattle.std.specs.Prelude.{ℕ, List, ◌*◌, ◌/◌, ◌%◌, ◌^◌, sli
 unfoldable pub zeros : ℕ → List ℕ
 zeros n = replicate n 0
 
+-- how many words memory has: 2 MB
+abbrev pub memory_words : ℕ
+memory_words = 524288
+
 -- the first memory (our own rule: it starts as zeros)
 unfoldable pub blank : List ℕ
-blank = zeros 524288
+blank = zeros memory_words
 
 -- the place of the word that an address names: bits 0 and 1 and those from 21 on do not count (our own rule)
 abbrev pub place_of : ℕ → ℕ

@@ -6,7 +6,7 @@
 
 mod ram;
 
-pub use ram::Ram;
+pub use ram::{MEMORY_WORDS, Ram};
 
 #[cfg(test)]
 mod tests {

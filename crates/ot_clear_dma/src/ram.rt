@@ -1,6 +1,6 @@
 // The words of main memory.
-ghost use Rattle.std.specs.Prelude.{◌≡◌, ◌≤◌, ◌<◌, ◌+◌, ◌*◌, ◌/◌, ◌%◌, ◌^◌, ℕ, List, length, vec_len, IfOk};
-ghost use Rattle.ot_clear_dma.specs.Ram.{word_at, set, place_of, zeros, blank};
+ghost use Rattle.std.specs.Prelude.{◌≡◌, ◌≤◌, ◌<◌, ◌+◌, ◌*◌, ◌/◌, ◌%◌, ◌^◌, ℕ, List, length, vec_len, slice_index, IfOk};
+ghost use Rattle.ot_clear_dma.specs.Ram.{word_at, set, place_of, memory_words, zeros, blank};
 ghost use Rattle.ot_clear_dma.specs.Table.{below, cleared_table, IsOrderingTable};
 
 use px_num::OutOfMemory;
@@ -8,7 +8,7 @@ use std::alloc::{AllocError, Global};
 use std::marker::Model;
 
 /// How many words there are.
-const WORDS: usize = 524_288;
+pub const MEMORY_WORDS: u32 = 524_288;
 
 /// What the last word of a table holds: an address that ends a list.
 const END: u32 = 0xff_ffff;
@@ -24,7 +24,7 @@ impl Model for Ram {
 
     ghost view = { λ ram. ram.words.items };
 
-    ghost invariant = { λ ram. vec_len ram.words ≡ 524288 };
+    ghost invariant = { λ ram. vec_len ram.words ≡ memory_words };
 }
 
 // The length is a variable here, so that no proof computes the list.
@@ -39,7 +39,7 @@ fn zeroed(alloc: Global, n: usize) -> Result<Vec<u32>, AllocError>
 // The place of the word that an address names.
 fn place(address: u32) -> usize
     ensures value { result ≡ place_of address }
-    ensures in_memory { result < 524288 }
+    ensures in_memory { result < memory_words }
 {
     (address >> 2 & 0x7_ffff) as usize
 }
@@ -53,14 +53,21 @@ fn below(address: u32, k: u32) -> u32
     address.wrapping_sub(4 * k) & 0x1f_ffff & !3
 }
 
+// Each number of a slice has 32 bits.
+fn fit(words: &[u32])
+    ensures { (k : ℕ) → slice_index words.now k < 2 ^ 32 }
+{
+    let _ = words.len();
+}
+
 impl Ram {
     /// Memory in which every word is 0. Refused where memory of the machine runs out.
     #[tactic(auto, unfolding(crate::specs::Ram::blank))]
     pub fn new(alloc: Global) -> Result<Self, OutOfMemory>
         ensures words { IfOk result (λ ram. ram ≡ blank) }
-        ensures long { IfOk result (λ ram. length ram ≡ 524288) }
+        ensures long { IfOk result (λ ram. length ram ≡ memory_words) }
     {
-        match zeroed(alloc, WORDS) {
+        match zeroed(alloc, MEMORY_WORDS as usize) {
             Ok(words) => Ok(Ram { words }),
             Err(_) => Err(OutOfMemory),
         }
@@ -69,15 +76,22 @@ impl Ram {
     /// The word at an address.
     pub fn get(&self, address: u32) -> u32
         ensures value { result ≡ word_at self.now address }
-        ensures long { length self.now ≡ 524288 }
+        ensures long { length self.now ≡ memory_words }
     {
         self.words[place(address)]
+    }
+
+    /// Each word has 32 bits. It does nothing.
+    pub fn words_fit(&self)
+        ensures { (address : ℕ) → word_at self.now address < 2 ^ 32 }
+    {
+        fit(self.words.as_slice());
     }
 
     /// Writes the word at an address. All other words stay.
     pub fn put(&mut self, address: u32, word: u32)
         ensures words { self.new ≡ set self.old address word }
-        ensures long { length self.new ≡ 524288 }
+        ensures long { length self.new ≡ memory_words }
     {
         self.words[place(address)] = word;
     }
@@ -90,7 +104,7 @@ impl Ram {
         requires most { n ≤ 65536 }
         ensures words { self.new ≡ cleared_table self.old madr n }
         ensures table { IsOrderingTable self.old self.new madr n }
-        ensures long { length self.new ≡ 524288 }
+        ensures long { length self.new ≡ memory_words }
     {
         for k in 0..n - 1 {
             let address = below(madr, k);
