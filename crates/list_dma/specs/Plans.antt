@@ -1,7 +1,7 @@
 -- What a start of DMA channel 2 is to move (psx-spx, "DMA Channels": MADR, BCR and CHCR).
 use Rattle.std.specs.Prelude.{◌≡◌, ◌≤◌, ℕ, Bool, not, Option, Some, None, Result, Ok, Err, ◌*◌, ◌/◌, ◌%◌, ◌^◌, ◌==◌, ◌&&◌, nat_lt, if◌then◌else◌}
 use Rattle.std.specs.Int.{bit_at}
-use Rattle.ot_clear_dma.specs.Ram.{cut}
+use Rattle.ot_clear_dma.specs.Ram.{cut, memory_words}
 use Rattle.list_dma.specs.Node.{is_end}
 use Rattle.list_dma.specs.declared.plan.Plan.{Plan}
 use Rattle.list_dma.specs.declared.plan.Plan.TheVariants as plan
@@ -40,7 +40,7 @@ is_to_ram chcr = bit_at chcr 0 == 0
 
 -- a plan of so many words, if they are no more than memory has (our own rule)
 abbrev pub words_of : (n chcr : ℕ) → Result Plan DmaFault
-words_of n chcr = if nat_lt 524288 n then Err (fault.TooLong n) else Ok (plan.Words n (is_back chcr) (is_to_ram chcr))
+words_of n chcr = if nat_lt memory_words n then Err (fault.TooLong n) else Ok (plan.Words n (is_back chcr) (is_to_ram chcr))
 
 -- the plan of a start: without bit 24 nothing; mode 0 one block; mode 1 blocks; mode 2 a list, from RAM alone; no other
 abbrev pub plan_of : (bcr chcr : ℕ) → Result Plan DmaFault
@@ -50,10 +50,10 @@ plan_of bcr chcr =
     if mode_of chcr == 1 then words_of (block_of bcr * blocks_of bcr) chcr else
     if (mode_of chcr == 2) && not (is_to_ram chcr) then Ok plan.List else Err fault.Bad
 
--- a plan of words has 1 to 524288 of them
+-- a plan of words has no more of them than memory
 abbrev pub IsPlan : Plan → Type 0
 IsPlan plan.Idle = Unit {0}
-IsPlan (plan.Words n back to_ram) = (1 ≤ n) × (n ≤ 524288)
+IsPlan (plan.Words n back to_ram) = (1 ≤ n) × (n ≤ memory_words)
 IsPlan plan.List = Unit {0}
 
 -- ---- runs, which go on turn by turn (our own rule)
@@ -84,5 +84,6 @@ IsWordAddress address = address ≡ cut address
 -- what holds of every run that a start begins
 abbrev pub IsRun : Run → Type 0
 IsRun run.Idle = Unit {0}
-IsRun (run.Words at left block back to_ram) = IsWordAddress at × ((1 ≤ left) × (left ≤ 524288)) × ((1 ≤ block) × (block ≤ 65536))
+IsRun (run.Words at left block back to_ram) =
+    IsWordAddress at × ((1 ≤ left) × (left ≤ memory_words)) × ((1 ≤ block) × (block ≤ 2 ^ 16))
 IsRun (run.List node) = IsWordAddress node

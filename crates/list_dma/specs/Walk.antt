@@ -1,7 +1,7 @@
 -- The walk along a linked list in main memory: the list of its node addresses (our own rule).
-use Rattle.std.specs.Prelude.{ℕ, zero, suc, List, [], ◌∷◌, Option, Some, None, ◌==◌, if◌then◌else◌}
+use Rattle.std.specs.Prelude.{ℕ, zero, suc, ◌+◌, List, [], ◌∷◌, Option, Some, None, ◌==◌, if◌then◌else◌}
 use Rattle.std.specs.List.{list_any, flat_map}
-use Rattle.ot_clear_dma.specs.Ram.{cut}
+use Rattle.ot_clear_dma.specs.Ram.{cut, memory_words}
 use Rattle.list_dma.specs.Node.{is_end, next_of, node_words}
 
 -- the first n nodes of the walk from an address, or all where there are fewer
@@ -14,9 +14,9 @@ abbrev pub repeat_after : (seen nodes : List ℕ) → Option ℕ
 repeat_after seen [] = None
 repeat_after seen (node ∷ nodes) = if list_any (◌==◌ node) seen then Some node else repeat_after (node ∷ seen) nodes
 
--- the walk from an address, or more of it than memory has addresses, which are 524288
+-- the walk from an address, or more of it than memory has addresses
 unfoldable pub walk_of : List ℕ → (start : ℕ) → List ℕ
-walk_of ram start = chain ram start 524289
+walk_of ram start = chain ram start (memory_words + 1)
 
 -- the first address that the walk meets again, if it meets one
 unfoldable pub loop_of : List ℕ → (start : ℕ) → Option ℕ

@@ -13,10 +13,10 @@ mod plan;
 mod run;
 mod walk;
 
-pub use node::next_node;
+pub use node::{next_node, node_at};
 pub use plan::{DmaFault, Plan, block_plan};
 pub use run::{Run, start_run};
-pub use walk::{ListLoop, Walk};
+pub use walk::{ListLoop, WALK_LIMIT, Walk};
 
 #[cfg(test)]
 mod tests {

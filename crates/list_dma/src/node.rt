@@ -2,6 +2,7 @@
 ghost use Rattle.std.specs.Prelude.{◌≡◌, ◌<◌, ◌/◌, ◌^◌, IfSome};
 ghost use Rattle.ot_clear_dma.specs.Ram.{cut, place_of};
 ghost use Rattle.list_dma.specs.Node.{is_end, next_of, node_of};
+ghost use Rattle.list_dma.specs.Plans.{IsWordAddress};
 
 use ot_clear_dma::Ram;
 
@@ -9,9 +10,18 @@ use ot_clear_dma::Ram;
 /// node counts bytes, and only its bits of 1FFFFCh matter.
 pub fn next_node(ram: &Ram, node: u32) -> Option<u32>
     ensures value { result ≡ node_of (next_of ram.now node) }
+    ensures whole { IfSome result IsWordAddress }
     ensures in_memory { IfSome result (λ next. next < 2 ^ 21) }
 {
-    let address = next_address(ram, node);
+    node_at(next_address(ram, node))
+}
+
+/// The node that an address names, or none where it has bit 23 and ends a list.
+pub fn node_at(address: u32) -> Option<u32>
+    ensures value { result ≡ node_of address }
+    ensures whole { IfSome result IsWordAddress }
+    ensures in_memory { IfSome result (λ node. node < 2 ^ 21) }
+{
     if ends(address) {
         None
     } else {

@@ -2,6 +2,8 @@
 ghost use Rattle.std.specs.Prelude.{◌≡◌, ◌<◌, ◌≤◌, ◌^◌, IfOk};
 ghost use Rattle.list_dma.specs.Plans.{plan_of, words_of, count_of, IsPlan};
 
+use ot_clear_dma::MEMORY_WORDS;
+
 /// What a start of the channel is to move.
 #[derive(Clone, Copy, Debug, PartialEq, Eq)]
 pub enum Plan {
@@ -68,7 +70,7 @@ fn plan_words(n: u64, chcr: u32) -> Result<Plan, DmaFault>
     ensures value { result ≡ words_of n chcr }
     ensures bounds { IfOk result IsPlan }
 {
-    if n > 524_288 {
+    if n > MEMORY_WORDS as u64 {
         return Err(DmaFault::TooLong { words: n });
     }
     Ok(Plan::Words {

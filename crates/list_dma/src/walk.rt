@@ -5,13 +5,13 @@ ghost use Rattle.list_dma.specs.Marks.{is_marked};
 
 use crate::marks::Marks;
 use crate::node::{cut, ends, next_address};
-use ot_clear_dma::Ram;
+use ot_clear_dma::{MEMORY_WORDS, Ram};
 use px_num::OutOfMemory;
 use std::alloc::Global;
 use std::marker::Model;
 
 /// One more than memory has addresses: a walk of so many nodes has met one again.
-const LIMIT: u32 = 524_289;
+pub const WALK_LIMIT: u32 = MEMORY_WORDS + 1;
 
 /// The walk of a list meets an address again, so that the list never ends.
 #[derive(Clone, Copy, Debug, PartialEq, Eq)]
@@ -51,7 +51,7 @@ impl Walk {
             (λ refused. loop_of ram.now start ≡ Some refused.node) }
     {
         self.marks.clear();
-        count_nodes(&mut self.marks, ram, start, LIMIT)
+        count_nodes(&mut self.marks, ram, start, WALK_LIMIT)
     }
 }
 
