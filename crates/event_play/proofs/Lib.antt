@@ -1,2 +1,12 @@
+pub mod Awaiting
+pub mod BoxCosts
+pub mod Feeds
+pub mod Nodes
+pub mod Events
+pub mod Plays
 pub mod Grows
+pub mod Parts
 pub mod Reaching
+pub mod Reports
+pub mod Turns
+pub mod Firsts

@@ -1,296 +1,377 @@
--- Playing a capture, event by event.
-use Rattle.std.proofs.Common.{◌≡◌, ◌≤◌, inl, inr, ℕ, ◌+◌, ◌++◌, List, [], ◌∷◌, Option, Ok, option_to_list, refl, ap, sym, subst, ◌∙◌, append_assoc, append-nil, arith}
+-- Playing a capture, event by event, to its end.
+use Rattle.std.proofs.Common.{◌≡◌, ◌≤◌, inl, inr, true, false, ℕ, ◌+◌, ◌++◌, List, [], ◌∷◌, Option, None, Ok, Err}
+use Rattle.std.proofs.Common.{option_to_list, refl, ap, sym, subst, ◌∙◌, append_assoc, append-nil, arith}
 use Rattle.dev_io.specs.Device.{appended, AppendsPart}
-use Rattle.dev_io.proofs.Appended.{appended-appended, appended-nil}
-use Rattle.dev_io.proofs.Parts.{prepended-nil, taken_on}
+use Rattle.dev_io.proofs.Appended.{appended-appended}
 use Rattle.gp0_packets.specs.declared.note.Note.{Note}
-use Rattle.gpu_capture.specs.Capture.{Captured, ended, then_events}
-use Rattle.gpu_capture.proofs.Steps.{split}
-use Rattle.gpu_capture.specs.Reader.{AreNeeded, Takes, StopsAt, SaysStop, capture_from, IsStart}
+use Rattle.gpu_capture.specs.Capture.{Captured, then_events}
+use Rattle.gpu_capture.specs.Reader.{capture_from}
 use Rattle.gpu_capture.specs.declared.event.Event.{Event}
 use Rattle.gpu_capture.specs.declared.event.Stop.{Stop}
 use Rattle.gpu_capture.specs.declared.event.Stop.TheVariants.{End, NotCapture, Truncated, BadRecord, TooLong, ReadFault}
 use Rattle.gpu_capture.specs.declared.progress.Progress.{Progress}
-use Rattle.gpu_core.specs.Kept.{kept_of}
-use Rattle.gpu_core.specs.Machine.{State}
 use Rattle.gpu_taps.specs.Tally.{Reading}
-use Rattle.event_play.specs.Out.{lines_for, lines_of, final_bytes, final_cost, Out, OutCost}
-use Rattle.event_play.specs.Playing.{PlaysEvent, PartsEvent, FaultsEvent, EndsEvent, EndsAt, IsNotEnd, AreAllNeeded, Reaches, SaysEnding, EndsPlay}
-use Rattle.event_play.specs.Replay.{Tale, Played, from_state, after_event, go_on, Replay, replayed, Play, next_number, ending_of}
-use Rattle.event_play.specs.RigState.{RigState, StandsFor, told_notes}
-use Rattle.event_play.specs.Step.{StepCost}
+use Rattle.event_play.specs.Ends.{PlaysEvent, ShowsPart, FeedsPart, FaultsEvent, EndsEvent, EndsAt, WritesEnd}
+use Rattle.event_play.specs.Ends.{WritesEndPart, IsNotEnd}
+use Rattle.event_play.specs.Fed.{fed, fed_notes}
+use Rattle.event_play.specs.Lines.{lines_for, lines_of_notes}
+use Rattle.event_play.specs.Out.{lines_of, final_bytes, final_cost, ending_under, lacks_picture, Out, OutCost}
+use Rattle.event_play.specs.Playing.{SaysEnding, EndsPlay, IsLast, whole}
+use Rattle.event_play.specs.Replay.{Tale, part_fed, after_event, go_on, Replay, replayed, Play, next_number}
+use Rattle.event_play.specs.RigState.{RigState, StandsFor}
+use Rattle.event_play.specs.Step.{Machine, StepCost}
+use Rattle.event_play.specs.Streams.{Outlets, Streams, streams}
+use Rattle.event_play.specs.Told.{told_notes}
 use Rattle.event_play.specs.declared.ending.Ending.{Ending}
-use Rattle.event_play.specs.declared.ending.Ending.TheVariants.{Done, Stopped, Faulted, WriteFailed}
+use Rattle.event_play.specs.declared.ending.Ending.TheVariants.{Done, Stopped, Faulted, NoPicture, WriteFailed}
 use Rattle.event_play.specs.declared.ending.Mode.{Mode}
 use Rattle.event_play.specs.declared.fault.EventFault.{EventFault}
-use Rattle.event_play.proofs.Grows.{lines-none, lines-append, told-append, tale_on, after-event, out_grows, cost_within}
-
--- ---- none too many
-
-none_needed : (first : Tale) → AreAllNeeded first []
-none_needed first [] [] is some = absurd (some refl)
-none_needed first [] (x ∷ xs) is some = absurd cc
-none_needed first (x ∷ xs) more is some = absurd cc
-
--- the bytes so far, and those of one step more
-all_needed : (first t : Tale) (old : Progress) (xs ys : List ℕ) → ((more : List ℕ) → Play first (xs ++ more) ≡ replayed t (capture_from old more))
-    → AreAllNeeded first xs → AreNeeded old ys → AreAllNeeded first (xs ++ ys)
-all_needed first t old xs ys reached was next part more is some =
-    elim (split xs ys part more is) [
-      | inl behind ↦
-          let short = next behind.0 more behind.2 some in
-          let e : Play first part ≡ replayed t (ended (Truncated short.0) []) = ap (Play first) behind.1 ∙ reached behind.0 ∙ ap (replayed t) short.1 in
-          rw e tt
-      | inr inside ↦ was part inside.0 inside.1 inside.2
-    ]
-
--- ---- the beginning
-
-pub reaches_start : (mode : Mode) (s : State) (left held : Option (List ℕ)) (rig : RigState) (heard : List Reading) (steps : ℕ) (progress : Progress)
-    → kept_of s ≡ rig.gpu → IsStart progress → Reaches mode (from_state s rig.played) left left held held rig heard heard steps steps progress
-reaches_start mode s left held rig heard steps progress stands start = record {
-  taken = [];
-  bytes = prepended-nil left;
-  needed = none_needed (from_state s rig.played);
-  tale = from_state s rig.played;
-  says = λ rest. rw start.started refl;
-  stands = record { state = stands; played = refl };
-  held = sym (ap (appended held) (lines-none mode) ∙ appended-nil held);
-  heard = refl;
-  cost = omega arith;
-}
+use Rattle.event_play.proofs.Awaiting.{Reaches, GoesOn, Awaits, SaysNext}
+use Rattle.event_play.proofs.BoxCosts.{within_boxes}
+use Rattle.event_play.proofs.Feeds.{told-append}
+use Rattle.event_play.proofs.Grows.{lines-append, tale_on, after-event, out_grows, cost_within}
+use Rattle.event_play.proofs.Parts.{event_feeds, stops_listing, part_held, part_lines, part_cost}
+use Rattle.event_play.proofs.Firsts.{IsFirst}
 
 -- ---- one event more
 
--- what is said of the bytes so far and those of one event more
-says_event : (first t : Tale) (event : Event) (old new : Progress) (xs ys rest : List ℕ)
-    → ((more : List ℕ) → Play first (xs ++ more) ≡ replayed t (capture_from old more))
-    → capture_from old (ys ++ rest) ≡ then_events (event ∷ []) (capture_from new rest)
-    → Play first ((xs ++ ys) ++ rest) ≡ replayed t (then_events (event ∷ []) (capture_from new rest))
-says_event first t event old new xs ys rest reached says =
-    rw (append_assoc xs ys rest) (reached (ys ++ rest) ∙ ap (replayed t) says)
-
 -- the replay goes on from the tale with that event
-goes_on : (t next : Tale) (event : Event) (c : Captured) → after_event t event ≡ Ok next → replayed t (then_events (event ∷ []) c) ≡ replayed next c
+goes_on : (t next : Tale) (event : Event) (c : Captured) → after_event t event ≡ Ok next
+    → replayed t (then_events (event ∷ []) c) ≡ replayed next c
 goes_on t next event c is =
-    ap (λ r. go_on r (λ next. Replay next c.events c.ending c.rest) (λ fault. record { tale = t; ending = Faulted (next_number t.played) fault; rest = c.rest })) is
+    ap (λ r. go_on r (λ next. Replay next c.events c.ending c.rest)
+    (λ fault. record { tale = t; ending = Faulted (next_number t.played) fault; rest = c.rest })) is
 
 -- what was held, and what is due for an event
-held_on : (mode : Mode) (before mid now : Option (List ℕ)) (t : Tale) (event : Event) (state : State) (shown : Option ℕ) (notes : List Note)
+held_on : (mode : Mode) (before mid now : Option (List ℕ)) (t : Tale) (event : Event) (machine : Machine)
+    (shown : Option ℕ) (notes : List Note)
     → mid ≡ appended before (lines_of mode t) → now ≡ appended mid (lines_for mode (option_to_list shown) notes)
-    → now ≡ appended before (lines_of mode (tale_on t event state shown notes))
-held_on mode before mid now t event state shown notes was took =
+    → now ≡ appended before (lines_of mode (tale_on t event machine shown notes))
+held_on mode before mid now t event machine shown notes was took =
     took ∙ ap (λ held. appended held (lines_for mode (option_to_list shown) notes)) was
     ∙ appended-appended before (lines_of mode t) (lines_for mode (option_to_list shown) notes)
     ∙ ap (appended before) (sym (lines-append mode t.shown (option_to_list shown) t.notes notes))
 
-heard_on : (before mid now : List Reading) (told notes : List Note) → mid ≡ told_notes told before → now ≡ told_notes notes mid → now ≡ told_notes (told ++ notes) before
+heard_on : (before mid now : List Reading) (told notes : List Note) → mid ≡ told_notes told before
+    → now ≡ told_notes notes mid → now ≡ told_notes (told ++ notes) before
 heard_on before mid now told notes was took = took ∙ ap (told_notes notes) was ∙ sym (told-append told notes before)
 
 spent_on : (before mid now a b : ℕ) → mid ≤ before + a → now ≤ mid + b → now ≤ before + (a + b)
 spent_on before mid now a b was took = omega arith
 
--- the same number, by what a rig has counted
-number_of : (rig : RigState) (t : Tale) → StandsFor rig t → next_number rig.played ≡ next_number t.played
-number_of rig t stands = ap next_number (sym stands.played)
+-- what playing works on, with the bytes left of the source
+abbrev pub beside : Option (List ℕ) → Outlets → Streams
+beside left at = streams left at.held at.heard at.steps
 
-module _ (mode : Mode) (first : Tale) (left_before left_mid left_now held_before held_mid held_now : Option (List ℕ)) (mid now : RigState)
-    (heard_before heard_mid heard_now : List Reading) (steps_before steps_mid steps_now : ℕ) (old : Progress)
-    (reached : Reaches mode first left_before left_mid held_before held_mid mid heard_before heard_mid steps_before steps_mid old) where
-  pub reaches_on : (new : Progress) (event : Event) → Takes old new left_mid left_now (event ∷ [])
-      → PlaysEvent mode reached.tale event now held_mid held_now heard_mid heard_now steps_mid steps_now
-      → Reaches mode first left_before left_now held_before held_now now heard_before heard_now steps_before steps_now new
-  reaches_on new event takes plays =
-      let next = tale_on reached.tale event plays.state plays.shown plays.notes in
-      let is = after-event reached.tale event plays.state plays.shown plays.notes plays.is in
+module _ (mode : Mode) (first : Tale) (before : Streams) (left : Option (List ℕ)) (mid now : Outlets)
+    (was rig : RigState) (p : Progress) (event : Event)
+    (reached : Awaits mode first before (beside left mid) was p (Ok event)) where
+  pub plays_on : PlaysEvent mode reached.tale event mid now rig
+      → Reaches mode first before (beside left now) rig (GoesOn first p)
+  plays_on plays =
+      let t = reached.tale in
+      let next = tale_on t event plays.step.machine plays.shown plays.step.notes in
+      let is = after-event t event plays.step.machine plays.shown plays.step.notes plays.step.is in
       record {
-        taken = reached.taken ++ takes.taken;
-        bytes = taken_on left_before left_mid left_now reached.taken takes.taken reached.bytes takes.bytes;
-        needed = all_needed first reached.tale old reached.taken takes.taken reached.says reached.needed takes.needed;
+        taken = reached.taken;
+        bytes = reached.bytes;
+        needed = reached.needed;
         tale = next;
-        says = λ rest.
-            says_event first reached.tale event old new reached.taken takes.taken rest reached.says (takes.says rest)
-            ∙ goes_on reached.tale next event (capture_from new rest) is;
-        stands = record { state = plays.stands; played = sym plays.played };
-        held = held_on mode held_before held_mid held_now reached.tale event plays.state plays.shown plays.notes reached.held plays.held;
-        heard = heard_on heard_before heard_mid heard_now reached.tale.notes plays.notes reached.heard plays.heard;
-        cost = spent_on steps_before steps_mid steps_now reached.tale.cost (StepCost reached.tale.state event) reached.cost plays.cost;
+        says = λ rest. reached.says.says rest ∙ goes_on t next event (capture_from p rest) is;
+        stands = record { state = plays.step.stands; played = sym plays.played };
+        held = held_on mode before.held mid.held now.held t event plays.step.machine plays.shown plays.step.notes
+            reached.held plays.held;
+        heard = heard_on before.heard mid.heard now.heard t.notes plays.step.notes reached.heard plays.step.heard;
+        cost = spent_on before.steps mid.steps now.steps t.cost (StepCost t.state event) reached.cost plays.step.cost;
       }
 
   -- ---- an event that ends playing
 
-  fault_ends : (new : Progress) (event : Event) (number : ℕ) (fault : EventFault) → Takes old new left_mid left_now (event ∷ [])
-      → number ≡ next_number reached.tale.played
-      → FaultsEvent reached.tale event fault mid now held_mid held_now heard_mid heard_now steps_mid steps_now
-      → EndsPlay mode first left_before left_now held_before held_now now heard_before heard_now steps_before steps_now (Faulted number fault)
-  fault_ends new event number fault takes at faults =
-      let t = reached.tale in
-      let says = λ (rest : List ℕ). says_event first t event old new reached.taken takes.taken rest reached.says (takes.says rest) in
-      record {
-        taken = reached.taken ++ takes.taken;
-        bytes = taken_on left_before left_mid left_now reached.taken takes.taken reached.bytes takes.bytes;
-        needed = all_needed first reached.tale old reached.taken takes.taken reached.says reached.needed takes.needed;
-        tale = t;
-        last = t;
-        says = (λ rest. let e = says rest in (rw (e, faults.is) refl, rw (e, faults.is, at) refl), faults.held ∙ reached.held);
-        stands = (refl, rw faults.stands reached.stands);
-        heard = faults.heard ∙ reached.heard;
-        cost = λ rest. cost_within mode t _ (then_events (event ∷ []) (capture_from new rest)) steps_before steps_now (says rest) (omega (arith, reached.cost, faults.cost));
-      }
+  module _ (is_first : IsFirst first) where
+    -- an ending, by what it says, where the steps are those of a tale from which the replay goes on
+    ends_at : (t last : Tale) (ending : Ending) → SaysEnding mode first t last reached.taken before
+        (beside left now) ending → IsLast t last ending
+        → StandsFor rig last → now.heard ≡ told_notes last.notes before.heard
+        → ((rest : List ℕ) → now.steps ≤ before.steps + OutCost mode (Play first (reached.taken ++ rest)))
+        → EndsPlay mode first before (beside left now) rig ending
+    ends_at t last ending says is_last stands heard cost = record {
+      taken = reached.taken;
+      bytes = reached.bytes;
+      needed = reached.needed;
+      tale = t;
+      last = last;
+      says = says;
+      is_last = is_last;
+      stands = stands;
+      heard = heard;
+      cost = cost;
+      box_cost = λ rest. within_boxes mode first (reached.taken ++ rest) before.steps now.steps is_first (cost rest);
+    }
 
-  part_ends : (new : Progress) (event : Event) (number : ℕ) → Takes old new left_mid left_now (event ∷ [])
-      → number ≡ next_number reached.tale.played
-      → PartsEvent mode reached.tale event now held_mid held_now heard_mid heard_now steps_mid steps_now
-      → EndsPlay mode first left_before left_now held_before held_now now heard_before heard_now steps_before steps_now (WriteFailed number)
-  part_ends new event number takes at parts =
-      let t = reached.tale in
-      let next = tale_on t event parts.state parts.shown parts.notes in
-      let due = lines_for mode (option_to_list parts.shown) parts.notes in
-      let is = after-event t event parts.state parts.shown parts.notes parts.is in
-      let says = λ (rest : List ℕ).
-      says_event first t event old new reached.taken takes.taken rest reached.says (takes.says rest)
-      ∙ goes_on t next event (capture_from new rest) is
-      in record {
-        taken = reached.taken ++ takes.taken;
-        bytes = taken_on left_before left_mid left_now reached.taken takes.taken reached.bytes takes.bytes;
-        needed = all_needed first reached.tale old reached.taken takes.taken reached.says reached.needed takes.needed;
-        tale = t;
-        last = next;
-        says = record {
-          due = due;
+    fault_ends : (number : ℕ) (fault : EventFault) → number ≡ next_number reached.tale.played
+        → FaultsEvent reached.tale event fault mid now was rig
+        → EndsPlay mode first before (beside left now) rig (Faulted number fault)
+    fault_ends number fault at faults =
+        let t = reached.tale in
+        let says = reached.says.says in
+        let held : now.held ≡ mid.held = ap (λ (at : Outlets). at.held) faults.unchanged in
+        let heard : now.heard ≡ mid.heard = ap (λ (at : Outlets). at.heard) faults.unchanged in
+        let steps : now.steps ≡ mid.steps = ap (λ (at : Outlets). at.steps) faults.unchanged in
+        ends_at t t (Faulted number fault)
+        (λ rest. let e = says rest in (rw (e, faults.is) refl, rw (e, faults.is, at) refl), held ∙ reached.held)
+        refl (rw faults.stands reached.stands) (heard ∙ reached.heard)
+        (λ rest. cost_within mode t _ (then_events (event ∷ []) (capture_from p rest)) before.steps now.steps
+        (says rest) (omega (arith, reached.cost, steps)))
+
+    shows_ends : (number : ℕ) → number ≡ next_number reached.tale.played → ShowsPart mode reached.tale event mid now rig
+        → EndsPlay mode first before (beside left now) rig (WriteFailed number)
+    shows_ends number at parts =
+        let t = reached.tale in
+        let next = tale_on t event parts.step.machine parts.shown parts.step.notes in
+        let due = lines_for mode (option_to_list parts.shown) parts.step.notes in
+        let is = after-event t event parts.step.machine parts.shown parts.step.notes parts.step.is in
+        let says = λ (rest : List ℕ). reached.says.says rest ∙ goes_on t next event (capture_from p rest) is in
+        ends_at t next (WriteFailed number)
+        (record {
           number_is = at;
-          held = let P : Option (List ℕ) → Type 0 = λ held. AppendsPart held held_now due in subst P reached.held parts.held;
-          goes_on = λ rest. (capture_from new rest, says rest);
+          start = t;
+          place = inl (record {
+            event = event;
+            comes = λ rest. (capture_from p rest, reached.says.says rest);
+            due = rw parts.mode_is (refl, is);
+          });
+          due = due;
+          held = let P : Option (List ℕ) → Type 0 = λ held. AppendsPart held now.held due in subst P reached.held
+              parts.held;
           prefix = λ rest.
-              let c = capture_from new rest in
-              let more = out_grows mode next c.events c.ending c.rest in (
+              let c = capture_from p rest in
+              let more = out_grows mode before.heard next c.events c.ending c.rest in (
                 more.0,
-                ap (Out mode) (says rest) ∙ more.1
-                    ∙ ap (λ xs. xs ++ more.0) (lines-append mode t.shown (option_to_list parts.shown) t.notes parts.notes)
+                ap (Out mode before.heard) (says rest) ∙ more.1
+                    ∙ ap (λ xs. xs ++ more.0)
+                    (lines-append mode t.shown (option_to_list parts.shown) t.notes parts.step.notes)
                     ∙ append_assoc (lines_of mode t) due more.0,
               );
-        };
-        stands = (parts.stands, inr parts.played);
-        heard = heard_on heard_before heard_mid heard_now t.notes parts.notes reached.heard parts.heard;
-        cost = λ rest. cost_within mode next _ (capture_from new rest) steps_before steps_now (says rest)
-            (spent_on steps_before steps_mid steps_now t.cost (StepCost t.state event) reached.cost parts.cost);
-      }
+        })
+        tt (record { state = parts.step.stands; played = sym parts.played })
+        (heard_on before.heard mid.heard now.heard t.notes parts.step.notes reached.heard parts.step.heard)
+        (λ rest. cost_within mode next _ (capture_from p rest) before.steps now.steps (says rest)
+        (spent_on before.steps mid.steps now.steps t.cost (StepCost t.state event) reached.cost parts.step.cost))
 
-  pub event_ends : (new : Progress) (event : Event) (ending : Ending) → Takes old new left_mid left_now (event ∷ [])
-      → EndsEvent mode reached.tale event mid now held_mid held_now heard_mid heard_now steps_mid steps_now ending
-      → EndsPlay mode first left_before left_now held_before held_now now heard_before heard_now steps_before steps_now ending
-  event_ends new event (Faulted number fault) takes ends = fault_ends new event number fault takes ends.0 ends.1
-  event_ends new event (WriteFailed number) takes ends = part_ends new event number takes ends.0 ends.1
-  event_ends new event Done takes ends = absurd ends
-  event_ends new event (Stopped number stop) takes ends = absurd ends
+    feeds_ends : (number : ℕ) → number ≡ next_number reached.tale.played → FeedsPart mode reached.tale event mid now rig
+        → EndsPlay mode first before (beside left now) rig (WriteFailed number)
+    feeds_ends number at parts =
+        let t = reached.tale in
+        let stop = parts.feeding in
+        let n = next_number t.played in
+        let feeds = event_feeds t.state n event stop.before stop.word stop.after stop.is in
+        let next = tale_on t event feeds.machine None (fed_notes t.state.gpu n (stop.before ++ stop.word ∷ stop.after))
+        in
+        let is = after-event t event feeds.machine None _ feeds.is in
+        let says = λ (rest : List ℕ). reached.says.says rest ∙ goes_on t next event (capture_from p rest) is in
+        ends_at t (part_fed t (stop.before ++ stop.word ∷ [])) (WriteFailed number)
+        (record {
+          number_is = at;
+          start = part_fed t stop.before;
+          place = inl (record {
+            event = event;
+            comes = λ rest. (capture_from p rest, reached.says.says rest);
+            due = rw (stops_listing _ _ _ _ _ _ _ stop)
+                (record {
+                  before = stop.before;
+                  word = stop.word;
+                  after = stop.after;
+                  is = stop.is;
+                  start_is =
+                      refl;
+                  last_is = refl;
+                });
+          });
+          due = lines_of_notes mode (fed_notes (fed t.state.gpu stop.before) n (stop.word ∷ []));
+          held = part_held mode t stop.before before.held mid.held now.held _ reached.held stop.held;
+          prefix = λ rest.
+              let c = capture_from p rest in
+              let more = out_grows mode before.heard next c.events c.ending c.rest in
+              let ends = part_lines mode t stop.before stop.word stop.after more.0 in (
+                ends.0,
+                ap (Out mode before.heard) (says rest) ∙ more.1 ∙ ends.1,
+              );
+        })
+        tt (record {
+          state = record { gpu = stop.stands; ram = parts.ram; running = parts.running };
+          played =
+              parts.played;
+        })
+        (heard_on before.heard mid.heard now.heard t.notes
+        (fed_notes t.state.gpu n (stop.before ++ stop.word ∷ [])) reached.heard stop.heard)
+        (λ rest. cost_within mode next _ (capture_from p rest) before.steps now.steps (says rest)
+        (spent_on before.steps mid.steps now.steps t.cost (StepCost t.state event) reached.cost
+        (part_cost t.state.gpu stop.before stop.word stop.after
+        (StepCost t.state event) mid.steps now.steps feeds.cost stop.cost)))
+
+    pub event_ends : (ending : Ending) → EndsEvent mode reached.tale event mid now was rig ending
+        → EndsPlay mode first before (beside left now) rig ending
+    event_ends (Faulted number fault) ends = fault_ends number fault ends.0 ends.1
+    event_ends (WriteFailed number) (at, inl parts) = feeds_ends number at parts
+    event_ends (WriteFailed number) (at, inr parts) = shows_ends number at parts
+    event_ends (NoPicture number) ends = absurd ends
+    event_ends Done ends = absurd ends
+    event_ends (Stopped number stop) ends = absurd ends
 
 -- ---- a stop of the reader
 
-says_end : (first t : Tale) (old : Progress) (xs ys rest : List ℕ) (stop : Stop)
-    → ((more : List ℕ) → Play first (xs ++ more) ≡ replayed t (capture_from old more))
-    → ((more : List ℕ) → capture_from old (ys ++ more) ≡ ended stop more)
-    → Play first ((xs ++ ys) ++ rest) ≡ record { tale = t; ending = ending_of (next_number t.played) stop; rest = rest }
-says_end first t old xs ys rest stop reached says = rw (append_assoc xs ys rest) (reached (ys ++ rest) ∙ ap (replayed t) (says rest))
+-- the number behind the last event, by what a rig has counted
+number_of : (rig : RigState) (t : Tale) → StandsFor rig t → next_number rig.played ≡ next_number t.played
+number_of rig t stands = ap next_number (sym stands.played)
 
-says_stopped : (mode : Mode) (first t : Tale) (old : Progress) (xs ys : List ℕ) (left_now held_before held_now : Option (List ℕ)) (stop : Stop)
-    → ((more : List ℕ) → Play first (xs ++ more) ≡ replayed t (capture_from old more))
-    → SaysStop stop old ys left_now → IsNotEnd stop → held_now ≡ appended held_before (lines_of mode t)
-    → SaysEnding mode first t t (xs ++ ys) left_now held_before held_now (Stopped (next_number t.played) stop)
-says_stopped mode first t old xs ys left_now held_before held_now End reached says not held = absurd not
-says_stopped mode first t old xs ys left_now held_before held_now (ReadFault byte) reached says not held = (reached ys ∙ ap (replayed t) says, held)
-says_stopped mode first t old xs ys left_now held_before held_now (Truncated byte) reached says not held = (reached ys ∙ ap (replayed t) says.0, held, says.1)
-says_stopped mode first t old xs ys left_now held_before held_now (NotCapture byte) reached says not held =
-    (λ rest. says_end first t old xs ys rest (NotCapture byte) reached says, held)
-says_stopped mode first t old xs ys left_now held_before held_now (BadRecord byte word) reached says not held =
-    (λ rest. says_end first t old xs ys rest (BadRecord byte word) reached says, held)
-says_stopped mode first t old xs ys left_now held_before held_now (TooLong byte) reached says not held =
-    (λ rest. says_end first t old xs ys rest (TooLong byte) reached says, held)
+-- how a whole replay ends under a mode
+shown_ends : (mode : Mode) (t : Tale) → lacks_picture mode t.state.gpu.parts.regs ≡ false
+    → ending_under mode (whole t []) ≡ Done
+shown_ends mode t shows = rw shows refl
 
--- whatever the stop, the bytes so far say that the replay stays at this tale
-stop_costs : (mode : Mode) (first t : Tale) (old : Progress) (xs ys rest : List ℕ) (before now : ℕ)
-    → ((more : List ℕ) → Play first (xs ++ more) ≡ replayed t (capture_from old more)) → now ≤ before + t.cost
-    → now ≤ before + OutCost mode (Play first ((xs ++ ys) ++ rest))
-stop_costs mode first t old xs ys rest before now reached within =
-    rw (append_assoc xs ys rest) (cost_within mode t (Play first (xs ++ (ys ++ rest))) (capture_from old (ys ++ rest)) before now (reached (ys ++ rest)) within)
+lacking_ends : (mode : Mode) (t : Tale) → lacks_picture mode t.state.gpu.parts.regs ≡ true
+    → ending_under mode (whole t []) ≡ NoPicture (next_number t.played)
+lacking_ends mode t lacks = rw lacks refl
 
-done_costs : (mode : Mode) (t : Tale) (r : Played) (rest : List ℕ) (before mid now : ℕ) → r ≡ record { tale = t; ending = Done; rest = rest }
-    → mid ≤ before + t.cost → now ≤ mid + final_cost mode t.state → now ≤ before + OutCost mode r
-done_costs mode t r rest before mid now is was took = rw is (spent_on before mid now t.cost (final_cost mode t.state) was took)
+module _ (mode : Mode) (first : Tale) (before : Streams) (left : Option (List ℕ)) (mid now : Outlets) (rig : RigState)
+    (p : Progress) (stop : Stop)
+    (reached : Awaits mode first before (beside left mid) rig p (Err stop)) (is_first : IsFirst first)
+    (same : now.heard ≡ mid.heard) where
+  -- an ending behind the last event, by what it says and what was spent on the output
+  ends_behind : (ending : Ending) → SaysEnding mode first reached.tale reached.tale reached.taken before
+      (beside left now) ending
+      → IsLast reached.tale reached.tale ending
+      → ((rest : List ℕ) → now.steps ≤ before.steps + OutCost mode (Play first (reached.taken ++ rest)))
+      → EndsPlay mode first before (beside left now) rig ending
+  ends_behind ending says is_last cost = record {
+    taken = reached.taken;
+    bytes = reached.bytes;
+    needed = reached.needed;
+    tale = reached.tale;
+    last = reached.tale;
+    says = says;
+    is_last = is_last;
+    stands = reached.stands;
+    heard = same ∙ reached.heard;
+    cost = cost;
+    box_cost = λ rest. within_boxes mode first (reached.taken ++ rest) before.steps now.steps is_first (cost rest);
+  }
 
-module _ (mode : Mode) (first : Tale) (left_before left_mid left_now held_before held_mid held_now : Option (List ℕ)) (rig : RigState)
-    (heard_before heard_now : List Reading) (steps_before steps_mid steps_now : ℕ) (old : Progress)
-    (reached : Reaches mode first left_before left_mid held_before held_mid rig heard_before heard_now steps_before steps_mid old) where
-  done_ends : StopsAt old left_mid left_now End → held_now ≡ appended held_mid (final_bytes mode reached.tale.state)
-      → steps_now ≤ steps_mid + final_cost mode reached.tale.state
-      → EndsPlay mode first left_before left_now held_before held_now rig heard_before heard_now steps_before steps_now Done
-  done_ends stops held cost =
+  -- nothing was spent since the last event
+  stop_costs : now.steps ≡ mid.steps → (rest : List ℕ) → now.steps ≤ before.steps + OutCost mode
+      (Play first (reached.taken ++ rest))
+  stop_costs steps rest = let grows = reached.says.costs rest in omega (arith, reached.cost, grows, steps)
+
+-- the end of the capture
+module _ (mode : Mode) (first : Tale) (before : Streams) (left : Option (List ℕ)) (mid now : Outlets) (rig : RigState)
+    (p : Progress)
+    (reached : Awaits mode first before (beside left mid) rig p (Err End)) (is_first : IsFirst first)
+    (same : now.heard ≡ mid.heard) where
+  end_costs : lacks_picture mode reached.tale.state.gpu.parts.regs ≡ false
+      → now.steps ≤ mid.steps + final_cost mode reached.tale.state.gpu
+      → (rest : List ℕ) → now.steps ≤ before.steps + OutCost mode (Play first (reached.taken ++ rest))
+  end_costs shows spent rest =
+      rw (reached.says.says rest, shows)
+      (spent_on before.steps mid.steps now.steps reached.tale.cost
+      (final_cost mode reached.tale.state.gpu) reached.cost spent)
+
+  done_ends : WritesEnd mode reached.tale.state.gpu mid now → EndsPlay mode first before (beside left now) rig Done
+  done_ends writes =
       let t = reached.tale in
-      let says = λ (rest : List ℕ). says_end first t old reached.taken stops.taken rest End reached.says stops.says in
-      record {
-        taken = reached.taken ++ stops.taken;
-        bytes = taken_on left_before left_mid left_now reached.taken stops.taken reached.bytes stops.bytes;
-        needed = all_needed first reached.tale old reached.taken stops.taken reached.says reached.needed stops.needed;
-        tale = t;
-        last = t;
-        says = (says, held ∙ ap (λ xs. appended xs (final_bytes mode t.state)) reached.held ∙ appended-appended held_before (lines_of mode t) (final_bytes mode t.state));
-        stands = (refl, reached.stands);
-        heard = reached.heard;
-        cost = λ rest. done_costs mode t _ rest steps_before steps_mid steps_now (says rest) reached.cost cost;
-      }
+      let heard : mid.heard ≡ told_notes t.notes before.heard = reached.heard in
+      ends_behind mode first before left mid now rig p End reached is_first same Done (
+        reached.says.says,
+        shown_ends mode t writes.shows,
+        writes.held ∙ ap (λ xs. appended xs (final_bytes mode mid.heard t.state.gpu)) reached.held
+            ∙ appended-appended before.held (lines_of mode t) (final_bytes mode mid.heard t.state.gpu)
+            ∙ ap (λ heard. appended before.held (lines_of mode t ++ final_bytes mode heard t.state.gpu)) heard,
+      )
+      refl (end_costs writes.shows writes.cost)
 
-  finals_end : (number : ℕ) → StopsAt old left_mid left_now End → number ≡ next_number rig.played
-      → AppendsPart held_mid held_now (final_bytes mode reached.tale.state) → steps_now ≤ steps_mid + final_cost mode reached.tale.state
-      → EndsPlay mode first left_before left_now held_before held_now rig heard_before heard_now steps_before steps_now (WriteFailed number)
-  finals_end number stops at part cost =
+  finals_end : (number : ℕ) → number ≡ next_number rig.played → WritesEndPart mode reached.tale.state.gpu mid now
+      → EndsPlay mode first before (beside left now) rig (WriteFailed number)
+  finals_end number at writes =
       let t = reached.tale in
-      let due = final_bytes mode t.state in
-      let says = λ (rest : List ℕ). says_end first t old reached.taken stops.taken rest End reached.says stops.says in
-      record {
-        taken = reached.taken ++ stops.taken;
-        bytes = taken_on left_before left_mid left_now reached.taken stops.taken reached.bytes stops.bytes;
-        needed = all_needed first reached.tale old reached.taken stops.taken reached.says reached.needed stops.needed;
-        tale = t;
-        last = t;
-        says = record {
-          due = due;
-          number_is = at ∙ number_of rig t reached.stands;
-          held = let P : Option (List ℕ) → Type 0 = λ held. AppendsPart held held_now due in subst P reached.held part;
-          goes_on = λ rest. (ended End rest, says rest);
-          prefix = λ rest. ([], ap (Out mode) (says rest) ∙ ap (λ xs. lines_of mode t ++ xs) (sym (append-nil due)));
-        };
-        stands = (reached.stands.state, inl (sym reached.stands.played));
-        heard = reached.heard;
-        cost = λ rest. done_costs mode t _ rest steps_before steps_mid steps_now (says rest) reached.cost cost;
-      }
+      let due = final_bytes mode mid.heard t.state.gpu in
+      ends_behind mode first before left mid now rig p End reached is_first same (WriteFailed number)
+      (record {
+        number_is = at ∙ number_of rig t reached.stands;
+        start = t;
+        place = inr (record {
+          comes = reached.says.says;
+          ends = shown_ends mode t writes.shows;
+          start_is =
+              refl;
+          last_is = refl;
+        });
+        due = due;
+        held = let P : Option (List ℕ) → Type 0 = λ held. AppendsPart held now.held due in subst P reached.held
+            writes.held;
+        prefix = λ rest. (
+          [],
+          rw (reached.says.says rest, writes.shows, ← reached.heard)
+              (ap (λ xs. lines_of mode t ++ xs) (sym (append-nil due))),
+        );
+      })
+      tt (end_costs writes.shows writes.cost)
 
-  stopped_ends : (stop : Stop) → StopsAt old left_mid left_now stop → IsNotEnd stop → held_now ≡ held_mid → steps_now ≡ steps_mid
-      → EndsPlay mode first left_before left_now held_before held_now rig heard_before heard_now steps_before steps_now (Stopped (next_number reached.tale.played) stop)
-  stopped_ends stop stops not held cost =
+  lacks_end : (number : ℕ) → number ≡ next_number rig.played
+      → lacks_picture mode reached.tale.state.gpu.parts.regs ≡ true → now ≡ mid
+      → EndsPlay mode first before (beside left now) rig (NoPicture number)
+  lacks_end number at lacks unchanged =
       let t = reached.tale in
-      record {
-        taken = reached.taken ++ stops.taken;
-        bytes = taken_on left_before left_mid left_now reached.taken stops.taken reached.bytes stops.bytes;
-        needed = all_needed first reached.tale old reached.taken stops.taken reached.says reached.needed stops.needed;
-        tale = t;
-        last = t;
-        says = says_stopped mode first t old reached.taken stops.taken left_now held_before held_now stop reached.says stops.says not (held ∙ reached.held);
-        stands = (refl, reached.stands);
-        heard = reached.heard;
-        cost = λ rest. stop_costs mode first t old reached.taken stops.taken rest steps_before steps_now reached.says (omega (arith, reached.cost, cost));
-      }
+      let held : now.held ≡ mid.held = ap (λ (at : Outlets). at.held) unchanged in
+      let steps : now.steps ≡ mid.steps = ap (λ (at : Outlets). at.steps) unchanged in
+      ends_behind mode first before left mid now rig p End reached is_first same (NoPicture number) (
+        reached.says.says,
+        lacking_ends mode t lacks ∙ ap NoPicture (sym (at ∙ number_of rig t reached.stands)),
+        held
+            ∙ reached.held,
+      )
+      refl (stop_costs mode first before left mid now rig p End reached is_first same steps)
 
-  pub stop_ends : (stop : Stop) (ending : Ending) → StopsAt old left_mid left_now stop
-      → EndsAt mode reached.tale.state (next_number rig.played) stop held_mid held_now steps_mid steps_now ending
-      → EndsPlay mode first left_before left_now held_before held_now rig heard_before heard_now steps_before steps_now ending
-  stop_ends stop Done stops ends =
-      let P : Stop → Type 0 = λ stop. StopsAt old left_mid left_now stop in
-      done_ends (subst P ends.0 stops) ends.1 ends.2
-  stop_ends stop (WriteFailed number) stops ends =
-      let P : Stop → Type 0 = λ stop. StopsAt old left_mid left_now stop in
-      finals_end number (subst P ends.0 stops) ends.1 ends.2 ends.3
-  stop_ends stop (Stopped number told) stops ends =
-      let Q : Ending → Type 0 = λ ending. EndsPlay mode first left_before left_now held_before held_now rig heard_before heard_now steps_before steps_now ending in
-      let e : Stopped (next_number reached.tale.played) stop ≡ Stopped number told =
-      ap (λ n. Stopped n stop) (sym (ends.0 ∙ number_of rig reached.tale reached.stands)) ∙ ap (Stopped number) (sym ends.1)
-      in subst Q e (stopped_ends stop stops ends.2 ends.3 ends.4)
-  stop_ends stop (Faulted number fault) stops ends = absurd ends
+module _ (mode : Mode) (first : Tale) (before : Streams) (left : Option (List ℕ)) (mid now : Outlets) (rig : RigState)
+    (p : Progress) where
+  stopped_says : (stop : Stop) (t : Tale) (taken : List ℕ) → SaysNext first p left (Err stop) t taken → IsNotEnd stop
+      → now.held ≡ appended before.held (lines_of mode t)
+      → SaysEnding mode first t t taken before (beside left now) (Stopped (next_number t.played) stop)
+  stopped_says End t taken says not held = absurd not
+  stopped_says (ReadFault byte) t taken says not held = (says, held)
+  stopped_says (Truncated byte) t taken says not held = (says.0, held, says.1)
+  stopped_says (NotCapture byte) t taken says not held = (says, held)
+  stopped_says (BadRecord byte word) t taken says not held = (says, held)
+  stopped_says (TooLong byte) t taken says not held = (says, held)
+
+  pub stop_ends : (stop : Stop) (reached : Awaits mode first before (beside left mid) rig p (Err stop)) → IsFirst first
+      → now.heard ≡ mid.heard
+      → (ending : Ending) → EndsAt mode reached.tale.state.gpu (next_number rig.played) stop mid now ending
+      → EndsPlay mode first before (beside left now) rig ending
+  stop_ends stop reached is_first same Done (is, writes) =
+      let P : Stop → Type 0 = λ stop. (reached : Awaits mode first before (beside left mid) rig p (Err stop))
+      → WritesEnd mode reached.tale.state.gpu mid now → EndsPlay mode first before (beside left now) rig Done in
+      subst P (sym is) (λ reached writes. done_ends mode first before left mid now rig p reached is_first same writes)
+      reached writes
+  stop_ends stop reached is_first same (WriteFailed number) (is, at, writes) =
+      let P : Stop → Type 0 = λ stop. (reached : Awaits mode first before (beside left mid) rig p (Err stop))
+      → WritesEndPart mode reached.tale.state.gpu mid now
+      → EndsPlay mode first before (beside left now) rig (WriteFailed number) in
+      subst P (sym is) (λ reached writes. finals_end mode first before left mid now rig p reached is_first same number
+      at writes) reached writes
+  stop_ends stop reached is_first same (NoPicture number) (is, at, lacks, unchanged) =
+      let P : Stop → Type 0 = λ stop. (reached : Awaits mode first before (beside left mid) rig p (Err stop))
+      → lacks_picture mode reached.tale.state.gpu.parts.regs ≡ true
+      → EndsPlay mode first before (beside left now) rig (NoPicture number) in
+      subst P (sym is) (λ reached lacks. lacks_end mode first before left mid now rig p reached is_first same number at
+      lacks unchanged) reached lacks
+  stop_ends stop reached is_first same (Stopped number told) (at, is, not, unchanged) =
+      let t = reached.tale in
+      let Q : Ending → Type 0 = λ ending. EndsPlay mode first before (beside left now) rig ending in
+      let e : Stopped (next_number t.played) stop ≡ Stopped number told =
+      ap (λ n. Stopped n stop) (sym (at ∙ number_of rig t reached.stands)) ∙ ap (Stopped number) (sym is) in
+      let held : now.held ≡ mid.held = ap (λ (at : Outlets). at.held) unchanged in
+      let steps : now.steps ≡ mid.steps = ap (λ (at : Outlets). at.steps) unchanged in
+      subst Q e
+      (ends_behind mode first before left mid now rig p stop reached is_first same (Stopped (next_number t.played) stop)
+      (stopped_says stop t reached.taken reached.says.says not (held ∙ reached.held)) refl
+      (stop_costs mode first before left mid now rig p stop reached is_first same steps))
+  stop_ends stop reached is_first same (Faulted number fault) ends = absurd ends

@@ -1,48 +1,82 @@
--- What is written of a replay, by the mode (our own rule).
-use Rattle.std.specs.Prelude.{ℕ, ◌+◌, List, [], ◌++◌, flat_map}
-use Rattle.gp0_packets.specs.declared.note.Note.{Note}
+-- What is written of a replay, and how playing ends, by the mode (our own rule).
+use Rattle.std.specs.Prelude.{ℕ, ◌+◌, List, [], ◌++◌, flat_map, Bool, true, false, is_none}
+use Rattle.gp1_status.specs.Registers.{Registers}
+use Rattle.gp1_status.specs.Shape.{shape_of}
 use Rattle.gpu_core.specs.Machine.{State, Status}
-use Rattle.packet_text.specs.Line.{word_line, status_line, listed}
+use Rattle.gpu_taps.specs.Tally.{Reading}
+use Rattle.packet_text.specs.Line.{status_line}
+use Rattle.packet_text.specs.Tap.{tap_line}
 use Rattle.picture_out.specs.Dump.{dump, dump_cost}
-use Rattle.event_play.specs.Replay.{Tale, Played}
+use Rattle.picture_out.specs.Picture.{picture, picture_cost}
+use Rattle.event_play.specs.Lines.{lines_for}
+use Rattle.event_play.specs.Replay.{Tale, Played, next_number}
+use Rattle.event_play.specs.Told.{told_notes}
 use Rattle.event_play.specs.declared.ending.Ending.{Ending}
-use Rattle.event_play.specs.declared.ending.Ending.TheVariants.{Done}
+use Rattle.event_play.specs.declared.ending.Ending.TheVariants.{Done, NoPicture}
 use Rattle.event_play.specs.declared.ending.Mode.{Mode}
-use Rattle.event_play.specs.declared.ending.Mode.TheVariants.{Vram, List as Listing, Play as Words}
+use Rattle.event_play.specs.declared.ending.Mode.TheVariants.{Vram, Shot, Report, List as Listing, Play as Words}
 
--- what is due as the events come: the line of each shown word, or of each note but those of pixels
-abbrev pub lines_for : Mode → (shown : List ℕ) → (notes : List Note) → List ℕ
-lines_for Words shown notes = flat_map word_line shown
-lines_for Listing shown notes = flat_map listed notes
-lines_for Vram shown notes = []
-
+-- what is due as the events come
 abbrev pub lines_of : Mode → Tale → List ℕ
 lines_of mode t = lines_for mode t.shown t.notes
 
--- what is due after the end: the status line, or all cells of video memory
-unfoldable pub final_bytes : Mode → State → List ℕ
-final_bytes Words s = status_line (Status s)
-final_bytes Listing s = []
-final_bytes Vram s = dump s.parts.m
+-- ---- the end
+
+-- a picture is asked for, and the registers show none: its width or its height is 0
+abbrev pub lacks_picture : Mode → Registers → Bool
+lacks_picture Shot r = is_none (shape_of r)
+lacks_picture mode r = false
+
+abbrev pub unless_lacking : Bool → (number : ℕ) → Ending → Ending
+unless_lacking true number Done = NoPicture number
+unless_lacking lacks number ending = ending
+
+-- How playing ends under a mode: as the replay does, but a whole replay that has no picture to show ends with that, at
+-- the number behind its last event.
+abbrev pub ending_under : Mode → Played → Ending
+ending_under mode r =
+    unless_lacking (lacks_picture mode r.tale.state.gpu.parts.regs) (next_number r.tale.played) r.ending
+
+-- what is due after the end: the status line, all cells of video memory, the picture, or the line of each tap
+unfoldable pub final_bytes : Mode → (heard : List Reading) → State → List ℕ
+final_bytes Words heard s = status_line (Status s)
+final_bytes Listing heard s = []
+final_bytes Vram heard s = dump s.parts.m
+final_bytes Shot heard s = picture s.parts.m s.parts.regs
+final_bytes Report heard s = flat_map tap_line heard
 
 unfoldable pub final_cost : Mode → State → ℕ
 final_cost Words s = 0
 final_cost Listing s = 0
 final_cost Vram s = dump_cost s.parts.m
+final_cost Shot s = picture_cost s.parts.regs
+final_cost Report s = 0
 
--- both only where the replay is whole
-abbrev pub finals : Mode → Tale → Ending → List ℕ
-finals mode t Done = final_bytes mode t.state
-finals mode t ending = []
+-- both only where playing ends with Done
+abbrev pub finals_at : Ending → Mode → (heard : List Reading) → State → List ℕ
+finals_at Done mode heard s = final_bytes mode heard s
+finals_at ending mode heard s = []
 
-abbrev pub finals_cost : Mode → Tale → Ending → ℕ
-finals_cost mode t Done = final_cost mode t.state
-finals_cost mode t ending = 0
+abbrev pub finals_cost_at : Ending → Mode → State → ℕ
+finals_cost_at Done mode s = final_cost mode s
+finals_cost_at ending mode s = 0
+
+-- by what the taps say at the end, of which this is what they said when they were handed in
+abbrev pub finals : Mode → (heard : List Reading) → Played → List ℕ
+finals mode heard r = finals_at (ending_under mode r) mode (told_notes r.tale.notes heard) r.tale.state.gpu
+
+abbrev pub finals_cost : Mode → Played → ℕ
+finals_cost mode r = finals_cost_at (ending_under mode r) mode r.tale.state.gpu
+
+-- ---- all of it
 
 -- all that is written
-abbrev pub Out : Mode → Played → List ℕ
-Out mode r = lines_of mode r.tale ++ finals mode r.tale r.ending
+abbrev pub Out : Mode → (heard : List Reading) → Played → List ℕ
+Out mode heard r = lines_of mode r.tale ++ finals mode heard r
 
--- the most store steps of playing and writing
+-- the most store steps of playing and writing, and the same by the boxes
 abbrev pub OutCost : Mode → Played → ℕ
-OutCost mode r = r.tale.cost + finals_cost mode r.tale r.ending
+OutCost mode r = r.tale.cost + finals_cost mode r
+
+abbrev pub OutBoxCost : Mode → Played → ℕ
+OutBoxCost mode r = r.tale.box_cost + finals_cost mode r

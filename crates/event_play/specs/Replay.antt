@@ -1,45 +1,61 @@
 -- Events, one after another.
-use Rattle.std.specs.Prelude.{ℕ, ◌+◌, ◌-◌, ◌^◌, min, List, [], ◌∷◌, ◌++◌, option_to_list, Result, Ok, Err}
+use Rattle.std.specs.Prelude.{ℕ, ◌+◌, ◌-◌, ◌^◌, ◌==◌, min, List, [], ◌∷◌, ◌++◌, option_to_list, Result, Ok, Err}
+use Rattle.std.specs.Prelude.{if◌then◌else◌}
 use Rattle.gp0_packets.specs.declared.note.Note.{Note}
 use Rattle.gpu_capture.specs.Capture.{Captured, capture}
 use Rattle.gpu_capture.specs.declared.event.Event.{Event}
 use Rattle.gpu_capture.specs.declared.event.Stop.{Stop}
 use Rattle.gpu_capture.specs.declared.event.Stop.TheVariants.{End}
-use Rattle.gpu_core.specs.Machine.{State}
-use Rattle.event_play.specs.Step.{Stepped, Step, StepCost}
+use Rattle.event_play.specs.Fed.{fed, fed_notes, fed_cost, fed_box_cost}
+use Rattle.event_play.specs.Step.{Machine, Stepped, Step, StepCost, StepBoxCost, tall_machine}
 use Rattle.event_play.specs.declared.ending.Ending.{Ending}
 use Rattle.event_play.specs.declared.ending.Ending.TheVariants.{Done, Stopped, Faulted}
 use Rattle.event_play.specs.declared.fault.EventFault.{EventFault}
 
--- what has been played: the state, the number of events, the shown words, the notes, and the most store steps of all this
+-- what has been played: the state, the number of events, the shown words, the notes, and the most store steps of all
+-- this, also by the boxes
 pub record Tale : Type 0 where
-  pub state : State
+  pub state : Machine
   pub played : ℕ
   pub shown : List ℕ
   pub notes : List Note
   pub cost : ℕ
+  pub box_cost : ℕ
 
 -- nothing yet, from a state and a number of events played before
-abbrev pub from_state : State → ℕ → Tale
-from_state s played = record { state = s; played = played; shown = []; notes = []; cost = 0 }
+abbrev pub from_state : Machine → ℕ → Tale
+from_state s played = record { state = s; played = played; shown = []; notes = []; cost = 0; box_cost = 0 }
 
 -- the number of the next event; numbers stay at 2^64 - 1 once there
 abbrev pub next_number : ℕ → ℕ
 next_number played = min (played + 1) (2 ^ 64 - 1)
 
 -- the tale with one event more
-abbrev pub told_on : Tale → (cost : ℕ) → Result Stepped EventFault → Result Tale EventFault
-told_on t cost (Ok stepped) = Ok (record {
-  state = stepped.state;
+abbrev pub told_on : Tale → (cost box_cost : ℕ) → Result Stepped EventFault → Result Tale EventFault
+told_on t cost box_cost (Ok stepped) = Ok (record {
+  state = stepped.machine;
   played = next_number t.played;
   shown = t.shown ++ option_to_list stepped.shown;
   notes = t.notes ++ stepped.notes;
   cost = t.cost + cost;
+  box_cost = t.box_cost + box_cost;
 })
-told_on t cost (Err fault) = Err fault
+told_on t cost box_cost (Err fault) = Err fault
 
 abbrev pub after_event : Tale → Event → Result Tale EventFault
-after_event t event = told_on t (StepCost t.state event) (Step t.state (next_number t.played) event)
+after_event t event =
+    told_on t (StepCost t.state event) (StepBoxCost t.state event) (Step t.state (next_number t.played) event)
+
+-- the tale with the first words of its next event fed, which does not count that event
+abbrev pub part_fed : Tale → List ℕ → Tale
+part_fed t words = record {
+  state = record t.state { gpu = fed t.state.gpu words };
+  played = t.played;
+  shown = t.shown;
+  notes = t.notes ++ fed_notes t.state.gpu (next_number t.played) words;
+  cost = t.cost + fed_cost t.state.gpu words;
+  box_cost = t.box_cost + fed_box_cost t.state.gpu words;
+}
 
 -- how a list of events was played: the tale, how it ended, and the bytes behind a capture's end
 pub record Played : Type 0 where
@@ -66,6 +82,22 @@ Replay t (event ∷ events) stop rest = go_on (after_event t event)
 abbrev pub replayed : Tale → Captured → Played
 replayed t captured = Replay t captured.events captured.ending captured.rest
 
+-- ---- whole captures
+
+-- the version whose captures are played in the tall profile
+abbrev pub tall_version : ℕ
+tall_version = 3
+
+abbrev pub tall_tale : Tale → Tale
+tall_tale t = record t { state = tall_machine t.state }
+
+-- the tale from which a capture of this version is played
+abbrev pub raised : Tale → (version : ℕ) → Tale
+raised t version = if version == tall_version then tall_tale t else t
+
+abbrev pub played_from : Tale → Captured → Played
+played_from first captured = replayed (raised first captured.version) captured
+
 -- a whole capture; it is whole where no event has a fault and it ends with End, which is the ending Done
 abbrev pub Play : Tale → List ℕ → Played
-Play t bytes = replayed t (capture bytes)
+Play first bytes = played_from first (capture bytes)

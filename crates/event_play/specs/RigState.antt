@@ -1,28 +1,35 @@
--- What contracts see of a rig: what its drawing processor keeps, and the number of events played.
-use Rattle.std.specs.Prelude.{◌≡◌, ℕ, List, Option, Result, Ok, map, fold}
-use Rattle.gp0_packets.specs.declared.note.Note.{Note}
+-- What contracts see of a rig: what its drawing processor keeps, main memory, the running transfer, and the number of
+-- events played.
+use Rattle.std.specs.Prelude.{◌≡◌, ℕ, List}
 use Rattle.gpu_core.specs.Kept.{Kept, kept_of}
-use Rattle.gpu_core.specs.Machine.{State}
-use Rattle.gpu_taps.specs.Tally.{Reading, reading_after}
+use Rattle.gpu_core.specs.Machine.{State, first_state}
+use Rattle.list_dma.specs.declared.run.Run.{Run}
+use Rattle.list_dma.specs.declared.run.Run.TheVariants as run
+use Rattle.ot_clear_dma.specs.Ram.{blank}
 use Rattle.event_play.specs.Replay.{Tale}
-use Rattle.event_play.specs.Step.{Stepped}
-use Rattle.event_play.specs.declared.fault.EventFault.{EventFault}
+use Rattle.event_play.specs.Step.{Machine}
 
 pub record RigState : Type 0 where
   pub gpu : Kept
+  pub ram : List ℕ
+  pub running : Run
   pub played : ℕ
+
+-- a new rig
+abbrev pub first_rig : RigState
+first_rig = record { gpu = kept_of first_state; ram = blank; running = run.Idle; played = 0 }
+
+-- a rig stands for each machine that agrees with it
+pub record Stands (rig : RigState) (s : Machine) : Type 0 where
+  pub gpu : kept_of s.gpu ≡ rig.gpu
+  pub ram : s.ram ≡ rig.ram
+  pub running : s.running ≡ rig.running
+
+-- the machine of a rig, with this state of its drawing processor
+abbrev pub machine_of : RigState → State → Machine
+machine_of rig s = record { gpu = s; ram = rig.ram; running = rig.running }
 
 -- a rig stands for each tale that agrees with it
 pub record StandsFor (rig : RigState) (t : Tale) : Type 0 where
-  pub state : kept_of t.state ≡ rig.gpu
+  pub state : Stands rig t.state
   pub played : t.played ≡ rig.played
-
--- a step was taken: this word was shown, these notes were given, and the machine stands for the state after it
-pub record HasStepped (step : Result Stepped EventFault) (now : Kept) (shown : Option ℕ) (notes : List Note) : Type 0 where
-  pub state : State
-  pub is : step ≡ Ok (record { state = state; shown = shown; notes = notes })
-  pub stands : kept_of state ≡ now
-
--- what taps read after notes, one after another
-abbrev pub told_notes : List Note → List Reading → List Reading
-told_notes notes readings = fold (λ heard note. map (reading_after note) heard) readings notes

@@ -1,40 +1,125 @@
 -- One event, the atomic step of the machine.
-use Rattle.std.specs.Prelude.{ℕ, ◌+◌, Bool, not, ◌&&◌, nat_le, List, [], Option, None, Some, option_to_list, Result, Ok, Err, if◌then◌else◌}
-use Rattle.gp0_words.specs.Kinds.{class_of}
+use Rattle.std.specs.Prelude.{ℕ, List, [], ◌∷◌, Option, None, Some, Result, Ok, Err}
 use Rattle.gp0_packets.specs.declared.note.Note.{Note}
 use Rattle.gpu_capture.specs.declared.event.Event.{Event}
-use Rattle.gpu_capture.specs.declared.event.Event.TheVariants as event
-use Rattle.gpu_core.specs.Machine.{State, Feed, FeedNote, Gp1, Take, TakenWord, Idle, Status}
-use Rattle.gpu_core.specs.Cost.{FeedCost, TakeCost}
+use Rattle.gpu_core.specs.Machine.{State, first_state, tall_state, Gp1, Take, TakenWord, Status}
+use Rattle.gpu_core.specs.Cost.{TakeCost, TakeBoxCost}
+use Rattle.list_dma.specs.Node.{node_words}
+use Rattle.list_dma.specs.Walk.{list_words}
+use Rattle.list_dma.specs.declared.run.Run.{Run}
+use Rattle.list_dma.specs.declared.run.Run.TheVariants as run
+use Rattle.ot_clear_dma.specs.Ram.{set, blank}
+use Rattle.ot_clear_dma.specs.Table.{cleared_table}
+use Rattle.event_play.specs.Block.{block_words}
+use Rattle.event_play.specs.Fed.{fed, fed_notes, fed_cost, fed_box_cost}
+use Rattle.event_play.specs.Taken.{taken}
+use Rattle.event_play.specs.Work.{work_of}
 use Rattle.event_play.specs.declared.fault.EventFault.{EventFault}
-use Rattle.event_play.specs.declared.fault.EventFault.TheVariants.{NotBuilt}
+use Rattle.event_play.specs.declared.work.Work.{Work}
+use Rattle.event_play.specs.declared.work.Work.TheVariants as work
+use Rattle.event_play.specs.declared.work.Words.{Words}
+use Rattle.event_play.specs.declared.work.Words.TheVariants as words
 
--- the state after an event, the word that it shows, and the notes of the items that it completed
+-- the drawing processor, main memory, and the transfer that runs
+pub record Machine : Type 0 where
+  pub gpu : State
+  pub ram : List ℕ
+  pub running : Run
+
+-- zeros everywhere, the registers after a reset, and nothing that runs
+unfoldable pub first_machine : Machine
+first_machine = record { gpu = first_state; ram = blank; running = run.Idle }
+
+-- with the rows of the tall profile in video memory; all else stays
+abbrev pub tall_machine : Machine → Machine
+tall_machine s = record s { gpu = tall_state s.gpu }
+
+-- ---- one work
+
+-- the words, by main memory
+abbrev pub words_of : List ℕ → Words → List ℕ
+words_of ram (words.One word) = word ∷ []
+words_of ram (words.Block block) = block_words ram block
+words_of ram (words.Node node) = node_words ram node
+words_of ram (words.List start) = list_words ram start
+
+-- the machine after an event, the word that it shows, and the notes of the items that it completed
 pub record Stepped : Type 0 where
-  pub state : State
+  pub machine : Machine
   pub shown : Option ℕ
   pub notes : List Note
 
--- polygons, lines and rectangles are not built yet
-abbrev pub is_built : (word : ℕ) → Bool
-is_built word = not (nat_le 1 (class_of word) && nat_le (class_of word) 3)
+-- nothing is shown or noted
+abbrev pub quiet : Machine → Stepped
+quiet s = record { machine = s; shown = None; notes = [] }
+
+-- a work that is done in the event of this number
+abbrev pub done : Machine → (number : ℕ) → Work → Stepped
+done s number work.Nothing = quiet s
+done s number (work.Put address word) = quiet (record s { ram = set s.ram address word })
+done s number (work.Feed asked next) = record {
+  machine = record { gpu = fed s.gpu (words_of s.ram asked); ram = s.ram; running = next };
+  shown = None;
+  notes = fed_notes s.gpu number (words_of s.ram asked);
+}
+done s number (work.Take block next) =
+    let after = taken block s.gpu s.ram in quiet (record { gpu = after.gpu; ram = after.ram; running = next })
+done s number (work.Control word) = quiet (record s { gpu = Gp1 s.gpu word })
+done s number work.Read = record { machine = record s { gpu = Take s.gpu }; shown = Some (TakenWord s.gpu); notes = [] }
+done s number work.Skip = quiet (record s { gpu = Take s.gpu })
+done s number work.Stat = record { machine = s; shown = Some (Status s.gpu); notes = [] }
+done s number (work.Clear madr n) = quiet (record s { ram = cleared_table s.ram madr n })
+done s number (work.Begin next) = quiet (record s { running = next })
+
+-- its most store steps: those of the words that it feeds, or of the reads that it takes
+abbrev pub work_cost : Machine → Work → ℕ
+work_cost s (work.Feed asked next) = fed_cost s.gpu (words_of s.ram asked)
+work_cost s (work.Take block next) = (taken block s.gpu s.ram).cost
+work_cost s work.Read = TakeCost s.gpu
+work_cost s work.Skip = TakeCost s.gpu
+work_cost s other = 0
+
+-- the same by the boxes
+abbrev pub work_box_cost : Machine → Work → ℕ
+work_box_cost s (work.Feed asked next) = fed_box_cost s.gpu (words_of s.ram asked)
+work_box_cost s (work.Take block next) = (taken block s.gpu s.ram).box_cost
+work_box_cost s work.Read = TakeBoxCost s.gpu
+work_box_cost s work.Skip = TakeBoxCost s.gpu
+work_box_cost s other = 0
+
+-- ---- one event
+
+abbrev pub stepped : Machine → (number : ℕ) → Result Work EventFault → Result Stepped EventFault
+stepped s number (Ok asked) = Ok (done s number asked)
+stepped s number (Err fault) = Err fault
+
+abbrev pub step_cost : Machine → Result Work EventFault → ℕ
+step_cost s (Ok asked) = work_cost s asked
+step_cost s (Err fault) = 0
+
+abbrev pub step_box_cost : Machine → Result Work EventFault → ℕ
+step_box_cost s (Ok asked) = work_box_cost s asked
+step_box_cost s (Err fault) = 0
 
 -- the event of this number, or its fault, which has no new state
-unfoldable pub Step : State → (number : ℕ) → Event → Result Stepped EventFault
-Step s number (event.Gp0 word) =
-    if Idle s && not (is_built word) then Err (NotBuilt word)
-    else Ok (record { state = Feed s word; shown = None; notes = option_to_list (FeedNote s number word) })
-Step s number (event.Gp1 word) = Ok (record { state = Gp1 s word; shown = None; notes = [] })
-Step s number event.Read = Ok (record { state = Take s; shown = Some (TakenWord s); notes = [] })
-Step s number event.Stat = Ok (record { state = s; shown = Some (Status s); notes = [] })
-Step s number (event.Ram address word) = Err (NotBuilt 0x01000001)
-Step s number (event.Dma channel madr bcr chcr) = Err (NotBuilt (0x06000000 + channel))
+unfoldable pub Step : Machine → (number : ℕ) → Event → Result Stepped EventFault
+Step s number event = stepped s number (work_of s.ram s.running event)
 
 -- the most store steps of an event
-unfoldable pub StepCost : State → Event → ℕ
-StepCost s (event.Gp0 word) = FeedCost s word
-StepCost s event.Read = TakeCost s
-StepCost s (event.Gp1 word) = 0
-StepCost s event.Stat = 0
-StepCost s (event.Ram address word) = 0
-StepCost s (event.Dma channel madr bcr chcr) = 0
+unfoldable pub StepCost : Machine → Event → ℕ
+StepCost s event = step_cost s (work_of s.ram s.running event)
+
+-- the same by the boxes: four for each cell of the box of what is drawn, of a fill or of a copy, and for each pixel
+-- loaded or read
+unfoldable pub StepBoxCost : Machine → Event → ℕ
+StepBoxCost s event = step_box_cost s (work_of s.ram s.running event)
+
+-- ---- the words of an event
+
+abbrev pub asked_words : List ℕ → Result Work EventFault → List ℕ
+asked_words ram (Ok (work.Feed asked next)) = words_of ram asked
+asked_words ram other = []
+
+-- the words that an event feeds: one for Gp0, and those that a transfer from main memory moves
+abbrev pub EventWords : Machine → Event → List ℕ
+EventWords s event = asked_words s.ram (work_of s.ram s.running event)

@@ -1,12 +1,21 @@
 //! Plays events, and captures of them.
 #![tactic(auto)]
 
+mod block;
 mod ending;
 mod fault;
-mod happened;
+mod feed;
+mod finals;
+pub mod laws;
+mod nowhere;
 mod play;
 mod rig;
+mod take;
+mod work;
 
+pub use block::{Block, address_in};
 pub use ending::{Ending, Mode};
 pub use fault::EventFault;
+pub use finals::write_report;
 pub use rig::Rig;
+pub use work::{Words, Work};

@@ -1,72 +1,185 @@
 // The machine that plays events.
-ghost use Rattle.std.specs.Prelude.{◌≡◌, ◌≤◌, ◌+◌, List, map, IfOk, IfErr, OnOk, OnErr, Err};
-ghost use Rattle.gp0_packets.specs.declared.note.Note.{Note};
+ghost use Rattle.std.specs.Prelude.{◌≡◌, ◌≤◌, ◌+◌, List, None, map, IfOk, IfErr, OnOk, OnErr, Ok, Err};
 ghost use Rattle.gpu_core.specs.Kept.{kept_of};
-ghost use Rattle.gpu_core.specs.Machine.{State, first_state};
+ghost use Rattle.list_dma.specs.Plans.{IsRun};
+ghost use Rattle.event_play.specs.Does.{Performs};
 ghost use Rattle.event_play.specs.Replay.{next_number};
-ghost use Rattle.event_play.specs.RigState.{RigState, HasStepped, told_notes};
-ghost use Rattle.event_play.specs.Step.{Step, StepCost};
+ghost use Rattle.event_play.specs.RigState.{RigState, first_rig, Stands, machine_of};
+ghost use Rattle.event_play.specs.Step.{Machine, Step, tall_machine};
+ghost use Rattle.event_play.specs.Stepping.{HasStepped};
+ghost use Rattle.event_play.specs.Streams.{outlets, without_sink};
+ghost use Rattle.event_play.specs.Work.{work_of, IsWork};
 
+use crate::ending::Mode;
 use crate::fault::EventFault;
-use crate::happened::take_event;
+use crate::feed::feed;
+use crate::nowhere::Nowhere;
+use crate::take::take_block;
+use crate::work::{Work, judge};
+use dev_io::{Failed, Sink};
 use gpu_capture::Event;
 use gpu_core::Gpu;
 use gpu_taps::Listener;
+use list_dma::{Run, Walk};
+use ot_clear_dma::Ram;
 use px_num::OutOfMemory;
 use std::alloc::Global;
 use std::marker::Model;
 use std::sync::ledger::Ledger;
 use vram_store::Steps;
 
-/// A machine that plays events: the drawing processor, and a count of the events played.
+/// A machine that plays events: the drawing processor, main memory, the transfer that runs, and a count of the events
+/// played.
 #[derive(Drop)]
 pub struct Rig {
     pub(crate) gpu: Gpu,
+    pub(crate) ram: Ram,
+    pub(crate) walk: Walk,
+    pub(crate) running: Run,
     pub(crate) played: u64,
 }
 
 impl Model for Rig {
     ghost Value = { RigState };
 
-    ghost view = { λ r. record { gpu = r.gpu; played = r.played } };
+    ghost view = { λ r. record { gpu = r.gpu; ram = r.ram; running = r.running; played = r.played } };
+
+    ghost invariant = { λ r. IsRun r.running };
 }
 
 impl Rig {
-    /// A machine with video memory of zeros and the registers after a reset, which has played nothing. Refused where memory
-    /// runs out.
+    /// A machine with memories of zeros and the registers after a reset, which has played nothing and in which nothing
+    /// runs. Refused where memory runs out.
     pub fn new(alloc: Global) -> Result<Rig, OutOfMemory>
-        ensures { IfOk result (λ rig. rig ≡ record { gpu = kept_of first_state; played = 0 }) }
+        ensures { IfOk result (λ rig. rig ≡ first_rig) }
     {
-        match Gpu::new(alloc) {
-            Ok(gpu) => Ok(Rig { gpu, played: 0 }),
-            Err(refusal) => Err(refusal),
-        }
+        let gpu = Gpu::new(alloc)?;
+        let ram = Ram::new(alloc)?;
+        let walk = Walk::new(alloc)?;
+        Ok(Rig {
+            gpu,
+            ram,
+            walk,
+            running: Run::Idle,
+            played: 0,
+        })
     }
 
-    /// Plays one event. The answer is the word read for Read and Stat, and None for all other events. After a fault the machine,
-    /// the taps and the steps are as they were.
+    /// Puts the rows of the tall profile into video memory: rows 512 to 1023 are zeros. Everything else stays, and
+    /// nothing changes where it is tall already. No step is taken.
+    pub fn set_tall(&mut self)
+        ensures stands { (s : Machine) → Stands self.old s → Stands self.new (tall_machine s) }
+        ensures played { self.new.played ≡ self.old.played }
+    {
+        self.gpu.set_tall();
+    }
+
+    /// Plays one event. The answer is the word read for Read and Stat, and None for all other events. After a fault the
+    /// machine, the taps and the steps are as they were.
     pub fn event<T: Listener, L: Ledger>(
         &mut self,
         event: &Event,
         taps: &mut Vec<T>,
         steps: &mut Steps<L>,
     ) -> Result<Option<u32>, EventFault>
-        ensures stepped { (s : State) → kept_of s ≡ self.old.gpu → IfOk result (λ shown. (notes : List Note)
-            × HasStepped (Step s (next_number self.old.played) event.now) self.new.gpu shown notes
-            × (map T.heard taps.new.items ≡ told_notes notes (map T.heard taps.old.items))) }
+        ensures stepped { (s : Machine) → Stands self.old s → IfOk result (λ shown.
+            HasStepped s (next_number self.old.played) event.now shown
+            (without_sink (map T.heard taps.old.items) steps.old)
+            (without_sink (map T.heard taps.new.items) steps.new) self.new) }
         ensures played { OnOk result (self.new.played ≡ next_number self.old.played) }
-        ensures cost { (s : State) → kept_of s ≡ self.old.gpu → OnOk result (steps.new ≤ steps.old + StepCost s event.now) }
 
-        ensures fault { (s : State) → kept_of s ≡ self.old.gpu →
+        ensures fault { (s : Machine) → Stands self.old s →
             IfErr result (λ fault. Step s (next_number self.old.played) event.now ≡ Err fault) }
         ensures unchanged { OnErr result (self.new ≡ self.old) }
         ensures untold { OnErr result (map T.heard taps.new.items ≡ map T.heard taps.old.items) }
         ensures free { OnErr result (steps.new ≡ steps.old) }
     {
-        let number = self.next_number();
-        let happened = take_event(&mut self.gpu, number, event, taps, steps)?;
-        self.played = number;
-        Ok(happened.shown)
+        match judge(event, &mut self.walk, &self.ram, self.running) {
+            Ok(work) => {
+                let number = self.next_number();
+                let mut nowhere = Nowhere {};
+                match self.perform(number, work, &mut nowhere, Mode::Vram, taps, steps) {
+                    Ok(shown) => {
+                        self.played = number;
+                        Ok(shown)
+                    }
+                    Err(_) => unreachable!(),
+                }
+            }
+            Err(fault) => Err(fault),
+        }
+    }
+
+    /// What an event asks of the machine, or why it is refused. Nothing changes.
+    pub fn asked(&mut self, event: &Event) -> Result<Work, EventFault>
+        ensures value { result ≡ work_of self.old.ram self.old.running event.now }
+        ensures bounds { IfOk result IsWork }
+        ensures unchanged { self.new ≡ self.old }
+    {
+        judge(event, &mut self.walk, &self.ram, self.running)
+    }
+
+    /// Does a work in the event of this number, and writes the lines of its notes as they come, if the mode asks for
+    /// them. Where a line can't be written, the words behind its item are not fed.
+    pub(crate) fn perform<K: Sink, T: Listener, L: Ledger>(
+        &mut self,
+        number: u64,
+        work: Work,
+        out: &mut K,
+        mode: Mode,
+        taps: &mut Vec<T>,
+        steps: &mut Steps<L>,
+    ) -> Result<Option<u32>, Failed>
+        requires { IsWork work }
+        ensures { Performs mode number work
+            (outlets (K.held out.old) (K.faults out.old) (map T.heard taps.old.items) steps.old)
+            (outlets (K.held out.new) (K.faults out.new) (map T.heard taps.new.items) steps.new)
+            self.old self.new result }
+    {
+        match work {
+            Work::Nothing => Ok(None),
+            Work::Put { address, word } => {
+                self.ram.put(address, word);
+                Ok(None)
+            }
+            Work::Feed { words, next } => {
+                feed(
+                    &mut self.gpu,
+                    &self.ram,
+                    number,
+                    words,
+                    out,
+                    mode,
+                    taps,
+                    steps,
+                )?;
+                self.running = next;
+                Ok(None)
+            }
+            Work::Take { block, next } => {
+                take_block(&mut self.gpu, &mut self.ram, block, steps);
+                self.running = next;
+                Ok(None)
+            }
+            Work::Control { word } => {
+                self.gpu.gp1(word);
+                Ok(None)
+            }
+            Work::Read => Ok(Some(self.gpu.read(steps))),
+            Work::Skip => {
+                let _ = self.gpu.read(steps);
+                Ok(None)
+            }
+            Work::Stat => Ok(Some(self.gpu.status())),
+            Work::Clear { madr, n } => {
+                self.ram.clear_table(madr, n);
+                Ok(None)
+            }
+            Work::Begin { next } => {
+                self.running = next;
+                Ok(None)
+            }
+        }
     }
 
     /// How many events were played. It stays at 2^64 - 1 once there.
@@ -81,6 +194,21 @@ impl Rig {
         ensures { result.now ≡ self.now.gpu }
     {
         &self.gpu
+    }
+
+    /// Main memory.
+    pub fn ram(&self) -> &Ram
+        ensures { result.now ≡ self.now.ram }
+    {
+        &self.ram
+    }
+
+    /// The transfer that runs.
+    pub fn running(&self) -> Run
+        ensures value { result ≡ self.now.running }
+        ensures bounds { IsRun result }
+    {
+        self.running
     }
 
     /// The number of the next event.

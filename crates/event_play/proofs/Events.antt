@@ -1,0 +1,61 @@
+-- Works that are the steps of events.
+use Rattle.std.proofs.Common.{◌≡◌, ℕ, List, Option, Ok, Err, refl, ap, sym, subst, ◌∙◌}
+use Rattle.dev_io.specs.Device.{appended}
+use Rattle.gpu_capture.specs.declared.event.Event.{Event}
+use Rattle.gpu_core.specs.Kept.{kept_of}
+use Rattle.gpu_core.specs.Machine.{State}
+use Rattle.event_play.specs.Does.{Does}
+use Rattle.event_play.specs.Lines.{lines_of_notes}
+use Rattle.event_play.specs.RigState.{RigState, Stands, machine_of}
+use Rattle.event_play.specs.Step.{Machine, Stepped, Step, StepCost, done}
+use Rattle.event_play.specs.Stepping.{HasStepped}
+use Rattle.event_play.specs.Streams.{Outlets}
+use Rattle.event_play.specs.Work.{work_of}
+use Rattle.event_play.specs.declared.ending.Mode.{Mode}
+use Rattle.event_play.specs.declared.fault.EventFault.{EventFault}
+use Rattle.event_play.specs.declared.work.Work.{Work}
+
+-- all but the drawing processor's state is the rig's
+pub stands_is : (rig : RigState) (s : Machine) → Stands rig s → machine_of rig s.gpu ≡ s
+stands_is rig s stands =
+    let with_ram : List ℕ → Machine = λ ram. record { gpu = s.gpu; ram = ram; running = rig.running } in
+    ap with_ram (sym stands.ram) ∙ ap (λ running. record { gpu = s.gpu; ram = s.ram; running = running })
+    (sym stands.running)
+
+pub step_fault : (rig : RigState) (s : Machine) (number : ℕ) (event : Event) (fault : EventFault) → Stands rig s
+    → Err fault ≡ work_of rig.ram rig.running event → Step s number event ≡ Err fault
+unfolding Step
+step_fault rig s number event fault stands asked = rw (stands.ram, stands.running, ← asked) refl
+
+-- what was done for an event, and what was written of its notes
+pub record HasDone (mode : Mode) (s : Machine) (number : ℕ) (event : Event) (shown : Option ℕ) (before now : Outlets)
+    (rig : RigState) : Type 0 where
+  pub step : HasStepped s number event shown before now rig
+  pub held : now.held ≡ appended before.held (lines_of_notes mode step.notes)
+
+module _ (mode : Mode) (was mid rig : RigState) (number counted : ℕ) (event : Event) (asked : Work) (shown : Option ℕ)
+    (before now : Outlets)
+    (is : Ok asked ≡ work_of was.ram was.running event) (same : mid ≡ rig)
+    (does : (s : State) → kept_of s ≡ was.gpu → Does mode (machine_of was s) number asked shown before now rig) where
+  pub has_done : (s : Machine) → Stands was s → HasDone mode s number event shown before now
+      (record mid { played = counted })
+  unfolding Step StepCost
+  has_done s stands =
+      let counts : RigState = record mid { played = counted } in
+      let did = does s.gpu stands.gpu in
+      let m : Machine = machine_of was s.gpu in
+      let after : Stepped = done m number asked in
+      let at_rig : HasDone mode m number event shown before now counts = record {
+        step = record {
+          machine = after.machine;
+          notes = after.notes;
+          is = rw (← is) (ap (λ x. Ok (record { machine = after.machine; shown = x; notes = after.notes }))
+              (sym did.shows));
+          stands = rw same (record { gpu = did.stands.gpu; ram = did.stands.ram; running = did.stands.running });
+          heard = did.heard;
+          cost = rw (← is) did.cost;
+        };
+        held = did.held;
+      } in
+      let P : Machine → Type 0 = λ s. HasDone mode s number event shown before now counts in
+      subst P (stands_is was s stands) at_rig

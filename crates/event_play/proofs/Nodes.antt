@@ -1,0 +1,129 @@
+-- The words of blocks and of lists, part by part.
+use Rattle.std.proofs.Common.{◌≡◌, ◌<◌, ℕ, zero, suc, ◌+◌, ◌-◌, ◌*◌, ◌++◌, List, [], ◌∷◌, Option, None, Some, true}
+use Rattle.std.proofs.Common.{false, flat_map, refl, ap, sym, ◌∙◌, append_assoc, append-nil, arith, inl, inr}
+use Rattle.std.proofs.lemmas.Bool.{cases_Bool}
+use Rattle.ot_clear_dma.specs.Ram.{cut, word_at, place_of}
+use Rattle.list_dma.specs.Node.{is_end, next_of, node_of, words_behind, node_words, word_count}
+use Rattle.list_dma.specs.Walk.{chain}
+use Rattle.event_play.specs.Block.{address_in, first_words, block_words}
+use Rattle.event_play.specs.declared.block.Block.{Block}
+
+-- ---- blocks
+
+-- the first words of a block, and those behind them
+words_split : (ram : List ℕ) (block : Block) (i more : ℕ) → (behind : List ℕ)
+    × (first_words ram block (i + more) ≡ first_words ram block i ++ behind)
+words_split ram block i zero = let e : i + 0 ≡ i = omega arith in ([], rw (e, append-nil) refl)
+words_split ram block i (suc more) =
+    let rest = words_split ram block i more in
+    let last = word_at ram (address_in block (i + more)) ∷ [] in
+    let e : i + suc more ≡ suc (i + more) = omega arith in
+    (rest.0 ++ last, rw e (ap (λ words. words ++ last) rest.1 ∙ append_assoc (first_words ram block i) rest.0 last))
+
+-- one word more
+pub words_next : (ram : List ℕ) (block : Block) (i word : ℕ) → word ≡ word_at ram (address_in block i)
+    → first_words ram block (i + 1) ≡ first_words ram block i ++ word ∷ []
+words_next ram block i word is = let e : i + 1 ≡ suc i = omega arith in rw (e, is) refl
+
+-- all words of a block, by the first, one more and those behind it
+pub block_split : (ram : List ℕ) (block : Block) (i word : ℕ) → i < block.n → word ≡ word_at ram (address_in block i)
+    → (behind : List ℕ) × (block_words ram block ≡ (first_words ram block i ++ word ∷ []) ++ behind)
+block_split ram block i word below is =
+    let rest = words_split ram block (i + 1) (block.n - (i + 1)) in
+    let e : i + 1 + (block.n - (i + 1)) ≡ block.n = omega arith in
+    (rest.0, (rw e at rest.1) ∙ ap (λ words. words ++ rest.0) (words_next ram block i word is))
+
+-- ---- nodes
+
+behind-next : (ram : List ℕ) (address n : ℕ) → words_behind ram address
+    (suc n) ≡ words_behind ram address n ++ word_at ram (address + 4 * n + 4) ∷ []
+behind-next ram address zero = let e : address + 4 * 0 + 4 ≡ address + 4 = omega arith in rw e refl
+behind-next ram address (suc n) =
+    let e : address + 4 * suc n + 4 ≡ address + 4 + 4 * n + 4 = omega arith in
+    rw e (ap (λ words. word_at ram (address + 4) ∷ words) (behind-next ram (address + 4) n))
+
+-- the word that an address names is that of the whole address
+word_cut : (ram : List ℕ) (address : ℕ) → word_at ram (cut address) ≡ word_at ram address
+word_cut ram address = let e : place_of (cut address) ≡ place_of address = omega arith in rw e refl
+
+node_first : (ram : List ℕ) (node n i : ℕ) → first_words ram
+    (record { at = node + 4; n = n; back = false }) i ≡ words_behind ram node i
+unfolding address_in
+node_first ram node n zero = refl
+node_first ram node n (suc i) =
+    let e : node + 4 + 4 * i ≡ node + 4 * i + 4 = omega arith in
+    let here : word_at ram (cut (node + 4 + 4 * i)) ≡ word_at ram (node + 4 * i + 4) = word_cut ram (node + 4 + 4 * i)
+    ∙ ap (word_at ram) e in
+    ap (λ words. words ++ word_at ram (cut (node + 4 + 4 * i)) ∷ []) (node_first ram node n i)
+    ∙ ap (λ word. words_behind ram node i ++ word ∷ []) here
+    ∙ sym (behind-next ram node i)
+
+-- the words of a node are a block
+pub node_block : (ram : List ℕ) (node n : ℕ) → n ≡ word_count ram node
+    → block_words ram (record { at = node + 4; n = n; back = false }) ≡ node_words ram node
+node_block ram node n is = node_first ram node n n ∙ ap (words_behind ram node) is
+
+-- ---- walks
+
+-- what is still to be fed of the words of a list: all of them are those that were fed, and then those of the nodes to
+-- come
+pub record OnWay (ram all : List ℕ) (next : Option ℕ) (left : ℕ) (done : List ℕ) : Type 0 where
+  pub address : ℕ
+  pub at : next ≡ node_of address
+  pub are : all ≡ done ++ flat_map (node_words ram) (chain ram address left)
+
+pub way_starts : (ram : List ℕ) (start limit : ℕ) (next : Option ℕ) → next ≡ node_of start
+    → OnWay ram (flat_map (node_words ram) (chain ram start limit)) next (limit - 0) []
+way_starts ram start limit next at = let e : limit - 0 ≡ limit =
+    omega arith in record { address = start; at = at; are = rw e refl }
+
+ends_there : (address : ℕ) → None ≡ node_of address → is_end address ≡ true
+ends_there address at = elim (cases_Bool (is_end address))
+    [ inl end ↦ end | inr on ↦ absurd (let no = rw on at at in cc) ]
+
+goes_there : (address node : ℕ) → Some node ≡ node_of address → (is_end address ≡ false) × (node ≡ cut address)
+goes_there address node at = elim (cases_Bool (is_end address))
+    [ inl end ↦ absurd (let no = rw end at at in cc) | inr on ↦ let is = rw on at at in (on, cc) ]
+
+pub chain_ends : (ram : List ℕ) (address left : ℕ) → is_end address ≡ true → chain ram address left ≡ []
+unfolding chain
+chain_ends ram address zero end = refl
+chain_ends ram address (suc n) end = rw end refl
+
+pub chain_goes : (ram : List ℕ) (address left next : ℕ) → next + 1 ≡ left → is_end address ≡ false
+    → chain ram address left ≡ cut address ∷ chain ram (next_of ram (cut address)) next
+unfolding chain
+chain_goes ram address zero next e on = absurd (omega (arith, e))
+chain_goes ram address (suc n) next e on = let same : next ≡ n = omega (arith, e) in rw (on, same) refl
+
+-- at the end of a list every word was fed
+pub way_ends : (ram all : List ℕ) (next : Option ℕ) (left : ℕ) (done : List ℕ) → next ≡ None
+    → OnWay ram all next left done → all ≡ done
+way_ends ram all next left done end way =
+    way.are ∙ ap (λ nodes. done ++ flat_map (node_words ram) nodes)
+    (chain_ends ram way.address left (ends_there way.address (sym end ∙ way.at))) ∙ append-nil done
+
+-- and also where no more nodes are looked at
+pub way_stops : (ram all : List ℕ) (next : Option ℕ) (done : List ℕ) (left : ℕ) → left ≡ 0
+    → OnWay ram all next left done → all ≡ done
+unfolding chain
+way_stops ram all next done left none way = let are = rw none at way.are in are ∙ append-nil done
+
+-- a node, and those behind it
+pub way_node : (ram all : List ℕ) (here : Option ℕ) (node left next : ℕ) (done : List ℕ) → next + 1 ≡ left
+    → here ≡ Some node → OnWay ram all here left done
+    → all ≡ (done ++ node_words ram node) ++ flat_map (node_words ram) (chain ram (next_of ram node) next)
+way_node ram all here node left next done e is way =
+    let on = goes_there way.address node (sym is ∙ way.at) in
+    let rest = flat_map (node_words ram) (chain ram (next_of ram node) next) in
+    let goes : chain ram way.address left ≡ node ∷ chain ram (next_of ram node) next =
+    rw on.1 (chain_goes ram way.address left next e on.0) in
+    way.are ∙ ap (λ nodes. done ++ flat_map (node_words ram) nodes) goes
+    ∙ sym (append_assoc done (node_words ram node) rest)
+
+pub way_on : (ram all : List ℕ) (here : Option ℕ) (node left next : ℕ) (done : List ℕ) (then : Option ℕ)
+    → next + 1 ≡ left → here ≡ Some node
+    → OnWay ram all here left done → then ≡ node_of (next_of ram node)
+    → OnWay ram all then next (done ++ node_words ram node)
+way_on ram all here node left next done then e is way at =
+    record { address = next_of ram node; at = at; are = way_node ram all here node left next done e is way }

@@ -1,0 +1,41 @@
+-- A work that was done while the lines of its notes were written.
+use Rattle.std.specs.Prelude.{◌≡◌, ◌≤◌, ℕ, ◌+◌, Option, Result, Ok, IfOk, OnErr}
+use Rattle.dev_io.specs.Device.{Rose, appended}
+use Rattle.gpu_core.specs.Kept.{kept_of}
+use Rattle.gpu_core.specs.Machine.{State}
+use Rattle.event_play.specs.Feeding.{StopsFeeding}
+use Rattle.event_play.specs.Lines.{lines_of_notes}
+use Rattle.event_play.specs.RigState.{RigState, Stands, machine_of}
+use Rattle.event_play.specs.Step.{Machine, done, work_cost, asked_words}
+use Rattle.event_play.specs.Streams.{Outlets}
+use Rattle.event_play.specs.Told.{told_notes}
+use Rattle.event_play.specs.declared.ending.Mode.{Mode}
+use Rattle.event_play.specs.declared.work.Work.{Work}
+
+-- it was done whole
+pub record Does (mode : Mode) (s : Machine) (number : ℕ) (asked : Work) (shown : Option ℕ) (before now : Outlets)
+    (rig : RigState) : Type 0 where
+  pub shows : shown ≡ (done s number asked).shown
+  pub stands : Stands rig (done s number asked).machine
+  pub held : now.held ≡ appended before.held (lines_of_notes mode (done s number asked).notes)
+  pub heard : now.heard ≡ told_notes (done s number asked).notes before.heard
+  pub cost : now.steps ≤ before.steps + work_cost s asked
+
+-- Its words were fed up to one whose line could not be written. Main memory and the running transfer are as they were.
+pub record Stops (mode : Mode) (s : Machine) (number : ℕ) (asked : Work) (before now : Outlets) (rig : RigState)
+    : Type 0 where
+  pub feeding : StopsFeeding mode s.gpu number (asked_words s.ram (Ok asked)) before now rig.gpu
+  pub ram : s.ram ≡ rig.ram
+  pub running : s.running ≡ rig.running
+
+-- What a call does that does a work, for every state for which the rig's drawing processor stands: Ok with the word
+-- shown where it was done whole, and else the sink failed at a line.
+pub record Performs {Error : Type 0} (mode : Mode) (number : ℕ) (asked : Work) (before now : Outlets)
+    (was rig : RigState) (result : Result (Option ℕ) Error) : Type 0 where
+  pub ok : (s : State) → kept_of s ≡ was.gpu
+      → IfOk result (λ shown. Does mode (machine_of was s) number asked shown before now rig)
+  pub failed : (s : State) → kept_of s ≡ was.gpu
+      → OnErr result (Stops mode (machine_of was s) number asked before now rig)
+  pub played : rig.played ≡ was.played
+  pub cause : OnErr result (Rose before.faults now.faults)
+  pub faults : before.faults ≤ now.faults

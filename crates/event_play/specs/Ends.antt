@@ -1,0 +1,95 @@
+-- One event that is played, and what is due behind the last one.
+use Rattle.std.specs.Prelude.{◌≡◌, ◌≤◌, ◌⊎◌, ℕ, ◌+◌, Option, Result, Err, OnOk, IfErr, option_to_list, true, false}
+use Rattle.dev_io.specs.Device.{Rose, appended, AppendsPart}
+use Rattle.gpu_capture.specs.declared.event.Event.{Event}
+use Rattle.gpu_capture.specs.declared.event.Stop.{Stop}
+use Rattle.gpu_capture.specs.declared.event.Stop.TheVariants.{End}
+use Rattle.gpu_core.specs.Machine.{State}
+use Rattle.event_play.specs.Causes.{MayReadFault, MayWriteFault, IsEnding}
+use Rattle.event_play.specs.Feeding.{StopsFeeding}
+use Rattle.event_play.specs.Lines.{lines_for}
+use Rattle.event_play.specs.Out.{final_bytes, final_cost, lacks_picture}
+use Rattle.event_play.specs.Replay.{Tale, next_number}
+use Rattle.event_play.specs.RigState.{RigState, StandsFor}
+use Rattle.event_play.specs.Step.{Step, EventWords}
+use Rattle.event_play.specs.Stepping.{HasStepped}
+use Rattle.event_play.specs.Streams.{Outlets}
+use Rattle.event_play.specs.declared.ending.Ending.{Ending}
+use Rattle.event_play.specs.declared.ending.Ending.TheVariants.{Done, Stopped, Faulted, NoPicture, WriteFailed}
+use Rattle.event_play.specs.declared.ending.Mode.{Mode}
+use Rattle.event_play.specs.declared.ending.Mode.TheVariants.{Play as Words}
+use Rattle.event_play.specs.declared.fault.EventFault.{EventFault}
+
+-- an event was played, and what is due for it was written and told
+pub record PlaysEvent (mode : Mode) (t : Tale) (event : Event) (before now : Outlets) (rig : RigState) : Type 0 where
+  pub shown : Option ℕ
+  pub step : HasStepped t.state (next_number t.played) event shown before now rig
+  pub played : rig.played ≡ next_number t.played
+  pub held : now.held ≡ appended before.held (lines_for mode (option_to_list shown) step.notes)
+
+-- an event was played, but the line of the word that it shows could not be written
+pub record ShowsPart (mode : Mode) (t : Tale) (event : Event) (before now : Outlets) (rig : RigState) : Type 0 where
+  pub mode_is : mode ≡ Words
+  pub shown : Option ℕ
+  pub step : HasStepped t.state (next_number t.played) event shown before now rig
+  pub played : rig.played ≡ next_number t.played
+  pub held : AppendsPart before.held now.held (lines_for mode (option_to_list shown) step.notes)
+
+-- the words of an event were fed up to one whose line could not be written; the event does not count, and all else of
+-- the rig is as it was
+pub record FeedsPart (mode : Mode) (t : Tale) (event : Event) (before now : Outlets) (rig : RigState) : Type 0 where
+  pub feeding : StopsFeeding mode t.state.gpu (next_number t.played) (EventWords t.state event) before now rig.gpu
+  pub ram : t.state.ram ≡ rig.ram
+  pub running : t.state.running ≡ rig.running
+  pub played : t.played ≡ rig.played
+
+-- an event has a fault and changed nothing
+pub record FaultsEvent (t : Tale) (event : Event) (fault : EventFault) (before now : Outlets)
+    (was rig : RigState) : Type 0 where
+  pub is : Step t.state (next_number t.played) event ≡ Err fault
+  pub stands : rig ≡ was
+  pub unchanged : now ≡ before
+
+-- how an event ended playing
+abbrev pub EndsEvent : Mode → Tale → Event → (before now : Outlets) → (was rig : RigState) → Ending → Type 0
+EndsEvent mode t event before now was rig (Faulted number fault) =
+    (number ≡ next_number t.played) × FaultsEvent t event fault before now was rig
+EndsEvent mode t event before now was rig (WriteFailed number) =
+    (number ≡ next_number t.played) × (FeedsPart mode t event before now rig ⊎ ShowsPart mode t event before now rig)
+EndsEvent mode t event before now was rig ending = ⊥
+
+-- what a call does that plays an event, for every tale for which the rig stands: Ok where playing goes on
+pub record PlaysOrEnds {Value : Type 0} (mode : Mode) (event : Event) (before now : Outlets) (was rig : RigState)
+    (result : Result Value Ending) : Type 0 where
+  pub ok : (t : Tale) → StandsFor was t → OnOk result (PlaysEvent mode t event before now rig)
+  pub ends : (t : Tale) → StandsFor was t → IfErr result (EndsEvent mode t event before now was rig)
+  pub known : IfErr result (λ ending. IsEnding ending × (MayReadFault ending → ⊥))
+  pub cause : IfErr result (λ ending. MayWriteFault ending → Rose before.faults now.faults)
+  pub faults : before.faults ≤ now.faults
+
+-- ---- the end
+
+abbrev pub IsNotEnd : Stop → Type 0
+IsNotEnd End = ⊥
+IsNotEnd stop = Unit {0}
+
+-- what is due behind the last event was written
+pub record WritesEnd (mode : Mode) (s : State) (before now : Outlets) : Type 0 where
+  pub shows : lacks_picture mode s.parts.regs ≡ false
+  pub held : now.held ≡ appended before.held (final_bytes mode before.heard s)
+  pub cost : now.steps ≤ before.steps + final_cost mode s
+
+-- a part of it was
+pub record WritesEndPart (mode : Mode) (s : State) (before now : Outlets) : Type 0 where
+  pub shows : lacks_picture mode s.parts.regs ≡ false
+  pub held : AppendsPart before.held now.held (final_bytes mode before.heard s)
+  pub cost : now.steps ≤ before.steps + final_cost mode s
+
+-- how a stop of the reader ends playing, at the number of the next event
+abbrev pub EndsAt : Mode → State → (number : ℕ) → Stop → (before now : Outlets) → Ending → Type 0
+EndsAt mode s number stop before now Done = (stop ≡ End) × WritesEnd mode s before now
+EndsAt mode s number stop before now (WriteFailed at) = (stop ≡ End) × (at ≡ number) × WritesEndPart mode s before now
+EndsAt mode s number stop before now (NoPicture at) =
+    (stop ≡ End) × (at ≡ number) × (lacks_picture mode s.parts.regs ≡ true) × (now ≡ before)
+EndsAt mode s number stop before now (Stopped at told) = (at ≡ number) × (told ≡ stop) × IsNotEnd stop × (now ≡ before)
+EndsAt mode s number stop before now (Faulted at fault) = ⊥

@@ -1,0 +1,94 @@
+-- A transfer that goes on turn by turn while main memory is written, beside the same transfer done at once.
+use Rattle.std.specs.Prelude.{◌≡◌, ◌≢◌, ℕ, zero, suc, ◌+◌, List, [], ◌∷◌, ◌++◌, flat_map, None, Result, Ok, Err, false}
+use Rattle.gpu_capture.specs.declared.event.Event.{Event}
+use Rattle.gpu_capture.specs.declared.event.Event.TheVariants as event
+use Rattle.list_dma.specs.Node.{is_end, word_count}
+use Rattle.list_dma.specs.Plans.{plan_of}
+use Rattle.list_dma.specs.Walk.{walk_of, loop_of}
+use Rattle.list_dma.specs.declared.plan.DmaFault.{DmaFault}
+use Rattle.list_dma.specs.declared.plan.Plan.{Plan}
+use Rattle.list_dma.specs.declared.plan.Plan.TheVariants as plan
+use Rattle.list_dma.specs.declared.run.Run.{Run}
+use Rattle.list_dma.specs.declared.run.Run.TheVariants as run
+use Rattle.ot_clear_dma.specs.Ram.{cut, set}
+use Rattle.event_play.specs.Block.{address_in}
+use Rattle.event_play.specs.Step.{Machine, Stepped, Step, done}
+use Rattle.event_play.specs.Work.{turn_work}
+use Rattle.event_play.specs.declared.block.Block.{Block}
+use Rattle.event_play.specs.declared.fault.EventFault.{EventFault}
+
+-- ---- events, one after another
+
+abbrev pub then_after : Result Stepped EventFault → (Machine → Result Machine EventFault) → Result Machine EventFault
+then_after (Ok stepped) on = on stepped.machine
+then_after (Err fault) on = Err fault
+
+-- the machine after events, the first of them of this number, or the first fault
+abbrev pub after_events : Machine → (number : ℕ) → List Event → Result Machine EventFault
+after_events s number [] = Ok s
+after_events s number (next ∷ events) =
+    then_after (Step s number next) (λ after. after_events after (number + 1) events)
+
+-- the writes to main memory among events
+abbrev pub writes_of : List Event → List Event
+writes_of [] = []
+writes_of (event.Ram address word ∷ events) = event.Ram address word ∷ writes_of events
+writes_of (other ∷ events) = writes_of events
+
+-- ---- what remains of a transfer
+
+-- the addresses of so many words behind an address
+abbrev pub addresses_behind : (address n : ℕ) → List ℕ
+addresses_behind address zero = []
+addresses_behind address (suc n) = (address + 4) ∷ addresses_behind (address + 4) n
+
+-- the addresses of a node's header and of its words
+abbrev pub node_addresses : List ℕ → (node : ℕ) → List ℕ
+node_addresses ram node = node ∷ addresses_behind node (word_count ram node)
+
+-- the addresses of the first words of a block
+abbrev pub first_addresses : Block → ℕ → List ℕ
+first_addresses block zero = []
+first_addresses block (suc i) = first_addresses block i ++ address_in block i ∷ []
+
+-- the addresses that a running transfer still has to read, by main memory as it is
+abbrev pub remaining : List ℕ → Run → List ℕ
+remaining ram run.Idle = []
+remaining ram (run.Words at left block back to_ram) = first_addresses (record { at = at; n = left; back = back }) left
+remaining ram (run.List node) = flat_map (node_addresses ram) (walk_of ram node)
+
+-- an address is that of none of these words
+abbrev pub IsApart : ℕ → List ℕ → Type 0
+IsApart address [] = Unit {0}
+IsApart address (other ∷ others) = (cut other ≢ cut address) × IsApart address others
+
+-- the machine after a turn
+abbrev pub turned : Machine → Machine
+turned s = (done s 0 (turn_work s.ram s.running)).machine
+
+-- only turns and writes come, and no write is at an address that remains before it
+abbrev pub AreApart : Machine → List Event → Type 0
+AreApart s [] = Unit {0}
+AreApart s (event.Turn ∷ events) = AreApart (turned s) events
+AreApart s (event.Ram address word ∷ events) =
+    IsApart address (remaining s.ram s.running) × AreApart (record s { ram = set s.ram address word }) events
+AreApart s (other ∷ events) = ⊥
+
+-- ---- the law
+
+-- the start moves words from main memory, or a list that has a node and ends
+abbrev pub MovesFromRam : List ℕ → (madr : ℕ) → Result Plan DmaFault → Type 0
+MovesFromRam ram madr (Ok (plan.Words n back to_ram)) = to_ram ≡ false
+MovesFromRam ram madr (Ok plan.List) = (loop_of ram madr ≡ None) × (is_end madr ≡ false)
+MovesFromRam ram madr other = ⊥
+
+-- Let a transfer from main memory be begun, and let only turns and writes come until nothing runs, none of them at an
+-- address that remains before it. Then the machine is that after the whole transfer, done by a Dma event with the same
+-- registers, and then those writes in their order. The numbers of the events do not matter.
+abbrev pub TurnsAreWhole : Type 0
+TurnsAreWhole = (s started ended : Machine) (number other madr bcr chcr : ℕ) (events : List Event)
+    → MovesFromRam s.ram madr (plan_of bcr chcr)
+    → after_events s number (event.Begin madr bcr chcr ∷ []) ≡ Ok started
+    → AreApart started events
+    → after_events started (number + 1) events ≡ Ok ended → ended.running ≡ run.Idle
+    → after_events s other (event.Dma 2 madr bcr chcr ∷ writes_of events) ≡ Ok ended

@@ -1,0 +1,179 @@
+// Words that go to GP0, one after another. A call that feeds words has more than five parameters, since a word reaches
+// all that playing works on: the drawing processor, main memory, the sink, the taps and the steps.
+ghost use Rattle.std.specs.Prelude.{◌≡◌, ◌≤◌, ◌<◌, ◌^◌, [], ◌∷◌, map, flat_map, option_to_list, IfSome};
+ghost use Rattle.dev_io.specs.Device.{Writes};
+ghost use Rattle.list_dma.specs.Node.{node_words};
+ghost use Rattle.list_dma.specs.Walk.{chain, list_words};
+ghost use Rattle.packet_text.specs.Line.{listed};
+ghost use Rattle.event_play.specs.Block.{block_words, IsBlock};
+ghost use Rattle.event_play.specs.Feeding.{FeedsWords};
+ghost use Rattle.event_play.specs.Step.{words_of};
+ghost use Rattle.event_play.specs.Streams.{outlets};
+ghost use Rattle.event_play.specs.Work.{AreWords};
+
+use crate::block::{Block, address_in};
+use crate::ending::Mode;
+use crate::work::Words;
+use dev_io::{Failed, Sink};
+use gp0_packets::Note;
+use gpu_core::Gpu;
+use gpu_taps::Listener;
+use list_dma::{WALK_LIMIT, next_node, node_at};
+use ot_clear_dma::Ram;
+use packet_text::write_note;
+use std::sync::ledger::Ledger;
+use vram_store::Steps;
+
+/// Feeds words in the event of this number, and writes the lines of their notes as they come, if the mode asks for
+/// them. Where that fails, the words behind the item whose line it was are not fed.
+pub(crate) fn feed<K: Sink, T: Listener, L: Ledger>(
+    gpu: &mut Gpu,
+    ram: &Ram,
+    number: u64,
+    words: Words,
+    out: &mut K,
+    mode: Mode,
+    taps: &mut Vec<T>,
+    steps: &mut Steps<L>,
+) -> Result<(), Failed>
+    requires { AreWords words }
+    ensures { FeedsWords mode number (words_of ram.now words)
+        (outlets (K.held out.old) (K.faults out.old) (map T.heard taps.old.items) steps.old)
+        (outlets (K.held out.new) (K.faults out.new) (map T.heard taps.new.items) steps.new) gpu.old gpu.new result }
+{
+    match words {
+        Words::One { word } => feed_word(gpu, number, word, out, mode, taps, steps),
+        Words::Block { block } => feed_block(gpu, ram, number, block, out, mode, taps, steps),
+        Words::Node { node } => feed_node(gpu, ram, number, node, out, mode, taps, steps),
+        Words::List { start } => feed_list(gpu, ram, number, start, out, mode, taps, steps),
+    }
+}
+
+/// Feeds a word in the event of this number, and writes the line of its note, if the mode asks for it. Where that
+/// fails, the word has been fed all the same.
+pub(crate) fn feed_word<K: Sink, T: Listener, L: Ledger>(
+    gpu: &mut Gpu,
+    number: u64,
+    word: u32,
+    out: &mut K,
+    mode: Mode,
+    taps: &mut Vec<T>,
+    steps: &mut Steps<L>,
+) -> Result<(), Failed>
+    ensures { FeedsWords mode number (word ∷ [])
+        (outlets (K.held out.old) (K.faults out.old) (map T.heard taps.old.items) steps.old)
+        (outlets (K.held out.new) (K.faults out.new) (map T.heard taps.new.items) steps.new) gpu.old gpu.new result }
+{
+    let note = gpu.gp0(number, word, taps, steps);
+    match mode {
+        Mode::List => write_listed(out, &note),
+        _ => Ok(()),
+    }
+}
+
+// The line of a note, unless it is that of pixels.
+fn write_listed<K: Sink>(out: &mut K, note: &Option<Note>) -> Result<(), Failed>
+    requires { IfSome note.now (λ note. note.class ≤ 9) }
+    ensures { Writes K.held K.faults out.old out.new (flat_map listed (option_to_list note.now)) result }
+{
+    match note {
+        Some(note) if note.class != 9 => write_note(out, note),
+        _ => Ok(()),
+    }
+}
+
+// Feeds the words of a block.
+fn feed_block<K: Sink, T: Listener, L: Ledger>(
+    gpu: &mut Gpu,
+    ram: &Ram,
+    number: u64,
+    block: Block,
+    out: &mut K,
+    mode: Mode,
+    taps: &mut Vec<T>,
+    steps: &mut Steps<L>,
+) -> Result<(), Failed>
+    requires { IsBlock block }
+    ensures { FeedsWords mode number (block_words ram.now block)
+        (outlets (K.held out.old) (K.faults out.old) (map T.heard taps.old.items) steps.old)
+        (outlets (K.held out.new) (K.faults out.new) (map T.heard taps.new.items) steps.new) gpu.old gpu.new result }
+{
+    for i in 0..block.n {
+        let word = ram.get(address_in(block, i));
+        feed_word(gpu, number, word, out, mode, taps, steps)?;
+    }
+    Ok(())
+}
+
+// Feeds the words of a node.
+fn feed_node<K: Sink, T: Listener, L: Ledger>(
+    gpu: &mut Gpu,
+    ram: &Ram,
+    number: u64,
+    node: u32,
+    out: &mut K,
+    mode: Mode,
+    taps: &mut Vec<T>,
+    steps: &mut Steps<L>,
+) -> Result<(), Failed>
+    requires { node ≤ 2 ^ 21 }
+    ensures { FeedsWords mode number (node_words ram.now node)
+        (outlets (K.held out.old) (K.faults out.old) (map T.heard taps.old.items) steps.old)
+        (outlets (K.held out.new) (K.faults out.new) (map T.heard taps.new.items) steps.new) gpu.old gpu.new result }
+{
+    let words = Block {
+        at: node + 4,
+        n: ram.get(node) >> 24,
+        back: false,
+    };
+    feed_block(gpu, ram, number, words, out, mode, taps, steps)
+}
+
+// Feeds the words of a list, node after node.
+#[tactic(auto, unfolding(list_dma::specs::Walk::list_words, list_dma::specs::Walk::walk_of))]
+fn feed_list<K: Sink, T: Listener, L: Ledger>(
+    gpu: &mut Gpu,
+    ram: &Ram,
+    number: u64,
+    start: u32,
+    out: &mut K,
+    mode: Mode,
+    taps: &mut Vec<T>,
+    steps: &mut Steps<L>,
+) -> Result<(), Failed>
+    ensures { FeedsWords mode number (list_words ram.now start)
+        (outlets (K.held out.old) (K.faults out.old) (map T.heard taps.old.items) steps.old)
+        (outlets (K.held out.new) (K.faults out.new) (map T.heard taps.new.items) steps.new) gpu.old gpu.new result }
+{
+    feed_nodes(gpu, ram, number, start, WALK_LIMIT, out, mode, taps, steps)
+}
+
+// Feeds the words of the first nodes of a list. Their number is a variable here, so that no proof computes the walk.
+fn feed_nodes<K: Sink, T: Listener, L: Ledger>(
+    gpu: &mut Gpu,
+    ram: &Ram,
+    number: u64,
+    start: u32,
+    limit: u32,
+    out: &mut K,
+    mode: Mode,
+    taps: &mut Vec<T>,
+    steps: &mut Steps<L>,
+) -> Result<(), Failed>
+    ensures { FeedsWords mode number (flat_map (node_words ram.now) (chain ram.now start limit))
+        (outlets (K.held out.old) (K.faults out.old) (map T.heard taps.old.items) steps.old)
+        (outlets (K.held out.new) (K.faults out.new) (map T.heard taps.new.items) steps.new) gpu.old gpu.new result }
+{
+    let mut next = node_at(start);
+    'nodes: for k in 0..limit {
+        let _ = k;
+        match next {
+            None => return Ok(()),
+            Some(node) => {
+                feed_node(gpu, ram, number, node, out, mode, taps, steps)?;
+                next = next_node(ram, node);
+            }
+        }
+    }
+    Ok(())
+}

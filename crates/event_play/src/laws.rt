@@ -1,0 +1,16 @@
+//! Laws of events, each of them the contract of a function that does nothing.
+ghost use Rattle.event_play.specs.Costs.{CostsAreSmall};
+ghost use Rattle.event_play.specs.Turns.{TurnsAreWhole};
+
+/// A transfer from main memory that is begun and goes on turn by turn does what the whole transfer does at its start,
+/// and the writes to main memory that come between behind it, if none of them is at an address that the transfer still
+/// has to read.
+pub fn turns_are_whole()
+    ensures { TurnsAreWhole }
+{}
+
+/// Playing takes at most four store steps for each cell of the boxes of what it draws, fills and copies, and for each
+/// pixel that it loads or reads.
+pub fn costs_are_small()
+    ensures { CostsAreSmall }
+{}
