@@ -1,0 +1,11 @@
+pub mod Alike
+pub mod Allows
+pub mod Awaiting
+pub mod Counts
+pub mod Following
+pub mod Needed
+pub mod Output
+pub mod Passes
+pub mod Pieces
+pub mod Ports
+pub mod Stopping

@@ -1,0 +1,125 @@
+-- One event that is played and written.
+use Rattle.std.proofs.Common.{◌≡◌, ◌<◌, ◌≤◌, ◌+◌, ◌++◌, ℕ, List, Option, Result, Ok, Err, length, refl, ap, sym, ◌∙◌}
+use Rattle.gpu_capture.specs.Capture.{limit}
+use Rattle.gpu_capture.specs.Written.{AllowsAll}
+use Rattle.gpu_capture.specs.declared.event.Event.{Event}
+use Rattle.event_play.specs.Ends.{FaultsEvent}
+use Rattle.event_play.specs.Replay.{Tale, next_number}
+use Rattle.event_play.specs.RigState.{RigState, Stands, StandsFor}
+use Rattle.event_play.specs.Step.{Machine, Stepped, Step, stepped, done}
+use Rattle.event_play.specs.Stepping.{HasStepped}
+use Rattle.event_play.specs.Streams.{Outlets, without_sink}
+use Rattle.event_play.specs.Work.{work_of}
+use Rattle.event_play.specs.declared.fault.EventFault.{EventFault}
+use Rattle.event_play.specs.declared.work.Work.{Work}
+use Rattle.event_play.specs.declared.work.Work.TheVariants as work
+use Rattle.capture_flat.specs.Flat.{Flat, flat_work, flat_asked}
+use Rattle.capture_flat.specs.Out.{spell, head_due, due_at}
+use Rattle.capture_flat.specs.OneEvent.{PlaysFlat}
+
+-- what an event asks for, by a rig that stands for the machine
+asks : (rig : RigState) (s : Machine) (event : Event) (asked : Result Work EventFault) → Stands rig s
+    → asked ≡ work_of rig.ram rig.running event
+    → work_of s.ram s.running event ≡ asked
+asks rig s event asked stands is = rw (stands.ram, stands.running) (sym is)
+
+step_is : (s : Machine) (number : ℕ) (event : Event) (asked : Result Work EventFault)
+    → work_of s.ram s.running event ≡ asked
+    → Step s number event ≡ stepped s number asked
+unfolding Step
+step_is s number event asked is = ap (stepped s number) is
+
+pub faults_event : (t : Tale) (rig now : RigState) (event : Event) (fault : EventFault) (at : Outlets)
+    → now ≡ rig → StandsFor rig t → Err fault ≡ work_of rig.ram rig.running event
+    → FaultsEvent t event fault at at rig now
+faults_event t rig now event fault at same stands is = record {
+  is = step_is t.state (next_number t.played) event (Err fault) (asks rig t.state event (Err fault) stands.state is);
+  stands = same;
+  unchanged = refl;
+}
+
+-- what an event was is not changed by a look at what it asks for
+pub stands_same : (t : Tale) (rig mid : RigState) → mid ≡ rig → StandsFor rig t → StandsFor mid t
+stands_same t rig mid same stands = rw same stands
+
+-- main memory after a work gives the same flat events
+same_flat : (s : Machine) (number : ℕ) (asked : Work)
+    → flat_work (done s number asked).machine.ram asked ≡ flat_work s.ram asked
+same_flat s number work.Nothing = refl
+same_flat s number (work.Put address word) = refl
+same_flat s number (work.Feed asked next) = refl
+same_flat s number (work.Take block next) = refl
+same_flat s number (work.Control word) = refl
+same_flat s number work.Read = refl
+same_flat s number work.Skip = refl
+same_flat s number work.Stat = refl
+same_flat s number (work.Clear madr n) = refl
+same_flat s number (work.Begin next) = refl
+
+-- the flat events of an event, by main memory after it
+flat_is : (t : Tale) (rig now : RigState) (event : Event) (asked : Work) (shown : Option ℕ) (before behind : Outlets)
+    → StandsFor rig t → Ok asked ≡ work_of rig.ram rig.running event
+    → HasStepped t.state (next_number t.played) event shown before behind now
+    → flat_work now.ram asked ≡ Flat t.state event
+unfolding Flat
+flat_is t rig now event asked shown before behind stands is step =
+    let s = t.state in
+    let number = next_number t.played in
+    let asks = asks rig s event (Ok asked) stands.state is in
+    let after : Stepped = record { machine = step.machine; shown = shown; notes = step.notes } in
+    let both : ◌≡◌ {A = Result Stepped EventFault} (Ok after) (Ok (done s number asked)) = sym step.is
+    ∙ step_is s number event (Ok asked) asks in
+    let machine : step.machine ≡ (done s number asked).machine = ap (λ (x : Stepped). x.machine)
+    (let same : after ≡ done s number asked = cc in same) in
+    let ram : now.ram ≡ (done s number asked).machine.ram = sym step.stands.ram ∙ ap (λ (m : Machine). m.ram) machine in
+    ap (λ ram. flat_work ram asked) ram ∙ same_flat s number asked ∙ ap (flat_asked s.ram) (sym asks)
+
+pub plays_flat : (t : Tale) (rig mid now : RigState) (event : Event) (asked : Work) (shown : Option ℕ)
+    (before behind : Outlets)
+    (ram : List ℕ) → StandsFor rig t → mid ≡ rig → Ok asked ≡ work_of rig.ram rig.running event
+    → HasStepped t.state (next_number mid.played) event shown (without_sink before.heard before.steps)
+    (without_sink behind.heard behind.steps) now
+    → now.played ≡ next_number mid.played → ram ≡ now.ram → AllowsAll 2 (flat_work ram asked)
+    → PlaysFlat t event before behind now
+plays_flat t rig mid now event asked shown before behind ram stands same is step played after allows =
+    let counted : mid.played ≡ t.played = ap (λ (r : RigState). r.played) same ∙ sym stands.played in
+    let stepped : HasStepped t.state (next_number t.played) event shown before behind now = record {
+      machine = step.machine;
+      notes = step.notes;
+      is = rw counted at step.is;
+      stands = step.stands;
+      heard = step.heard;
+      cost = step.cost;
+    } in
+    let flat = flat_is t rig now event asked shown before behind stands is stepped in
+    record {
+      shown = shown;
+      step = stepped;
+      played = rw counted at played;
+      allowed = rw (after, flat) at allows;
+    }
+
+-- what is due at an event, as a caller knows it
+pub due_known : (version : ℕ) (t : Tale) (rig now : RigState) (event : Event) (asked : Work) (before behind : Outlets)
+    (played : ℕ) (ram : List ℕ) → StandsFor rig t → Ok asked ≡ work_of rig.ram rig.running event
+    → PlaysFlat t event before behind now → played ≡ rig.played → ram ≡ now.ram
+    → head_due version played ++ spell (flat_work ram asked) ≡ due_at version t event
+due_known version t rig now event asked before behind played ram stands is plays was after =
+    let flat = flat_is t rig now event asked plays.shown before behind stands is plays.step in
+    rw (was, after, flat, ← stands.played) refl
+
+pub number_is : (t : Tale) (rig : RigState) (played number : ℕ) → StandsFor rig t → played ≡ rig.played
+    → number ≡ next_number played → number ≡ next_number t.played
+number_is t rig played number stands was is = is ∙ ap next_number (was ∙ sym stands.played)
+
+-- the bytes that are due were counted
+pub due_length : (size bytes : ℕ) (xs ys : List ℕ) → bytes ≡ length xs → xs ≡ ys → size + bytes ≡ size + length ys
+due_length size bytes xs ys count same = rw (← same) (ap (λ n. size + n) count)
+
+pub too_long : (size bytes : ℕ) (xs ys : List ℕ) → bytes ≡ length xs → xs ≡ ys → limit < size + bytes + 4
+    → limit < size + length ys + 4
+too_long size bytes xs ys count same long = rw (← same, ← count) long
+
+pub not_long : (size bytes : ℕ) (xs ys : List ℕ) → bytes ≡ length xs → xs ≡ ys → size + bytes + 4 ≤ limit
+    → size + length ys + 4 ≤ limit
+not_long size bytes xs ys count same few = rw (← same, ← count) few

@@ -1,0 +1,214 @@
+-- The end of a capture, and the file that was written of it.
+use Rattle.std.proofs.Common.{◌≡◌, ◌≤◌, ◌==◌, inr, ◌+◌, ◌++◌, ℕ, List, [], Option, length, refl, ap, sym, subst}
+use Rattle.std.proofs.Common.{◌∙◌, append-nil, arith}
+use Rattle.dev_io.specs.Device.{prepended, appended, AppendsPart}
+use Rattle.dev_io.proofs.Parts.{taken_on}
+use Rattle.gpu_capture.specs.Capture.{capture, limit}
+use Rattle.gpu_capture.specs.Reader.{StopsAt}
+use Rattle.gpu_capture.specs.Written.{written, spelled_end, AllowsAll}
+use Rattle.gpu_capture.specs.declared.event.Event.{Event}
+use Rattle.gpu_capture.specs.declared.event.Stop.{Stop}
+use Rattle.gpu_capture.specs.declared.event.Stop.TheVariants.{End}
+use Rattle.gpu_capture.specs.declared.progress.Progress.{Progress}
+use Rattle.gpu_capture.proofs.Written.{written_read}
+use Rattle.gpu_taps.specs.Tally.{Reading}
+use Rattle.event_play.specs.Playing.{whole}
+use Rattle.event_play.specs.Ends.{IsNotEnd}
+use Rattle.event_play.specs.Replay.{Tale, Played, Replay, Play, played_from, raised, tall_version, next_number}
+use Rattle.event_play.specs.RigState.{RigState}
+use Rattle.event_play.specs.Streams.{Streams, streams}
+use Rattle.event_play.specs.declared.ending.Ending.TheVariants.{Done as PlayedWhole}
+use Rattle.capture_flat.specs.Flat.{FlatAll}
+use Rattle.capture_flat.specs.Laws.{AreAlike}
+use Rattle.capture_flat.specs.OneEvent.{EndsAt}
+use Rattle.capture_flat.specs.Out.{head_due, begun, flat_version, flat_file}
+use Rattle.capture_flat.specs.Passing.{Way, Follows, AreNeededToEnd, SaysStop, IsFlatCapture, EndsFlat}
+use Rattle.capture_flat.specs.declared.ending.FlatEnding.{FlatEnding}
+use Rattle.capture_flat.specs.declared.ending.FlatEnding.TheVariants.{Done, Stopped, Faulted, TooLong, WriteFailed}
+use Rattle.capture_flat.proofs.Alike.{flat_alike, rest_same}
+use Rattle.capture_flat.proofs.Allows.{later_allows}
+use Rattle.capture_flat.proofs.Following.{Passes, all_flat, file_fits, spent_within}
+use Rattle.capture_flat.proofs.Needed.{needed_end, stop_says}
+use Rattle.capture_flat.proofs.Output.{begun_end}
+use Rattle.capture_flat.proofs.Pieces.{wrote_on}
+use Rattle.capture_flat.proofs.Ports.{all_ports}
+
+-- ---- what was written
+
+-- what is written is played in the profile of what was read
+same_tall : (version : ℕ) → (flat_version version == tall_version) ≡ (version == tall_version)
+same_tall version = grind arith
+
+same_raised : (start : Tale) (version : ℕ) → raised start (flat_version version) ≡ raised start version
+same_raised start version = rw (same_tall version) refl
+
+module _ (start t : Tale) (version : ℕ) (events flat : List Event)
+    (follows : Follows (raised start version) events t flat) where
+  abbrev first : Tale
+  first = raised start version
+
+  -- the events lead to this tale
+  pub replayed_to : (rest : List ℕ) → Replay first events End rest ≡ whole t rest
+  replayed_to rest = ap (λ all. Replay first all End rest) (sym (append-nil events)) ∙ follows.replays [] End rest
+
+  -- a whole file that is not too long is a capture of the flat events, which are replayed alike
+  pub is_flat : length (flat_file first version events) ≤ limit → version ≤ 3
+      → IsFlatCapture start t (flat_version version) (FlatAll first events) (flat_file first version events)
+  is_flat few known =
+      let written_version = flat_version version in
+      let all = FlatAll first events in
+      let bytes = flat_file first version events in
+      let same : all ≡ flat = all_flat first t events flat follows in
+      let allows : AllowsAll written_version all =
+      rw same (later_allows 2 written_version flat (omega arith) follows.allowed) in
+      let read : (after : List ℕ)
+      → capture (bytes ++ after) ≡ record { version = written_version; events = all; ending = End; rest = after } =
+      λ after. written_read written_version all after (omega arith, omega arith) allows few in
+      let play : (after : List ℕ) → Play start (bytes ++ after) ≡ Replay first all End after =
+      λ after. ap (played_from start) (read after) ∙ ap (λ at. Replay at all End after) (same_raised start version) in
+      let fine : (Replay first events End []).ending ≡ PlayedWhole = ap (λ (r : Played). r.ending) (replayed_to []) in
+      let tale : (Replay first events End []).tale ≡ t = ap (λ (r : Played). r.tale) (replayed_to []) in
+      let alike = flat_alike first events fine in
+      record {
+        ports = all_ports events first;
+        reads = read;
+        whole = λ after. ap (λ (r : Played). r.ending) (play after) ∙ (rest_same all first after).0 ∙ alike.0;
+        alike = λ after.
+            let Q : Tale → Type 0 = λ a. AreAlike a t in
+            let R : Tale → Type 0 = λ b. AreAlike (Replay first all End []).tale b in
+            subst Q (sym (ap (λ (r : Played). r.tale) (play after) ∙ (rest_same all first after).1))
+            (subst R tale alike.1);
+      }
+
+-- ---- a stop of the reader
+
+module _ (start : Tale) (version : ℕ) (before : Streams) (left_mid left held_mid held : Option (List ℕ))
+    (heard : List Reading) (steps : ℕ)
+    (rig : RigState) (old new : Progress) (size : ℕ)
+    (was : Passes (raised start version) version before (streams left_mid held_mid heard steps) rig old size)
+    (same : version ≡ new.version) where
+  abbrev first_tale : Tale
+  first_tale = raised start version
+
+  abbrev way : (stop : Stop) → StopsAt old new left_mid left stop → Way
+  way stop stops =
+      record {
+        version = version;
+        taken = was.taken ++ stops.taken;
+        events = was.events;
+        flat = was.flat;
+        tale =
+            was.tale;
+      }
+
+  needs : (stop : Stop) (stops : StopsAt old new left_mid left stop)
+      → AreNeededToEnd was.events (was.taken ++ stops.taken)
+  needs stop stops = needed_end old was.events was.taken stops.taken was.says was.needed stops.needed
+
+  bytes : (stop : Stop) (stops : StopsAt old new left_mid left stop)
+      → before.left ≡ prepended (was.taken ++ stops.taken) left
+  bytes stop stops = taken_on before.left left_mid left was.taken stops.taken was.bytes stops.bytes
+
+  says : (stop : Stop) (stops : StopsAt old new left_mid left stop) → SaysStop (way stop stops) stop left
+  says stop stops = stop_says old (way stop stops) was.taken stops.taken left stop refl was.says (rw same stops.says)
+
+  fits : length (flat_file first_tale version was.events) ≤ limit
+  fits = file_fits first_tale version before (streams left_mid held_mid heard steps) rig old size was
+
+  box_cost : steps ≤ before.steps + was.tale.box_cost
+  box_cost = spent_within before.steps steps was.tale.cost was.tale.box_cost was.cost was.small
+
+  whole_ends : StopsAt old new left_mid left End → version ≤ 3
+      → held ≡ appended held_mid (head_due version was.tale.played ++ spelled_end)
+      → EndsFlat start before (streams left held heard steps) rig Done
+  whole_ends stops low wrote =
+      let due = head_due version was.tale.played ++ spelled_end in
+      let says_end = says End stops in
+      record {
+        way = way End stops;
+        bytes = bytes End stops;
+        follows = was.follows;
+        says = record {
+          says = says_end;
+          needed = needs End stops;
+          plays = λ rest. ap (played_from start) (says_end rest)
+              ∙ replayed_to start was.tale version was.events was.flat was.follows rest;
+          held = wrote_on before.held held_mid held (begun version was.tale.played was.flat) due was.held wrote
+              ∙ ap (appended before.held) (begun_end version was.tale.played was.flat was.follows.fresh)
+              ∙ ap (λ flat. appended before.held (written (flat_version version) flat))
+              (sym (all_flat first_tale was.tale was.events was.flat was.follows));
+          is_flat = is_flat start was.tale version was.events was.flat was.follows fits low;
+        };
+        fits = fits;
+        stands = was.stands;
+        heard = was.heard;
+        cost = was.cost;
+        box_cost = box_cost;
+      }
+
+  lacks_ends : (number : ℕ) (stops : StopsAt old new left_mid left End) → number ≡ next_number was.tale.played
+      → AppendsPart held_mid held (head_due version was.tale.played ++ spelled_end)
+      → EndsFlat start before (streams left held heard steps) rig (WriteFailed number)
+  lacks_ends number stops at part =
+      let Q : Option (List ℕ)
+      → Type 0 = λ mid. AppendsPart mid held (head_due version was.tale.played ++ spelled_end) in
+      record {
+        way = way End stops;
+        bytes = bytes End stops;
+        follows = was.follows;
+        says = inr (record {
+          number_is = at;
+          needed = needs End stops;
+          says = says End stops;
+          held = subst Q was.held
+              part;
+        });
+        fits = fits;
+        stands = was.stands;
+        heard = was.heard;
+        cost = was.cost;
+        box_cost = box_cost;
+      }
+
+  stopped_ends : (number : ℕ) (stop : Stop) (stops : StopsAt old new left_mid left stop)
+      → number ≡ next_number was.tale.played
+      → IsNotEnd stop → held ≡ held_mid
+      → EndsFlat start before (streams left held heard steps) rig (Stopped number stop)
+  stopped_ends number stop stops at other unwritten = record {
+    way = way stop stops;
+    bytes = bytes stop stops;
+    follows = was.follows;
+    says = (
+      record { number_is = at; says = says stop stops; needed = needs stop stops; held = unwritten ∙ was.held },
+      other,
+    );
+    fits = fits;
+    stands = was.stands;
+    heard = was.heard;
+    cost = was.cost;
+    box_cost = box_cost;
+  }
+
+  stop_ends : (stop : Stop) (ending : FlatEnding) → StopsAt old new left_mid left stop → version ≤ 3
+      → EndsAt version was.tale.played stop held_mid held ending
+      → EndsFlat start before (streams left held heard steps) rig ending
+  stop_ends stop Done stops low ends =
+      let P : Stop → Type 0 = λ stop. StopsAt old new left_mid left stop in whole_ends (subst P ends.0 stops) low ends.1
+  stop_ends stop (WriteFailed number) stops low ends =
+      let P : Stop → Type 0 = λ stop. StopsAt old new left_mid left stop in lacks_ends number (subst P ends.0 stops)
+      ends.1 ends.2
+  stop_ends stop (Stopped number told) stops low ends =
+      let P : Stop → Type 0 = λ stop. StopsAt old new left_mid left stop in
+      let Q : Stop → Type 0 = λ stop. IsNotEnd stop in
+      stopped_ends number told (subst P (sym ends.1) stops) ends.0 (subst Q (sym ends.1) ends.2) ends.3
+  stop_ends stop (Faulted number fault) stops low ends = absurd ends
+  stop_ends stop (TooLong number) stops low ends = absurd ends
+
+  -- the same, by the number of events that the rig has counted
+  pub stop_ends_at : (played : ℕ) (stop : Stop) (ending : FlatEnding) → StopsAt old new left_mid left stop
+      → version ≤ 3 → played ≡ rig.played
+      → EndsAt version played stop held_mid held ending
+      → EndsFlat start before (streams left held heard steps) rig ending
+  stop_ends_at played stop ending stops low counted ends =
+      let at : played ≡ was.tale.played = counted ∙ sym was.stands.played in
+      stop_ends stop ending stops low (rw at at ends)

@@ -1,0 +1,6 @@
+use Rattle.std.proofs.Common.{append-nil}
+use Rattle.gpu_capture.specs.Written.{spelled}
+use Rattle.capture_flat.proofs.spell.spell_one.Goals as goal
+
+pub returns : goal.returns
+returns g c = rw (append-nil (spelled c.args.event)) c.write_event.ensures

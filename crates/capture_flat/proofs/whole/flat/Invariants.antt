@@ -1,0 +1,28 @@
+use Rattle.std.proofs.Common.{◌≡◌, ◌≤◌, ◌^◌, None, OnOk, IfErr, map}
+use Rattle.dev_io.specs.Device.{Rose}
+use Rattle.gpu_capture.specs.Reader.{IsReadFault}
+use Rattle.event_play.specs.Replay.{from_state}
+use Rattle.event_play.specs.RigState.{Stands}
+use Rattle.event_play.specs.Step.{Machine}
+use Rattle.event_play.specs.Streams.{streams}
+use Rattle.event_play.proofs.Awaiting.{events_left}
+use Rattle.capture_flat.proofs.Awaiting.{Awaits}
+use Rattle.capture_flat.proofs.whole.flat.Given as goal
+
+abbrev pub invariant-events : goal.invariant-events
+invariant-events g l = record {
+  awaits : (s : Machine) → Stands l.fn.rig s → Awaits (from_state s 0) l.version
+      (streams (g.S.Source.left l.fn.source) (g.K.Sink.held l.fn.out) (map g.T.Listener.heard l.fn.taps.items)
+      l.fn.steps)
+      (streams (g.S.Source.left l.source) (g.K.Sink.held l.out) (map g.T.Listener.heard l.taps.items) l.steps)
+      l.rig l.reader.progress l.size l.next;
+  few : l.size ≤ 2 ^ 30;
+  running : OnOk l.next (l.reader.stop ≡ None);
+  read_cause : IfErr l.next (λ stop. IsReadFault stop → Rose (g.S.Source.faults l.fn.source)
+      (g.S.Source.faults l.source));
+  read_faults : g.S.Source.faults l.fn.source ≤ g.S.Source.faults l.source;
+  write_faults : g.K.Sink.faults l.fn.out ≤ g.K.Sink.faults l.out;
+}
+
+abbrev pub decreases-events : goal.decreases-events
+decreases-events g l = events_left l.reader.progress l.next

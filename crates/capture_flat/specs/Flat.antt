@@ -1,0 +1,56 @@
+-- Events without main memory and DMA, made of events along their replay (our own rule).
+use Rattle.std.specs.Prelude.{ℕ, List, [], ◌∷◌, ◌++◌, map, replicate, Result, Ok, Err}
+use Rattle.gpu_capture.specs.declared.event.Event.{Event}
+use Rattle.gpu_capture.specs.declared.event.Event.TheVariants as event
+use Rattle.event_play.specs.Replay.{Tale, after_event}
+use Rattle.event_play.specs.Step.{Machine, words_of}
+use Rattle.event_play.specs.Work.{work_of}
+use Rattle.event_play.specs.declared.fault.EventFault.{EventFault}
+use Rattle.event_play.specs.declared.work.Work.{Work}
+use Rattle.event_play.specs.declared.work.Work.TheVariants as work
+
+-- What a work does at the ports, by main memory before it: each word that goes to GP0, each word that goes to GP1, each
+-- read and each status word that is shown, and a read that is not shown for each word that goes to main memory.
+abbrev pub flat_work : List ℕ → Work → List Event
+flat_work ram work.Nothing = []
+flat_work ram (work.Put address word) = []
+flat_work ram (work.Feed asked next) = map event.Gp0 (words_of ram asked)
+flat_work ram (work.Take block next) = replicate block.n event.Skip
+flat_work ram (work.Control word) = event.Gp1 word ∷ []
+flat_work ram work.Read = event.Read ∷ []
+flat_work ram work.Skip = event.Skip ∷ []
+flat_work ram work.Stat = event.Stat ∷ []
+flat_work ram (work.Clear madr n) = []
+flat_work ram (work.Begin next) = []
+
+abbrev pub flat_asked : List ℕ → Result Work EventFault → List Event
+flat_asked ram (Ok asked) = flat_work ram asked
+flat_asked ram (Err fault) = []
+
+-- an event that comes to a machine
+unfoldable pub Flat : Machine → Event → List Event
+Flat s event = flat_asked s.ram (work_of s.ram s.running event)
+
+abbrev pub then_flat : Result Tale EventFault → (Tale → List Event) → List Event
+then_flat (Ok next) on = on next
+then_flat (Err fault) on = []
+
+-- events, along their replay up to the first fault
+abbrev pub FlatAll : Tale → List Event → List Event
+FlatAll t [] = []
+FlatAll t (event ∷ events) = Flat t.state event ++ then_flat (after_event t event) (λ next. FlatAll next events)
+
+-- ---- the ports
+
+-- an event that writes to a port or reads from one, without main memory and DMA
+abbrev pub IsAtPorts : Event → Type 0
+IsAtPorts (event.Gp0 word) = Unit {0}
+IsAtPorts (event.Gp1 word) = Unit {0}
+IsAtPorts event.Read = Unit {0}
+IsAtPorts event.Skip = Unit {0}
+IsAtPorts event.Stat = Unit {0}
+IsAtPorts other = ⊥
+
+abbrev pub AreAtPorts : List Event → Type 0
+AreAtPorts [] = Unit {0}
+AreAtPorts (event ∷ events) = IsAtPorts event × AreAtPorts events

@@ -1,0 +1,5 @@
+pub mod Flat
+pub mod Laws
+pub mod OneEvent
+pub mod Out
+pub mod Passing

@@ -1,0 +1,191 @@
+-- A flat capture that is written as the events come (our own rule).
+use Rattle.std.specs.Prelude.{◌≡◌, ◌≤◌, ◌<◌, ◌⊎◌, ℕ, List, [], ◌∷◌, ◌++◌, ◌+◌, Option, Err, length}
+use Rattle.dev_io.specs.Device.{prepended, appended, AppendsPart, IsAtEnd}
+use Rattle.gpu_capture.specs.Capture.{Captured, capture, then_events, limit}
+use Rattle.gpu_capture.specs.Written.{spelled_end, AllowsAll}
+use Rattle.gpu_capture.specs.declared.event.Event.{Event}
+use Rattle.gpu_capture.specs.declared.event.Stop.{Stop}
+use Rattle.gpu_capture.specs.declared.event.Stop.TheVariants.{End, Truncated, ReadFault}
+use Rattle.event_play.specs.Ends.{IsNotEnd}
+use Rattle.event_play.specs.Playing.{whole}
+use Rattle.event_play.specs.Replay.{Tale, Replay, Play, next_number, raised}
+use Rattle.event_play.specs.RigState.{RigState, StandsFor}
+use Rattle.event_play.specs.Step.{Step}
+use Rattle.event_play.specs.Streams.{Streams}
+use Rattle.event_play.specs.Told.{told_notes}
+use Rattle.event_play.specs.declared.ending.Ending.TheVariants.{Done as PlayedWhole}
+use Rattle.event_play.specs.declared.fault.EventFault.{EventFault}
+use Rattle.capture_flat.specs.Flat.{FlatAll, AreAtPorts}
+use Rattle.capture_flat.specs.Laws.{AreAlike}
+use Rattle.capture_flat.specs.Out.{begun, due_at, head_due, flat_version, flat_file}
+use Rattle.capture_flat.specs.declared.ending.FlatEnding.{FlatEnding}
+use Rattle.capture_flat.specs.declared.ending.FlatEnding.TheVariants.{Done, Stopped, Faulted, TooLong, WriteFailed}
+
+-- how far a capture was read and played: its version, the bytes taken, the events that were played, the flat events
+-- made of them, and the tale that they lead to
+pub record Way : Type 0 where
+  pub version : ℕ
+  pub taken : List ℕ
+  pub events : List Event
+  pub flat : List Event
+  pub tale : Tale
+
+-- Events lead from a tale to a tale, and these are their flat events, whatever events follow. Where none was played
+-- there are none.
+pub record Follows (first : Tale) (events : List Event) (tale : Tale) (flat : List Event) : Type 0 where
+  pub replays : (more : List Event) (stop : Stop) (rest : List ℕ)
+      → Replay first (events ++ more) stop rest ≡ Replay tale more stop rest
+  pub flats : (more : List Event) → FlatAll first (events ++ more) ≡ flat ++ FlatAll tale more
+  pub fresh : tale.played ≡ 0 → flat ≡ []
+  pub allowed : AllowsAll 2 flat
+
+-- ---- the bytes taken
+
+-- these bytes are cut short: they say the first of these events, and no more
+pub record IsCutShort (events : List Event) (part : List ℕ) (missing : List Event) : Type 0 where
+  pub version : ℕ
+  pub byte : ℕ
+  pub fewer : List Event
+  pub are : events ≡ fewer ++ missing
+  pub is : capture part ≡ record { version = version; events = fewer; ending = Truncated byte; rest = [] }
+
+-- none of these bytes is one too many for the last of these events: a proper part of them is cut short before it
+abbrev pub AreNeeded : List Event → List ℕ → Type 0
+AreNeeded events taken = (part more : List ℕ) → taken ≡ part ++ more → (more ≡ [] → ⊥)
+    → (event : Event) × (missing : List Event) × IsCutShort events part (event ∷ missing)
+
+-- none of them is one too many to see how the capture ends behind these events: a proper part of them is cut short
+abbrev pub AreNeededToEnd : List Event → List ℕ → Type 0
+AreNeededToEnd events taken = (part more : List ℕ) → taken ≡ part ++ more → (more ≡ [] → ⊥)
+    → (missing : List Event) × IsCutShort events part missing
+
+-- the bytes taken say these events first, in a capture of the version of the way
+abbrev pub SaysFirst : Way → List Event → Type 0
+SaysFirst way events = (rest : List ℕ)
+    → (more : Captured) × (capture (way.taken ++ rest) ≡ then_events events more) × (more.version ≡ way.version)
+
+-- what a capture of the bytes taken says where the reader stopped behind the events of the way
+abbrev pub SaysStop : Way → Stop → (left : Option (List ℕ)) → Type 0
+SaysStop way (ReadFault byte) left =
+    capture way.taken ≡ record { version = way.version; events = way.events; ending = Truncated byte; rest = [] }
+SaysStop way (Truncated byte) left =
+    (capture way.taken ≡ record { version = way.version; events = way.events; ending = Truncated byte; rest = [] })
+    × IsAtEnd left
+SaysStop way stop left =
+    (rest : List ℕ) → capture (way.taken ++ rest)
+    ≡ record { version = way.version; events = way.events; ending = stop; rest = rest }
+
+-- ---- the endings
+
+-- The bytes written are a capture of flat events alone. Playing it, whatever follows, is whole, and shows the same
+-- words and leads to the same status word and the same video memory.
+pub record IsFlatCapture (first t : Tale) (version : ℕ) (flat : List Event) (bytes : List ℕ) : Type 0 where
+  pub ports : AreAtPorts flat
+  pub reads : (after : List ℕ)
+      → capture (bytes ++ after) ≡ record { version = version; events = flat; ending = End; rest = after }
+  pub whole : (after : List ℕ) → (Play first (bytes ++ after)).ending ≡ PlayedWhole
+  pub alike : (after : List ℕ) → AreAlike (Play first (bytes ++ after)).tale t
+
+-- all was read, played and written
+pub record IsWhole (first : Tale) (way : Way) (before now : Streams) : Type 0 where
+  pub says : SaysStop way End now.left
+  pub needed : AreNeededToEnd way.events way.taken
+  pub plays : (rest : List ℕ) → Play first (way.taken ++ rest) ≡ whole way.tale rest
+  pub held : now.held ≡ appended before.held (flat_file (raised first way.version) way.version way.events)
+  pub is_flat : IsFlatCapture first way.tale (flat_version way.version) (FlatAll (raised first way.version) way.events)
+      (flat_file (raised first way.version) way.version way.events)
+
+-- the reader stopped otherwise; all that was due stands
+pub record IsStopped (way : Way) (number : ℕ) (stop : Stop) (before now : Streams) : Type 0 where
+  pub number_is : number ≡ next_number way.tale.played
+  pub says : SaysStop way stop now.left
+  pub needed : AreNeededToEnd way.events way.taken
+  pub held : now.held ≡ appended before.held (begun way.version way.tale.played way.flat)
+
+-- the next event has a fault; all that was due stands
+pub record HasFault (way : Way) (number : ℕ) (fault : EventFault) (before now : Streams) : Type 0 where
+  pub event : Event
+  pub number_is : number ≡ next_number way.tale.played
+  pub needed : AreNeeded (way.events ++ event ∷ []) way.taken
+  pub says : SaysFirst way (way.events ++ event ∷ [])
+  pub fault_is : Step way.tale.state number event ≡ Err fault
+  pub held : now.held ≡ appended before.held (begun way.version way.tale.played way.flat)
+
+-- the last event of the way, and what was there before it
+pub record IsLast (first : Tale) (way : Way) (number : ℕ) : Type 0 where
+  pub before : List Event
+  pub event : Event
+  pub tale : Tale
+  pub flat : List Event
+  pub are : way.events ≡ before ++ event ∷ []
+  pub follows : Follows (raised first way.version) before tale flat
+  pub number_is : number ≡ next_number tale.played
+  pub needed : AreNeeded way.events way.taken
+  pub says : SaysFirst way way.events
+
+-- With the records of the last event the file would be too long, and without them it would not. None of them was
+-- written; all that was due before stands.
+pub record IsLong (first : Tale) (way : Way) (number : ℕ) (before now : Streams) : Type 0 where
+  pub last : IsLast first way number
+  pub held : now.held ≡ appended before.held (begun way.version last.tale.played last.flat)
+  pub fits : length (flat_file (raised first way.version) way.version last.before) ≤ limit
+  pub long : limit < length (flat_file (raised first way.version) way.version way.events)
+
+-- a proper part of the records of the last event was written behind all that was due before
+pub record LacksLast (first : Tale) (way : Way) (number : ℕ) (before now : Streams) : Type 0 where
+  pub last : IsLast first way number
+  pub held : AppendsPart (appended before.held (begun way.version last.tale.played last.flat)) now.held
+      (due_at way.version last.tale last.event)
+  pub fits : length (flat_file (raised first way.version) way.version way.events) ≤ limit
+
+-- the same of the End record
+pub record LacksEnd (way : Way) (number : ℕ) (before now : Streams) : Type 0 where
+  pub number_is : number ≡ next_number way.tale.played
+  pub needed : AreNeededToEnd way.events way.taken
+  pub says : SaysStop way End now.left
+  pub held : AppendsPart (appended before.held (begun way.version way.tale.played way.flat)) now.held
+      (head_due way.version way.tale.played ++ spelled_end)
+
+abbrev pub SaysEnding : (first : Tale) (way : Way) (before now : Streams) → FlatEnding → Type 0
+SaysEnding first way before now Done = IsWhole first way before now
+SaysEnding first way before now (Stopped number stop) = IsStopped way number stop before now × IsNotEnd stop
+SaysEnding first way before now (Faulted number fault) = HasFault way number fault before now
+SaysEnding first way before now (TooLong number) = IsLong first way number before now
+SaysEnding first way before now (WriteFailed number) =
+    LacksLast first way number before now ⊎ LacksEnd way number before now
+
+-- wherever the ending is not that it is too long, the whole file of the events played is not
+abbrev pub Fits : (first : Tale) (way : Way) → FlatEnding → Type 0
+Fits first way (TooLong number) = Unit {0}
+Fits first way ending = length (flat_file (raised first way.version) way.version way.events) ≤ limit
+
+-- How a flat capture ends. The events of the way are all that come before the ending, and the last one too where its
+-- records were refused or not written whole. The rig and the taps are as they are after these events, and the store
+-- steps are theirs by both counts.
+pub record EndsFlat (first : Tale) (before now : Streams) (rig : RigState) (ending : FlatEnding) : Type 0 where
+  pub way : Way
+  pub bytes : before.left ≡ prepended way.taken now.left
+  pub follows : Follows (raised first way.version) way.events way.tale way.flat
+  pub says : SaysEnding first way before now ending
+  pub fits : Fits first way ending
+  pub stands : StandsFor rig way.tale
+  pub heard : now.heard ≡ told_notes way.tale.notes before.heard
+  pub cost : now.steps ≤ before.steps + way.tale.cost
+  pub box_cost : now.steps ≤ before.steps + way.tale.box_cost
+
+-- ---- causes
+
+-- it ended by a fault of the source
+abbrev pub MayReadFault : FlatEnding → Type 0
+MayReadFault (Stopped number (ReadFault byte)) = Unit {0}
+MayReadFault ending = ⊥
+
+-- it ended by a fault of the sink
+abbrev pub MayWriteFault : FlatEnding → Type 0
+MayWriteFault (WriteFailed number) = Unit {0}
+MayWriteFault ending = ⊥
+
+-- it never stops with End
+abbrev pub IsEnding : FlatEnding → Type 0
+IsEnding (Stopped number End) = ⊥
+IsEnding ending = Unit {0}

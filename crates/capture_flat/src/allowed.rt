@@ -1,0 +1,44 @@
+// The flat events of a work can be written: they hold words, and are known from version 2 on.
+ghost use Rattle.std.specs.Prelude.{map};
+ghost use Rattle.gpu_capture.specs.Written.{AllowsAll};
+ghost use Rattle.gpu_capture.specs.declared.event.Event.TheVariants.{Gp0};
+ghost use Rattle.event_play.specs.Step.{words_of};
+ghost use Rattle.capture_flat.specs.Flat.{flat_work};
+
+use event_play::{Words, Work};
+use ot_clear_dma::Ram;
+
+/// The flat events of a work are allowed from version 2 on. It does nothing.
+pub(crate) fn allowed(ram: &Ram, work: Work)
+    ensures { AllowsAll 2 (flat_work ram.now work) }
+{
+    match work {
+        Work::Feed { words, .. } => words_allowed(ram, words),
+        Work::Take { .. } => {}
+        Work::Control { word } => {
+            let _ = word;
+        }
+        Work::Read => {}
+        Work::Skip => {}
+        Work::Stat => {}
+        Work::Nothing => {}
+        Work::Put { .. } => {}
+        Work::Clear { .. } => {}
+        Work::Begin { .. } => {}
+    }
+}
+
+// The words of main memory and one that the processor writes can be written.
+fn words_allowed(ram: &Ram, words: Words)
+    ensures { AllowsAll 2 (map Gp0 (words_of ram.now words)) }
+{
+    ram.words_fit();
+    match words {
+        Words::One { word } => {
+            let _ = word;
+        }
+        Words::Block { .. } => {}
+        Words::Node { .. } => {}
+        Words::List { .. } => {}
+    }
+}

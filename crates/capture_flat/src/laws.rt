@@ -1,0 +1,8 @@
+//! Laws of flat captures, each of them the contract of a function that does nothing.
+ghost use Rattle.capture_flat.specs.Laws.{FlatReplaysAlike};
+
+/// Events without a fault and the flat events made of them show the same words, and lead to the same status word and
+/// the same video memory, from every machine of either height. The flat events have no fault either.
+pub fn flat_replays_alike()
+    ensures { FlatReplaysAlike }
+{}

@@ -1,0 +1,74 @@
+// A whole capture is read, played and written.
+ghost use Rattle.std.specs.Prelude.{◌≡◌, ◌≤◌, map};
+ghost use Rattle.dev_io.specs.Device.{Rose};
+ghost use Rattle.event_play.specs.Replay.{Tale, from_state, raised};
+ghost use Rattle.event_play.specs.RigState.{Stands, StandsFor};
+ghost use Rattle.event_play.specs.Step.{Machine};
+ghost use Rattle.event_play.specs.Streams.{streams};
+ghost use Rattle.capture_flat.specs.Passing.{EndsFlat, MayReadFault, MayWriteFault, IsEnding};
+
+use crate::ending::FlatEnding;
+use crate::file::FlatFile;
+use crate::pass::{finish, pass_event};
+use dev_io::{Sink, Source};
+use event_play::Rig;
+use gpu_capture::EventReader;
+use gpu_taps::Listener;
+use std::sync::ledger::Ledger;
+use vram_store::Steps;
+
+/// The version whose captures are played in the tall profile.
+const TALL_VERSION: u8 = 3;
+
+/// Plays a capture on a new rig, and writes the capture of its flat events: of version 3 where the capture's is 3, else
+/// of version 2. An event is played first, and then its records are judged and written. It takes no memory.
+///
+/// After every ending all that was due before it stands. The head is due at the first event, or with the End record
+/// where there is none. After Done the file is whole: read as a capture it uses the ports alone, shows the same words,
+/// and leads to the same status word and the same video memory. The rig is the state after all events that were played.
+pub fn flat<S: Source, K: Sink, T: Listener, L: Ledger>(
+    rig: &mut Rig,
+    source: &mut S,
+    out: &mut K,
+    taps: &mut Vec<T>,
+    steps: &mut Steps<L>,
+) -> FlatEnding
+    requires { rig.old.played ≡ 0 }
+    // For every state for which the rig stood, this is how the flat capture made from it ends.
+    ensures ends { (s : Machine) → Stands rig.old s → EndsFlat (from_state s 0)
+        (streams (S.left source.old) (K.held out.old) (map T.heard taps.old.items) steps.old)
+        (streams (S.left source.new) (K.held out.new) (map T.heard taps.new.items) steps.new) rig.new result }
+    ensures known { IsEnding result }
+    ensures read_cause { MayReadFault result → Rose (S.faults source.old) (S.faults source.new) }
+    ensures write_cause { MayWriteFault result → Rose (K.faults out.old) (K.faults out.new) }
+    ensures read_faults { S.faults source.old ≤ S.faults source.new }
+    ensures write_faults { K.faults out.old ≤ K.faults out.new }
+{
+    let mut reader = EventReader::new();
+    let mut next = reader.next(source);
+    let version = reader.version();
+    raise(rig, version);
+    let mut size = 0;
+    'events: loop {
+        match next {
+            Ok(event) => {
+                let file = FlatFile { version, size };
+                match pass_event(rig, &event, file, out, taps, steps) {
+                    Ok(now) => size = now,
+                    Err(ending) => return ending,
+                }
+                next = reader.next(source);
+            }
+            Err(stop) => return finish(stop, version, rig.played(), out),
+        }
+    }
+}
+
+// Takes on the profile in which captures of this version are played.
+fn raise(rig: &mut Rig, version: u8)
+    ensures { (t : Tale) → StandsFor rig.old t → StandsFor rig.new (raised t version) }
+{
+    if version == TALL_VERSION {
+        rig.set_tall();
+    }
+}
