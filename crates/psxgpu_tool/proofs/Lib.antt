@@ -1,1 +1,9 @@
+pub mod Commands
+pub mod First
+pub mod Generating
+pub mod Heights
+pub mod Lines
+pub mod Running
+pub mod Sums
 pub mod Told
+pub mod Words

@@ -1,19 +1,125 @@
 -- What the end of playing says, where the bytes of the source are told.
-use Rattle.std.proofs.Common.{◌≡◌, inl, inr, ℕ, ◌++◌, List, [], Option, Some, None, refl, ap, sym, ◌∙◌, append-nil, arith}
+use Rattle.std.proofs.Common.{◌≡◌, ◌≤◌, ◌+◌, ◌⊎◌, inl, inr, ℕ, ◌++◌, Bool, true, false, List, [], Option, Some, None}
+use Rattle.std.proofs.Common.{IfSome, refl, ap, sym, subst, ◌∙◌, append-nil, arith}
 use Rattle.dev_io.specs.Device.{prepended, appended, IsAtEnd}
 use Rattle.gpu_capture.specs.declared.event.Stop.{Stop}
 use Rattle.gpu_capture.specs.declared.event.Stop.TheVariants.{End, NotCapture, Truncated, BadRecord, TooLong, ReadFault}
 use Rattle.gpu_taps.specs.Tally.{Reading}
-use Rattle.event_play.specs.Out.{lines_of, finals, Out}
-use Rattle.event_play.specs.Playing.{AreAllNeeded, EndsPlay, MayReadFault, MayWriteFault}
-use Rattle.event_play.specs.Replay.{Tale, Played}
+use Rattle.event_play.specs.Causes.{MayReadFault, MayWriteFault}
+use Rattle.event_play.specs.Out.{lines_of, unless_lacking, ending_under, finals_at, Out, OutCost, OutBoxCost}
+use Rattle.event_play.specs.Playing.{AreAllNeeded, EndsPlay, LacksBytes, whole}
+use Rattle.event_play.specs.Replay.{Tale, Played, Play}
 use Rattle.event_play.specs.RigState.{RigState}
+use Rattle.event_play.specs.Told.{told_notes}
 use Rattle.event_play.specs.declared.ending.Ending.{Ending}
-use Rattle.event_play.specs.declared.ending.Ending.TheVariants.{Done, Stopped, Faulted, WriteFailed}
+use Rattle.event_play.specs.declared.ending.Ending.TheVariants.{Done, Stopped, Faulted, NoPicture, WriteFailed}
 use Rattle.event_play.specs.declared.ending.Mode.{Mode}
-use Rattle.event_play.specs.declared.fault.EventFault.{EventFault}
-use Rattle.psxgpu_tool.specs.Line.{LineGoes, ending_line}
-use Rattle.psxgpu_tool.specs.Run.{first, play_of, status_of, Decided, RefusedRun, StarvedRun, ReadFaultRun, CompleteRun, WithinCost}
+use Rattle.psxgpu_tool.specs.Line.{status_of, ending_line, ending_text}
+use Rattle.psxgpu_tool.specs.Outside.{Outside, Says}
+use Rattle.psxgpu_tool.specs.Run.{first, play_of, seen, WholeRun, RefusedRun, StarvedRun, CutRun}
+
+-- ---- endings
+
+abbrev pub IsNotDone : Ending → Type 0
+IsNotDone Done = ⊥
+IsNotDone ending = Unit {0}
+
+stays : (lacks : Bool) (number : ℕ) (ending : Ending) → IsNotDone ending → unless_lacking lacks number ending ≡ ending
+stays true number Done other = absurd other
+stays true number (Stopped n stop) other = refl
+stays true number (Faulted n fault) other = refl
+stays true number (NoPicture n) other = refl
+stays true number (WriteFailed n) other = refl
+stays false number ending other = refl
+
+-- a replay that is not whole ends so under every mode
+stays_under : (mode : Mode) (r : Played) (ending : Ending) → r.ending ≡ ending → IsNotDone ending
+    → ending_under mode r ≡ ending
+stays_under mode r ending is other = ap (unless_lacking _ _) is ∙ stays _ _ ending other
+
+-- nothing is due behind the events of a replay that is not whole
+no_finals : (mode : Mode) (heard : List Reading) (t : Tale) (ending : Ending) → IsNotDone ending
+    → finals_at ending mode (told_notes t.notes heard) t.state.gpu ≡ []
+no_finals mode heard t Done other = absurd other
+no_finals mode heard t (Stopped n stop) other = refl
+no_finals mode heard t (Faulted n fault) other = refl
+no_finals mode heard t (NoPicture n) other = refl
+no_finals mode heard t (WriteFailed n) other = refl
+
+-- all that is written of a replay, by its tale and its ending
+out_is : (mode : Mode) (heard : List Reading) (r : Played) (t : Tale) (ending : Ending) → r.tale ≡ t
+    → ending_under mode r ≡ ending
+    → Out mode heard r ≡ lines_of mode t ++ finals_at ending mode (told_notes t.notes heard) t.state.gpu
+out_is mode heard r t ending tale is =
+    ap (λ (e : Ending). lines_of mode r.tale ++ finals_at e mode (told_notes r.tale.notes heard) r.tale.state.gpu) is
+    ∙ ap (λ (t : Tale). lines_of mode t ++ finals_at ending mode (told_notes t.notes heard) t.state.gpu) tale
+
+lines_are : (mode : Mode) (heard : List Reading) (r : Played) (t : Tale) (ending : Ending) → r.tale ≡ t
+    → ending_under mode r ≡ ending
+    → IsNotDone ending → lines_of mode t ≡ Out mode heard r
+lines_are mode heard r t ending tale is other =
+    sym (out_is mode heard r t ending tale is ∙ ap (λ xs. lines_of mode t ++ xs) (no_finals mode heard t ending other)
+    ∙ append-nil (lines_of mode t))
+
+-- ---- statuses
+
+zero_done : (ending : Ending) → status_of ending ≡ 0 → ending ≡ Done
+zero_done Done zero = refl
+zero_done (NoPicture n) zero = absurd (omega (arith, zero))
+zero_done (Faulted n fault) zero = absurd (omega (arith, zero))
+zero_done (WriteFailed n) zero = absurd (omega (arith, zero))
+zero_done (Stopped n End) zero = absurd (omega (arith, zero))
+zero_done (Stopped n (NotCapture byte)) zero = absurd (omega (arith, zero))
+zero_done (Stopped n (Truncated byte)) zero = absurd (omega (arith, zero))
+zero_done (Stopped n (BadRecord byte word)) zero = absurd (omega (arith, zero))
+zero_done (Stopped n (TooLong byte)) zero = absurd (omega (arith, zero))
+zero_done (Stopped n (ReadFault byte)) zero = absurd (omega (arith, zero))
+
+pub three_starved : (ending : Ending) → status_of ending ≡ 3
+    → (n : ℕ) × ((byte : ℕ) × (ending ≡ Stopped n (ReadFault byte)))
+three_starved Done three = absurd (omega (arith, three))
+three_starved (NoPicture n) three = absurd (omega (arith, three))
+three_starved (Faulted n fault) three = absurd (omega (arith, three))
+three_starved (WriteFailed n) three = absurd (omega (arith, three))
+three_starved (Stopped n End) three = absurd (omega (arith, three))
+three_starved (Stopped n (NotCapture byte)) three = absurd (omega (arith, three))
+three_starved (Stopped n (Truncated byte)) three = absurd (omega (arith, three))
+three_starved (Stopped n (BadRecord byte word)) three = absurd (omega (arith, three))
+three_starved (Stopped n (TooLong byte)) three = absurd (omega (arith, three))
+three_starved (Stopped n (ReadFault byte)) three = (n, (byte, refl))
+
+pub four_cut : (ending : Ending) → status_of ending ≡ 4 → (n : ℕ) × (ending ≡ WriteFailed n)
+four_cut Done four = absurd (omega (arith, four))
+four_cut (NoPicture n) four = absurd (omega (arith, four))
+four_cut (Faulted n fault) four = absurd (omega (arith, four))
+four_cut (WriteFailed n) four = (n, refl)
+four_cut (Stopped n End) four = absurd (omega (arith, four))
+four_cut (Stopped n (NotCapture byte)) four = absurd (omega (arith, four))
+four_cut (Stopped n (Truncated byte)) four = absurd (omega (arith, four))
+four_cut (Stopped n (BadRecord byte word)) four = absurd (omega (arith, four))
+four_cut (Stopped n (TooLong byte)) four = absurd (omega (arith, four))
+four_cut (Stopped n (ReadFault byte)) four = absurd (omega (arith, four))
+
+read_three : (ending : Ending) → MayReadFault ending → status_of ending ≡ 3
+read_three Done may = absurd may
+read_three (NoPicture n) may = absurd may
+read_three (Faulted n fault) may = absurd may
+read_three (WriteFailed n) may = absurd may
+read_three (Stopped n End) may = absurd may
+read_three (Stopped n (NotCapture byte)) may = absurd may
+read_three (Stopped n (Truncated byte)) may = absurd may
+read_three (Stopped n (BadRecord byte word)) may = absurd may
+read_three (Stopped n (TooLong byte)) may = absurd may
+read_three (Stopped n (ReadFault byte)) may = refl
+
+write_four : (ending : Ending) → MayWriteFault ending → status_of ending ≡ 4
+write_four Done may = absurd may
+write_four (NoPicture n) may = absurd may
+write_four (Faulted n fault) may = absurd may
+write_four (WriteFailed n) may = refl
+write_four (Stopped n stop) may = absurd may
+
+-- ---- the bytes taken
 
 -- the bytes that were taken, and those that are left
 pub record IsCut (bytes taken : List ℕ) (left : Option (List ℕ)) : Type 0 where
@@ -33,171 +139,236 @@ none_left (Some left) rest e at_end = let same : left ≡ rest = cc in sym same 
 all_taken : (bytes taken rest : List ℕ) → bytes ≡ taken ++ rest → rest ≡ [] → bytes ≡ taken
 all_taken bytes taken rest all none = all ∙ ap (λ xs. taken ++ xs) none ∙ append-nil taken
 
--- what is due so far is all, where the ending isn't Done
-out_is : (mode : Mode) (r : Played) (t : Tale) (ending : Ending) → r.tale ≡ t → r.ending ≡ ending → finals mode t ending ≡ [] → lines_of mode t ≡ Out mode r
-out_is mode r t ending tale is none =
-    sym (append-nil (lines_of mode t)) ∙ ap (λ xs. lines_of mode t ++ xs) (sym none)
-    ∙ ap (λ e. lines_of mode t ++ finals mode t e) (sym is)
-    ∙ ap (λ (t : Tale). lines_of mode t ++ finals mode t r.ending) (sym tale)
+-- a fact of the bytes left, where they are told
+pub if_told : (left : Option (List ℕ)) (P : List ℕ → Type 0) → ((bytes : List ℕ) → left ≡ Some bytes → P bytes)
+    → IfSome left P
+if_told None P fact = tt
+if_told (Some bytes) P fact = fact bytes refl
 
-module _ (mode : Mode) (bytes : List ℕ) (left held_before held_now err_before err_now : Option (List ℕ)) (faults_before faults_now : ℕ) where
-  refused_by : (t : Tale) (ending : Ending) → (play_of bytes).tale ≡ t → (play_of bytes).ending ≡ ending → finals mode t ending ≡ []
-      → status_of ending ≡ 2 → held_now ≡ appended held_before (lines_of mode t) → Decided bytes left
-      → LineGoes err_before err_now faults_before faults_now (ending_line ending)
-      → RefusedRun mode (Some bytes) left held_before held_now err_before err_now faults_before faults_now
-  refused_by t ending tale is none two held decided line = (
-    ap status_of is ∙ two,
-    held ∙ ap (appended held_before) (out_is mode (play_of bytes) t ending tale is none),
-    decided,
-    rw is line,
-  )
+-- ---- playing from a new machine
+
+-- it ended as the capture does, and all that is to be written was
+pub record EndsCaptured (mode : Mode) (heard : List Reading) (bytes taken rest : List ℕ) (before now : Outside)
+    (t : Tale) (ending : Ending)
+    : Type 0 where
+  pub ends : ending_under mode (play_of bytes) ≡ ending
+  pub tale : (play_of bytes).tale ≡ t
+  pub held : now.out.held ≡ appended before.out.held (Out mode heard (play_of bytes))
+  pub decides : ((more : List ℕ) → ending_under mode (play_of (taken ++ more)) ≡ ending) ⊎ (rest ≡ [])
+
+module _ (mode : Mode) (heard heard_now : List Reading) (before now : Outside) (rig : RigState) (bytes : List ℕ)
+    (told : before.source.left ≡ Some bytes) where
+  abbrev Ends : Ending → Type 0
+  Ends ending = EndsPlay mode first (seen heard before) (seen heard_now now) rig ending
+
+  taken_of : (ending : Ending) (ends : Ends ending) → IsCut bytes ends.taken now.source.left
+  taken_of ending ends = cut bytes ends.taken now.source.left (sym told ∙ ends.bytes)
+
+  -- a replay with these parts
+  captured_by : (ending : Ending) (taken rest : List ℕ) (t : Tale) → (play_of bytes).tale ≡ t
+      → (play_of bytes).ending ≡ ending → IsNotDone ending
+      → now.out.held ≡ appended before.out.held (lines_of mode t)
+      → ((more : List ℕ) → ending_under mode (play_of (taken ++ more)) ≡ ending) ⊎ (rest ≡ [])
+      → EndsCaptured mode heard bytes taken rest before now t ending
+  captured_by ending taken rest t tale is other held decides =
+      let ends = stays_under mode (play_of bytes) ending is other in
+      record {
+        ends = ends;
+        tale = tale;
+        held = held ∙ ap (appended before.out.held) (lines_are mode heard (play_of bytes) t ending tale ends other);
+        decides = decides;
+      }
 
   -- a stop that the bytes taken decide
-  refused_stop : (t : Tale) (taken : List ℕ) (number : ℕ) (stop : Stop) → IsCut bytes taken left → AreAllNeeded first taken
-      → ((rest : List ℕ) → play_of (taken ++ rest) ≡ record { tale = t; ending = Stopped number stop; rest = rest })
-      → status_of (Stopped number stop) ≡ 2 → held_now ≡ appended held_before (lines_of mode t)
-      → LineGoes err_before err_now faults_before faults_now (ending_line (Stopped number stop))
-      → RefusedRun mode (Some bytes) left held_before held_now err_before err_now faults_before faults_now
-  refused_stop t taken number stop is_cut needed says two held line =
-      let is : play_of bytes ≡ record { tale = t; ending = Stopped number stop; rest = is_cut.rest } = ap play_of is_cut.all ∙ says is_cut.rest in
-      refused_by t (Stopped number stop) (ap (λ (r : Played). r.tale) is) (ap (λ (r : Played). r.ending) is) refl two held
-      (record {
-        taken = taken;
-        rest = is_cut.rest;
-        all = is_cut.all;
-        left_is = is_cut.left_is;
-        needed = needed;
-        decides = inl (λ more. ap (λ (r : Played). r.ending) (says more) ∙ sym (ap (λ (r : Played). r.ending) is));
-      })
-      line
+  stopped : (taken rest : List ℕ) (t : Tale) (ending : Ending) → bytes ≡ taken ++ rest
+      → ((rest : List ℕ) → play_of (taken ++ rest) ≡ record { tale = t; ending = ending; rest = rest })
+      → IsNotDone ending
+      → now.out.held ≡ appended before.out.held (lines_of mode t)
+      → EndsCaptured mode heard bytes taken rest before now t ending
+  stopped taken rest t ending all says other held =
+      let is : play_of bytes ≡ record { tale = t; ending = ending; rest = rest } = ap play_of all ∙ says rest in
+      captured_by ending taken rest t (ap (λ (r : Played). r.tale) is) (ap (λ (r : Played). r.ending) is) other held
+      (inl (λ more. stays_under mode (play_of (taken ++ more)) ending
+      (ap (λ (r : Played). r.ending) (says more)) other))
 
-  refused_short : (t : Tale) (taken : List ℕ) (number byte : ℕ) → IsCut bytes taken left → AreAllNeeded first taken
-      → play_of taken ≡ record { tale = t; ending = Stopped number (Truncated byte); rest = [] } → IsAtEnd left
-      → held_now ≡ appended held_before (lines_of mode t)
-      → LineGoes err_before err_now faults_before faults_now (ending_line (Stopped number (Truncated byte)))
-      → RefusedRun mode (Some bytes) left held_before held_now err_before err_now faults_before faults_now
-  refused_short t taken number byte is_cut needed says at_end held line =
-      let none = none_left left is_cut.rest is_cut.left_is at_end in
-      let is : play_of bytes ≡ record { tale = t; ending = Stopped number (Truncated byte); rest = [] } =
-      ap play_of (all_taken bytes taken is_cut.rest is_cut.all none) ∙ says
-      in
-      refused_by t (Stopped number (Truncated byte)) (ap (λ (r : Played). r.tale) is) (ap (λ (r : Played). r.ending) is) refl refl held
-      (record { taken = taken; rest = is_cut.rest; all = is_cut.all; left_is = is_cut.left_is; needed = needed; decides = inr none })
-      line
-
-  refused_fault : (t : Tale) (taken : List ℕ) (number : ℕ) (fault : EventFault) → IsCut bytes taken left → AreAllNeeded first taken
-      → ((rest : List ℕ) → ((play_of (taken ++ rest)).tale ≡ t) × ((play_of (taken ++ rest)).ending ≡ Faulted number fault))
-      → held_now ≡ appended held_before (lines_of mode t)
-      → LineGoes err_before err_now faults_before faults_now (ending_line (Faulted number fault))
-      → RefusedRun mode (Some bytes) left held_before held_now err_before err_now faults_before faults_now
-  refused_fault t taken number fault is_cut needed says held line =
+  captured : (ending : Ending) (ends : Ends ending) → (MayReadFault ending → ⊥) → (MayWriteFault ending → ⊥)
+      → EndsCaptured mode heard bytes ends.taken (taken_of ending ends).rest before now ends.tale ending
+  captured Done ends read write =
+      let is_cut = taken_of Done ends in
+      let is : play_of bytes ≡ whole ends.tale is_cut.rest = ap play_of is_cut.all ∙ ends.says.0 is_cut.rest in
+      let done : ending_under mode (play_of bytes) ≡ Done = ap (ending_under mode) is ∙ ends.says.1 in
+      let tale : (play_of bytes).tale ≡ ends.tale = ap (λ (r : Played). r.tale) is in
+      record {
+        ends = done;
+        tale = tale;
+        held = ends.says.2 ∙ ap (appended before.out.held)
+            (sym (out_is mode heard (play_of bytes) ends.tale Done tale done));
+        decides = inl (λ more. ap (ending_under mode) (ends.says.0 more) ∙ ends.says.1);
+      }
+  captured (NoPicture number) ends read write =
+      let is_cut = taken_of (NoPicture number) ends in
+      let is : play_of bytes ≡ whole ends.tale is_cut.rest = ap play_of is_cut.all ∙ ends.says.0 is_cut.rest in
+      let none : ending_under mode (play_of bytes) ≡ NoPicture number = ap (ending_under mode) is ∙ ends.says.1 in
+      let tale : (play_of bytes).tale ≡ ends.tale = ap (λ (r : Played). r.tale) is in
+      record {
+        ends = none;
+        tale = tale;
+        held = ends.says.2 ∙ ap (appended before.out.held)
+            (lines_are mode heard (play_of bytes) ends.tale (NoPicture number) tale none tt);
+        decides = inl (λ more. ap (ending_under mode) (ends.says.0 more) ∙ ends.says.1);
+      }
+  captured (WriteFailed number) ends read write = absurd (write tt)
+  captured (Faulted number fault) ends read write =
+      let is_cut = taken_of (Faulted number fault) ends in
       let same = ap play_of is_cut.all in
-      let tale = ap (λ (r : Played). r.tale) same ∙ (says is_cut.rest).0 in
-      let is = ap (λ (r : Played). r.ending) same ∙ (says is_cut.rest).1 in
-      refused_by t (Faulted number fault) tale is refl refl held
-      (record {
-        taken = taken;
+      captured_by (Faulted number fault) ends.taken is_cut.rest ends.tale
+      (ap (λ (r : Played). r.tale) same ∙ (ends.says.0 is_cut.rest).0)
+      (ap (λ (r : Played). r.ending) same ∙ (ends.says.0 is_cut.rest).1) tt ends.says.1
+      (inl (λ more. stays_under mode (play_of (ends.taken ++ more)) (Faulted number fault) (ends.says.0 more).1 tt))
+  captured (Stopped number (ReadFault byte)) ends read write = absurd (read tt)
+  captured (Stopped number (Truncated byte)) ends read write =
+      let is_cut = taken_of (Stopped number (Truncated byte)) ends in
+      let none = none_left now.source.left is_cut.rest is_cut.left_is ends.says.2 in
+      let is : play_of bytes ≡ record { tale = ends.tale; ending = Stopped number (Truncated byte); rest = [] } =
+      ap play_of (all_taken bytes ends.taken is_cut.rest is_cut.all none) ∙ ends.says.0
+      in
+      captured_by (Stopped number (Truncated byte)) ends.taken is_cut.rest ends.tale
+      (ap (λ (r : Played). r.tale) is) (ap (λ (r : Played). r.ending) is) tt ends.says.1 (inr none)
+  captured (Stopped number End) ends read write =
+      let is_cut = taken_of (Stopped number End) ends in
+      stopped ends.taken is_cut.rest ends.tale (Stopped number End) is_cut.all ends.says.0 tt ends.says.1
+  captured (Stopped number (NotCapture byte)) ends read write =
+      let is_cut = taken_of (Stopped number (NotCapture byte)) ends in
+      stopped ends.taken is_cut.rest ends.tale (Stopped number (NotCapture byte)) is_cut.all ends.says.0 tt ends.says.1
+  captured (Stopped number (BadRecord byte word)) ends read write =
+      let is_cut = taken_of (Stopped number (BadRecord byte word)) ends in
+      stopped ends.taken is_cut.rest ends.tale (Stopped number
+      (BadRecord byte word)) is_cut.all ends.says.0 tt ends.says.1
+  captured (Stopped number (TooLong byte)) ends read write =
+      let is_cut = taken_of (Stopped number (TooLong byte)) ends in
+      stopped ends.taken is_cut.rest ends.tale (Stopped number (TooLong byte)) is_cut.all ends.says.0 tt ends.says.1
+
+  -- the rig and the taps are as after the tale
+  last_of : (ending : Ending) (ends : Ends ending) → (MayWriteFault ending → ⊥) → ends.last ≡ ends.tale
+  last_of Done ends write = ends.is_last
+  last_of (NoPicture number) ends write = ends.is_last
+  last_of (Stopped number stop) ends write = ends.is_last
+  last_of (Faulted number fault) ends write = ends.is_last
+  last_of (WriteFailed number) ends write = absurd (write tt)
+
+  pub whole_run : (ending : Ending) → Ends ending → status_of ending ≡ 0 → WholeRun mode heard bytes before now
+  whole_run ending ends zero =
+      let done = subst Ends (zero_done ending zero) ends in
+      let is_cut = taken_of Done done in
+      let is : play_of bytes ≡ whole done.tale is_cut.rest = ap play_of is_cut.all ∙ done.says.0 is_cut.rest in
+      let captured = captured Done done (λ may. may) (λ may. may) in
+      record {
+        ending = captured.ends;
+        left = is_cut.left_is
+            ∙ ap (λ (r : Played). Some r.rest) (sym is);
+        held = captured.held;
+      }
+
+  pub refused_run : (ending : Ending) → Ends ending → status_of ending ≡ 2
+      → Says before.err now.err (ending_text ending heard_now)
+      → RefusedRun mode heard bytes before now
+  refused_run ending ends two says =
+      let write : MayWriteFault ending → ⊥ = λ may. let four = write_four ending may in omega (arith, two, four) in
+      let is_cut = taken_of ending ends in
+      let captured = captured ending ends (λ may. let three = read_three ending may in omega
+      (arith, two, three)) write in
+      let notes = ends.heard ∙ ap (λ (t : Tale). told_notes t.notes heard)
+      (last_of ending ends write ∙ sym captured.tale) in
+      let text : ending_text ending heard_now ≡ ending_text (ending_under mode (play_of bytes))
+      (told_notes (play_of bytes).tale.notes heard) =
+      ap (ending_text ending) notes
+      ∙ ap (λ (e : Ending). ending_text e (told_notes (play_of bytes).tale.notes heard)) (sym captured.ends)
+      in
+      record {
+        status = ap status_of captured.ends ∙ two;
+        held = captured.held;
+        decided = record {
+          taken = ends.taken;
+          rest = is_cut.rest;
+          all = is_cut.all;
+          left = is_cut.left_is;
+          needed = ends.needed;
+          decides = elim captured.decides [
+            | inl decides ↦ inl
+                (λ more. decides more ∙ sym captured.ends)
+            | inr none ↦ inr none
+          ];
+        };
+        says = subst (Says before.err now.err) text says;
+      }
+
+  starved_by : (number byte : ℕ) → Ends (Stopped number (ReadFault byte))
+      → Says before.err now.err (ending_line (Stopped number (ReadFault byte))) → StarvedRun mode heard bytes before now
+  starved_by number byte ends says =
+      let is_cut = taken_of (Stopped number (ReadFault byte)) ends in
+      let is = ends.says.0 in
+      let short : (play_of ends.taken).ending ≡ Stopped number (Truncated byte) = ap (λ (r : Played). r.ending) is in
+      record {
+        taken = ends.taken;
         rest = is_cut.rest;
         all = is_cut.all;
-        left_is = is_cut.left_is;
-        needed = needed;
-        decides = inl (λ more. (says more).1 ∙ sym is);
-      })
-      line
+        left = is_cut.left_is;
+        event = number;
+        byte = byte;
+        ending = short;
+        held = ends.says.1 ∙ ap (appended before.out.held)
+            (lines_are mode heard (play_of ends.taken) ends.tale (Stopped number (Truncated byte))
+            (ap (λ (r : Played). r.tale) is)
+            (stays_under mode (play_of ends.taken) (Stopped number (Truncated byte)) short tt) tt);
+        says = says;
+      }
 
--- ---- by the ending
+  pub starved_run : (ending : Ending) → Ends ending → status_of ending ≡ 3
+      → Says before.err now.err (ending_text ending heard_now)
+      → StarvedRun mode heard bytes before now
+  starved_run ending ends three says =
+      let is = three_starved ending three in
+      let text = subst (λ (e : Ending). Says before.err now.err (ending_text e heard_now)) is.1.1 says in
+      starved_by is.0 is.1.0 (subst Ends is.1.1 ends) (rw append-nil at text)
 
-pub refused_run : (mode : Mode) (left_before left held_before held_now err_before err_now : Option (List ℕ)) (faults_before faults_now : ℕ)
-    (rig : RigState) (heard_before heard_now : List Reading) (steps_before steps_now : ℕ) (ending : Ending)
-    → EndsPlay mode first left_before left held_before held_now rig heard_before heard_now steps_before steps_now ending
-    → status_of ending ≡ 2 → LineGoes err_before err_now faults_before faults_now (ending_line ending)
-    → RefusedRun mode left_before left held_before held_now err_before err_now faults_before faults_now
-refused_run mode None left hb hn eb en fb fn rig rb rn sb sn ending ends two line = tt
-refused_run mode (Some bytes) left hb hn eb en fb fn rig rb rn sb sn Done ends two line = absurd (omega (arith, two))
-refused_run mode (Some bytes) left hb hn eb en fb fn rig rb rn sb sn (WriteFailed number) ends two line = absurd (omega (arith, two))
-refused_run mode (Some bytes) left hb hn eb en fb fn rig rb rn sb sn (Stopped number (ReadFault byte)) ends two line = absurd (omega (arith, two))
-refused_run mode (Some bytes) left hb hn eb en fb fn rig rb rn sb sn (Faulted number fault) ends two line =
-    refused_fault mode bytes left hb hn eb en fb fn ends.tale ends.taken number fault (cut bytes ends.taken left ends.bytes) ends.needed ends.says.0 ends.says.1 line
-refused_run mode (Some bytes) left hb hn eb en fb fn rig rb rn sb sn (Stopped number (Truncated byte)) ends two line =
-    refused_short mode bytes left hb hn eb en fb fn ends.tale ends.taken number byte (cut bytes ends.taken left ends.bytes) ends.needed ends.says.0 ends.says.2 ends.says.1 line
-refused_run mode (Some bytes) left hb hn eb en fb fn rig rb rn sb sn (Stopped number End) ends two line =
-    refused_stop mode bytes left hb hn eb en fb fn ends.tale ends.taken number End (cut bytes ends.taken left ends.bytes) ends.needed ends.says.0 two ends.says.1 line
-refused_run mode (Some bytes) left hb hn eb en fb fn rig rb rn sb sn (Stopped number (NotCapture byte)) ends two line =
-    refused_stop mode bytes left hb hn eb en fb fn ends.tale ends.taken number (NotCapture byte) (cut bytes ends.taken left ends.bytes) ends.needed ends.says.0 two ends.says.1 line
-refused_run mode (Some bytes) left hb hn eb en fb fn rig rb rn sb sn (Stopped number (BadRecord byte word)) ends two line =
-    refused_stop mode bytes left hb hn eb en fb fn ends.tale ends.taken number (BadRecord byte word) (cut bytes ends.taken left ends.bytes) ends.needed ends.says.0 two ends.says.1 line
-refused_run mode (Some bytes) left hb hn eb en fb fn rig rb rn sb sn (Stopped number (TooLong byte)) ends two line =
-    refused_stop mode bytes left hb hn eb en fb fn ends.tale ends.taken number (TooLong byte) (cut bytes ends.taken left ends.bytes) ends.needed ends.says.0 two ends.says.1 line
+  cut_by : (number : ℕ) → Ends (WriteFailed number) → Says before.err now.err (ending_line (WriteFailed number))
+      → CutRun mode heard bytes before now
+  cut_by number ends says =
+      let is_cut = taken_of (WriteFailed number) ends in
+      let lacks = ends.says in
+      record {
+        taken = ends.taken;
+        rest = is_cut.rest;
+        all = is_cut.all;
+        left = is_cut.left_is;
+        event = number;
+        tale = ends.tale;
+        last = ends.last;
+        lacks = record {
+          number_is = lacks.number_is;
+          start = lacks.start;
+          place = lacks.place;
+          due = lacks.due;
+          held = lacks.held;
+          prefix = lacks.prefix;
+        };
+        says = says;
+      }
 
-starved_by : (mode : Mode) (bytes : List ℕ) (left held_before held_now err_before err_now : Option (List ℕ)) (faults_before faults_now : ℕ)
-    (t : Tale) (taken : List ℕ) (number byte : ℕ) → IsCut bytes taken left
-    → play_of taken ≡ record { tale = t; ending = Stopped number (Truncated byte); rest = [] } → held_now ≡ appended held_before (lines_of mode t)
-    → LineGoes err_before err_now faults_before faults_now (ending_line (Stopped number (ReadFault byte)))
-    → StarvedRun mode bytes left held_before held_now err_before err_now faults_before faults_now
-starved_by mode bytes left hb hn eb en fb fn t taken number byte is_cut says held line = record {
-  taken = taken;
-  rest = is_cut.rest;
-  all = is_cut.all;
-  left_is = is_cut.left_is;
-  event = number;
-  byte = byte;
-  ending = ap (λ (r : Played). r.ending) says;
-  held = held ∙ ap (appended hb) (out_is mode (play_of taken) t (Stopped number (Truncated byte)) (ap (λ (r : Played). r.tale) says) (ap (λ (r : Played). r.ending) says) refl);
-  line = line;
-}
+  pub cut_run : (ending : Ending) → Ends ending → status_of ending ≡ 4
+      → Says before.err now.err (ending_text ending heard_now)
+      → CutRun mode heard bytes before now
+  cut_run ending ends four says =
+      let is = four_cut ending four in
+      let text = subst (λ (e : Ending). Says before.err now.err (ending_text e heard_now)) is.1 says in
+      cut_by is.0 (subst Ends is.1 ends) (rw append-nil at text)
 
-pub starved_run : (mode : Mode) (left_before left held_before held_now err_before err_now : Option (List ℕ)) (faults_before faults_now : ℕ)
-    (rig : RigState) (heard_before heard_now : List Reading) (steps_before steps_now : ℕ) (ending : Ending)
-    → EndsPlay mode first left_before left held_before held_now rig heard_before heard_now steps_before steps_now ending
-    → status_of ending ≡ 3 → LineGoes err_before err_now faults_before faults_now (ending_line ending)
-    → ReadFaultRun mode left_before left held_before held_now err_before err_now faults_before faults_now
-starved_run mode None left hb hn eb en fb fn rig rb rn sb sn ending ends three line = tt
-starved_run mode (Some bytes) left hb hn eb en fb fn rig rb rn sb sn Done ends three line = absurd (omega (arith, three))
-starved_run mode (Some bytes) left hb hn eb en fb fn rig rb rn sb sn (WriteFailed number) ends three line = absurd (omega (arith, three))
-starved_run mode (Some bytes) left hb hn eb en fb fn rig rb rn sb sn (Faulted number fault) ends three line = absurd (omega (arith, three))
-starved_run mode (Some bytes) left hb hn eb en fb fn rig rb rn sb sn (Stopped number (ReadFault byte)) ends three line =
-    starved_by mode bytes left hb hn eb en fb fn ends.tale ends.taken number byte (cut bytes ends.taken left ends.bytes) ends.says.0 ends.says.1 line
-starved_run mode (Some bytes) left hb hn eb en fb fn rig rb rn sb sn (Stopped number End) ends three line = absurd (omega (arith, three))
-starved_run mode (Some bytes) left hb hn eb en fb fn rig rb rn sb sn (Stopped number (Truncated byte)) ends three line = absurd (omega (arith, three))
-starved_run mode (Some bytes) left hb hn eb en fb fn rig rb rn sb sn (Stopped number (NotCapture byte)) ends three line = absurd (omega (arith, three))
-starved_run mode (Some bytes) left hb hn eb en fb fn rig rb rn sb sn (Stopped number (BadRecord byte word)) ends three line = absurd (omega (arith, three))
-starved_run mode (Some bytes) left hb hn eb en fb fn rig rb rn sb sn (Stopped number (TooLong byte)) ends three line = absurd (omega (arith, three))
+  pub complete_run : (ending : Ending) → Ends ending → (MayReadFault ending → ⊥) → (MayWriteFault ending → ⊥)
+      → status_of ending ≡ status_of (ending_under mode (play_of bytes))
+  complete_run ending ends read write = sym (ap status_of (captured ending ends read write).ends)
 
--- the ending is the capture's, whose status is this
-ends_as : (bytes taken : List ℕ) (left : Option (List ℕ)) (t : Tale) (ending : Ending) → IsCut bytes taken left
-    → ((rest : List ℕ) → play_of (taken ++ rest) ≡ record { tale = t; ending = ending; rest = rest }) → status_of ending ≡ status_of (play_of bytes).ending
-ends_as bytes taken left t ending is_cut says = sym (ap (λ (r : Played). status_of r.ending) (ap play_of is_cut.all ∙ says is_cut.rest))
+  pub cost_run : (ending : Ending) → Ends ending → now.steps ≤ before.steps + OutCost mode (play_of bytes)
+  cost_run ending ends = let is_cut = taken_of ending ends in rw is_cut.all (ends.cost is_cut.rest)
 
-pub complete_run : (mode : Mode) (left_before left held_before held_now : Option (List ℕ))
-    (rig : RigState) (heard_before heard_now : List Reading) (steps_before steps_now : ℕ) (ending : Ending)
-    → EndsPlay mode first left_before left held_before held_now rig heard_before heard_now steps_before steps_now ending
-    → (MayReadFault ending → ⊥) → (MayWriteFault ending → ⊥) → CompleteRun left_before (status_of ending)
-complete_run mode None left hb hn rig rb rn sb sn ending ends read write = tt
-complete_run mode (Some bytes) left hb hn rig rb rn sb sn Done ends read write =
-    ends_as bytes ends.taken left ends.tale Done (cut bytes ends.taken left ends.bytes) ends.says.0
-complete_run mode (Some bytes) left hb hn rig rb rn sb sn (WriteFailed number) ends read write = absurd (write tt)
-complete_run mode (Some bytes) left hb hn rig rb rn sb sn (Faulted number fault) ends read write =
-    let is_cut = cut bytes ends.taken left ends.bytes in
-    sym (ap status_of (ap (λ (r : Played). r.ending) (ap play_of is_cut.all) ∙ (ends.says.0 is_cut.rest).1))
-complete_run mode (Some bytes) left hb hn rig rb rn sb sn (Stopped number (ReadFault byte)) ends read write = absurd (read tt)
-complete_run mode (Some bytes) left hb hn rig rb rn sb sn (Stopped number (Truncated byte)) ends read write =
-    let is_cut = cut bytes ends.taken left ends.bytes in
-    let none = none_left left is_cut.rest is_cut.left_is ends.says.2 in
-    sym (ap (λ (r : Played). status_of r.ending) (ap play_of (all_taken bytes ends.taken is_cut.rest is_cut.all none) ∙ ends.says.0))
-complete_run mode (Some bytes) left hb hn rig rb rn sb sn (Stopped number End) ends read write =
-    ends_as bytes ends.taken left ends.tale (Stopped number End) (cut bytes ends.taken left ends.bytes) ends.says.0
-complete_run mode (Some bytes) left hb hn rig rb rn sb sn (Stopped number (NotCapture byte)) ends read write =
-    ends_as bytes ends.taken left ends.tale (Stopped number (NotCapture byte)) (cut bytes ends.taken left ends.bytes) ends.says.0
-complete_run mode (Some bytes) left hb hn rig rb rn sb sn (Stopped number (BadRecord byte word)) ends read write =
-    ends_as bytes ends.taken left ends.tale (Stopped number (BadRecord byte word)) (cut bytes ends.taken left ends.bytes) ends.says.0
-complete_run mode (Some bytes) left hb hn rig rb rn sb sn (Stopped number (TooLong byte)) ends read write =
-    ends_as bytes ends.taken left ends.tale (Stopped number (TooLong byte)) (cut bytes ends.taken left ends.bytes) ends.says.0
-
-pub cost_of_run : (mode : Mode) (left_before left held_before held_now : Option (List ℕ))
-    (rig : RigState) (heard_before heard_now : List Reading) (steps_before steps_now : ℕ) (ending : Ending)
-    → EndsPlay mode first left_before left held_before held_now rig heard_before heard_now steps_before steps_now ending
-    → WithinCost mode left_before steps_before steps_now
-cost_of_run mode None left hb hn rig rb rn sb sn ending ends = tt
-cost_of_run mode (Some bytes) left hb hn rig rb rn sb sn ending ends =
-    let is_cut = cut bytes ends.taken left ends.bytes in
-    rw is_cut.all (ends.cost is_cut.rest)
+  pub box_cost_run : (ending : Ending) → Ends ending → now.steps ≤ before.steps + OutBoxCost mode (play_of bytes)
+  box_cost_run ending ends = let is_cut = taken_of ending ends in rw is_cut.all (ends.box_cost is_cut.rest)

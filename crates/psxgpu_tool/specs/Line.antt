@@ -1,13 +1,14 @@
 -- The lines on the error stream (our own rule).
-use Rattle.std.specs.Prelude.{ℕ, List, [], ◌++◌, ◌⊎◌, ◌≡◌, codes, decimal, Option}
-use Rattle.dev_io.specs.Device.{appended, AppendsPart, Rose}
-use Rattle.packet_text.specs.Number.{word_text}
+use Rattle.std.specs.Prelude.{ℕ, List, [], ◌++◌, codes, decimal, flat_map, ◌==◌, if◌then◌else◌}
+use Rattle.gpu_taps.specs.Tally.{Reading}
+use Rattle.packet_text.specs.Number.{word_text, address_text}
+use Rattle.packet_text.specs.Tap.{last_lines}
 use Rattle.gpu_capture.specs.declared.event.Stop.{Stop}
 use Rattle.gpu_capture.specs.declared.event.Stop.TheVariants.{End, NotCapture, Truncated, BadRecord, TooLong, ReadFault}
 use Rattle.event_play.specs.declared.ending.Ending.{Ending}
-use Rattle.event_play.specs.declared.ending.Ending.TheVariants.{Done, Stopped, Faulted, WriteFailed}
+use Rattle.event_play.specs.declared.ending.Ending.TheVariants.{Done, Stopped, Faulted, NoPicture, WriteFailed}
 use Rattle.event_play.specs.declared.fault.EventFault.{EventFault}
-use Rattle.event_play.specs.declared.fault.EventFault.TheVariants.{NotBuilt}
+use Rattle.event_play.specs.declared.fault.EventFault.TheVariants.{BadDma, DmaTooLong, ListLoop}
 
 abbrev pub usage_line : List ℕ
 usage_line = codes "psxgpu: usage\n"
@@ -15,24 +16,31 @@ usage_line = codes "psxgpu: usage\n"
 abbrev pub memory_line : List ℕ
 memory_line = codes "psxgpu: memory\n"
 
+-- psxgpu: NAME at event N
+unfoldable pub event_line : (name : List ℕ) → (event : ℕ) → List ℕ
+event_line name event = codes "psxgpu: " ++ (name ++ (codes " at event " ++ (decimal event ++ codes "\n")))
+
 -- psxgpu: NAME at event N byte B
 unfoldable pub place_line : (name : List ℕ) → (event byte : ℕ) → List ℕ
 place_line name event byte =
-    codes "psxgpu: " ++ (name ++ (codes " at event " ++ (decimal event ++ (codes " byte " ++ (decimal byte ++ codes "\n")))))
+    codes "psxgpu: " ++ (name ++ (codes " at event "
+    ++ (decimal event ++ (codes " byte " ++ (decimal byte ++ codes "\n")))))
 
 -- psxgpu: bad-record at event N byte B word W
 unfoldable pub bad_record_line : (event byte word : ℕ) → List ℕ
 bad_record_line event byte word =
-    codes "psxgpu: bad-record at event " ++ (decimal event ++ (codes " byte " ++ (decimal byte ++ (codes " word " ++ (word_text word ++ codes "\n")))))
+    codes "psxgpu: bad-record at event " ++ (decimal event
+    ++ (codes " byte " ++ (decimal byte ++ (codes " word " ++ (word_text word ++ codes "\n")))))
 
--- psxgpu: not-built at event N word W
-unfoldable pub not_built_line : (event word : ℕ) → List ℕ
-not_built_line event word =
-    codes "psxgpu: not-built at event " ++ (decimal event ++ (codes " word " ++ (word_text word ++ codes "\n")))
+-- psxgpu: dma-too-long at event N words W
+unfoldable pub too_long_line : (event words : ℕ) → List ℕ
+too_long_line event words =
+    codes "psxgpu: dma-too-long at event " ++ (decimal event ++ (codes " words " ++ (decimal words ++ codes "\n")))
 
--- psxgpu: write-fault at event N
-unfoldable pub write_fault_line : (event : ℕ) → List ℕ
-write_fault_line event = codes "psxgpu: write-fault at event " ++ (decimal event ++ codes "\n")
+-- psxgpu: list-loop at event N node A
+unfoldable pub list_loop_line : (event node : ℕ) → List ℕ
+list_loop_line event node =
+    codes "psxgpu: list-loop at event " ++ (decimal event ++ (codes " node " ++ (address_text node ++ codes "\n")))
 
 abbrev pub stop_line : (event : ℕ) → Stop → List ℕ
 stop_line event End = []
@@ -43,16 +51,35 @@ stop_line event (TooLong byte) = place_line (codes "too-long") event byte
 stop_line event (ReadFault byte) = place_line (codes "read-fault") event byte
 
 abbrev pub fault_line : (event : ℕ) → EventFault → List ℕ
-fault_line event (NotBuilt word) = not_built_line event word
+fault_line event BadDma = event_line (codes "bad-dma") event
+fault_line event (DmaTooLong words) = too_long_line event words
+fault_line event (ListLoop node) = list_loop_line event node
 
 -- the line of an ending; one that is no fault has none
 abbrev pub ending_line : Ending → List ℕ
 ending_line Done = []
 ending_line (Stopped event stop) = stop_line event stop
 ending_line (Faulted event fault) = fault_line event fault
-ending_line (WriteFailed event) = write_fault_line event
+ending_line (NoPicture event) = event_line (codes "no-picture") event
+ending_line (WriteFailed event) = event_line (codes "write-fault") event
 
--- a line was written, or a part of it where the sink failed
-abbrev pub LineGoes : Option (List ℕ) → Option (List ℕ) → ℕ → ℕ → List ℕ → Type 0
-LineGoes before now faults_before faults_now line =
-    (now ≡ appended before line) ⊎ (AppendsPart before now line × Rose faults_before faults_now)
+-- ---- the exit status
+
+-- the exit status of an ending
+abbrev pub status_of : Ending → ℕ
+status_of Done = 0
+status_of (Stopped event (ReadFault byte)) = 3
+status_of (Stopped event stop) = 2
+status_of (Faulted event fault) = 2
+status_of (NoPicture event) = 2
+status_of (WriteFailed event) = 4
+
+-- ---- the last items
+
+-- behind the line of a refusal, the last items of each tap that has kept them, in the order of the list
+abbrev pub last_items : (status : ℕ) → List Reading → List ℕ
+last_items status heard = if status == 2 then flat_map last_lines heard else []
+
+-- all that is told of an ending, by what the taps say then
+abbrev pub ending_text : Ending → List Reading → List ℕ
+ending_text ending heard = ending_line ending ++ last_items (status_of ending) heard

@@ -1,51 +1,105 @@
 // The lines on the error stream.
-ghost use Rattle.std.specs.Prelude.{◌≡◌, ◌≤◌, codes, OnOk, OnErr};
-ghost use Rattle.dev_io.specs.Device.{Rose, AppendsPart, appended};
-ghost use Rattle.psxgpu_tool.specs.Line.{place_line, bad_record_line, not_built_line, write_fault_line, stop_line, ending_line, LineGoes};
+ghost use Rattle.std.specs.Prelude.{◌≡◌, codes, flat_map, map};
+ghost use Rattle.dev_io.specs.Device.{Writes};
+ghost use Rattle.packet_text.specs.Tap.{last_lines};
+ghost use Rattle.psxgpu_tool.specs.Line.{event_line, place_line, bad_record_line, too_long_line, list_loop_line};
+ghost use Rattle.psxgpu_tool.specs.Line.{fault_line, stop_line, ending_line, ending_text, last_items, status_of};
+ghost use Rattle.psxgpu_tool.specs.Outside.{sink_side, Says};
 
 use dev_io::{Failed, Sink, write_all, write_pieces};
 use event_play::{Ending, EventFault};
 use gpu_capture::Stop;
+use gpu_taps::Listener;
 use itoa::Buffer;
-use packet_text::{decimal_text, hex_digits};
+use packet_text::{address_digits, decimal_text, hex_digits, write_last};
 
-/// Writes the line of an ending that is a fault. What becomes of it changes nothing else.
-pub fn report<K: Sink>(err: &mut K, ending: Ending)
-    ensures line { LineGoes (K.held err.old) (K.held err.new) (K.faults err.old) (K.faults err.new) (ending_line ending) }
-    ensures faults { K.faults err.old ≤ K.faults err.new }
+/// Says why a run ended so, if that is a fault, and answers its exit status. What becomes of the text changes nothing
+/// else.
+pub fn end<E: Sink, T: Listener>(err: &mut E, ending: Ending, taps: &Vec<T>) -> u8
+    ensures status { result ≡ status_of ending }
+    ensures says { Says (sink_side (E.held err.old) (E.faults err.old)) (sink_side (E.held err.new) (E.faults err.new))
+        (ending_text ending (map T.heard taps.now.items)) }
+    ensures silent { result ≡ 0 → sink_side (E.held err.new) (E.faults err.new)
+        ≡ sink_side (E.held err.old) (E.faults err.old) }
 {
-    let _ = write_ending(err, ending);
+    let status = status_of(ending);
+    if status != 0 {
+        let _ = write_end(err, ending, taps);
+    }
+    status
 }
 
 /// Writes a line. What becomes of it changes nothing else.
-pub fn tell<K: Sink>(err: &mut K, line: &[u8])
-    ensures line { LineGoes (K.held err.old) (K.held err.new) (K.faults err.old) (K.faults err.new) line.now }
-    ensures faults { K.faults err.old ≤ K.faults err.new }
+pub fn tell<E: Sink>(err: &mut E, line: &[u8])
+    ensures { Says (sink_side (E.held err.old) (E.faults err.old))
+        (sink_side (E.held err.new) (E.faults err.new)) line.now }
 {
     let _ = write_all(err, line);
 }
 
-fn write_ending<K: Sink>(err: &mut K, ending: Ending) -> Result<(), Failed>
-    ensures ok { OnOk result (K.held err.new ≡ appended (K.held err.old) (ending_line ending)) }
-    ensures failed { OnErr result (AppendsPart (K.held err.old) (K.held err.new) (ending_line ending)) }
-    ensures cause { OnErr result (Rose (K.faults err.old) (K.faults err.new)) }
-    ensures faults { K.faults err.old ≤ K.faults err.new }
+/// The exit status of an ending.
+fn status_of(ending: Ending) -> u8
+    ensures { result ≡ status_of ending }
+{
+    match ending {
+        Ending::Done => 0,
+        Ending::Stopped { stop, .. } => match stop {
+            Stop::ReadFault { .. } => 3,
+            _ => 2,
+        },
+        Ending::Faulted { .. } => 2,
+        Ending::NoPicture { .. } => 2,
+        Ending::WriteFailed { .. } => 4,
+    }
+}
+
+/// Writes the line of an ending, and behind that of a refusal the last items.
+fn write_end<E: Sink, T: Listener>(err: &mut E, ending: Ending, taps: &Vec<T>) -> Result<(), Failed>
+    ensures { Writes E.held E.faults err.old err.new (ending_text ending (map T.heard taps.now.items)) result }
+{
+    write_ending(err, ending)?;
+    write_last_items(err, status_of(ending), taps)
+}
+
+/// Writes the last items of every tap that keeps them, where the status is that of a refusal.
+fn write_last_items<E: Sink, T: Listener>(
+    err: &mut E,
+    status: u8,
+    taps: &Vec<T>,
+) -> Result<(), Failed>
+    ensures { Writes E.held E.faults err.old err.new (last_items status (map T.heard taps.now.items)) result }
+{
+    if status == 2 {
+        write_lasts(err, taps)
+    } else {
+        Ok(())
+    }
+}
+
+fn write_lasts<E: Sink, T: Listener>(err: &mut E, taps: &Vec<T>) -> Result<(), Failed>
+    ensures { Writes E.held E.faults err.old err.new (flat_map last_lines (map T.heard taps.now.items)) result }
+{
+    for i in 0..taps.len() {
+        write_last(err, &taps[i])?;
+    }
+    Ok(())
+}
+
+/// Writes the line of an ending.
+fn write_ending<E: Sink>(err: &mut E, ending: Ending) -> Result<(), Failed>
+    ensures { Writes E.held E.faults err.old err.new (ending_line ending) result }
 {
     match ending {
         Ending::Done => Ok(()),
         Ending::Stopped { event, stop } => write_stop(err, event, stop),
-        Ending::Faulted { event, fault } => match fault {
-            EventFault::NotBuilt { word } => write_not_built(err, event, word),
-        },
-        Ending::WriteFailed { event } => write_write_fault(err, event),
+        Ending::Faulted { event, fault } => write_fault(err, event, fault),
+        Ending::NoPicture { event } => write_event(err, b"no-picture", event),
+        Ending::WriteFailed { event } => write_event(err, b"write-fault", event),
     }
 }
 
-fn write_stop<K: Sink>(err: &mut K, event: u64, stop: Stop) -> Result<(), Failed>
-    ensures ok { OnOk result (K.held err.new ≡ appended (K.held err.old) (stop_line event stop)) }
-    ensures failed { OnErr result (AppendsPart (K.held err.old) (K.held err.new) (stop_line event stop)) }
-    ensures cause { OnErr result (Rose (K.faults err.old) (K.faults err.new)) }
-    ensures faults { K.faults err.old ≤ K.faults err.new }
+fn write_stop<E: Sink>(err: &mut E, event: u64, stop: Stop) -> Result<(), Failed>
+    ensures { Writes E.held E.faults err.old err.new (stop_line event stop) result }
 {
     match stop {
         Stop::NotCapture { byte } => write_place(err, b"not-capture", event, byte),
@@ -57,12 +111,30 @@ fn write_stop<K: Sink>(err: &mut K, event: u64, stop: Stop) -> Result<(), Failed
     }
 }
 
+fn write_fault<E: Sink>(err: &mut E, event: u64, fault: EventFault) -> Result<(), Failed>
+    ensures { Writes E.held E.faults err.old err.new (fault_line event fault) result }
+{
+    match fault {
+        EventFault::BadDma => write_event(err, b"bad-dma", event),
+        EventFault::DmaTooLong { words } => write_too_long(err, event, words),
+        EventFault::ListLoop { node } => write_list_loop(err, event, node),
+    }
+}
+
+// ---- the lines
+
+#[tactic(auto, unfolding(crate::specs::Line::event_line))]
+fn write_event<E: Sink>(err: &mut E, name: &[u8], event: u64) -> Result<(), Failed>
+    ensures { Writes E.held E.faults err.old err.new (event_line name.now event) result }
+{
+    let mut number = Buffer::new();
+    let n = decimal_text(&mut number, event);
+    write_pieces(err, &[b"psxgpu: ", name, b" at event ", n, b"\n"])
+}
+
 #[tactic(auto, unfolding(crate::specs::Line::place_line))]
-fn write_place<K: Sink>(err: &mut K, name: &[u8], event: u64, byte: u32) -> Result<(), Failed>
-    ensures ok { OnOk result (K.held err.new ≡ appended (K.held err.old) (place_line name.now event byte)) }
-    ensures failed { OnErr result (AppendsPart (K.held err.old) (K.held err.new) (place_line name.now event byte)) }
-    ensures cause { OnErr result (Rose (K.faults err.old) (K.faults err.new)) }
-    ensures faults { K.faults err.old ≤ K.faults err.new }
+fn write_place<E: Sink>(err: &mut E, name: &[u8], event: u64, byte: u32) -> Result<(), Failed>
+    ensures { Writes E.held E.faults err.old err.new (place_line name.now event byte) result }
 {
     let mut number = Buffer::new();
     let n = decimal_text(&mut number, event);
@@ -75,11 +147,8 @@ fn write_place<K: Sink>(err: &mut K, name: &[u8], event: u64, byte: u32) -> Resu
 }
 
 #[tactic(auto, unfolding(crate::specs::Line::bad_record_line))]
-fn write_bad_record<K: Sink>(err: &mut K, event: u64, byte: u32, word: u32) -> Result<(), Failed>
-    ensures ok { OnOk result (K.held err.new ≡ appended (K.held err.old) (bad_record_line event byte word)) }
-    ensures failed { OnErr result (AppendsPart (K.held err.old) (K.held err.new) (bad_record_line event byte word)) }
-    ensures cause { OnErr result (Rose (K.faults err.old) (K.faults err.new)) }
-    ensures faults { K.faults err.old ≤ K.faults err.new }
+fn write_bad_record<E: Sink>(err: &mut E, event: u64, byte: u32, word: u32) -> Result<(), Failed>
+    ensures { Writes E.held E.faults err.old err.new (bad_record_line event byte word) result }
 {
     let mut number = Buffer::new();
     let n = decimal_text(&mut number, event);
@@ -100,30 +169,29 @@ fn write_bad_record<K: Sink>(err: &mut K, event: u64, byte: u32, word: u32) -> R
     )
 }
 
-#[tactic(auto, unfolding(crate::specs::Line::not_built_line))]
-fn write_not_built<K: Sink>(err: &mut K, event: u64, word: u32) -> Result<(), Failed>
-    ensures ok { OnOk result (K.held err.new ≡ appended (K.held err.old) (not_built_line event word)) }
-    ensures failed { OnErr result (AppendsPart (K.held err.old) (K.held err.new) (not_built_line event word)) }
-    ensures cause { OnErr result (Rose (K.faults err.old) (K.faults err.new)) }
-    ensures faults { K.faults err.old ≤ K.faults err.new }
+#[tactic(auto, unfolding(crate::specs::Line::too_long_line))]
+fn write_too_long<E: Sink>(err: &mut E, event: u64, words: u64) -> Result<(), Failed>
+    ensures { Writes E.held E.faults err.old err.new (too_long_line event words) result }
 {
     let mut number = Buffer::new();
     let n = decimal_text(&mut number, event);
-    let digits = hex_digits(word);
+    let mut count = Buffer::new();
+    let w = decimal_text(&mut count, words);
     write_pieces(
         err,
-        &[b"psxgpu: not-built at event ", n, b" word ", &digits, b"\n"],
+        &[b"psxgpu: dma-too-long at event ", n, b" words ", w, b"\n"],
     )
 }
 
-#[tactic(auto, unfolding(crate::specs::Line::write_fault_line))]
-fn write_write_fault<K: Sink>(err: &mut K, event: u64) -> Result<(), Failed>
-    ensures ok { OnOk result (K.held err.new ≡ appended (K.held err.old) (write_fault_line event)) }
-    ensures failed { OnErr result (AppendsPart (K.held err.old) (K.held err.new) (write_fault_line event)) }
-    ensures cause { OnErr result (Rose (K.faults err.old) (K.faults err.new)) }
-    ensures faults { K.faults err.old ≤ K.faults err.new }
+#[tactic(auto, unfolding(crate::specs::Line::list_loop_line))]
+fn write_list_loop<E: Sink>(err: &mut E, event: u64, node: u32) -> Result<(), Failed>
+    ensures { Writes E.held E.faults err.old err.new (list_loop_line event node) result }
 {
     let mut number = Buffer::new();
     let n = decimal_text(&mut number, event);
-    write_pieces(err, &[b"psxgpu: write-fault at event ", n, b"\n"])
+    let digits = address_digits(node);
+    write_pieces(
+        err,
+        &[b"psxgpu: list-loop at event ", n, b" node ", &digits, b"\n"],
+    )
 }

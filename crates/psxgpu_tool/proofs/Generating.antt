@@ -1,0 +1,59 @@
+-- The words of a demo, one after another.
+use Rattle.std.proofs.Common.{◌≡◌, ◌≤◌, ◌<◌, ◌+◌, ◌%◌, ◌++◌, ℕ, zero, suc, List, [], ◌∷◌, map, flat_map, length}
+use Rattle.std.proofs.Common.{slice_index, arith, refl, ap, sym, ◌∙◌}
+use Rattle.std.specs.List.{range_with_len}
+use Rattle.std.proofs.lemmas.Grind.{flat_map-append}
+use Rattle.std.proofs.lemmas.List.{append-nil}
+use Rattle.std.proofs.lemmas.List.FromFn.{map-range_with_len_more, length-map-range_with_len}
+use Rattle.psxgpu_tool.specs.Demo.{opcodes, lengths, opcode_of, length_of, drawn, after_draws, packet_word}
+use Rattle.psxgpu_tool.specs.Demo.{number_before}
+
+-- every packet of eight in turn has a length and an opcode
+turn_small : (i : ℕ) → i < 8 → (slice_index lengths i ≤ 12) × (slice_index opcodes i < 256)
+turn_small zero lt = (omega arith, omega arith)
+turn_small (suc zero) lt = (omega arith, omega arith)
+turn_small (suc (suc zero)) lt = (omega arith, omega arith)
+turn_small (suc (suc (suc zero))) lt = (omega arith, omega arith)
+turn_small (suc (suc (suc (suc zero)))) lt = (omega arith, omega arith)
+turn_small (suc (suc (suc (suc (suc zero))))) lt = (omega arith, omega arith)
+turn_small (suc (suc (suc (suc (suc (suc zero)))))) lt = (omega arith, omega arith)
+turn_small (suc (suc (suc (suc (suc (suc (suc zero))))))) lt = (omega arith, omega arith)
+turn_small (suc (suc (suc (suc (suc (suc (suc (suc i)))))))) lt = absurd (omega (arith, lt))
+
+pub length_small : (k : ℕ) → length_of k ≤ 12
+length_small k = (turn_small (k % 8) (omega arith)).0
+
+pub opcode_small : (k : ℕ) → opcode_of k < 256
+opcode_small k = (turn_small (k % 8) (omega arith)).1
+
+-- the words before one of a packet
+pub words_before : (k number j : ℕ) → length (map (packet_word k number) (range_with_len 0 j)) ≡ j
+words_before k number j = length-map-range_with_len (packet_word k number) 0 j
+
+pub words_on : (k number j word : ℕ) (words now : List ℕ) → now ≡ words ++ word ∷ []
+    → words ≡ map (packet_word k number) (range_with_len 0 j)
+    → word ≡ packet_word k number j → now ≡ map (packet_word k number) (range_with_len 0 (j + 1))
+words_on k number j word words now is before next =
+    let more = map-range_with_len_more (packet_word k number) 0 j j (omega arith) in
+    rw (is, before, next, more) refl
+
+pub draws_more : (n number : ℕ) → drawn (after_draws n number) ≡ after_draws (n + 1) number
+draws_more n number = let e : n + 1 ≡ suc n = omega arith in rw e refl
+
+-- the numbers below one more
+range_more : (a n j : ℕ) → a + n ≡ j → range_with_len a (n + 1) ≡ range_with_len a n ++ j ∷ []
+range_more a zero j is = let same : a ≡ j = omega (arith, is) in ap (λ x. x ∷ []) same
+range_more a (suc n) j is =
+    let e : suc n + 1 ≡ suc (n + 1) = omega arith in
+    rw e (ap (λ xs. a ∷ xs) (range_more (a + 1) n j (omega (arith, is))))
+
+pub lists_more : (f : ℕ → List ℕ) (k : ℕ)
+    → flat_map f (range_with_len 0 (k + 1)) ≡ flat_map f (range_with_len 0 k) ++ f k
+lists_more f k =
+    ap (flat_map f) (range_more 0 k k (omega arith)) ∙ flat_map-append f (range_with_len 0 k) (k ∷ [])
+    ∙ ap (λ xs. flat_map f (range_with_len 0 k) ++ xs) (append-nil (f k))
+
+-- where the generator stands behind a packet
+pub number_on : (n k number now : ℕ) → now ≡ after_draws (length_of k) number → number ≡ number_before n k
+    → now ≡ number_before n (k + 1)
+number_on n k number now is at = let e : k + 1 ≡ suc k = omega arith in rw (e, ← at) is

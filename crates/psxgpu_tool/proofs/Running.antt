@@ -1,0 +1,235 @@
+-- What a run does, by its words and by how it ended.
+use Rattle.std.proofs.Common.{◌≡◌, ◌≤◌, ◌+◌, ◌⊎◌, ◌++◌, inl, inr, ℕ, List, [], map, Option, Some, None, Vec, String}
+use Rattle.std.proofs.Common.{string_bytes, refl, ap, sym, subst, ◌∙◌, append-nil, arith}
+use Rattle.std.specs.declared.alloc.Global.{Global}
+use Rattle.dev_io.specs.Device.{appended}
+use Rattle.gpu_capture.specs.declared.event.Stop.{Stop}
+use Rattle.gpu_capture.specs.declared.event.Stop.TheVariants.{End, NotCapture, Truncated, BadRecord, TooLong, ReadFault}
+use Rattle.gpu_core.specs.Kept.{Kept, kept_of}
+use Rattle.gpu_core.specs.Machine.{State}
+use Rattle.gpu_taps.specs.Tally.{Reading}
+use Rattle.event_play.specs.Causes.{MayReadFault, MayWriteFault}
+use Rattle.event_play.specs.Playing.{EndsPlay}
+use Rattle.event_play.specs.Replay.{Tale, Played, next_number}
+use Rattle.event_play.specs.RigState.{RigState, first_rig}
+use Rattle.event_play.specs.Streams.{without_sink}
+use Rattle.event_play.specs.Told.{told_notes}
+use Rattle.event_play.specs.declared.ending.Ending.{Ending}
+use Rattle.event_play.specs.declared.ending.Ending.TheVariants.{Done, Stopped, Faulted, NoPicture, WriteFailed}
+use Rattle.event_play.specs.declared.ending.Mode.{Mode}
+use Rattle.event_play.specs.declared.fault.EventFault.{EventFault}
+use Rattle.event_play.proofs.BoxCosts.{costs_small}
+use Rattle.px_num.specs.Height.{short_height}
+use Rattle.psxgpu_tool.specs.Command.{Names, IsUsage}
+use Rattle.psxgpu_tool.specs.Demo.{Demo, demo_words}
+use Rattle.psxgpu_tool.specs.DemoOut.{demo_bytes, demo_tale, DemoOut, DemoCost, DemoBoxCost, cells_cost}
+use Rattle.psxgpu_tool.specs.Line.{status_of, ending_line, ending_text, usage_line}
+use Rattle.psxgpu_tool.specs.Outside.{Outside, Says, HasFailed, HasFailedToRead, EndsTelling}
+use Rattle.psxgpu_tool.specs.Run.{first, play_of, seen, Whole, Refused, Starved, Cut, EndsAsCaptured, WithinCost}
+use Rattle.psxgpu_tool.specs.Run.{WithinBoxCost, Unread, Tells, Declined, DemoRun, Runs}
+use Rattle.psxgpu_tool.specs.Words.{HavePlayed, whole_replay}
+use Rattle.psxgpu_tool.specs.declared.command.Command.TheVariants.{Plays, Demo as DemoOf, Help, Version}
+use Rattle.psxgpu_tool.proofs.First.{first_stands, first_short}
+use Rattle.psxgpu_tool.proofs.Commands.{same_mode, plays_no_help, plays_no_version, plays_no_demo, same_demo}
+use Rattle.psxgpu_tool.proofs.Commands.{demo_no_help, demo_no_version}
+use Rattle.psxgpu_tool.proofs.Told.{three_starved, four_cut, if_told, whole_run, refused_run, starved_run, cut_run}
+use Rattle.psxgpu_tool.proofs.Told.{complete_run, cost_run, box_cost_run}
+
+-- the statuses of endings
+pub record IsKnown (status : ℕ) : Type 0 where
+  pub used : status ≡ 1 → ⊥
+  pub remembered : status ≡ 5 → ⊥
+  pub few : status ≤ 5
+
+known : (status : ℕ) → (status ≡ 0) ⊎ ((status ≡ 2) ⊎ ((status ≡ 3) ⊎ (status ≡ 4))) → IsKnown status
+known status (inl is) = record {
+  used = λ e. omega (arith, e, is);
+  remembered = λ e. omega (arith, e, is);
+  few = omega
+      (arith, is);
+}
+known status (inr (inl is)) = record {
+  used = λ e. omega (arith, e, is);
+  remembered = λ e. omega
+      (arith, e, is);
+  few = omega (arith, is);
+}
+known status (inr (inr (inl is))) = record {
+  used = λ e. omega (arith, e, is);
+  remembered = λ e. omega
+      (arith, e, is);
+  few = omega (arith, is);
+}
+known status (inr (inr (inr is))) = record {
+  used = λ e. omega (arith, e, is);
+  remembered = λ e. omega
+      (arith, e, is);
+  few = omega (arith, is);
+}
+
+known_ending : (ending : Ending) → IsKnown (status_of ending)
+known_ending Done = known 0 (inl refl)
+known_ending (NoPicture n) = known 2 (inr (inl refl))
+known_ending (Faulted n fault) = known 2 (inr (inl refl))
+known_ending (WriteFailed n) = known 4 (inr (inr (inr refl)))
+known_ending (Stopped n End) = known 2 (inr (inl refl))
+known_ending (Stopped n (NotCapture byte)) = known 2 (inr (inl refl))
+known_ending (Stopped n (Truncated byte)) = known 2 (inr (inl refl))
+known_ending (Stopped n (BadRecord byte word)) = known 2 (inr (inl refl))
+known_ending (Stopped n (TooLong byte)) = known 2 (inr (inl refl))
+known_ending (Stopped n (ReadFault byte)) = known 3 (inr (inr (inl refl)))
+
+may_read : (ending : Ending) → status_of ending ≡ 3 → MayReadFault ending
+may_read ending three = let is = three_starved ending three in subst MayReadFault (sym is.1.1) tt
+
+may_write : (ending : Ending) → status_of ending ≡ 4 → MayWriteFault ending
+may_write ending four = let is = four_cut ending four in subst MayWriteFault (sym is.1) tt
+
+module _ (words : Vec (String Global) Global) (heard heard_now : List Reading) (before now : Outside) (ending : Ending)
+    (says : Says before.err now.err (ending_text ending heard_now))
+    (silent : status_of ending ≡ 0 → now.err ≡ before.err) where
+  -- a command that reads
+  pub plays_runs : (mode : Mode) (rig : RigState) → Names words (Plays mode)
+      → EndsPlay mode first (seen heard before) (seen heard_now now) rig ending
+      → (MayReadFault ending → HasFailedToRead before.source now.source)
+      → (MayWriteFault ending → HasFailed before.out now.out)
+      → Runs words heard before now (status_of ending)
+  plays_runs mode rig named ends read_cause write_cause =
+      let is = λ (m : Mode) (names : Names words (Plays m)). same_mode
+      (map string_bytes words.items) mode m named.0 names.0 in
+      record {
+        whole = λ m names zero. subst (λ (m : Mode). Whole m heard before now) (is m names)
+            (if_told before.source.left _
+            (λ bytes told. whole_run mode heard heard_now before now rig bytes told ending ends zero));
+        refused = λ m names two. subst (λ (m : Mode). Refused m heard before now) (is m names)
+            (if_told before.source.left _
+            (λ bytes told. refused_run mode heard heard_now before now rig bytes told ending ends two says));
+        starved = λ m names three. subst (λ (m : Mode). Starved m heard before now) (is m names) (
+          read_cause (may_read ending three),
+          if_told before.source.left _
+              (λ bytes told. starved_run mode heard heard_now before now rig bytes told ending ends three says),
+        );
+        cut = λ m names four. subst (λ (m : Mode). Cut m heard before now) (is m names) (
+          write_cause (may_write ending four),
+          if_told before.source.left _
+              (λ bytes told. cut_run mode heard heard_now before now rig bytes told ending ends four says),
+        );
+        complete = λ m names read write. inr (subst (λ (m : Mode). EndsAsCaptured m before (status_of ending))
+            (is m names)
+            (if_told before.source.left _
+            (λ bytes told. complete_run mode heard heard_now before now rig bytes told ending ends
+            (λ may. read (read_cause may)) (λ may. write (write_cause may)))));
+        cost = λ m names. subst (λ (m : Mode). WithinCost m before now) (is m names)
+            (if_told before.source.left _
+            (λ bytes told. cost_run mode heard heard_now before now rig bytes told ending ends));
+        box_cost = λ m names. subst (λ (m : Mode). WithinBoxCost m before now) (is m names)
+            (if_told before.source.left _
+            (λ bytes told. box_cost_run mode heard heard_now before now rig bytes told ending ends));
+        demo = λ n names. absurd (plays_no_demo _ mode n named.0 names.0);
+        help = λ names. absurd (plays_no_help _ mode named.0 names.0);
+        version = λ names. absurd (plays_no_version _ mode named.0 names.0);
+        usage = (λ one. absurd ((known_ending ending).used one), λ usage. absurd (usage (Plays mode) named));
+        misused = λ one. absurd ((known_ending ending).used one);
+        starving = λ five. absurd ((known_ending ending).remembered five);
+        silent = silent;
+        few = (known_ending ending).few;
+      }
+
+  -- what was to be told was, or a part of it
+  tells : (bytes : List ℕ) (event : ℕ) (e : Ending) → EndsTelling bytes event before.out now.out e
+      → Says before.err now.err (ending_text e heard_now)
+      → Tells bytes event before now (status_of e)
+  tells bytes event Done ends says = inl (refl, ends)
+  tells bytes event (WriteFailed at) ends says =
+      inr (
+        refl,
+        ends.1,
+        ends.2,
+        subst (λ (n : ℕ). Says before.err now.err (ending_line (WriteFailed n))) ends.0
+            (rw append-nil at says),
+      )
+  tells bytes event (NoPicture n) ends says = absurd ends
+  tells bytes event (Faulted n fault) ends says = absurd ends
+  tells bytes event (Stopped n stop) ends says = absurd ends
+
+  -- a demo
+  pub demo_runs : (n steps : ℕ) (rig : RigState) → Names words (DemoOf n)
+      → HavePlayed first (demo_words n) (without_sink heard before.steps) (without_sink heard_now steps) rig
+      → ((s : State) → kept_of s ≡ rig.gpu → EndsTelling (demo_bytes heard_now s)
+      (next_number rig.played) before.out now.out ending)
+      → (rig.gpu.parts.regs.height ≡ short_height → now.steps ≤ steps + cells_cost) → now.source ≡ before.source
+      → Runs words heard before now (status_of ending)
+  demo_runs n steps rig named played ends cost unread =
+      let replay = ap (whole_replay first) (sym (append-nil (Demo n))) ∙ played.comes [] in
+      let tale : demo_tale n ≡ played.tale = ap (λ (r : Played). r.tale) replay in
+      let told = played.heard ∙ ap (λ (t : Tale). told_notes t.notes heard) (sym tale) in
+      let stands : kept_of (demo_tale n).state.gpu ≡ rig.gpu = ap (λ (t : Tale). kept_of t.state.gpu) tale
+      ∙ played.stands.state.gpu in
+      let number : next_number rig.played ≡ next_number (demo_tale n).played =
+      ap next_number (sym played.stands.played ∙ ap (λ (t : Tale). t.played) (sym tale))
+      in
+      let bytes : demo_bytes heard_now (demo_tale n).state.gpu ≡ DemoOut n heard =
+      ap (λ (heard : List Reading). demo_bytes heard (demo_tale n).state.gpu) told
+      in
+      let telling = rw (bytes, number) at (tells _ _ ending (ends (demo_tale n).state.gpu stands) says) in
+      let height : rig.gpu.parts.regs.height ≡ short_height = ap (λ (k : Kept). k.parts.regs.height)
+      (sym played.stands.state.gpu) ∙ played.height ∙ first_short in
+      let spent = ap (λ (t : Tale). t.cost) tale in
+      let within : now.steps ≤ before.steps + DemoCost n = let c = cost height in omega
+      (arith, c, played.cost, spent) in
+      let boxed : (demo_tale n).cost ≤ (demo_tale n).box_cost = costs_small first (Demo n) End [] (omega arith) in
+      let within_boxes : now.steps ≤ before.steps + DemoBoxCost n = omega (arith, within, boxed) in
+      let run : DemoRun n heard before now (status_of ending) =
+      record { tells = inr telling; unread = unread; cost = within; box_cost = within_boxes }
+      in
+      record {
+        whole = λ m names. absurd (plays_no_demo _ m n names.0 named.0);
+        refused = λ m names. absurd (plays_no_demo _ m n names.0 named.0);
+        starved = λ m names. absurd (plays_no_demo _ m n names.0 named.0);
+        cut = λ m names. absurd (plays_no_demo _ m n names.0 named.0);
+        complete = λ m names. absurd (plays_no_demo _ m n names.0 named.0);
+        cost = λ m names. absurd (plays_no_demo _ m n names.0 named.0);
+        box_cost = λ m names. absurd (plays_no_demo _ m n names.0 named.0);
+        demo = λ m names. subst (λ (m : ℕ). DemoRun m heard before now (status_of ending))
+            (same_demo (map string_bytes words.items) n m named names) run;
+        help = λ names. absurd (demo_no_help _ n named.0 names.0);
+        version = λ names. absurd (demo_no_version _ n named.0 names.0);
+        usage = (λ one. absurd ((known_ending ending).used one), λ usage. absurd (usage (DemoOf n) named));
+        misused = λ one. absurd ((known_ending ending).used one);
+        starving = λ five. absurd ((known_ending ending).remembered five);
+        silent = silent;
+        few = (known_ending ending).few;
+      }
+
+-- nothing was played on a new rig
+pub nothing_played : (heard : List Reading) (steps : ℕ) (rig : RigState) → rig ≡ first_rig
+    → HavePlayed first [] (without_sink heard steps) (without_sink heard steps) rig
+nothing_played heard steps rig is = record {
+  tale = first;
+  comes = λ more. refl;
+  stands = record { state = first_stands rig is; played = sym (ap (λ (r : RigState). r.played) is) };
+  heard = refl;
+  cost = omega arith;
+  height = refl;
+}
+
+-- words that name no command
+pub misused_runs : (words : Vec (String Global) Global) (heard : List Reading) (before now : Outside) → IsUsage words
+    → Declined usage_line before now → Runs words heard before now 1
+misused_runs words heard before now usage declined = record {
+  whole = λ m names. absurd (usage (Plays m) names);
+  refused = λ m names. absurd (usage (Plays m) names);
+  starved = λ m names. absurd (usage (Plays m) names);
+  cut = λ m names. absurd (usage (Plays m) names);
+  complete = λ m names. absurd (usage (Plays m) names);
+  cost = λ m names. absurd (usage (Plays m) names);
+  box_cost = λ m names. absurd (usage (Plays m) names);
+  demo = λ n names. absurd (usage (DemoOf n) names);
+  help = λ names. absurd (usage Help names);
+  version = λ names. absurd (usage Version names);
+  usage = (λ one. usage, λ usage. refl);
+  misused = λ one. declined;
+  starving = λ five. absurd (omega (arith, five));
+  silent = λ zero. absurd (omega (arith, zero));
+  few = omega arith;
+}

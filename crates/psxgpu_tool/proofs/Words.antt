@@ -1,0 +1,137 @@
+-- Words that are played one after another.
+use Rattle.std.proofs.Common.{◌≡◌, ◌≤◌, ◌+◌, ◌<◌, ◌++◌, ℕ, zero, suc, List, [], ◌∷◌, length, take, get_or, map}
+use Rattle.std.proofs.Common.{Option, Result, Ok, Err, OnOk, IfOk, IfErr, option_to_list, arith, refl, ap, sym}
+use Rattle.std.proofs.Common.{subst, append_assoc, ◌∙◌}
+use Rattle.std.proofs.lemmas.Grind.{fold-append}
+use Rattle.std.proofs.lemmas.List.{append-nil, map-append, take_all}
+use Rattle.gp0_packets.specs.declared.note.Note.{Note}
+use Rattle.gpu_capture.specs.declared.event.Event.{Event}
+use Rattle.gpu_capture.specs.declared.event.Event.TheVariants.{Gp0}
+use Rattle.gpu_capture.specs.declared.event.Stop.TheVariants.{End}
+use Rattle.gpu_core.specs.Machine.{State, Feed}
+use Rattle.gpu_taps.specs.Tally.{Reading, reading_after}
+use Rattle.event_play.specs.Replay.{Tale, Played, Replay, after_event, told_on, go_on, next_number}
+use Rattle.event_play.specs.RigState.{RigState, Stands, StandsFor}
+use Rattle.event_play.specs.Step.{Machine, Stepped, Step, StepCost, StepBoxCost}
+use Rattle.event_play.specs.Stepping.{HasStepped}
+use Rattle.event_play.specs.Streams.{Outlets}
+use Rattle.event_play.specs.Told.{told_notes}
+use Rattle.event_play.specs.declared.fault.EventFault.{EventFault}
+use Rattle.psxgpu_tool.specs.Demo.{packet, number_before, first_packets}
+use Rattle.psxgpu_tool.specs.Words.{HavePlayed, whole_replay}
+use Rattle.psxgpu_tool.proofs.Generating.{lists_more}
+use Rattle.psxgpu_tool.proofs.Heights.{feed_height}
+
+-- the tale with one event more
+abbrev tale_on : Tale → Event → Machine → Option ℕ → List Note → Tale
+tale_on t event machine shown notes = record {
+  state = machine;
+  played = next_number t.played;
+  shown = t.shown ++ option_to_list shown;
+  notes = t.notes ++ notes;
+  cost = t.cost + StepCost t.state event;
+  box_cost = t.box_cost + StepBoxCost t.state event;
+}
+
+abbrev gpu_after : State → Result Stepped EventFault → State
+gpu_after s (Ok stepped) = stepped.machine.gpu
+gpu_after s (Err fault) = s
+
+-- an event without a fault
+event_on : (t : Tale) (event : Event) (more : List Event) (machine : Machine) (shown : Option ℕ) (notes : List Note)
+    → Step t.state (next_number t.played) event ≡ Ok (record { machine = machine; shown = shown; notes = notes })
+    → whole_replay t (event ∷ more) ≡ whole_replay (tale_on t event machine shown notes) more
+event_on t event more machine shown notes is = rw is refl
+
+-- it keeps the height
+word_height : (s : Machine) (number word : ℕ) (shown : Option ℕ) (machine : Machine) (notes : List Note)
+    → Step s number (Gp0 word) ≡ Ok (record { machine = machine; shown = shown; notes = notes })
+    → machine.gpu.parts.regs.height ≡ s.gpu.parts.regs.height
+unfolding Step
+word_height s number word shown machine notes is =
+    let same : Feed s.gpu word ≡ machine.gpu = ap (λ (r : Result Stepped EventFault). gpu_after s.gpu r) is in
+    ap (λ (s : State). s.parts.regs.height) (sym same) ∙ feed_height s.gpu word
+
+events_before : (words : List ℕ) (word : ℕ) (more : List Event)
+    → map Gp0 (words ++ word ∷ []) ++ more ≡ map Gp0 words ++ (Gp0 word ∷ more)
+events_before words word more =
+    ap (λ (events : List Event). events ++ more) (map-append Gp0 words (word ∷ []))
+    ∙ append_assoc (map Gp0 words) (Gp0 word ∷ []) more
+
+module _ (first : Tale) (words : List ℕ) (word : ℕ) (start before now : Outlets) (was rig : RigState) where
+  -- one word more was played
+  stepped_on : (played : HavePlayed first words start before was) (shown : Option ℕ)
+      → HasStepped played.tale.state (next_number was.played) (Gp0 word) shown before now rig
+      → rig.played ≡ next_number was.played
+      → HavePlayed first (words ++ word ∷ []) start now rig
+  stepped_on played shown step count =
+      let number = ap next_number played.stands.played in
+      let is : Step played.tale.state (next_number played.tale.played) (Gp0 word)
+      ≡ Ok (record { machine = step.machine; shown = shown; notes = step.notes }) =
+      rw number step.is
+      in
+      record {
+        tale = tale_on played.tale (Gp0 word) step.machine shown step.notes;
+        comes = λ more. ap (whole_replay first) (events_before words word more) ∙ played.comes (Gp0 word ∷ more)
+            ∙ event_on played.tale (Gp0 word) more step.machine shown step.notes is;
+        stands = record { state = step.stands; played = number ∙ sym count };
+        heard = step.heard ∙ ap (told_notes step.notes) played.heard
+            ∙ sym (fold-append (λ (heard : List Reading) (note : Note). map
+            (reading_after note) heard) start.heard played.tale.notes step.notes);
+        cost = omega (arith, step.cost, played.cost);
+        height = word_height played.tale.state (next_number was.played) word shown step.machine step.notes step.is
+            ∙ played.height;
+      }
+
+  -- it is no fault
+  no_fault : (s : Machine) (number : ℕ) (fault : EventFault) → Step s number (Gp0 word) ≡ Err fault → ⊥
+  unfolding Step
+  no_fault s number fault is = cc
+
+  pub word_on : (r : Result (Option ℕ) EventFault) → HavePlayed first words start before was
+      → ((s : Machine) → Stands was s → IfOk r (λ shown. HasStepped s (next_number was.played)
+      (Gp0 word) shown before now rig))
+      → OnOk r (rig.played ≡ next_number was.played)
+      → ((s : Machine) → Stands was s → IfErr r (λ fault. Step s (next_number was.played) (Gp0 word) ≡ Err fault))
+      → HavePlayed first (words ++ word ∷ []) start now rig
+  word_on (Ok shown) played stepped count fault = stepped_on played shown
+      (stepped played.tale.state played.stands.state) count
+  word_on (Err why) played stepped count fault =
+      absurd (no_fault played.tale.state (next_number was.played) why (fault played.tale.state played.stands.state))
+
+-- no word more
+pub none_on : (first : Tale) (words : List ℕ) (start now : Outlets) (rig : RigState)
+    → HavePlayed first words start now rig
+    → HavePlayed first (words ++ []) start now rig
+none_on first words start now rig played = rw append-nil played
+
+take_next : (xs : List ℕ) (i : ℕ) → i < length xs → take (i + 1) xs ≡ take i xs ++ get_or xs i 0 ∷ []
+take_next [] i lt = absurd (omega (arith, lt))
+take_next (x ∷ xs) zero lt = refl
+take_next (x ∷ xs) (suc i) lt = let e : suc i + 1
+    ≡ suc (i + 1) = omega arith in rw e (ap (λ ys. x ∷ ys) (take_next xs i (omega (arith, lt))))
+
+-- the next of some words
+pub words_next : (first : Tale) (done words : List ℕ) (i : ℕ) (start now : Outlets) (rig : RigState) → i < length words
+    → HavePlayed first ((done ++ take i words) ++ get_or words i 0 ∷ []) start now rig
+    → HavePlayed first (done ++ take (i + 1) words) start now rig
+words_next first done words i start now rig lt played =
+    rw (take_next words i lt, ← append_assoc done (take i words) (get_or words i 0 ∷ [])) played
+
+-- all of them
+pub words_all : (first : Tale) (done words : List ℕ) (i : ℕ) (start now : Outlets) (rig : RigState) → length words ≤ i
+    → HavePlayed first (done ++ take i words) start now rig → HavePlayed first (done ++ words) start now rig
+words_all first done words i start now rig le played = rw (take_all i words le) at played
+
+-- the packets up to one more
+pub packet_on : (first : Tale) (done : List ℕ) (n k number : ℕ) (words : List ℕ) (start now : Outlets) (rig : RigState)
+    → number ≡ number_before n k → words ≡ packet k number
+    → HavePlayed first ((done ++ first_packets n k) ++ words) start now rig
+    → HavePlayed first (done ++ first_packets n (k + 1)) start now rig
+packet_on first done n k number words start now rig at is played =
+    let all : (done ++ first_packets n k) ++ words ≡ done ++ first_packets n (k + 1) =
+    append_assoc done (first_packets n k) words
+    ∙ ap (λ (xs : List ℕ). done ++ (first_packets n k ++ xs)) (is ∙ ap (packet k) at)
+    ∙ ap (λ (xs : List ℕ). done ++ xs) (sym (lists_more (λ k. packet k (number_before n k)) k))
+    in
+    rw all at played

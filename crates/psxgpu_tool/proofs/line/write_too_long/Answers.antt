@@ -1,0 +1,6 @@
+use Rattle.psxgpu_tool.specs.Line.{too_long_line}
+use Rattle.psxgpu_tool.proofs.line.write_too_long.Goals as goal
+
+pub returns : goal.returns
+unfolding too_long_line
+returns g c = rw (← c.decimal_text-n.ensures, ← c.decimal_text-w.ensures) c.write_pieces.ensures

@@ -1,0 +1,50 @@
+-- What a run works on: a source, and two sinks of which one is for faults.
+use Rattle.std.specs.Prelude.{◌≡◌, ◌⊎◌, ℕ, List, Option}
+use Rattle.dev_io.specs.Device.{appended, AppendsPart, Rose}
+use Rattle.event_play.specs.declared.ending.Ending.{Ending}
+use Rattle.event_play.specs.declared.ending.Ending.TheVariants.{Done, WriteFailed}
+
+-- a source: the bytes left (None where they are not told), and how often it failed
+pub record SourceSide : Type 0 where
+  pub left : Option (List ℕ)
+  pub faults : ℕ
+
+-- a sink: the bytes held (None where they are not told), and how often it failed
+pub record SinkSide : Type 0 where
+  pub held : Option (List ℕ)
+  pub faults : ℕ
+
+abbrev pub source_side : Option (List ℕ) → ℕ → SourceSide
+source_side left faults = record { left = left; faults = faults }
+
+abbrev pub sink_side : Option (List ℕ) → ℕ → SinkSide
+sink_side held faults = record { held = held; faults = faults }
+
+-- all of it, and the store steps
+pub record Outside : Type 0 where
+  pub source : SourceSide
+  pub out : SinkSide
+  pub err : SinkSide
+  pub steps : ℕ
+
+abbrev pub outside : (source : SourceSide) → (out err : SinkSide) → (steps : ℕ) → Outside
+outside source out err steps = record { source = source; out = out; err = err; steps = steps }
+
+-- it failed since
+abbrev pub HasFailed : (before now : SinkSide) → Type 0
+HasFailed before now = Rose before.faults now.faults
+
+abbrev pub HasFailedToRead : (before now : SourceSide) → Type 0
+HasFailedToRead before now = Rose before.faults now.faults
+
+-- these bytes were written, or a proper part of them where the sink failed
+abbrev pub Says : (before now : SinkSide) → (bytes : List ℕ) → Type 0
+Says before now bytes = (now.held ≡ appended before.held bytes)
+    ⊎ (AppendsPart before.held now.held bytes × HasFailed before now)
+
+-- these bytes were written; or the sink failed, and lacks one that was due at this event
+abbrev pub EndsTelling : (bytes : List ℕ) → (event : ℕ) → (before now : SinkSide) → Ending → Type 0
+EndsTelling bytes event before now Done = now.held ≡ appended before.held bytes
+EndsTelling bytes event before now (WriteFailed at) =
+    (at ≡ event) × AppendsPart before.held now.held bytes × HasFailed before now
+EndsTelling bytes event before now ending = ⊥

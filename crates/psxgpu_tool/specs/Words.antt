@@ -1,0 +1,23 @@
+-- Words that are played one after another, each as an event of GP0.
+use Rattle.std.specs.Prelude.{◌≡◌, ◌≤◌, ◌+◌, ◌++◌, ℕ, List, [], map}
+use Rattle.gpu_capture.specs.declared.event.Event.{Event}
+use Rattle.gpu_capture.specs.declared.event.Event.TheVariants.{Gp0}
+use Rattle.gpu_capture.specs.declared.event.Stop.TheVariants.{End}
+use Rattle.event_play.specs.Replay.{Tale, Played, Replay}
+use Rattle.event_play.specs.RigState.{RigState, StandsFor}
+use Rattle.event_play.specs.Streams.{Outlets}
+use Rattle.event_play.specs.Told.{told_notes}
+
+-- the replay of a list of events that is whole
+abbrev pub whole_replay : Tale → List Event → Played
+whole_replay first events = Replay first events End []
+
+-- Since a rig stood for the first tale these words were played: their replay comes to a tale for which the rig stands
+-- now, the taps were told its notes, the store steps are within its cost, and video memory is as high as it was.
+pub record HavePlayed (first : Tale) (words : List ℕ) (before now : Outlets) (rig : RigState) : Type 0 where
+  pub tale : Tale
+  pub comes : (more : List Event) → whole_replay first (map Gp0 words ++ more) ≡ whole_replay tale more
+  pub stands : StandsFor rig tale
+  pub heard : now.heard ≡ told_notes tale.notes before.heard
+  pub cost : now.steps ≤ before.steps + tale.cost
+  pub height : tale.state.gpu.parts.regs.height ≡ first.state.gpu.parts.regs.height
