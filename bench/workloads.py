@@ -1,0 +1,151 @@
+"""The workloads of the benchmark: lists of GP0 words, and what they move. `WORKLOADS` has them in the order of the
+table."""
+import os
+import sys
+
+sys.path.insert(0, os.path.join(os.path.dirname(os.path.abspath(__file__)), '..', 'tools'))
+
+from capture import (clut, copy, draw_mode, drawing_area, fill, line, load, polygon, rectangle,  # noqa: E402
+                     texture_page)
+
+PAGE4, PAGE8, PAGE15 = (texture_page(x, 256, depth) for x, depth in ((512, 0), (640, 1), (768, 2)))
+PALETTE = clut(0, 500)
+
+
+# How much a unit of the table is.
+UNITS = {'Mpixel/s': 1e6, 'Mword/s': 1e6, 'frame/s': 1}
+
+
+class Numbers:
+    """Numbers without a pattern, the same in every run."""
+
+    def __init__(self, seed=1):
+        self.state = seed
+
+    def below(self, n):
+        self.state = (1664525 * self.state + 1013904223) % 2 ** 32
+        return (self.state >> 8) % n
+
+    def color(self):
+        return self.below(1 << 24)
+
+
+class Workload:
+    """`words(n)` gives the words of n pieces of work behind `start`; each piece is `size` pixels, words or frames."""
+
+    def __init__(self, name, unit, size, count, piece, start=()):
+        self.name, self.unit, self.size, self.count = name, unit, size, count
+        self.piece, self.start = piece, list(start)
+
+    def words(self, count):
+        numbers, out = Numbers(), list(self.start)
+        for k in range(count):
+            out += self.piece(k, numbers)
+        return out
+
+
+def textures():
+    """Loads the three pages and the palettes: no texel is 0, and every texel's bit 15 is 0."""
+    numbers = Numbers(7)
+    words = load(0, 500, 256, 1, [1 + numbers.below(0x7FFF) for _ in range(256)])
+    for x in (512, 640):
+        words += load(x, 256, 128, 256, [numbers.below(65536) for _ in range(128 * 256)])
+    return words + load(768, 256, 256, 256, [1 + numbers.below(0x7FFF) for _ in range(256 * 256)])
+
+
+AREA = drawing_area(0, 0, 1023, 499)
+TEXTURES = textures() + AREA
+# Triangles in a box of 100 by 100, and their area.
+SHAPES = [[(0, 0), (100, 30), (40, 100)], [(0, 20), (100, 0), (70, 100)], [(0, 100), (30, 0), (100, 60)]]
+CELLS = sum(abs((b[0] - a[0]) * (c[1] - a[1]) - (b[1] - a[1]) * (c[0] - a[0])) for a, b, c in SHAPES) / 6
+
+
+def triangle(size, **settings):
+    """Triangles whose boxes have this size, drawn in the left half of video memory's upper half."""
+    shaded = settings.pop('shaded', False)
+    textured = 'page' in settings
+
+    def piece(k, numbers):
+        x, y = numbers.below(512 - size), numbers.below(256 - size)
+        places = [(x + u * size // 100, y + v * size // 100) for u, v in SHAPES[k % 3]]
+        color = [numbers.color() for _ in range(3)] if shaded else numbers.color()
+        texture = [(u * size // 100, v * size // 100) for u, v in SHAPES[k % 3]] if textured else None
+        return polygon(places, color, texture=texture, **settings)
+    return piece
+
+
+def tile(size, depth=None, **settings):
+    """Rectangles of this size, flat or textured."""
+    def piece(k, numbers):
+        x, y = numbers.below(512 - size), numbers.below(256 - size)
+        texture = (numbers.below(64), numbers.below(64)) if depth is not None else None
+        palette = PALETTE if texture else 0
+        return rectangle(numbers.color(), x, y, size, size, texture=texture, palette=palette, **settings)
+    return piece
+
+
+def fills(k, numbers):
+    return fill(numbers.color(), 16 * numbers.below(48), numbers.below(256), 256, 256)
+
+
+def copies(k, numbers):
+    return copy(numbers.below(256), numbers.below(256), 512 + numbers.below(256), numbers.below(256), 256, 256)
+
+
+def loads(k, numbers):
+    return load(numbers.below(960), numbers.below(448), 64, 64, [numbers.below(65536)] * 4096)
+
+
+def lines(k, numbers):
+    x, y = 100 + numbers.below(312), 100 + numbers.below(200)
+    dx, dy = ((100, 37), (61, 100), (-100, 80), (-23, 100), (100, 0), (0, 100))[k % 6]
+    return line([(x, y), (x + dx, y + dy)], numbers.color())
+
+
+def state(k, numbers):
+    return [(0xE1000000, 0xE2000000, 0xE5000000, 0xE6000000)[k % 4] | numbers.below(64) * (k % 4 != 3)]
+
+
+def frame(k, numbers):
+    """A tenth of a frame: ground, bodies, sprites, lines and a fill, in the shares of a game of the time."""
+    words = fill(numbers.color(), 0, 0, 320, 24) if k % 10 == 0 else []
+    for j in range(12):
+        words += triangle(32, page=PAGE4, palette=PALETTE)(j, numbers)
+        words += triangle(16, page=PAGE4, palette=PALETTE, shaded=True)(j, numbers)
+    for j in range(6):
+        words += triangle(48, shaded=True)(j, numbers) + triangle(24)(j, numbers)
+        words += draw_mode(PAGE8) + tile(16, 8)(j, numbers)
+    return words + tile(64, semi=True)(0, numbers) + lines(k, numbers)
+
+
+PALETTED = {'page': PAGE4, 'palette': PALETTE}
+DITHER = draw_mode(dither=True)
+PIXELS, WORDS, FRAMES = UNITS
+
+WORKLOADS = [
+    Workload('fill 256x256', PIXELS, 65536, 8000, fills),
+    Workload('triangle 100x100 flat', PIXELS, CELLS, 20000, triangle(100), AREA),
+    Workload('triangle 100x100 gouraud', PIXELS, CELLS, 8000, triangle(100, shaded=True), AREA),
+    Workload('triangle 100x100 gouraud, dithered', PIXELS, CELLS, 6000, triangle(100, shaded=True), AREA + DITHER),
+    Workload('triangle 100x100 15-bit raw', PIXELS, CELLS, 5000, triangle(100, page=PAGE15, raw=True), TEXTURES),
+    Workload('triangle 100x100 4-bit modulated', PIXELS, CELLS, 4000, triangle(100, **PALETTED), TEXTURES),
+    Workload('triangle 100x100 4-bit modulated, dithered', PIXELS, CELLS, 4000, triangle(100, **PALETTED),
+             TEXTURES + DITHER),
+    Workload('rectangle 64x64 flat', PIXELS, 4096, 40000, tile(64), AREA),
+    Workload('rectangle 64x64 B/2+F/2', PIXELS, 4096, 15000, tile(64, semi=True), AREA),
+    Workload('rectangle 64x64 B+F', PIXELS, 4096, 15000, tile(64, semi=True), AREA + draw_mode(1 << 5)),
+    Workload('rectangle 64x64 4-bit modulated', PIXELS, 4096, 6000, tile(64, 4), TEXTURES + draw_mode(PAGE4)),
+    Workload('rectangle 64x64 8-bit modulated', PIXELS, 4096, 6000, tile(64, 8), TEXTURES + draw_mode(PAGE8)),
+    Workload('rectangle 64x64 15-bit raw', PIXELS, 4096, 8000, tile(64, 15, raw=True), TEXTURES + draw_mode(PAGE15)),
+    Workload('copy 256x256', PIXELS, 65536, 2000, copies),
+    Workload('load 64x64', PIXELS, 4096, 2000, loads),
+    Workload('line of length 100', PIXELS, 101, 60000, lines, AREA),
+    Workload('sprite 8x8 4-bit raw', PIXELS, 64, 200000, tile(8, 4, raw=True), TEXTURES + draw_mode(PAGE4)),
+    Workload('sprite 8x8 4-bit modulated', PIXELS, 64, 150000, tile(8, 4), TEXTURES + draw_mode(PAGE4)),
+    Workload('triangle 8x8 flat', PIXELS, CELLS * 0.0064, 200000, triangle(8), AREA),
+    Workload('triangle 8x8 4-bit modulated', PIXELS, CELLS * 0.0064, 80000, triangle(8, **PALETTED), TEXTURES),
+    Workload('triangle 16x16 4-bit gouraud', PIXELS, CELLS * 0.0256, 50000, triangle(16, shaded=True, **PALETTED),
+             TEXTURES),
+    Workload('mixed frame', FRAMES, 0.1, 1500, frame, TEXTURES),
+    Workload('state words', WORDS, 1, 2000000, state),
+]
