@@ -6,7 +6,7 @@ use Rattle.event_play.specs.declared.ending.Mode.{Mode}
 use Rattle.event_play.specs.declared.ending.Mode.TheVariants.{Vram, Shot, Report, List as Listing, Play as Words}
 use Rattle.psxgpu_tool.specs.Command.{names_of, AreNames}
 use Rattle.psxgpu_tool.specs.declared.command.Command.{Command}
-use Rattle.psxgpu_tool.specs.declared.command.Command.TheVariants.{Plays, Demo, Help, Version}
+use Rattle.psxgpu_tool.specs.declared.command.Command.TheVariants.{Plays, Flat, Demo, Help, Version}
 
 -- a number by which names differ: the first letter
 abbrev first_letter : List (List ℕ) → ℕ
@@ -65,6 +65,16 @@ no_demo Shot e = omega (arith, e)
 no_demo Listing e = omega (arith, e)
 no_demo Report e = omega (arith, e)
 
+no_flat : (a : Mode) → first_letter (names_of (Plays a)) ≡ 102 → ⊥
+no_flat Words e = omega (arith, e)
+no_flat Vram e = omega (arith, e)
+no_flat Shot e = omega (arith, e)
+no_flat Listing e = omega (arith, e)
+no_flat Report e = omega (arith, e)
+
+pub plays_no_flat : (names : List (List ℕ)) (a : Mode) → names ≡ names_of (Plays a) → names ≡ names_of Flat → ⊥
+plays_no_flat names a one other = no_flat a (letters names (Plays a) Flat one other)
+
 pub plays_no_help : (names : List (List ℕ)) (a : Mode) → names ≡ names_of (Plays a) → names ≡ names_of Help → ⊥
 plays_no_help names a one other = no_dash a (letters names (Plays a) Help one other)
 
@@ -87,3 +97,14 @@ demo_no_help names n one other = let e = letters names (Demo n) Help one other i
 
 pub demo_no_version : (names : List (List ℕ)) (n : ℕ) → names ≡ names_of (Demo n) → names ≡ names_of Version → ⊥
 demo_no_version names n one other = let e = letters names (Demo n) Version one other in omega (arith, e)
+
+pub demo_no_flat : (names : List (List ℕ)) (n : ℕ) → names ≡ names_of (Demo n) → names ≡ names_of Flat → ⊥
+demo_no_flat names n one other = let e = letters names (Demo n) Flat one other in omega (arith, e)
+
+-- ---- flat
+
+pub flat_no_help : (names : List (List ℕ)) → names ≡ names_of Flat → names ≡ names_of Help → ⊥
+flat_no_help names one other = let e = letters names Flat Help one other in omega (arith, e)
+
+pub flat_no_version : (names : List (List ℕ)) → names ≡ names_of Flat → names ≡ names_of Version → ⊥
+flat_no_version names one other = let e = letters names Flat Version one other in omega (arith, e)

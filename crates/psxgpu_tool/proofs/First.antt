@@ -1,5 +1,5 @@
 -- A new rig, and the machine for which it stands.
-use Rattle.std.proofs.Common.{◌≡◌, sym, ap, subst, refl}
+use Rattle.std.proofs.Common.{◌≡◌, sym, subst, refl}
 use Rattle.event_play.specs.RigState.{RigState, Stands, first_rig}
 use Rattle.event_play.specs.Step.{first_machine}
 use Rattle.gpu_core.specs.Machine.{first_state}

@@ -1,5 +1,6 @@
 pub mod Commands
 pub mod First
+pub mod Flats
 pub mod Generating
 pub mod Heights
 pub mod Lines

@@ -2,8 +2,6 @@
 use Rattle.std.proofs.Common.{◌≡◌, ◌≤◌, ◌+◌, ◌⊎◌, ◌++◌, inl, inr, ℕ, List, [], map, Option, Some, None, Vec, String}
 use Rattle.std.proofs.Common.{string_bytes, refl, ap, sym, subst, ◌∙◌, append-nil, arith}
 use Rattle.std.specs.declared.alloc.Global.{Global}
-use Rattle.dev_io.specs.Device.{appended}
-use Rattle.gpu_capture.specs.declared.event.Stop.{Stop}
 use Rattle.gpu_capture.specs.declared.event.Stop.TheVariants.{End, NotCapture, Truncated, BadRecord, TooLong, ReadFault}
 use Rattle.gpu_core.specs.Kept.{Kept, kept_of}
 use Rattle.gpu_core.specs.Machine.{State}
@@ -17,23 +15,25 @@ use Rattle.event_play.specs.Told.{told_notes}
 use Rattle.event_play.specs.declared.ending.Ending.{Ending}
 use Rattle.event_play.specs.declared.ending.Ending.TheVariants.{Done, Stopped, Faulted, NoPicture, WriteFailed}
 use Rattle.event_play.specs.declared.ending.Mode.{Mode}
-use Rattle.event_play.specs.declared.fault.EventFault.{EventFault}
 use Rattle.event_play.proofs.BoxCosts.{costs_small}
+use Rattle.capture_flat.specs.Passing.{EndsFlat, IsEnding as IsFlatEnding, MayReadFault as MayReadFlat, MayWriteFault as MayWriteFlat}
+use Rattle.capture_flat.specs.declared.ending.FlatEnding.{FlatEnding}
+use Rattle.capture_flat.specs.declared.ending.FlatEnding.TheVariants as flat
 use Rattle.px_num.specs.Height.{short_height}
 use Rattle.psxgpu_tool.specs.Command.{Names, IsUsage}
 use Rattle.psxgpu_tool.specs.Demo.{Demo, demo_words}
 use Rattle.psxgpu_tool.specs.DemoOut.{demo_bytes, demo_tale, DemoOut, DemoCost, DemoBoxCost, cells_cost}
-use Rattle.psxgpu_tool.specs.Line.{status_of, ending_line, ending_text, usage_line}
+use Rattle.psxgpu_tool.specs.First.{first, seen}
+use Rattle.psxgpu_tool.specs.FlatRun.{FlatRun}
+use Rattle.psxgpu_tool.specs.Line.{status_of, ending_line, ending_text, flat_status, flat_text, usage_line}
 use Rattle.psxgpu_tool.specs.Outside.{Outside, Says, HasFailed, HasFailedToRead, EndsTelling}
-use Rattle.psxgpu_tool.specs.Run.{first, play_of, seen, Whole, Refused, Starved, Cut, EndsAsCaptured, WithinCost}
-use Rattle.psxgpu_tool.specs.Run.{WithinBoxCost, Unread, Tells, Declined, DemoRun, Runs}
+use Rattle.psxgpu_tool.specs.Run.{Whole, Refused, Starved, Cut, EndsAsCaptured, WithinCost, WithinBoxCost, Tells, Declined, DemoRun, Runs}
 use Rattle.psxgpu_tool.specs.Words.{HavePlayed, whole_replay}
-use Rattle.psxgpu_tool.specs.declared.command.Command.TheVariants.{Plays, Demo as DemoOf, Help, Version}
+use Rattle.psxgpu_tool.specs.declared.command.Command.TheVariants.{Plays, Flat, Demo as DemoOf, Help, Version}
 use Rattle.psxgpu_tool.proofs.First.{first_stands, first_short}
-use Rattle.psxgpu_tool.proofs.Commands.{same_mode, plays_no_help, plays_no_version, plays_no_demo, same_demo}
-use Rattle.psxgpu_tool.proofs.Commands.{demo_no_help, demo_no_version}
-use Rattle.psxgpu_tool.proofs.Told.{three_starved, four_cut, if_told, whole_run, refused_run, starved_run, cut_run}
-use Rattle.psxgpu_tool.proofs.Told.{complete_run, cost_run, box_cost_run}
+use Rattle.psxgpu_tool.proofs.Flats.{flat_three, flat_four, flat_whole, flat_complete}
+use Rattle.psxgpu_tool.proofs.Commands.{same_mode, plays_no_help, plays_no_version, plays_no_demo, plays_no_flat, same_demo, demo_no_help, demo_no_version, demo_no_flat, flat_no_help, flat_no_version}
+use Rattle.psxgpu_tool.proofs.Told.{three_starved, four_cut, if_told, whole_run, refused_run, starved_run, cut_run, complete_run, cost_run, box_cost_run}
 
 -- the statuses of endings
 pub record IsKnown (status : ℕ) : Type 0 where
@@ -79,6 +79,18 @@ known_ending (Stopped n (BadRecord byte word)) = known 2 (inr (inl refl))
 known_ending (Stopped n (TooLong byte)) = known 2 (inr (inl refl))
 known_ending (Stopped n (ReadFault byte)) = known 3 (inr (inr (inl refl)))
 
+known_flat : (ending : FlatEnding) → IsKnown (flat_status ending)
+known_flat flat.Done = known 0 (inl refl)
+known_flat (flat.Faulted n fault) = known 2 (inr (inl refl))
+known_flat (flat.TooLong n) = known 2 (inr (inl refl))
+known_flat (flat.WriteFailed n) = known 4 (inr (inr (inr refl)))
+known_flat (flat.Stopped n End) = known 2 (inr (inl refl))
+known_flat (flat.Stopped n (NotCapture byte)) = known 2 (inr (inl refl))
+known_flat (flat.Stopped n (Truncated byte)) = known 2 (inr (inl refl))
+known_flat (flat.Stopped n (BadRecord byte word)) = known 2 (inr (inl refl))
+known_flat (flat.Stopped n (TooLong byte)) = known 2 (inr (inl refl))
+known_flat (flat.Stopped n (ReadFault byte)) = known 3 (inr (inr (inl refl)))
+
 may_read : (ending : Ending) → status_of ending ≡ 3 → MayReadFault ending
 may_read ending three = let is = three_starved ending three in subst MayReadFault (sym is.1.1) tt
 
@@ -102,29 +114,24 @@ module _ (words : Vec (String Global) Global) (heard heard_now : List Reading) (
             (if_told before.source.left _
             (λ bytes told. whole_run mode heard heard_now before now rig bytes told ending ends zero));
         refused = λ m names two. subst (λ (m : Mode). Refused m heard before now) (is m names)
-            (if_told before.source.left _
-            (λ bytes told. refused_run mode heard heard_now before now rig bytes told ending ends two says));
+            (if_told before.source.left _ (λ bytes told. refused_run mode heard heard_now before now rig bytes told ending ends two says));
         starved = λ m names three. subst (λ (m : Mode). Starved m heard before now) (is m names) (
           read_cause (may_read ending three),
-          if_told before.source.left _
-              (λ bytes told. starved_run mode heard heard_now before now rig bytes told ending ends three says),
+          if_told before.source.left _ (λ bytes told. starved_run mode heard heard_now before now rig bytes told ending ends three says),
         );
         cut = λ m names four. subst (λ (m : Mode). Cut m heard before now) (is m names) (
           write_cause (may_write ending four),
-          if_told before.source.left _
-              (λ bytes told. cut_run mode heard heard_now before now rig bytes told ending ends four says),
+          if_told before.source.left _ (λ bytes told. cut_run mode heard heard_now before now rig bytes told ending ends four says),
         );
-        complete = λ m names read write. inr (subst (λ (m : Mode). EndsAsCaptured m before (status_of ending))
-            (is m names)
-            (if_told before.source.left _
-            (λ bytes told. complete_run mode heard heard_now before now rig bytes told ending ends
+        complete = λ m names read write. inr (subst (λ (m : Mode). EndsAsCaptured m before (status_of ending)) (is m names)
+            (if_told before.source.left _ (λ bytes told. complete_run mode heard heard_now before now rig bytes told ending ends
             (λ may. read (read_cause may)) (λ may. write (write_cause may)))));
         cost = λ m names. subst (λ (m : Mode). WithinCost m before now) (is m names)
             (if_told before.source.left _
             (λ bytes told. cost_run mode heard heard_now before now rig bytes told ending ends));
         box_cost = λ m names. subst (λ (m : Mode). WithinBoxCost m before now) (is m names)
-            (if_told before.source.left _
-            (λ bytes told. box_cost_run mode heard heard_now before now rig bytes told ending ends));
+            (if_told before.source.left _ (λ bytes told. box_cost_run mode heard heard_now before now rig bytes told ending ends));
+        flat = λ names. absurd (plays_no_flat _ mode named.0 names.0);
         demo = λ n names. absurd (plays_no_demo _ mode n named.0 names.0);
         help = λ names. absurd (plays_no_help _ mode named.0 names.0);
         version = λ names. absurd (plays_no_version _ mode named.0 names.0);
@@ -190,8 +197,8 @@ module _ (words : Vec (String Global) Global) (heard heard_now : List Reading) (
         complete = λ m names. absurd (plays_no_demo _ m n names.0 named.0);
         cost = λ m names. absurd (plays_no_demo _ m n names.0 named.0);
         box_cost = λ m names. absurd (plays_no_demo _ m n names.0 named.0);
-        demo = λ m names. subst (λ (m : ℕ). DemoRun m heard before now (status_of ending))
-            (same_demo (map string_bytes words.items) n m named names) run;
+        flat = λ names. absurd (demo_no_flat _ n named.0 names.0);
+        demo = λ m names. subst (λ (m : ℕ). DemoRun m heard before now (status_of ending)) (same_demo (map string_bytes words.items) n m named names) run;
         help = λ names. absurd (demo_no_help _ n named.0 names.0);
         version = λ names. absurd (demo_no_version _ n named.0 names.0);
         usage = (λ one. absurd ((known_ending ending).used one), λ usage. absurd (usage (DemoOf n) named));
@@ -200,6 +207,43 @@ module _ (words : Vec (String Global) Global) (heard heard_now : List Reading) (
         silent = silent;
         few = (known_ending ending).few;
       }
+
+-- a flat capture
+module _ (words : Vec (String Global) Global) (heard heard_now : List Reading) (before now : Outside) (ending : FlatEnding)
+    (says : Says before.err now.err (flat_text ending heard_now)) (silent : flat_status ending ≡ 0 → now.err ≡ before.err) where
+  run_of : (rig : RigState) → EndsFlat first (seen heard before) (seen heard_now now) rig ending → IsFlatEnding ending
+      → (MayReadFlat ending → HasFailedToRead before.source now.source) → (MayWriteFlat ending → HasFailed before.out now.out)
+      → FlatRun heard before now (flat_status ending)
+  run_of rig ends is_ending read_cause write_cause = record {
+    ends = inr (record { ending = ending; rig = rig; told = heard_now; ends = ends; known = is_ending; status_is = refl; says = says });
+    whole = λ zero. if_told before.source.left _ (λ bytes told. flat_whole heard heard_now before now rig bytes told ending ends zero);
+    starved = λ three. read_cause (flat_three ending three);
+    cut = λ four. write_cause (flat_four ending four);
+    complete = λ read write. inr (if_told before.source.left _ (λ bytes told. flat_complete heard heard_now before now rig bytes told ending ends
+        (λ may. read (read_cause may)) (λ may. write (write_cause may))));
+  }
+
+  pub flat_runs : (rig : RigState) → Names words Flat → EndsFlat first (seen heard before) (seen heard_now now) rig ending → IsFlatEnding ending
+      → (MayReadFlat ending → HasFailedToRead before.source now.source) → (MayWriteFlat ending → HasFailed before.out now.out)
+      → Runs words heard before now (flat_status ending)
+  flat_runs rig named ends is_ending read_cause write_cause = record {
+    whole = λ m names. absurd (plays_no_flat _ m names.0 named.0);
+    refused = λ m names. absurd (plays_no_flat _ m names.0 named.0);
+    starved = λ m names. absurd (plays_no_flat _ m names.0 named.0);
+    cut = λ m names. absurd (plays_no_flat _ m names.0 named.0);
+    complete = λ m names. absurd (plays_no_flat _ m names.0 named.0);
+    cost = λ m names. absurd (plays_no_flat _ m names.0 named.0);
+    box_cost = λ m names. absurd (plays_no_flat _ m names.0 named.0);
+    flat = λ names. run_of rig ends is_ending read_cause write_cause;
+    demo = λ n names. absurd (demo_no_flat _ n names.0 named.0);
+    help = λ names. absurd (flat_no_help _ named.0 names.0);
+    version = λ names. absurd (flat_no_version _ named.0 names.0);
+    usage = (λ one. absurd ((known_flat ending).used one), λ usage. absurd (usage Flat named));
+    misused = λ one. absurd ((known_flat ending).used one);
+    starving = λ five. absurd ((known_flat ending).remembered five);
+    silent = silent;
+    few = (known_flat ending).few;
+  }
 
 -- nothing was played on a new rig
 pub nothing_played : (heard : List Reading) (steps : ℕ) (rig : RigState) → rig ≡ first_rig
@@ -224,6 +268,7 @@ misused_runs words heard before now usage declined = record {
   complete = λ m names. absurd (usage (Plays m) names);
   cost = λ m names. absurd (usage (Plays m) names);
   box_cost = λ m names. absurd (usage (Plays m) names);
+  flat = λ names. absurd (usage Flat names);
   demo = λ n names. absurd (usage (DemoOf n) names);
   help = λ names. absurd (usage Help names);
   version = λ names. absurd (usage Version names);

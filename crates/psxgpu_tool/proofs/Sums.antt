@@ -1,5 +1,5 @@
 -- Sums, part by part.
-use Rattle.std.proofs.Common.{◌≡◌, ◌+◌, ◌*◌, ◌-◌, ℕ, List, take, drop, arith, refl, ap, sym, ◌∙◌, slice_range}
+use Rattle.std.proofs.Common.{◌≡◌, ◌+◌, ◌*◌, ◌-◌, ℕ, List, take, drop, arith, refl, ap, ◌∙◌, slice_range}
 use Rattle.std.specs.List.{sum}
 use Rattle.std.proofs.lemmas.List.{drop-drop}
 use Rattle.std.proofs.lemmas.List.Sums.{sum_by-append}

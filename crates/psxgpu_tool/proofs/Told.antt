@@ -2,21 +2,21 @@
 use Rattle.std.proofs.Common.{◌≡◌, ◌≤◌, ◌+◌, ◌⊎◌, inl, inr, ℕ, ◌++◌, Bool, true, false, List, [], Option, Some, None}
 use Rattle.std.proofs.Common.{IfSome, refl, ap, sym, subst, ◌∙◌, append-nil, arith}
 use Rattle.dev_io.specs.Device.{prepended, appended, IsAtEnd}
-use Rattle.gpu_capture.specs.declared.event.Stop.{Stop}
 use Rattle.gpu_capture.specs.declared.event.Stop.TheVariants.{End, NotCapture, Truncated, BadRecord, TooLong, ReadFault}
 use Rattle.gpu_taps.specs.Tally.{Reading}
 use Rattle.event_play.specs.Causes.{MayReadFault, MayWriteFault}
 use Rattle.event_play.specs.Out.{lines_of, unless_lacking, ending_under, finals_at, Out, OutCost, OutBoxCost}
-use Rattle.event_play.specs.Playing.{AreAllNeeded, EndsPlay, LacksBytes, whole}
-use Rattle.event_play.specs.Replay.{Tale, Played, Play}
+use Rattle.event_play.specs.Playing.{EndsPlay, whole}
+use Rattle.event_play.specs.Replay.{Tale, Played}
 use Rattle.event_play.specs.RigState.{RigState}
 use Rattle.event_play.specs.Told.{told_notes}
 use Rattle.event_play.specs.declared.ending.Ending.{Ending}
 use Rattle.event_play.specs.declared.ending.Ending.TheVariants.{Done, Stopped, Faulted, NoPicture, WriteFailed}
 use Rattle.event_play.specs.declared.ending.Mode.{Mode}
+use Rattle.psxgpu_tool.specs.First.{first, play_of, seen}
 use Rattle.psxgpu_tool.specs.Line.{status_of, ending_line, ending_text}
 use Rattle.psxgpu_tool.specs.Outside.{Outside, Says}
-use Rattle.psxgpu_tool.specs.Run.{first, play_of, seen, WholeRun, RefusedRun, StarvedRun, CutRun}
+use Rattle.psxgpu_tool.specs.Run.{WholeRun, RefusedRun, StarvedRun, CutRun}
 
 -- ---- endings
 
@@ -127,16 +127,16 @@ pub record IsCut (bytes taken : List ℕ) (left : Option (List ℕ)) : Type 0 wh
   pub all : bytes ≡ taken ++ rest
   pub left_is : left ≡ Some rest
 
-cut : (bytes taken : List ℕ) (left : Option (List ℕ)) → Some bytes ≡ prepended taken left → IsCut bytes taken left
+pub cut : (bytes taken : List ℕ) (left : Option (List ℕ)) → Some bytes ≡ prepended taken left → IsCut bytes taken left
 cut bytes taken None e = absurd cc
 cut bytes taken (Some rest) e = record { rest = rest; all = cc; left_is = refl }
 
-none_left : (left : Option (List ℕ)) (rest : List ℕ) → left ≡ Some rest → IsAtEnd left → rest ≡ []
+pub none_left : (left : Option (List ℕ)) (rest : List ℕ) → left ≡ Some rest → IsAtEnd left → rest ≡ []
 none_left None rest e at_end = absurd cc
 none_left (Some left) rest e at_end = let same : left ≡ rest = cc in sym same ∙ at_end
 
 -- all bytes were taken
-all_taken : (bytes taken rest : List ℕ) → bytes ≡ taken ++ rest → rest ≡ [] → bytes ≡ taken
+pub all_taken : (bytes taken rest : List ℕ) → bytes ≡ taken ++ rest → rest ≡ [] → bytes ≡ taken
 all_taken bytes taken rest all none = all ∙ ap (λ xs. taken ++ xs) none ∙ append-nil taken
 
 -- a fact of the bytes left, where they are told
@@ -275,12 +275,9 @@ module _ (mode : Mode) (heard heard_now : List Reading) (before now : Outside) (
   refused_run ending ends two says =
       let write : MayWriteFault ending → ⊥ = λ may. let four = write_four ending may in omega (arith, two, four) in
       let is_cut = taken_of ending ends in
-      let captured = captured ending ends (λ may. let three = read_three ending may in omega
-      (arith, two, three)) write in
-      let notes = ends.heard ∙ ap (λ (t : Tale). told_notes t.notes heard)
-      (last_of ending ends write ∙ sym captured.tale) in
-      let text : ending_text ending heard_now ≡ ending_text (ending_under mode (play_of bytes))
-      (told_notes (play_of bytes).tale.notes heard) =
+      let captured = captured ending ends (λ may. let three = read_three ending may in omega (arith, two, three)) write in
+      let notes = ends.heard ∙ ap (λ (t : Tale). told_notes t.notes heard) (last_of ending ends write ∙ sym captured.tale) in
+      let text : ending_text ending heard_now ≡ ending_text (ending_under mode (play_of bytes)) (told_notes (play_of bytes).tale.notes heard) =
       ap (ending_text ending) notes
       ∙ ap (λ (e : Ending). ending_text e (told_notes (play_of bytes).tale.notes heard)) (sym captured.ends)
       in

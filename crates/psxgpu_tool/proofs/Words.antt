@@ -7,11 +7,10 @@ use Rattle.std.proofs.lemmas.List.{append-nil, map-append, take_all}
 use Rattle.gp0_packets.specs.declared.note.Note.{Note}
 use Rattle.gpu_capture.specs.declared.event.Event.{Event}
 use Rattle.gpu_capture.specs.declared.event.Event.TheVariants.{Gp0}
-use Rattle.gpu_capture.specs.declared.event.Stop.TheVariants.{End}
 use Rattle.gpu_core.specs.Machine.{State, Feed}
 use Rattle.gpu_taps.specs.Tally.{Reading, reading_after}
-use Rattle.event_play.specs.Replay.{Tale, Played, Replay, after_event, told_on, go_on, next_number}
-use Rattle.event_play.specs.RigState.{RigState, Stands, StandsFor}
+use Rattle.event_play.specs.Replay.{Tale, next_number}
+use Rattle.event_play.specs.RigState.{RigState, Stands}
 use Rattle.event_play.specs.Step.{Machine, Stepped, Step, StepCost, StepBoxCost}
 use Rattle.event_play.specs.Stepping.{HasStepped}
 use Rattle.event_play.specs.Streams.{Outlets}

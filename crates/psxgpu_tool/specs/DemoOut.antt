@@ -5,7 +5,7 @@ use Rattle.gpu_taps.specs.Tally.{Reading}
 use Rattle.packet_text.specs.Line.{status_line}
 use Rattle.packet_text.specs.Tap.{tap_line, sum_line}
 use Rattle.px_num.specs.Height.{short_height}
-use Rattle.event_play.specs.Replay.{Tale, Played, from_state}
+use Rattle.event_play.specs.Replay.{Tale, from_state}
 use Rattle.event_play.specs.Step.{first_machine}
 use Rattle.event_play.specs.Told.{told_notes}
 use Rattle.psxgpu_tool.specs.Demo.{Demo}

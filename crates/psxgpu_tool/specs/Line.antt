@@ -5,6 +5,8 @@ use Rattle.packet_text.specs.Number.{word_text, address_text}
 use Rattle.packet_text.specs.Tap.{last_lines}
 use Rattle.gpu_capture.specs.declared.event.Stop.{Stop}
 use Rattle.gpu_capture.specs.declared.event.Stop.TheVariants.{End, NotCapture, Truncated, BadRecord, TooLong, ReadFault}
+use Rattle.capture_flat.specs.declared.ending.FlatEnding.{FlatEnding}
+use Rattle.capture_flat.specs.declared.ending.FlatEnding.TheVariants as flat
 use Rattle.event_play.specs.declared.ending.Ending.{Ending}
 use Rattle.event_play.specs.declared.ending.Ending.TheVariants.{Done, Stopped, Faulted, NoPicture, WriteFailed}
 use Rattle.event_play.specs.declared.fault.EventFault.{EventFault}
@@ -83,3 +85,23 @@ last_items status heard = if status == 2 then flat_map last_lines heard else []
 -- all that is told of an ending, by what the taps say then
 abbrev pub ending_text : Ending → List Reading → List ℕ
 ending_text ending heard = ending_line ending ++ last_items (status_of ending) heard
+
+-- ---- the same for a flat capture
+
+abbrev pub flat_line : FlatEnding → List ℕ
+flat_line flat.Done = []
+flat_line (flat.Stopped event stop) = stop_line event stop
+flat_line (flat.Faulted event fault) = fault_line event fault
+flat_line (flat.TooLong event) = event_line (codes "out-too-long") event
+flat_line (flat.WriteFailed event) = event_line (codes "write-fault") event
+
+abbrev pub flat_status : FlatEnding → ℕ
+flat_status flat.Done = 0
+flat_status (flat.Stopped event (ReadFault byte)) = 3
+flat_status (flat.Stopped event stop) = 2
+flat_status (flat.Faulted event fault) = 2
+flat_status (flat.TooLong event) = 2
+flat_status (flat.WriteFailed event) = 4
+
+abbrev pub flat_text : FlatEnding → List Reading → List ℕ
+flat_text ending heard = flat_line ending ++ last_items (flat_status ending) heard

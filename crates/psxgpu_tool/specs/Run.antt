@@ -6,26 +6,18 @@ use Rattle.gpu_capture.specs.declared.event.Stop.TheVariants.{Truncated, ReadFau
 use Rattle.gpu_taps.specs.Tally.{Reading}
 use Rattle.event_play.specs.Out.{Out, OutCost, OutBoxCost, ending_under}
 use Rattle.event_play.specs.Playing.{AreAllNeeded, LacksBytes}
-use Rattle.event_play.specs.Replay.{Tale, Played, Play, from_state, next_number}
-use Rattle.event_play.specs.Step.{first_machine}
-use Rattle.event_play.specs.Streams.{Streams, streams}
+use Rattle.event_play.specs.Replay.{Tale, next_number}
 use Rattle.event_play.specs.Told.{told_notes}
-use Rattle.event_play.specs.declared.ending.Ending.{Ending}
 use Rattle.event_play.specs.declared.ending.Ending.TheVariants.{Done, Stopped, WriteFailed}
 use Rattle.event_play.specs.declared.ending.Mode.{Mode}
 use Rattle.psxgpu_tool.specs.Command.{Names, IsUsage}
 use Rattle.psxgpu_tool.specs.DemoOut.{demo_tale, DemoOut, DemoCost, DemoBoxCost}
+use Rattle.psxgpu_tool.specs.First.{first, play_of, seen}
+use Rattle.psxgpu_tool.specs.FlatRun.{FlatRun}
 use Rattle.psxgpu_tool.specs.Line.{ending_line, ending_text, status_of, usage_line, memory_line}
 use Rattle.psxgpu_tool.specs.Outside.{Outside, Says, HasFailed, HasFailedToRead}
 use Rattle.psxgpu_tool.specs.declared.texts.TheConstants.{HELP, VERSION}
-use Rattle.psxgpu_tool.specs.declared.command.Command.TheVariants.{Plays, Demo, Help, Version}
-
--- a whole capture on a new machine
-abbrev pub first : Tale
-first = from_state first_machine 0
-
-abbrev pub play_of : List ℕ → Played
-play_of bytes = Play first bytes
+use Rattle.psxgpu_tool.specs.declared.command.Command.TheVariants.{Plays, Flat, Demo, Help, Version}
 
 -- ---- a command that reads a capture, by its mode and by what the taps said when they were handed in
 
@@ -78,10 +70,6 @@ abbrev pub Starved : Mode → List Reading → (before now : Outside) → Type 0
 Starved mode heard before now =
     HasFailedToRead before.source now.source × IfSome before.source.left
     (λ bytes. StarvedRun mode heard bytes before now)
-
--- what playing sees of the outside
-abbrev pub seen : List Reading → Outside → Streams
-seen heard o = streams o.source.left o.out.held heard o.steps
 
 -- status 4: out failed. What was written begins all that there is to write, and lacks a byte that is due at the event
 -- on the line.
@@ -164,6 +152,7 @@ pub record Runs (words : Vec (String Global) Global) (heard : List Reading) (bef
       → (status ≡ 5) ⊎ EndsAsCaptured mode before status
   pub cost : (mode : Mode) → Names words (Plays mode) → WithinCost mode before now
   pub box_cost : (mode : Mode) → Names words (Plays mode) → WithinBoxCost mode before now
+  pub flat : Names words Flat → FlatRun heard before now status
   -- a command that does not read
   pub demo : (packets : ℕ) → Names words (Demo packets) → DemoRun packets heard before now status
   pub help : Names words Help → TextRun HELP.now before now status

@@ -4,8 +4,10 @@ ghost use Rattle.dev_io.specs.Device.{Writes};
 ghost use Rattle.packet_text.specs.Tap.{last_lines};
 ghost use Rattle.psxgpu_tool.specs.Line.{event_line, place_line, bad_record_line, too_long_line, list_loop_line};
 ghost use Rattle.psxgpu_tool.specs.Line.{fault_line, stop_line, ending_line, ending_text, last_items, status_of};
+ghost use Rattle.psxgpu_tool.specs.Line.{flat_line, flat_text, flat_status};
 ghost use Rattle.psxgpu_tool.specs.Outside.{sink_side, Says};
 
+use capture_flat::FlatEnding;
 use dev_io::{Failed, Sink, write_all, write_pieces};
 use event_play::{Ending, EventFault};
 use gpu_capture::Stop;
@@ -25,6 +27,20 @@ pub fn end<E: Sink, T: Listener>(err: &mut E, ending: Ending, taps: &Vec<T>) -> 
     let status = status_of(ending);
     if status != 0 {
         let _ = write_end(err, ending, taps);
+    }
+    status
+}
+
+/// The same for a run that writes a flat capture.
+pub fn end_flat<E: Sink, T: Listener>(err: &mut E, ending: FlatEnding, taps: &Vec<T>) -> u8
+    ensures status { result ≡ flat_status ending }
+    ensures says { Says (sink_side (E.held err.old) (E.faults err.old)) (sink_side (E.held err.new) (E.faults err.new))
+        (flat_text ending (map T.heard taps.now.items)) }
+    ensures silent { result ≡ 0 → sink_side (E.held err.new) (E.faults err.new) ≡ sink_side (E.held err.old) (E.faults err.old) }
+{
+    let status = flat_status(ending);
+    if status != 0 {
+        let _ = write_flat_end(err, ending, taps);
     }
     status
 }
@@ -61,6 +77,34 @@ fn write_end<E: Sink, T: Listener>(err: &mut E, ending: Ending, taps: &Vec<T>) -
     write_last_items(err, status_of(ending), taps)
 }
 
+/// The exit status of an ending of a flat capture.
+fn flat_status(ending: FlatEnding) -> u8
+    ensures { result ≡ flat_status ending }
+{
+    match ending {
+        FlatEnding::Done => 0,
+        FlatEnding::Stopped { stop, .. } => match stop {
+            Stop::ReadFault { .. } => 3,
+            _ => 2,
+        },
+        FlatEnding::Faulted { .. } => 2,
+        FlatEnding::TooLong { .. } => 2,
+        FlatEnding::WriteFailed { .. } => 4,
+    }
+}
+
+/// Writes the line of an ending of a flat capture, and behind that of a refusal the last items.
+fn write_flat_end<E: Sink, T: Listener>(
+    err: &mut E,
+    ending: FlatEnding,
+    taps: &Vec<T>,
+) -> Result<(), Failed>
+    ensures { Writes E.held E.faults err.old err.new (flat_text ending (map T.heard taps.now.items)) result }
+{
+    write_flat_ending(err, ending)?;
+    write_last_items(err, flat_status(ending), taps)
+}
+
 /// Writes the last items of every tap that keeps them, where the status is that of a refusal.
 fn write_last_items<E: Sink, T: Listener>(
     err: &mut E,
@@ -95,6 +139,19 @@ fn write_ending<E: Sink>(err: &mut E, ending: Ending) -> Result<(), Failed>
         Ending::Faulted { event, fault } => write_fault(err, event, fault),
         Ending::NoPicture { event } => write_event(err, b"no-picture", event),
         Ending::WriteFailed { event } => write_event(err, b"write-fault", event),
+    }
+}
+
+/// Writes the line of an ending of a flat capture.
+fn write_flat_ending<E: Sink>(err: &mut E, ending: FlatEnding) -> Result<(), Failed>
+    ensures { Writes E.held E.faults err.old err.new (flat_line ending) result }
+{
+    match ending {
+        FlatEnding::Done => Ok(()),
+        FlatEnding::Stopped { event, stop } => write_stop(err, event, stop),
+        FlatEnding::Faulted { event, fault } => write_fault(err, event, fault),
+        FlatEnding::TooLong { event } => write_event(err, b"out-too-long", event),
+        FlatEnding::WriteFailed { event } => write_event(err, b"write-fault", event),
     }
 }
 

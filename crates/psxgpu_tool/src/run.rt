@@ -6,8 +6,9 @@ ghost use Rattle.psxgpu_tool.specs.Run.{Runs};
 
 use crate::command::{Command, read_command};
 use crate::demo::{play_demo, tell_demo};
-use crate::line::{end, tell};
+use crate::line::{end, end_flat, tell};
 use crate::texts::{HELP, VERSION};
+use capture_flat::flat;
 use dev_io::{Sink, Source, write_all};
 use event_play::{Ending, Rig};
 use gpu_taps::{Listener, Tap};
@@ -55,6 +56,13 @@ pub fn run<S: Source, K: Sink, E: Sink, L: Ledger>(
                 play_demo(&mut rig, packets, &mut taps, steps);
                 let ending = tell_demo(&rig, out, &taps, steps);
                 end(err, ending, &taps)
+            }
+            Err(_) => tell_no_memory(err),
+        },
+        Some(Command::Flat) => match Rig::new(alloc) {
+            Ok(mut rig) => {
+                let ending = flat(&mut rig, source, out, &mut taps, steps);
+                end_flat(err, ending, &taps)
             }
             Err(_) => tell_no_memory(err),
         },

@@ -4,6 +4,7 @@ ghost use Rattle.std.specs.Prelude.{◌≡◌, ◌<◌};
 mod capture;
 mod devices;
 mod dumps;
+mod flat;
 mod lines;
 mod pictures;
 mod told;

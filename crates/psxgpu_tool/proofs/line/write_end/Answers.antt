@@ -1,6 +1,5 @@
 use Rattle.std.proofs.Common.{refl}
-use Rattle.std.proofs.lemmas.Result.{err_from_is_err_and}
-use Rattle.dev_io.proofs.Writing.{underway_start, underway_on, underway_fails, underway_last}
+use Rattle.dev_io.proofs.Writing.{underway_start, underway_on, underway_last}
 use Rattle.psxgpu_tool.proofs.line.write_end.Goals as goal
 
 pub returns : goal.returns

@@ -1,4 +1,3 @@
-use Rattle.psxgpu_tool.proofs.Told.{EndsCaptured}
 use Rattle.psxgpu_tool.proofs.run.tell_no_memory.Goals as goal
 
 pub returns-clause-says : goal.returns-clause-says

@@ -1,4 +1,4 @@
-use Rattle.std.proofs.Common.{arith, ◌≡◌, ◌∙◌, ap, sym}
+use Rattle.std.proofs.Common.{arith}
 use Rattle.vram_store.proofs.Loaded.{loaded_lanes}
 use Rattle.psxgpu_tool.proofs.Sums.{lanes_more}
 use Rattle.psxgpu_tool.proofs.sum.row_sum.Goals as goal

@@ -1,4 +1,4 @@
-use Rattle.std.proofs.Common.{◌≡◌, ◌+◌, ℕ, arith, ap, ◌∙◌}
+use Rattle.std.proofs.Common.{◌≡◌, ◌+◌, arith, ap, ◌∙◌}
 use Rattle.psxgpu_tool.specs.Demo.{drawn, after_draws, opcode_of, word_of, packet_word}
 use Rattle.psxgpu_tool.proofs.Generating.{length_small, words_before, words_on, draws_more}
 use Rattle.psxgpu_tool.proofs.generator.Generator.packet.Goals as goal

@@ -1,0 +1,18 @@
+-- A capture on a new machine.
+use Rattle.std.specs.Prelude.{ℕ, List}
+use Rattle.gpu_taps.specs.Tally.{Reading}
+use Rattle.event_play.specs.Replay.{Tale, Played, Play, from_state}
+use Rattle.event_play.specs.Step.{first_machine}
+use Rattle.event_play.specs.Streams.{Streams, streams}
+use Rattle.psxgpu_tool.specs.Outside.{Outside}
+
+abbrev pub first : Tale
+first = from_state first_machine 0
+
+-- a whole capture
+abbrev pub play_of : List ℕ → Played
+play_of bytes = Play first bytes
+
+-- what playing sees of the outside
+abbrev pub seen : List Reading → Outside → Streams
+seen heard o = streams o.source.left o.out.held heard o.steps

@@ -1,0 +1,173 @@
+// Flat captures.
+use crate::tests::capture::{bytewise, capture};
+use crate::tests::{LINES, status_over};
+use dev_io::{FailSink, MemSink, MemSource, Source};
+use std::alloc::Global;
+use std::test::Fail;
+
+/// A capture, and what is to come of it: the records of its flat capture, how many bytes of that are written, and what err says. Where
+/// it is whole, both show the same words.
+#[derive(Clone, Copy)]
+struct Case {
+    head: &'static [u8],
+    records: &'static str,
+    flat_head: &'static [u8],
+    flat: &'static str,
+    len: usize,
+    status: u8,
+    err: &'static str,
+    shown: &'static str,
+}
+
+/// A triangle in the nodes of a list, behind the clear of an ordering table.
+const LIST: Case = Case {
+    head: b"PSXGPUC1",
+    records: "gp0 e407ffff, dma 6 10c 4 11000002, ram 200 4000104 20ffffff 0 8 80000, ram 108 200, dma 2 10c 0 1000401",
+    flat_head: b"PSXGPUC2",
+    flat: "gp0 e407ffff, gp0 20ffffff, gp0 0, gp0 8, gp0 80000",
+    len: 52,
+    status: 0,
+    err: "",
+    shown: "status 14802000\n",
+};
+
+/// A word that is read to main memory, and written from there.
+const READ_BACK: Case = Case {
+    records: "gp0 a0000000 0 10001 1234, gp0 c0000000 0 10001, dma 2 100 10001 1000200, dma 2 100 10001 1000201, stat",
+    flat: "gp0 a0000000, gp0 0, gp0 10001, gp0 1234, gp0 c0000000, gp0 0, gp0 10001, skip 1, gp0 1234, stat",
+    len: 84,
+    shown: "14802000\nstatus 14802000\n",
+    ..LIST
+};
+
+/// A list that never ends, behind one event.
+const LIST_LOOP: Case = Case {
+    records: "stat, ram 100 100, dma 2 100 0 1000401",
+    flat: "stat",
+    len: 12,
+    status: 2,
+    err: "psxgpu: list-loop at event 3 node 000100\n",
+    ..LIST
+};
+
+/// A fault of the first event, in front of which nothing is due.
+const FIRST_FAULT: Case = Case {
+    records: "dma 2 0 0 1000601",
+    flat: "",
+    len: 0,
+    err: "psxgpu: bad-dma at event 1\n",
+    ..LIST_LOOP
+};
+
+/// A capture of the tall profile, and one without an event.
+const TALL: Case = Case {
+    head: b"PSXGPUC3",
+    records: "gp0 20000ff 2000000 10001",
+    flat_head: b"PSXGPUC3",
+    flat: "gp0 20000ff, gp0 2000000, gp0 10001",
+    len: 36,
+    ..LIST
+};
+
+const EMPTY: Case = Case {
+    records: "",
+    flat: "",
+    len: 12,
+    ..LIST
+};
+
+/// A snapshot, which this command refuses.
+const SNAPSHOT: Case = Case {
+    head: b"PSXGPUS1",
+    err: "psxgpu: not-capture at event 1 byte 6\n",
+    ..FIRST_FAULT
+};
+
+// Whether a source is made flat as it should be.
+fn is_met<S: Source>(alloc: Global, case: &Case, source: &mut S) -> Result<bool, Fail> {
+    let want = capture(alloc, case.flat_head, case.flat)?;
+    let mut out = MemSink::new(alloc, LINES)?;
+    let mut err = MemSink::new(alloc, LINES)?;
+    let status = status_over(alloc, "flat", source, &mut out, &mut err)?;
+    Ok(
+        status == case.status
+            && out.bytes().len() == case.len
+            && want.as_slice().starts_with(out.bytes())
+            && err.bytes() == case.err.as_bytes(),
+    )
+}
+
+// Whether these bytes show the words of the case.
+fn shows(alloc: Global, case: &Case, bytes: Vec<u8>) -> Result<bool, Fail> {
+    let mut source = MemSource::new(bytes);
+    let mut out = MemSink::new(alloc, LINES)?;
+    let mut err = MemSink::new(alloc, LINES)?;
+    let status = status_over(alloc, "play", &mut source, &mut out, &mut err)?;
+    Ok(status == 0 && out.bytes() == case.shown.as_bytes())
+}
+
+#[test]
+fn flat_captures(rt: HostRuntime) -> Result<(), Fail> {
+    let alloc = rt.alloc();
+    for case in [
+        LIST,
+        READ_BACK,
+        LIST_LOOP,
+        FIRST_FAULT,
+        TALL,
+        EMPTY,
+        SNAPSHOT,
+    ] {
+        let bytes = capture(alloc, case.head, case.records)?;
+        let mut pieces = bytewise(alloc, &bytes, &[])?;
+        assert!(rt; is_met(alloc, &case, &mut pieces)?, "{}", case.records);
+        let mut whole = MemSource::new(bytes);
+        assert!(rt; is_met(alloc, &case, &mut whole)?, "{}", case.records);
+        if case.status == 0 {
+            assert!(rt;
+                shows(alloc, &case, capture(alloc, case.head, case.records)?)?,
+                "{}",
+                case.records
+            );
+            assert!(rt;
+                shows(alloc, &case, capture(alloc, case.flat_head, case.flat)?)?,
+                "{}",
+                case.flat
+            );
+        }
+    }
+    Ok(())
+}
+
+// The event at which a byte of the flat capture of the list is due.
+fn event_of(place: usize) -> u64 {
+    if place < 16 {
+        1
+    } else if place < 48 {
+        9
+    } else {
+        10
+    }
+}
+
+#[test]
+fn each_write_of_a_flat_capture_fails_in_turn(rt: HostRuntime) -> Result<(), Fail> {
+    let alloc = rt.alloc();
+    let want = capture(alloc, LIST.flat_head, LIST.flat)?;
+    for place in 0..52usize {
+        let mut source = MemSource::new(capture(alloc, LIST.head, LIST.records)?);
+        let mut out = FailSink::new(alloc, LINES, 1, [place as u64].to_vec(alloc)?)?;
+        let mut err = MemSink::new(alloc, LINES)?;
+        let n = event_of(place);
+        let line = format!(in alloc; "psxgpu: write-fault at event {n}\n")?;
+        assert_eq!(rt;
+            status_over(alloc, "flat", &mut source, &mut out, &mut err)?,
+            4,
+            "{place}"
+        );
+        assert_eq!(rt; out.bytes().len(), place, "{place}");
+        assert!(rt; want.as_slice().starts_with(out.bytes()), "{place}");
+        assert_eq!(rt; err.bytes(), line.as_bytes(), "{place}");
+    }
+    Ok(())
+}
