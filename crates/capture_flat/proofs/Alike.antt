@@ -19,7 +19,7 @@ use Rattle.event_play.specs.declared.work.Work.TheVariants as work
 use Rattle.event_play.specs.declared.work.Words.TheVariants.{One}
 use Rattle.event_play.proofs.Grows.{tale_on, after-event}
 use Rattle.capture_flat.specs.Flat.{Flat, FlatAll, flat_work, flat_asked, then_flat}
-use Rattle.capture_flat.specs.Laws.{AreAlike}
+use Rattle.event_play.specs.Alike.{AreAlike}
 
 -- a list of events, and nothing more
 abbrev whole : Tale → List Event → Played

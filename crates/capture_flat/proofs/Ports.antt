@@ -8,7 +8,8 @@ use Rattle.event_play.specs.Work.{work_of}
 use Rattle.event_play.specs.declared.fault.EventFault.{EventFault}
 use Rattle.event_play.specs.declared.work.Work.{Work}
 use Rattle.event_play.specs.declared.work.Work.TheVariants as work
-use Rattle.capture_flat.specs.Flat.{Flat, FlatAll, flat_work, flat_asked, then_flat, AreAtPorts}
+use Rattle.event_play.specs.Ports.{AreAtPorts}
+use Rattle.capture_flat.specs.Flat.{Flat, FlatAll, flat_work, flat_asked, then_flat}
 
 words_ports : (words : List ℕ) → AreAtPorts (map event.Gp0 words)
 words_ports [] = tt

@@ -19,7 +19,7 @@ use Rattle.event_play.specs.RigState.{RigState}
 use Rattle.event_play.specs.Streams.{Streams, streams}
 use Rattle.event_play.specs.declared.ending.Ending.TheVariants.{Done as PlayedWhole}
 use Rattle.capture_flat.specs.Flat.{FlatAll}
-use Rattle.capture_flat.specs.Laws.{AreAlike}
+use Rattle.event_play.specs.Alike.{AreAlike}
 use Rattle.capture_flat.specs.OneEvent.{EndsAt}
 use Rattle.capture_flat.specs.Out.{head_due, begun, flat_version, flat_file}
 use Rattle.capture_flat.specs.Passing.{Way, Follows, AreNeededToEnd, SaysStop, IsFlatCapture, EndsFlat}

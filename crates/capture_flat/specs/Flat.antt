@@ -39,18 +39,3 @@ then_flat (Err fault) on = []
 abbrev pub FlatAll : Tale → List Event → List Event
 FlatAll t [] = []
 FlatAll t (event ∷ events) = Flat t.state event ++ then_flat (after_event t event) (λ next. FlatAll next events)
-
--- ---- the ports
-
--- an event that writes to a port or reads from one, without main memory and DMA
-abbrev pub IsAtPorts : Event → Type 0
-IsAtPorts (event.Gp0 word) = Unit {0}
-IsAtPorts (event.Gp1 word) = Unit {0}
-IsAtPorts event.Read = Unit {0}
-IsAtPorts event.Skip = Unit {0}
-IsAtPorts event.Stat = Unit {0}
-IsAtPorts other = ⊥
-
-abbrev pub AreAtPorts : List Event → Type 0
-AreAtPorts [] = Unit {0}
-AreAtPorts (event ∷ events) = IsAtPorts event × AreAtPorts events

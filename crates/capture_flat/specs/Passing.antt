@@ -15,8 +15,9 @@ use Rattle.event_play.specs.Streams.{Streams}
 use Rattle.event_play.specs.Told.{told_notes}
 use Rattle.event_play.specs.declared.ending.Ending.TheVariants.{Done as PlayedWhole}
 use Rattle.event_play.specs.declared.fault.EventFault.{EventFault}
-use Rattle.capture_flat.specs.Flat.{FlatAll, AreAtPorts}
-use Rattle.capture_flat.specs.Laws.{AreAlike}
+use Rattle.event_play.specs.Ports.{AreAtPorts}
+use Rattle.capture_flat.specs.Flat.{FlatAll}
+use Rattle.event_play.specs.Alike.{AreAlike}
 use Rattle.capture_flat.specs.Out.{begun, due_at, head_due, flat_version, flat_file}
 use Rattle.capture_flat.specs.declared.ending.FlatEnding.{FlatEnding}
 use Rattle.capture_flat.specs.declared.ending.FlatEnding.TheVariants.{Done, Stopped, Faulted, TooLong, WriteFailed}

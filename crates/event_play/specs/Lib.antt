@@ -1,3 +1,4 @@
+pub mod Alike
 pub mod Block
 pub mod Causes
 pub mod Costs
@@ -8,6 +9,7 @@ pub mod Feeding
 pub mod Lines
 pub mod Out
 pub mod Playing
+pub mod Ports
 pub mod Replay
 pub mod RigState
 pub mod Step
