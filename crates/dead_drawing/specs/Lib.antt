@@ -1,0 +1,4 @@
+pub mod Control
+pub mod Dead
+pub mod Laws
+pub mod Slim
