@@ -1,4 +1,5 @@
--- Drawing that nobody sees: a packet that draws nothing, or whose cells a later fill covers before anything reads them
+-- Drawing that nobody sees: a packet that draws nothing, or whose cells a later fill covers before anything reads
+-- them
 -- (our own rule).
 use Rattle.std.specs.Prelude.{ℕ, zero, suc, ◌+◌, ◌-◌, ◌==◌, ◌&&◌, ◌||◌, Bool, true, false, not, List, [], ◌∷◌}
 use Rattle.std.specs.Prelude.{Option, Some, None, if◌then◌else◌, length, drop, map}
@@ -23,7 +24,8 @@ window_events = 4096
 -- the first word of a polygon or rectangle without texture, or of one line
 unfoldable pub is_droppable : ℕ → Bool
 is_droppable word =
-    ((class_of word == 1 || class_of word == 3) && not (is_set word 26)) || (class_of word == 2 && not (is_set word 27))
+    ((class_of word == 1 || class_of word == 3) && not (is_set word 26)) ||
+    (class_of word == 2 && not (is_set word 27))
 
 -- ---- a later fill
 

@@ -17,11 +17,12 @@ height_for version = if version == tall_version then tall_height else 512
 abbrev pub machine_for : (version : ℕ) → Machine
 machine_for version = if version == tall_version then tall_machine first_machine else first_machine
 
--- In every version, events of the ports and the same events without their dead packets are replayed alike, and neither
+-- In every version, events of the ports and the same events without their dead packets are replayed alike, and
+-- neither
 -- has a fault.
 abbrev pub SlimReplaysAlike : Type 0
 SlimReplaysAlike = (version : ℕ) (events : List Event) → AreAtPorts events
     → ((replay_of (machine_for version) (Slim (height_for version) events)).ending ≡ Done)
     × ((replay_of (machine_for version) events).ending ≡ Done)
     × AreAlike (replay_of (machine_for version) (Slim (height_for version) events)).tale
-      (replay_of (machine_for version) events).tale
+    (replay_of (machine_for version) events).tale

@@ -1,9 +1,9 @@
 -- Cells that are plotted one after another, in two states of video memory.
-use Rattle.std.proofs.Common.{◌≡◌, ◌≢◌, ◌<◌, ◌≤◌, ◌+◌, ◌*◌, ℕ, zero, suc, List, [], ◌∷◌, Option, None, Some, Bool}
-use Rattle.std.proofs.Common.{true, false, cond, length, get_or, slice_index, inl, inr, refl, sym, ap, ◌∙◌, subst}
-use Rattle.std.proofs.Common.{arith, ◌⊎◌}
+use Rattle.std.proofs.Common.{◌≡◌, ◌≢◌, ◌<◌, ◌≤◌, ◌+◌, ◌*◌, ℕ, zero, suc, List, [], ◌∷◌, Option, None, Some}
+use Rattle.std.proofs.Common.{length, get_or, inl, inr, refl, sym, ap, ◌∙◌, subst}
+use Rattle.std.proofs.Common.{arith}
 use Rattle.std.proofs.lemmas.Bool.{cases_lt, cases_eq}
-use Rattle.std.proofs.lemmas.List.{get_or-set_same, get_or-set_other, get_or_past, set_past}
+use Rattle.std.proofs.lemmas.List.{get_or-set_same, get_or-set_other, set_past}
 use Rattle.px_num.specs.Fold.{each_below}
 use Rattle.px_num.specs.declared.shape.Cell.{Cell}
 use Rattle.vram_store.specs.Vram.{at}
@@ -25,7 +25,7 @@ put_here k (Some h) m now same = elim (cases_lt k (length m)) [
   | inl here ↦ get_or-set_same now k h 0 (omega (arith, here, same.count)) ∙ sym (get_or-set_same m k h 0 here)
   | inr past ↦ let past_now : length now ≤ k = omega (arith, past, same.count) in
       ap (λ (l : List ℕ). get_or l k 0) (set_past now k h past_now) ∙ same.cell
-          ∙ sym (ap (λ (l : List ℕ). get_or l k 0) (set_past m k h past))
+      ∙ sym (ap (λ (l : List ℕ). get_or l k 0) (set_past m k h past))
 ]
 
 put_same : (k p : ℕ) (a b : Option ℕ) (m now : List ℕ) → SameAt k m now → (p ≡ k → a ≡ b)
@@ -44,14 +44,14 @@ pub draw_same : (mask k p : ℕ) (a b : Option ℕ) (m now : List ℕ) → SameA
     → SameAt k (draw_at mask p a m) (draw_at mask p b now)
 draw_same mask k p a b m now same alike = put_same k p _ _ m now same (λ here.
     let cell : get_or m p 0 ≡ get_or now p 0 = subst (λ (i : ℕ). get_or m i 0 ≡ get_or now i 0) (sym here)
-        (sym same.cell) in
+    (sym same.cell) in
     ap (λ (c : ℕ). written_over mask c a) cell ∙ ap (written_over mask (get_or now p 0)) (alike here))
 
 pub plot_same : (mask k x y color : ℕ) (m now : List ℕ) → SameAt k m now
     → SameAt k (plot m mask x y color) (plot now mask x y color)
 plot_same mask k x y color m now same =
     rw (plot_is m mask x y color, plot_is now mask x y color)
-        (draw_same mask k (1024 * y + x) (Some color) (Some color) m now same (λ here. refl))
+    (draw_same mask k (1024 * y + x) (Some color) (Some color) m now same (λ here. refl))
 
 pub set_same : (k p color : ℕ) (m now : List ℕ) → SameAt k m now
     → SameAt k (put_at p (Some color) m) (put_at p (Some color) now)
@@ -68,7 +68,7 @@ pub cells_same : (shade : Cell → List ℕ → Option ℕ) (mask k : ℕ) → I
 cells_same shade mask k local [] m now same = same
 cells_same shade mask k local (cell ∷ cells) m now same =
     cells_same shade mask k local cells _ _
-        (draw_same mask k (1024 * cell.y + cell.x) (shade cell m) (shade cell now) m now same
+    (draw_same mask k (1024 * cell.y + cell.x) (shade cell m) (shade cell now) m now same
     (λ here. local cell m now (subst (λ (i : ℕ). get_or m i 0 ≡ get_or now i 0) (sym here) (sym same.cell))))
 
 pub each_same : (holds : List ℕ → List ℕ → Type 0) (step : ℕ → List ℕ → List ℕ) (n : ℕ) (m now : List ℕ) → holds m now
@@ -139,7 +139,7 @@ pub cells_but : (among : ℕ → Type 0) (shade : Cell → List ℕ → Option �
 cells_but among shade mask [] m each = but_same among m
 cells_but among shade mask (cell ∷ cells) m each =
     but_then among m _ _ (put_but among (1024 * cell.y + cell.x) _ m each.0)
-        (cells_but among shade mask cells _ each.1)
+    (cells_but among shade mask cells _ each.1)
 
 pub each_but : (among : ℕ → Type 0) (step : ℕ → List ℕ → List ℕ) (n : ℕ) (m : List ℕ)
     → ((i : ℕ) (a : List ℕ) → i < n → AgreeBut among a (step i a))

@@ -1,12 +1,8 @@
 -- What is drawn without texture, in two states of video memory.
-use Rattle.std.proofs.Common.{◌≡◌, ◌+◌, ◌*◌, ℕ, List, [], ◌∷◌, Option, None, Some, Bool, true, false, cond, refl, ap}
-use Rattle.std.proofs.Common.{◌∙◌, arith}
+use Rattle.std.proofs.Common.{◌≡◌, ℕ, List, [], ◌∷◌, Option, None, Some, Bool, true, false, cond, refl}
 use Rattle.std.specs.List.{filter}
-use Rattle.px_num.specs.Fold.{each_below}
 use Rattle.px_num.specs.declared.shape.Box2.{Box2}
-use Rattle.px_num.specs.declared.shape.Cell.{Cell}
 use Rattle.px_num.specs.declared.shape.Vertex.{Vertex}
-use Rattle.gp0_packets.specs.declared.packet.Packet.{Packet}
 use Rattle.gp0_packets.specs.declared.packet.Packet.TheVariants as packet
 use Rattle.gp1_status.specs.Registers.{Registers}
 use Rattle.edge_walk.specs.Triangle.{Corners}
@@ -21,9 +17,9 @@ use Rattle.prim_draw.specs.Draw.{Draw}
 use Rattle.prim_draw.specs.Lines.{drawn_ends, drawn_point, drawn_points, is_in, cell_of as cell_at, placed_ends}
 use Rattle.prim_draw.specs.Parts.{polygon, polygon_style, rectangle_style}
 use Rattle.prim_draw.specs.Rectangles.{extent_at, drawn_all, drawn_rectangle, rectangle_box, tile_in, tile_paint}
-use Rattle.prim_draw.specs.Rectangles.{tile_pixel, optional_texture}
+use Rattle.prim_draw.specs.Rectangles.{tile_pixel}
 use Rattle.prim_draw.specs.Settings.{brush_in, drawing_area}
-use Rattle.prim_draw.specs.Triangles.{draws, drawn_inside, drawn_polygon, drawn_triangle, pixel_at, placed_corners}
+use Rattle.prim_draw.specs.Triangles.{draws, drawn_inside, drawn_polygon, drawn_triangle, pixel_at}
 use Rattle.prim_draw.specs.Triangles.{triangle_box, triangle_coat, triangle_paint, upper_half, lower_half}
 use Rattle.prim_draw.specs.declared.coat.Coat.{Coat}
 use Rattle.prim_draw.specs.declared.rectangles.Extent.{Extent}
@@ -31,7 +27,7 @@ use Rattle.prim_draw.specs.declared.rectangles.Tile.{Tile}
 use Rattle.prim_draw.specs.declared.style.Style.{Style}
 use Rattle.prim_draw.specs.declared.polygon.Polygon.{Polygon}
 use Rattle.prim_draw.specs.Apart.{SameAt}
-use Rattle.prim_draw.specs.Staying.{IsUntextured, IsPlain, DrawingIsLocal}
+use Rattle.prim_draw.specs.Staying.{DrawingIsLocal}
 use Rattle.prim_draw.proofs.ApartLemmas.{IsLocal, cells_same, each_same}
 
 -- ---- paints
@@ -81,9 +77,9 @@ polygon_same r style p k m now e same = by_test p.four
     by_test : (b : Bool)
         → SameAt k
         (cond b (drawn_triangle r style (lower_half r p) (drawn_triangle r style (upper_half r p) m))
-            (drawn_triangle r style (upper_half r p) m))
+        (drawn_triangle r style (upper_half r p) m))
         (cond b (drawn_triangle r style (lower_half r p) (drawn_triangle r style (upper_half r p) now))
-            (drawn_triangle r style (upper_half r p) now))
+        (drawn_triangle r style (upper_half r p) now))
     by_test true = triangle_same r style (lower_half r p) k _ _ e
         (triangle_same r style (upper_half r p) k m now e same)
     by_test false = triangle_same r style (upper_half r p) k m now e same
@@ -122,7 +118,7 @@ point_same area brush p k m now same = by_test (is_in area p)
         → SameAt k
         (cond b (Cells (pixel_at (record { paint = Flat p.color; brush = brush })) brush.mask (cell_at p ∷ []) m) m)
         (cond b (Cells (pixel_at (record { paint = Flat p.color; brush = brush })) brush.mask
-            (cell_at p ∷ []) now) now)
+        (cell_at p ∷ []) now) now)
     by_test true = cells_same (pixel_at (record { paint = Flat p.color; brush = brush })) brush.mask k
         (plain_local (Flat p.color) brush tt) (cell_at p ∷ []) m now same
     by_test false = same
@@ -131,7 +127,7 @@ points_same : (area : Box2) (brush : Brush) (s : Ends) (n k : ℕ) (m now : List
     → SameAt k (drawn_points area brush s n m) (drawn_points area brush s n now)
 points_same area brush s n k m now same =
     each_same (SameAt k) (λ i. drawn_point area brush (point_of s i)) n m now same
-        (λ i a b h. point_same area brush (point_of s i) k a b h)
+    (λ i a b h. point_same area brush (point_of s i) k a b h)
 
 ends_same : (r : Registers) (semi : Bool) (s : Ends) (k : ℕ) (m now : List ℕ) → SameAt k m now
     → SameAt k (drawn_ends r semi s m) (drawn_ends r semi s now)
@@ -154,7 +150,7 @@ drawing_is_local r (packet.Segment a b semi) k m now plain same = ends_same r se
 drawing_is_local r (packet.Rect x y w h color true semi raw u v clut) k m now plain same = absurd plain
 drawing_is_local r (packet.Rect x y w h color false semi raw u v clut) k m now plain same =
     rectangle_same r (tile_in r (rectangle_style color false semi raw clut) u v) (extent_at r x y w h) k m now
-        (plain_tile r color semi raw u v clut) same
+    (plain_tile r color semi raw u v clut) same
 drawing_is_local r (packet.Fill color x y w h) k m now plain same = same
 drawing_is_local r (packet.Copy from to w h) k m now plain same = same
 drawing_is_local r (packet.Load x y w h) k m now plain same = same

@@ -1,15 +1,12 @@
 -- Drawing stays in its area.
-use Rattle.std.proofs.Common.{◌≡◌, ◌<◌, ◌≤◌, ◌+◌, ◌-◌, ◌*◌, ◌/◌, ◌%◌, ◌||◌, ℕ, zero, suc, ℤ, pos, ◌≤ℤ◌, ◌-ℤ◌, int_lt}
+use Rattle.std.proofs.Common.{◌≡◌, ◌<◌, ◌≤◌, ◌+◌, ◌*◌, ◌/◌, ◌%◌, ◌||◌, ℕ, zero, suc, ℤ, pos, ◌≤ℤ◌, int_lt}
 use Rattle.std.proofs.Common.{unsigned_abs, List, [], ◌∷◌, ◌++◌, Option, None, Some, IfSome, Bool, true, false, cond}
-use Rattle.std.proofs.Common.{inl, inr, refl, sym, ap, ◌∙◌, subst, arith}
-use Rattle.std.specs.Int.{int_min, int_max}
+use Rattle.std.proofs.Common.{refl, sym, subst, arith}
 use Rattle.std.specs.List.{filter}
 use Rattle.std.proofs.lemmas.Int.{ints, clamps}
-use Rattle.px_num.specs.Fold.{each_below}
 use Rattle.px_num.specs.declared.shape.Box2.{Box2}
 use Rattle.px_num.specs.declared.shape.Cell.{Cell}
 use Rattle.px_num.specs.declared.shape.Vertex.{Vertex}
-use Rattle.gp0_packets.specs.declared.packet.Packet.{Packet}
 use Rattle.gp0_packets.specs.declared.packet.Packet.TheVariants as packet
 use Rattle.gp1_status.specs.Registers.{Registers}
 use Rattle.edge_walk.specs.Extent.{bounding_box}
@@ -28,9 +25,8 @@ use Rattle.prim_draw.specs.Parts.{polygon, polygon_style, rectangle_style}
 use Rattle.prim_draw.specs.Rectangles.{cells_box, extent_at, drawn_all, drawn_rectangle, rectangle_box, tile_in}
 use Rattle.prim_draw.specs.Rectangles.{tile_pixel}
 use Rattle.prim_draw.specs.Settings.{brush_in, drawing_area}
-use Rattle.prim_draw.specs.Triangles.{draws, drawn_inside, drawn_polygon, drawn_triangle, pixel_at, placed_corners}
+use Rattle.prim_draw.specs.Triangles.{draws, drawn_inside, drawn_polygon, drawn_triangle, pixel_at}
 use Rattle.prim_draw.specs.Triangles.{triangle_box, triangle_coat, upper_half, lower_half}
-use Rattle.prim_draw.specs.declared.boxes.Block.{Block}
 use Rattle.prim_draw.specs.declared.coat.Coat.{Coat}
 use Rattle.prim_draw.specs.declared.rectangles.Extent.{Extent}
 use Rattle.prim_draw.specs.declared.rectangles.Tile.{Tile}
@@ -38,7 +34,7 @@ use Rattle.prim_draw.specs.declared.style.Style.{Style}
 use Rattle.prim_draw.specs.declared.polygon.Polygon.{Polygon}
 use Rattle.prim_draw.proofs.PointLemmas.{LiesBetween, columns_of, rows_of}
 use Rattle.span_lanes.proofs.CellsLemmas.{row_more, row_none}
-use Rattle.prim_draw.specs.Apart.{Has, IsIn, AgreeBut, AgreeOutside}
+use Rattle.prim_draw.specs.Apart.{Has, IsIn, AgreeOutside}
 use Rattle.prim_draw.specs.Staying.{DrawingStays}
 use Rattle.prim_draw.proofs.ApartLemmas.{EachCell, but_same, but_then, but_more, cells_but, each_but}
 
@@ -65,14 +61,14 @@ each_row : (among : ℕ → Type 0) (x y n : ℕ) → ((i : ℕ) → i < n → a
 each_row among x y zero h = subst (EachCell among) (sym (row_none x y)) tt
 each_row among x y (suc n) h = subst (EachCell among) (sym (row_more x y n))
     (each_append among (row_cells x y n) (cell_in_row x y n ∷ [])
-        (each_row among x y n (λ i lt. h i (omega (arith, lt)))) (h n (omega arith), tt))
+    (each_row among x y n (λ i lt. h i (omega (arith, lt)))) (h n (omega arith), tt))
 
 each_rows : (among : ℕ → Type 0) (x y w h : ℕ) → ((i j : ℕ) → i < w → j < h → among (1024 * (y + j) + (x + i)))
     → EachCell among (cells_in_rows x y w h)
 each_rows among x y w zero all = tt
 each_rows among x y w (suc h) all =
     each_append among (cells_in_rows x y w h) (row_cells x (y + h) w)
-        (each_rows among x y w h (λ i j lt lu. all i j lt (omega (arith, lu))))
+    (each_rows among x y w h (λ i j lt lu. all i j lt (omega (arith, lu))))
     (each_row among x (y + h) w (λ i lt. all i h lt (omega arith)))
 
 -- a box with a cell, between the left and the right side of video memory
@@ -90,9 +86,9 @@ in_block b i j seen lt lu =
     let column : pos (unsigned_abs b.x1 + i) ≤ℤ b.x2 = omega (arith, ints, seen.left, seen.across, lt) in
     let row : pos (unsigned_abs b.y1 + j) ≤ℤ b.y2 = omega (arith, ints, seen.top, seen.down, lu) in
     let x : (1024 * (unsigned_abs b.y1 + j) + (unsigned_abs b.x1 + i)) % 1024 ≡ unsigned_abs b.x1 + i = omega
-        (arith, ints, column, seen.right) in
+    (arith, ints, column, seen.right) in
     let y : (1024 * (unsigned_abs b.y1 + j) + (unsigned_abs b.x1 + i)) / 1024 ≡ unsigned_abs b.y1 + j = omega
-        (arith, ints, column, seen.right) in
+    (arith, ints, column, seen.right) in
     record {
       left = rw x (omega (arith, ints, seen.left));
       right = rw x column;
@@ -186,18 +182,18 @@ polygon_stays r style p m = by_test p.four
     by_test : (b : Bool)
         → AgreeOutside
         (cond b (joined (triangle_box r (upper_half r p)) (triangle_box r (lower_half r p)))
-            (triangle_box r (upper_half r p))) m
+        (triangle_box r (upper_half r p))) m
         (cond b (drawn_triangle r style (lower_half r p) (drawn_triangle r style (upper_half r p) m))
-            (drawn_triangle r style (upper_half r p) m))
+        (drawn_triangle r style (upper_half r p) m))
     by_test true =
         let first = triangle_box r (upper_half r p) in
         let second = triangle_box r (lower_half r p) in
         let between = drawn_triangle r style (upper_half r p) m in
         but_then (IsIn (joined first second)) m between _
         (but_more (IsIn first) (IsIn (joined first second)) m between (λ k h. in_first first second k h)
-            (triangle_stays r style (upper_half r p) m))
+        (triangle_stays r style (upper_half r p) m))
         (but_more (IsIn second) (IsIn (joined first second)) between _ (λ k h. in_second first second k h)
-            (triangle_stays r style (lower_half r p) between))
+        (triangle_stays r style (lower_half r p) between))
     by_test false = triangle_stays r style (upper_half r p) m
 
 -- ---- rectangles
@@ -244,9 +240,9 @@ unfolding overlap ends_box
 in_both s area p wide amid columns rows =
     let column : unsigned_abs p.x ≤ 1023 = omega (arith, ints, wide.left, wide.right, columns.from, columns.to) in
     let x : pos ((1024 * unsigned_abs p.y + unsigned_abs p.x) % 1024) ≡ p.x = omega
-        (arith, ints, wide.left, columns.from, column) in
+    (arith, ints, wide.left, columns.from, column) in
     let y : pos ((1024 * unsigned_abs p.y + unsigned_abs p.x) / 1024) ≡ p.y = omega
-        (arith, ints, wide.top, rows.from, column) in
+    (arith, ints, wide.top, rows.from, column) in
     record {
       left = rw x (omega (arith, ints, clamps, amid.across, columns.from));
       right = rw x (omega (arith, ints, clamps, amid.across, columns.to));
@@ -258,8 +254,8 @@ in_segment : (r : Registers) (s : Ends) (p : Vertex) → IsBetweenEnds s p → i
     → IsIn (clipped r (ends_box s)) (1024 * (cell_of p).y + (cell_of p).x)
 in_segment r s p amid inside =
     in_some (overlap (ends_box s) (drawing_area r)) _
-        (in_both s (drawing_area r) p (area_wide r) amid (columns_of (drawing_area r) p inside)
-            (rows_of (drawing_area r) p inside))
+    (in_both s (drawing_area r) p (area_wide r) amid (columns_of (drawing_area r) p inside)
+    (rows_of (drawing_area r) p inside))
 
 point_stays : (r : Registers) (brush : Brush) (s : Ends) (p : Vertex) (m : List ℕ) → IsBetweenEnds s p
     → AgreeOutside (clipped r (ends_box s)) m (drawn_point (drawing_area r) brush p m)
@@ -271,7 +267,7 @@ point_stays r brush s p m amid = by_test (is_in (drawing_area r) p) refl
         (cond b (Cells (pixel_at (record { paint = Flat p.color; brush = brush })) brush.mask (cell_of p ∷ []) m) m)
     by_test true e = cells_but (IsIn (clipped r (ends_box s)))
         (pixel_at (record { paint = Flat p.color; brush = brush })) brush.mask (cell_of p ∷ []) m
-            (in_segment r s p amid e, tt)
+        (in_segment r s p amid e, tt)
     by_test false e = but_same _ m
 
 ends_stays : (r : Registers) (semi : Bool) (s : Ends) (m : List ℕ)
@@ -294,7 +290,7 @@ unfolding Draw area_of
 drawing_stays r (packet.Poly four a b c d shaded textured semi raw clut page) m =
     polygon_stays r (polygon_style shaded textured semi raw clut a) (polygon four a b c d) m
 drawing_stays r (packet.Segment a b semi) m = ends_stays r semi (placed_ends r a b) m
-drawing_stays r (packet.Rect x y w h color textured semi raw u v clut) m = 
+drawing_stays r (packet.Rect x y w h color textured semi raw u v clut) m =
     rectangle_stays r (tile_in r (rectangle_style color textured semi raw clut) u v) (extent_at r x y w h) m
 drawing_stays r (packet.Fill color x y w h) m = but_same _ m
 drawing_stays r (packet.Copy from to w h) m = but_same _ m

@@ -1,6 +1,5 @@
 -- What drawing changes, and what it reads.
-use Rattle.std.specs.Prelude.{ℕ, List, Option, Bool, true, false}
-use Rattle.px_num.specs.declared.shape.Box2.{Box2}
+use Rattle.std.specs.Prelude.{ℕ, List, Bool, true, false}
 use Rattle.gp0_packets.specs.declared.packet.Packet.{Packet}
 use Rattle.gp0_packets.specs.declared.packet.Packet.TheVariants as packet
 use Rattle.gp1_status.specs.Registers.{Registers}
