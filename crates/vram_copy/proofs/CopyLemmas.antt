@@ -53,7 +53,7 @@ blind_of m s t n free room_s room_t = record {
   blind = λ j lt now apart. ap Some (apart.others (place s + j) (away s t n j free room_s room_t lt));
 }
 
-lane_of : (kept : Bool) (b h color : ℕ) → b ≡ cond kept 0 1 → h ≡ color → IsLane (cond kept None (Some color)) b h
+pub lane_of : (kept : Bool) (b h color : ℕ) → b ≡ cond kept 0 1 → h ≡ color → IsLane (cond kept None (Some color)) b h
 lane_of true b h color e f = λ one. absurd (omega (arith, e, one))
 lane_of false b h color e f = (e, f)
 

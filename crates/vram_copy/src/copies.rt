@@ -1,18 +1,17 @@
 // Copies in chunks of up to sixteen cells, under the guard.
 ghost use Rattle.std.specs.Prelude.{◌≡◌, ◌≤◌, ◌<◌, ◌+◌, ◌-◌, ◌*◌, ℕ, if◌then◌else◌, false, slice_index, length};
 ghost use Rattle.overlap_guard.specs.Hazard.{has_copy_hazard};
-ghost use Rattle.vram_store.specs.Vram.{bit, height_of};
-ghost use Rattle.vram_store.specs.Plot.{is_kept};
+ghost use Rattle.vram_store.specs.Vram.{height_of};
 ghost use Rattle.vram_copy.specs.Copy.{Copy, copied_row, copied_run};
 ghost use Rattle.vram_copy.specs.Rect.{LieInRow};
 ghost use Rattle.vram_copy.specs.Costs.{chunk_len, chunk_cost, row_cost, copy_cost};
 
 use crate::cells::{cell_down, cell_right};
-use crate::plots::copy_cell;
+use crate::plots::{copy_cell, open_cells};
 use overlap_guard::copy_hazard;
 use px_num::Cell;
 use std::sync::ledger::Ledger;
-use vram_store::mask::{force_lanes, open_bits, tests};
+use vram_store::mask::force_lanes;
 use vram_store::{Steps, Vram};
 
 /// Copies `h` rows of `w` cells from one place to another, plotting them under the mask setting
@@ -155,19 +154,4 @@ fn copy_at_once<L: Ledger>(
     let lanes = force_lanes(mask, colors);
     let open = open_cells(vram, mask, to, n, steps);
     vram.store16(to.x, to.y, n, lanes, open, steps);
-}
-
-// A bit for each of n cells of a row, 0 where the cell stays as it is and 1 where a plot writes it.
-fn open_cells<L: Ledger>(vram: &Vram, mask: u8, to: Cell, n: u8, steps: &mut Steps<L>) -> u16
-    requires count { (1 ≤ n) × (n ≤ 16) }
-    requires target_in { LieInRow (height_of vram.now) to n }
-    ensures bits { (j : ℕ) → j < n
-        → bit result j ≡ (if is_kept mask (slice_index vram.now (1024 * to.y + to.x + j)) then 0 else 1) }
-    ensures cost { steps.new ≤ steps.old + 1 }
-{
-    if tests(mask) {
-        open_bits(mask, vram.load16(to.x, to.y, n, steps))
-    } else {
-        0xffff
-    }
 }
