@@ -8,3 +8,4 @@ pub mod NearLemmas
 pub mod PlaneLemmas
 pub mod RowLemmas
 pub mod SpanLemmas
+pub mod WalkLemmas

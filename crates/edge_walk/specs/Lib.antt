@@ -6,3 +6,4 @@ pub mod Line
 pub mod Plane
 pub mod Row
 pub mod Triangle
+pub mod Walk

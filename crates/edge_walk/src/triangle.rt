@@ -6,6 +6,8 @@ use crate::line::{RowLine, keep_first};
 use crate::mix::{attribute, mixed, row_mix, weights_at};
 use crate::plane::Plane;
 use crate::rows::{Limits, row_limits};
+use crate::side::Side;
+use crate::walk::RowWalk;
 use px_num::{Box2, Vertex};
 use std::marker::Model;
 use std::simd::prelude::*;
@@ -58,6 +60,7 @@ impl Tri {
     ghost use Rattle.edge_walk.specs.Line.{IsRowLine};
     ghost use Rattle.edge_walk.specs.Plane.{IsPlane};
     ghost use Rattle.edge_walk.specs.Row.{IsInBox, IsRowSpan};
+    ghost use Rattle.edge_walk.specs.Walk.{AreRows, HasRows};
     ghost use Rattle.edge_walk.specs.Triangle.{corners, oriented, IsDrawn, IsUpright, is_drawn, is_inside};
 
     /// The triangle with these vertices. None exactly where its doubled area is 0, or the size rule refuses it: two of
@@ -137,6 +140,22 @@ impl Tri {
             Some((limits.low as i32, limits.high as i32))
         } else {
             None
+        }
+    }
+
+    /// A walk over the rows of a box, which are rows of `bounds`. It stands at the first one.
+    #[inline(always)]
+    pub fn rows(&self, clip: &Box2) -> RowWalk
+        requires { HasRows self.now clip.now }
+        ensures { AreRows self.now clip.now clip.now.y1 result }
+    {
+        let t = self.upright();
+        RowWalk {
+            x1: clip.x1,
+            x2: clip.x2,
+            first: Side::at(&t.a, &t.b, clip.y1),
+            second: Side::at(&t.b, &t.c, clip.y1),
+            third: Side::at(&t.c, &t.a, clip.y1),
         }
     }
 
