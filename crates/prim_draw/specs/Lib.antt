@@ -8,3 +8,4 @@ pub mod Parts
 pub mod Rectangles
 pub mod Settings
 pub mod Triangles
+pub mod Walks
