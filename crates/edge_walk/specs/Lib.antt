@@ -3,5 +3,6 @@ pub mod Divisor
 pub mod Extent
 pub mod Held
 pub mod Line
+pub mod Plane
 pub mod Row
 pub mod Triangle

@@ -10,10 +10,13 @@ mod edge;
 mod extent;
 mod line;
 mod mix;
+mod plane;
 mod rows;
 mod triangle;
 
+pub use divisor::Divisor;
 pub use line::RowLine;
+pub use plane::Plane;
 pub use triangle::Tri;
 
 #[cfg(test)]

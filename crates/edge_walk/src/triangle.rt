@@ -4,6 +4,7 @@ use crate::edge::{all_three, doubled_area, is_on_side, is_small};
 use crate::extent::bounding_box;
 use crate::line::{RowLine, keep_first};
 use crate::mix::{attribute, mixed, row_mix, weights_at};
+use crate::plane::Plane;
 use crate::rows::{Limits, row_limits};
 use px_num::{Box2, Vertex};
 use std::marker::Model;
@@ -53,7 +54,9 @@ impl Tri {
     ghost use Rattle.px_num.specs.Lanes.{EachLane};
     ghost use Rattle.edge_walk.specs.Attribute.{attribute_at, HasColor};
     ghost use Rattle.edge_walk.specs.Extent.{bounding_box};
+    ghost use Rattle.edge_walk.specs.Held.{divisor_for};
     ghost use Rattle.edge_walk.specs.Line.{IsRowLine};
+    ghost use Rattle.edge_walk.specs.Plane.{IsPlane};
     ghost use Rattle.edge_walk.specs.Row.{IsInBox, IsRowSpan};
     ghost use Rattle.edge_walk.specs.Triangle.{corners, oriented, IsDrawn, IsUpright, is_drawn, is_inside};
 
@@ -179,6 +182,40 @@ impl Tri {
         let weights = weights_at(&t.a, &t.b, &t.c, x, y);
         let mix = row_mix(&t.a, &t.b, &t.c, which, &weights);
         RowLine::of(&mix, &self.divisor)
+    }
+
+    /// What the sums of its attributes are divided by. It takes a division.
+    pub fn area_divisor(&self) -> Divisor
+        ensures { result ≡ divisor_for self.now }
+    {
+        self.divisor
+    }
+
+    /// An attribute over the whole triangle.
+    #[inline(always)]
+    pub fn plane(&self, which: u8, divisor: &Divisor) -> Plane
+        requires which { which ≤ 4 }
+        requires divisor { divisor.now ≡ divisor_for self.now }
+        ensures { IsPlane self.now which result }
+    {
+        let t = self.upright();
+        Plane::of(&t.a, &t.b, &t.c, which, divisor)
+    }
+
+    /// An attribute of all cells inside, where the three vertices have the same.
+    pub fn one_value(&self, which: u8) -> Option<u8>
+        requires { which ≤ 4 }
+        ensures byte { IfSome result (λ value. value ≤ 255) }
+        ensures value { IfSome result (λ value. (x y : ℤ)
+            → IsTrue (is_inside self.now x y) → attribute_at self.now which x y ≡ value) }
+    {
+        let t = self.upright();
+        let first = attribute(&t.a, which);
+        if attribute(&t.b, which) == first && attribute(&t.c, which) == first {
+            Some(first)
+        } else {
+            None
+        }
     }
 
     /// `attr_at` of the `n` cells inside from (x, y) to the right, and 0 in the lanes from `n` on.
