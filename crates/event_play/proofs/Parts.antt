@@ -77,6 +77,21 @@ lines_fed mode t words =
     ap (λ shown. lines_for mode shown (t.notes ++ notes)) (sym (append-nil t.shown))
     ∙ lines-append mode t.shown [] t.notes notes
 
+-- the lines of a tale with more of an event's words are those with fewer, and those of the words between
+pub lines_fed_on : (mode : Mode) (t : Tale) (before words : List ℕ)
+    → lines_of mode (part_fed t (before ++ words)) ≡ lines_of mode (part_fed t before)
+    ++ lines_of_notes mode (fed_notes (fed t.state.gpu before) (next_number t.played) words)
+lines_fed_on mode t before words =
+    let n = next_number t.played in
+    let s = t.state.gpu in
+    let first = lines_of_notes mode (fed_notes s n before) in
+    let more = lines_of_notes mode (fed_notes (fed s before) n words) in
+    lines_fed mode t (before ++ words)
+    ∙ ap (λ notes. lines_of mode t ++ lines_of_notes mode notes) (fed_notes-append s n before words)
+    ∙ ap (λ xs. lines_of mode t ++ xs) (lines_of_notes-append mode (fed_notes s n before) (fed_notes (fed s before) n words))
+    ∙ sym (append_assoc (lines_of mode t) first more)
+    ∙ ap (λ xs. xs ++ more) (sym (lines_fed mode t before))
+
 pub part_held : (mode : Mode) (t : Tale) (words : List ℕ) (held_before held_mid held_now : Option (List ℕ))
     (due : List ℕ)
     → held_mid ≡ appended held_before (lines_of mode t)

@@ -30,7 +30,7 @@ use Rattle.event_play.proofs.Awaiting.{Reaches, GoesOn, Awaits, SaysNext}
 use Rattle.event_play.proofs.BoxCosts.{within_boxes}
 use Rattle.event_play.proofs.Feeds.{told-append}
 use Rattle.event_play.proofs.Grows.{lines-append, tale_on, after-event, out_grows, cost_within}
-use Rattle.event_play.proofs.Parts.{event_feeds, stops_listing, part_held, part_lines, part_cost}
+use Rattle.event_play.proofs.Parts.{event_feeds, stops_listing, part_held, part_lines, part_cost, lines_fed_on}
 use Rattle.event_play.proofs.Firsts.{IsFirst}
 
 -- ---- one event more
@@ -138,7 +138,8 @@ module _ (mode : Mode) (first : Tale) (before : Streams) (left : Option (List �
           place = inl (record {
             event = event;
             comes = λ rest. (capture_from p rest, reached.says.says rest);
-            due = rw parts.mode_is (refl, is);
+            inside = rw parts.mode_is (refl, is);
+            lines = lines-append mode t.shown (option_to_list parts.shown) t.notes parts.step.notes;
           });
           due = due;
           held = let P : Option (List ℕ) → Type 0 = λ held. AppendsPart held now.held due in subst P reached.held
@@ -176,7 +177,7 @@ module _ (mode : Mode) (first : Tale) (before : Streams) (left : Option (List �
           place = inl (record {
             event = event;
             comes = λ rest. (capture_from p rest, reached.says.says rest);
-            due = rw (stops_listing _ _ _ _ _ _ _ stop)
+            inside = rw (stops_listing _ _ _ _ _ _ _ stop)
                 (record {
                   before = stop.before;
                   word = stop.word;
@@ -186,6 +187,7 @@ module _ (mode : Mode) (first : Tale) (before : Streams) (left : Option (List �
                       refl;
                   last_is = refl;
                 });
+            lines = lines_fed_on mode t stop.before (stop.word ∷ []);
           });
           due = lines_of_notes mode (fed_notes (fed t.state.gpu stop.before) n (stop.word ∷ []));
           held = part_held mode t stop.before before.held mid.held now.held _ reached.held stop.held;
@@ -300,9 +302,9 @@ module _ (mode : Mode) (first : Tale) (before : Streams) (left : Option (List �
         place = inr (record {
           comes = reached.says.says;
           ends = shown_ends mode t writes.shows;
-          start_is =
-              refl;
+          start_is = refl;
           last_is = refl;
+          bytes = ap (λ heard. final_bytes mode heard t.state.gpu) reached.heard;
         });
         due = due;
         held = let P : Option (List ℕ) → Type 0 = λ held. AppendsPart held now.held due in subst P reached.held

@@ -4,6 +4,7 @@ use Rattle.dev_io.specs.Device.{prepended, appended, AppendsPart, IsAtEnd}
 use Rattle.gpu_capture.specs.Capture.{Captured, then_events}
 use Rattle.gpu_capture.specs.declared.event.Event.{Event}
 use Rattle.gpu_capture.specs.declared.event.Stop.TheVariants.{Truncated, ReadFault}
+use Rattle.gpu_taps.specs.Tally.{Reading}
 use Rattle.event_play.specs.Out.{lines_of, final_bytes, ending_under, Out, OutCost, OutBoxCost}
 use Rattle.event_play.specs.Replay.{Tale, Played, after_event, part_fed, replayed, Play, next_number}
 use Rattle.event_play.specs.RigState.{RigState, StandsFor}
@@ -47,28 +48,31 @@ DueIn Listing t start last event = DueInside t start last event
 DueIn Words t start last event = (start ≡ t) × (after_event t event ≡ Ok last)
 DueIn mode t start last event = ⊥
 
--- after the bytes taken the next event is this one, and the output was due at it
-pub record DueAtEvent (mode : Mode) (first t start last : Tale) (taken : List ℕ) : Type 0 where
+-- after the bytes taken the next event is this one, and these lines are due at it: those that the last tale has more
+pub record DueAtEvent (mode : Mode) (first t start last : Tale) (taken due : List ℕ) : Type 0 where
   pub event : Event
   pub comes : (rest : List ℕ)
       → (more : Captured) × (Play first (taken ++ rest) ≡ replayed t (then_events (event ∷ []) more))
-  pub due : DueIn mode t start last event
+  pub inside : DueIn mode t start last event
+  pub lines : lines_of mode last ≡ lines_of mode start ++ due
 
--- every event was played, and the output was due behind the last one
-pub record DueAtEnd (mode : Mode) (first t start last : Tale) (taken : List ℕ) : Type 0 where
+-- every event was played, and these bytes are due behind the last one: all that is written after the end
+pub record DueAtEnd (mode : Mode) (heard : List Reading) (first t start last : Tale) (taken due : List ℕ)
+    : Type 0 where
   pub comes : (rest : List ℕ) → Play first (taken ++ rest) ≡ whole t rest
   pub ends : ending_under mode (whole t []) ≡ Done
   pub start_is : start ≡ t
   pub last_is : last ≡ t
+  pub bytes : due ≡ final_bytes mode (told_notes t.notes heard) t.state.gpu
 
--- What has been written begins all that there is to write, and lacks at least one byte of an output that is due at this
--- number: all that was due before it stands, and nothing that is due later.
+-- What has been written begins all that there is to write. Of what is due at this number, and was to be written next, at
+-- least one byte is lacking: all that was due before stands, and nothing that is due later.
 pub record LacksBytes (mode : Mode) (first t last : Tale) (taken : List ℕ) (number : ℕ) (before now : Streams)
     : Type 0 where
   pub number_is : number ≡ next_number t.played
   pub start : Tale
-  pub place : DueAtEvent mode first t start last taken ⊎ DueAtEnd mode first t start last taken
   pub due : List ℕ
+  pub place : DueAtEvent mode first t start last taken due ⊎ DueAtEnd mode before.heard first t start last taken due
   pub held : AppendsPart (appended before.held (lines_of mode start)) now.held due
   pub prefix : (rest : List ℕ) → (more : List ℕ)
       × (Out mode before.heard (Play first (taken ++ rest)) ≡ lines_of mode start ++ (due ++ more))

@@ -1,5 +1,6 @@
 //! What holds of every list of words. No code runs here: each law is the contract of an empty function.
 ghost use Rattle.gp0_words.specs.Cutting.{PacketsAreCut, IsPrefixFree, PacketsHaveTheirItems, AllIsCutUp};
+ghost use Rattle.gp0_words.specs.Resuming.{WhatMayBePending, RestDecides};
 
 /// A packet at the front of a list of words is cut off it whole: its items come first, and what is pending
 /// is up to the words behind it. No packet is a proper prefix of another, so a list of words is cut in one
@@ -14,4 +15,11 @@ pub fn packets_are_cut()
 pub fn words_are_packets()
     ensures all { AllIsCutUp }
     ensures items { PacketsHaveTheirItems }
+{}
+
+/// The bounds of what is pending are exact: some list of words leaves it, and no list leaves anything else. What is
+/// pending decides, with each further word, the item that is completed and what is pending then.
+pub fn rest_decides()
+    ensures bounds { WhatMayBePending }
+    ensures decides { RestDecides }
 {}

@@ -11,12 +11,14 @@ mod item;
 mod kind;
 pub mod laws;
 mod pending;
+mod resuming;
 mod splitter;
 mod words;
 
 pub use item::Item;
 pub use kind::first_len;
 pub use pending::Pending;
+pub use resuming::is_polyline;
 pub use splitter::Splitter;
 pub use words::Words;
 
@@ -130,5 +132,22 @@ mod tests {
         splitter.clear();
         assert!(rt; splitter.is_idle());
         assert!(rt; splitter.push(0x0000_0000).is_some());
+    }
+
+    #[test]
+    fn a_splitter_goes_on_from_what_is_pending(rt: HostRuntime) {
+        let mut splitter = Splitter::new();
+        for word in [0x5800_00ff, 0, 0x0000_ff00, 0x0002_0002, 0x00ff_0000] {
+            splitter.push(word);
+        }
+        match Splitter::resume(splitter.pending()) {
+            Some(mut resumed) => assert_eq!(rt;
+                look(resumed.push(0x0004_0004)),
+                Seen::Joint(0x0002_0002, 0x0004_0004)
+            ),
+            None => assert!(rt; false),
+        }
+        assert!(rt; Splitter::resume(Pending::Pixels { left: 262_145 }).is_none());
+        assert!(rt; Splitter::resume(Pending::Pixels { left: 0 }).is_none());
     }
 }

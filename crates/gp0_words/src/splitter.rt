@@ -1,13 +1,15 @@
 // The stream, cut word by word.
-ghost use Rattle.std.specs.Prelude.{◌≡◌, ◌↔◌, ℕ, Some, List, [], ◌∷◌, ◌++◌, IsTrue, false, option_to_list};
+ghost use Rattle.std.specs.Prelude.{◌≡◌, ◌↔◌, ℕ, Some, List, [], ◌∷◌, ◌++◌, IsTrue, false, option_to_list, MatchOption, IfSome};
 ghost use Rattle.gp0_words.specs.Items.{Items, Rest, IsIdle};
 ghost use Rattle.gp0_words.specs.Kinds.{class_of};
 ghost use Rattle.gp0_words.specs.Next.{next_pending, next_item, IsPending};
 ghost use Rattle.gp0_words.specs.Pushed.{IsPushed};
+ghost use Rattle.gp0_words.specs.Resuming.{list_of};
 ghost use Rattle.gp0_words.specs.declared.item.Item.TheVariants.{Whole, Pixels};
 
 use crate::item::Item;
 use crate::pending::{Pending, pixels_after, take, wanted};
+use crate::resuming::may_be_pending;
 use std::marker::Model;
 
 /// Cuts a stream of words into items, word by word.
@@ -97,5 +99,27 @@ impl Splitter {
         ensures { IsTrue result ↔ IsIdle self.now }
     {
         matches!(&self.pending, Pending::Idle)
+    }
+
+    /// What is pending.
+    pub fn pending(&self) -> Pending
+        ensures value { result ≡ self.now }
+        ensures bounds { IsPending result }
+    {
+        self.pending.copied()
+    }
+
+    /// A splitter of which this is pending; it stands for each list of words that leaves it. None exactly where no list
+    /// of words does.
+    pub fn resume(pending: Pending) -> Option<Splitter>
+        ensures exact { MatchOption result (IsPending pending → ⊥)
+            (λ splitter. (splitter ≡ pending) × IsPending pending) }
+        ensures list { IfSome result (λ splitter. Rest (list_of pending) ≡ splitter) }
+    {
+        if may_be_pending(&pending) {
+            Some(Splitter { pending })
+        } else {
+            None
+        }
     }
 }

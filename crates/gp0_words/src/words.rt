@@ -1,5 +1,5 @@
 // The words of one item.
-ghost use Rattle.std.specs.Prelude.{◌≡◌, ◌<◌, [], ◌∷◌, ◌++◌, length};
+ghost use Rattle.std.specs.Prelude.{◌≡◌, ◌<◌, ◌≤◌, [], ◌∷◌, ◌++◌, length};
 
 use arrayvec::ArrayVec;
 use std::marker::Model;
@@ -36,6 +36,18 @@ impl Words {
         ensures { self.new ≡ self.old ++ word ∷ [] }
     {
         self.words.push(word);
+    }
+
+    /// The same words once more.
+    pub fn copied(&self) -> Words
+        ensures { result ≡ self.now }
+    {
+        let slice = self.words.as_slice();
+        let mut words = Words::new();
+        for word in slice {
+            words.push(*word);
+        }
+        words
     }
 
     /// The words, in order.

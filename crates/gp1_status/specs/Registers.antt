@@ -1,6 +1,6 @@
 -- The registers of the GPU, the words that write them, and the status word
 -- (psx-spx, "GPU Rendering Attributes", "GPU Display Control Commands (GP1)", "GPU Status Register").
-use Rattle.std.specs.Prelude.{◌≡◌, ℕ, ◌+◌, ◌-◌, ◌*◌, ◌/◌, ◌%◌, ◌^◌, ◌<◌, ◌≤◌, ◌⊎◌, Bool, true, false, Option, Some, None, if◌then◌else◌, nat_le, ◌==◌, ◌&&◌, unwrap_or}
+use Rattle.std.specs.Prelude.{ℕ, ◌+◌, ◌-◌, ◌*◌, ◌/◌, ◌%◌, ◌^◌, ◌<◌, ◌≤◌, Bool, true, false, Option, Some, None, if◌then◌else◌, nat_le, ◌==◌, ◌&&◌, unwrap_or}
 use Rattle.px_num.specs.Height.{IsHeight}
 
 -- the values of the registers, and how many rows video memory has

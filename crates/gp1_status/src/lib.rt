@@ -5,10 +5,13 @@
 #![tactic(auto)]
 
 mod bits;
+pub mod laws;
 mod regs;
 mod shape;
+mod words;
 
 pub use regs::{Regs, clears};
+pub use words::allows;
 
 #[cfg(test)]
 mod tests {
@@ -96,5 +99,25 @@ mod tests {
         );
         assert_eq!(rt; (regs.held(), regs.height()), (0x1234_5678, 512));
         assert_eq!(rt; (clears(0x4100_0000), clears(0x0200_0000)), (true, false));
+    }
+
+    #[test]
+    fn words_are_the_registers_that_wrote_them(rt: HostRuntime) {
+        laws::words_say_all();
+        let mut regs = Regs::new();
+        regs.gp1(0x0300_0000);
+        regs.gp1(0x0400_0002);
+        regs.raise();
+        let mut words = regs.to_words();
+        assert_eq!(rt; (words[6], words[7], words[9]), (1, 2, 0xc0_0200));
+        match Regs::from_words(&words, false) {
+            Some(again) => assert_eq!(rt; again.status(true, false), 0x5700_2000),
+            None => assert!(rt; false),
+        }
+        words[0] = 0x800;
+        assert!(rt; Regs::from_words(&words, false).is_none());
+        assert!(rt; Regs::from_words(&words, true).is_some());
+        words[6] = 4;
+        assert!(rt; Regs::from_words(&words, true).is_none());
     }
 }

@@ -1,16 +1,18 @@
 // The registers: their values, what writes them, and the status word.
-ghost use Rattle.std.specs.Prelude.{◌≡◌, ℕ, ◌+◌, ◌-◌, ◌*◌, ◌/◌, ◌%◌, ◌^◌, ◌<◌, ◌≤◌, true};
+ghost use Rattle.std.specs.Prelude.{◌≡◌, MatchOption, IfSome, ℕ, ◌+◌, ◌-◌, ◌*◌, ◌/◌, ◌%◌, ◌^◌, ◌<◌, ◌≤◌, true};
 ghost use Rattle.px_num.specs.Height.{IsHeight, short_height, tall_height, height_of_profile};
 ghost use Rattle.gp1_status.specs.Registers.{bit, reset, status_of, request_of, info_of, env_of, page_of, gp1_of, is_clearing};
+ghost use Rattle.gp1_status.specs.Words.{AreAllowed, words_of, registers_in};
 
 use crate::bits::join;
+use crate::words::{allows_all, flag, height_of_profile};
 use std::marker::Model;
 
 /// How many rows the console's video memory has.
-const SHORT_HEIGHT: u16 = 512;
+pub(crate) const SHORT_HEIGHT: u16 = 512;
 
 /// How many rows video memory has in the tall profile.
-const TALL_HEIGHT: u16 = 1024;
+pub(crate) const TALL_HEIGHT: u16 = 1024;
 
 /// The registers that GP0(E1h) to GP0(E6h) and GP1 write, the interrupt, the latch of the read port, and
 /// the height of video memory, by which the registers that hold a Y are as wide as they are.
@@ -66,6 +68,59 @@ impl Regs {
             held: 0,
             height: SHORT_HEIGHT,
         }
+    }
+
+    /// The registers as thirteen words: the values of E1h to E6h, the flags (bit 0 the interrupt bit, bit 1 whether the
+    /// display is off), the DMA direction, the start of the display, its two ranges, its mode, and the latch.
+    pub fn to_words(&self) -> [u32; 13]
+        ensures { result ≡ words_of self.now }
+    {
+        [
+            self.e1,
+            self.window,
+            self.top_left,
+            self.bottom_right,
+            self.offset,
+            self.mask as u32,
+            self.irq as u32 + self.display_off as u32 * 2,
+            self.direction as u32,
+            self.start,
+            self.hrange,
+            self.vrange,
+            self.mode as u32,
+            self.held,
+        ]
+    }
+
+    /// The registers of which these are the words, for video memory of 1024 rows where it is tall, else of 512. None
+    /// exactly where a word has a bit that it may not have.
+    pub fn from_words(words: &[u32; 13], tall: bool) -> Option<Regs>
+        ensures exact { MatchOption result (AreAllowed (height_of_profile tall) words.now → ⊥)
+            (λ regs. (regs ≡ registers_in (height_of_profile tall) words.now)
+            × AreAllowed (height_of_profile tall) words.now) }
+        ensures again { IfSome result (λ regs. words_of regs ≡ words.now) }
+    {
+        let height = height_of_profile(tall);
+        if !allows_all(height, words) {
+            return None;
+        }
+        Some(Regs {
+            e1: words[0],
+            window: words[1],
+            top_left: words[2],
+            bottom_right: words[3],
+            offset: words[4],
+            mask: words[5] as u8,
+            irq: flag(words[6], 0),
+            display_off: flag(words[6], 1),
+            direction: words[7] as u8,
+            start: words[8],
+            hrange: words[9],
+            vrange: words[10],
+            mode: words[11] as u8,
+            held: words[12],
+            height,
+        })
     }
 
     /// Makes the height 1024 rows. All values stay; from now on bit 11 of the draw mode and every Y can be had in full.

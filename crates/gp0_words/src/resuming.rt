@@ -1,0 +1,85 @@
+// What may be pending.
+ghost use Rattle.std.specs.Prelude.{◌≡◌, ◌↔◌, ◌<◌, IsTrue, length, slice_index};
+ghost use Rattle.gp0_words.specs.Kinds.{first_len_of};
+ghost use Rattle.gp0_words.specs.Next.{IsPending, IsPolyline};
+
+use crate::kind::{bit, ends_polyline, first_len};
+use crate::pending::Pending;
+
+/// The most data words that a load wants.
+const MOST_DATA_WORDS: u32 = 262_144;
+
+impl Pending {
+    /// The same once more.
+    pub fn copied(&self) -> Pending
+        ensures { result ≡ self.now }
+    {
+        match self {
+            Pending::Idle => Pending::Idle,
+            Pending::Packet { words } => Pending::Packet {
+                words: words.copied(),
+            },
+            Pending::Pixels { left } => Pending::Pixels { left: *left },
+            Pending::Poly {
+                command,
+                color,
+                vertex,
+                half,
+            } => Pending::Poly {
+                command: *command,
+                color: *color,
+                vertex: *vertex,
+                half: *half,
+            },
+        }
+    }
+}
+
+/// Whether a polyline begins with this word.
+pub fn is_polyline(command: u32) -> bool
+    ensures { IsTrue result ↔ IsPolyline command }
+{
+    command >> 29 == 2 && bit(command, 27)
+}
+
+// Whether these are words of an item that is not whole, the first of its packet.
+fn is_begun(words: &[u32]) -> bool
+    ensures { IsTrue result ↔ (0 < length words.now) × (length words.now < first_len_of (slice_index words.now 0)) }
+{
+    if words.len() == 0 {
+        false
+    } else {
+        words.len() < first_len(words[0])
+    }
+}
+
+// Whether this may be pending of a polyline.
+fn is_open_polyline(command: u32, color: u32, vertex: u32, half: Option<u32>) -> bool
+    ensures { IsTrue result ↔ IsPending (Pending.Poly command color vertex half) }
+{
+    if !is_polyline(command) {
+        return false;
+    }
+    let shaded = bit(command, 28);
+    match half {
+        None => shaded || color == command,
+        Some(half) => shaded && !ends_polyline(half),
+    }
+}
+
+/// Whether some list of words leaves this pending.
+pub(crate) fn may_be_pending(pending: &Pending) -> bool
+    ensures { IsTrue result ↔ IsPending pending.now }
+{
+    match pending {
+        Pending::Idle => true,
+        Pending::Packet { words } => is_begun(words.as_slice()),
+        Pending::Pixels { left } => 1 <= *left && *left <= MOST_DATA_WORDS,
+        Pending::Poly {
+            command,
+            color,
+            vertex,
+            half,
+        } => is_open_polyline(*command, *color, *vertex, *half),
+    }
+}

@@ -1,0 +1,7 @@
+//! What holds of all registers. No code runs here: each law is the contract of an empty function.
+ghost use Rattle.gp1_status.specs.Words.{WordsSayAll};
+
+/// The words of registers, read again, are these registers.
+pub fn words_say_all()
+    ensures { WordsSayAll }
+{}
