@@ -4,9 +4,9 @@ use Rattle.px_num.specs.declared.shape.Box2.{Box2}
 use Rattle.edge_walk.specs.Triangle.{Corners}
 use Rattle.edge_walk.specs.Walk.{AreRows}
 use Rattle.edge_walk.specs.declared.walk.RowWalk.{RowWalk}
+use Rattle.span_lanes.specs.Pen.{Ink}
 use Rattle.span_lanes.specs.Shade.{HasInside}
 use Rattle.span_lanes.specs.declared.span.Paint.{Paint}
-use Rattle.span_lanes.specs.declared.span.Span.{Span}
 use Rattle.prim_draw.specs.Boxes.{IsOnScreen, block_of}
 use Rattle.prim_draw.specs.Triangles.{IsRun, row_inside, run_cells}
 use Rattle.prim_draw.specs.declared.coat.Coat.{Coat}
@@ -31,9 +31,9 @@ pub record TakesRow (old new : RowWalk) (found : Option Run) : Type 0 where
   pub inside : (t : Corners) (clip : Box2) (y : ℕ) → IsRowOf t clip y old → IfSome found (IsRun t y)
   pub next : (t : Corners) (clip : Box2) (y : ℕ) → IsRowOf t clip y old → AreRows t clip (pos (y + 1)) new
 
--- what a span is drawn with
-abbrev pub coat_in : Span → Coat
-coat_in span = record { paint = span.paint; brush = span.brush }
+-- what a pen draws with
+abbrev pub coat_of_ink : Ink → Coat
+coat_of_ink ink = record { paint = ink.paint; brush = ink.brush }
 
 -- cells of row y that can be drawn with a paint, side by side
 pub record CanDraw (paint : Paint) (y : ℕ) (run : Run) : Type 0 where

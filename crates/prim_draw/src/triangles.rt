@@ -12,7 +12,7 @@ ghost use Rattle.prim_draw.specs.Triangles.{draws, drawn_triangle, painted_cells
 ghost use Rattle.prim_draw.specs.Triangles.{run_cells};
 ghost use Rattle.prim_draw.specs.Triangles.{triangle_box, triangle_coat, triangle_paint, FitsTriangle, IsAlike};
 ghost use Rattle.prim_draw.specs.Triangles.{IsCoat};
-ghost use Rattle.prim_draw.specs.Walks.{CanDraw, IsOnRow, TakesRow, coat_in};
+ghost use Rattle.prim_draw.specs.Walks.{CanDraw, IsOnRow, TakesRow, coat_of_ink};
 
 use crate::boxes::{block_of, clipped};
 use crate::coat::Coat;
@@ -21,7 +21,7 @@ use crate::style::Style;
 use edge_walk::{RowWalk, Tri};
 use gp1_status::Regs;
 use px_num::{Box2, Vertex};
-use span_lanes::{Paint, Span, draw_span};
+use span_lanes::{Paint, Pen};
 use std::marker::Model;
 use std::sync::ledger::Ledger;
 use vram_store::{Steps, Vram};
@@ -80,28 +80,25 @@ fn next_run(rows: &mut RowWalk) -> Option<Run>
     }
 }
 
-// Draws a run of cells, or none, with what a span is drawn with.
+// Draws a run of cells, or none.
 #[inline(always)]
 fn draw_run<L: Ledger>(
     vram: &mut Vram,
-    span: &mut Span,
+    pen: &mut Pen,
     found: Option<Run>,
     y: u16,
     steps: &mut Steps<L>,
 )
-    requires coat { IsCoat (height_of vram.old) (coat_in span.old) }
+    requires coat { IsCoat (height_of vram.old) (coat_of_ink pen.old) }
     requires row { y < height_of vram.old }
-    requires run { IfSome found (CanDraw span.old.paint y) }
-    ensures cells { vram.new ≡ painted_cells (coat_in span.old) (run_cells found y) vram.old }
+    requires run { IfSome found (CanDraw pen.old.paint y) }
+    ensures cells { vram.new ≡ painted_cells (coat_of_ink pen.old) (run_cells found y) vram.old }
     ensures long { length vram.new ≡ length vram.old }
-    ensures coat { coat_in span.new ≡ coat_in span.old }
-    ensures cost { steps.new ≤ steps.old + side_by_side (coat_in span.old) (run_cells found y) }
+    ensures pen { pen.new ≡ pen.old }
+    ensures cost { steps.new ≤ steps.old + side_by_side (coat_of_ink pen.old) (run_cells found y) }
 {
     if let Some(run) = found {
-        span.x = run.x;
-        span.y = y;
-        span.n = run.n;
-        draw_span(vram, span, steps);
+        pen.draw(vram, run.x, y, run.n, steps);
     }
 }
 
@@ -120,16 +117,10 @@ impl Coat {
     {
         let block = block_of(clip);
         let mut rows = tri.rows(clip);
-        let mut span = Span {
-            x: block.x,
-            y: block.y,
-            n: block.w,
-            paint: self.paint,
-            brush: self.brush,
-        };
+        let mut pen = Pen::new(&self.paint, &self.brush);
         for j in 0..block.h {
             let run = next_run(&mut rows);
-            draw_run(vram, &mut span, run, block.y + j, steps);
+            draw_run(vram, &mut pen, run, block.y + j, steps);
         }
     }
 }

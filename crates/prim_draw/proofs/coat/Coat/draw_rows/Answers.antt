@@ -5,7 +5,7 @@ use Rattle.edge_walk.specs.Walk.{AreRows}
 use Rattle.prim_draw.specs.Boxes.{block_of}
 use Rattle.prim_draw.specs.Triangles.{draws, pixel_at, painted_cells, run_cells, row_inside}
 use Rattle.prim_draw.specs.Costs.{side_by_side}
-use Rattle.prim_draw.specs.Walks.{CanDraw, coat_in}
+use Rattle.prim_draw.specs.Walks.{CanDraw, coat_of_ink}
 use Rattle.prim_draw.proofs.RowLemmas.{row_drawn}
 use Rattle.prim_draw.proofs.WalkLemmas.{box_is, can_draw, has_rows, row_at}
 use Rattle.prim_draw.proofs.coat.Coat.draw_rows.Goals as goal
@@ -25,7 +25,7 @@ loop-j-init g c =
       cells = refl;
       cost = omega arith;
       long = refl;
-      coat = refl;
+      coat = ap coat_of_ink c.new-pen.ensures;
       stands = subst (λ y. AreRows c.args.tri.now c.args.clip.now y c.rows-rows.result) first c.rows-rows.ensures;
     }
 
@@ -40,7 +40,7 @@ next_run-run-requires g c = record {
 pub draw_run-requires-clause-run : goal.draw_run-requires-clause-run
 draw_run-requires-clause-run g c =
     let row = row_at _ _ _ _ _ c.requires.small c.block_of-block.ensures.value c.loop-j-test.true c.loop-j.invariant.stands in
-    let paint_is : c.args.self.now.paint ≡ c.loop-j.span.paint = ap (λ k. k.paint) (sym c.loop-j.invariant.coat) in
+    let paint_is : c.args.self.now.paint ≡ c.loop-j.pen.paint = ap (λ k. k.paint) (sym c.loop-j.invariant.coat) in
     subst (λ paint. IfSome c.next_run-run.result (CanDraw paint (c.block_of-block.result.y + c.loop-j.j))) paint_is
     (can_draw c.args.tri.now c.args.self.now.paint (c.block_of-block.result.y + c.loop-j.j) c.next_run-run.result c.requires.fits (c.next_run-run.ensures.inside _ _ _ row))
 
@@ -61,6 +61,6 @@ loop-j-preserved g c =
       cost = rw (add-one c.loop-j.j) (spent _ _ _ _ _ h.cost
           (subst (λ cost. c.draw_run.new.steps ≤ c.loop-j.steps + cost) (ap (λ k. side_by_side k (run_cells found y)) h.coat ∙ ap (λ (cells : List Cell). side_by_side coat cells) found_is) c.draw_run.ensures.cost));
       long = c.draw_run.ensures.long ∙ h.long;
-      coat = c.draw_run.ensures.coat ∙ h.coat;
+      coat = ap coat_of_ink c.draw_run.ensures.pen ∙ h.coat;
       stands = subst (λ (k : ℕ). AreRows t c.args.clip.now (pos k) c.next_run-run.new.rows) next (c.next_run-run.ensures.next _ _ _ row);
     }
