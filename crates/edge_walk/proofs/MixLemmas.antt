@@ -9,7 +9,7 @@ use borrow.Author.Differences.{up, down}
 use Rattle.px_num.proofs.Ring.{at, add, sub, mul, same}
 use Rattle.edge_walk.specs.declared.divisor.Divisor.{Divisor}
 use Rattle.edge_walk.specs.Divisor.{IsDivisor}
-use Rattle.edge_walk.specs.Held.{IsHeld}
+use Rattle.edge_walk.specs.Held.{divisor_for}
 use Rattle.edge_walk.proofs.Corner.{area_turned, sum_of_edges}
 use Rattle.edge_walk.proofs.RowLemmas.{on_side_iff, both_true}
 
@@ -98,15 +98,14 @@ pub record IsAreaOf (d : Divisor) (t : Corners) : Type 0 where
   pub divisor : IsDivisor d
   pub is : pos d.area ≡ doubled_area t
 
--- t is a triangle's vertices as it holds them, and v as contracts see them
-pub area_held : (t v : Corners) (turned : Bool) (d : Divisor) (a b c : Vertex) → IsHeld t turned d → t ≡ v → corners a b c ≡ oriented v → IsUpright (corners a b c) → IsAreaOf d (corners a b c)
-area_held t v turned d a b c held view_is same_as upright =
-    let whole : d.area ≡ unsigned_abs (doubled_area (corners a b c)) = ap (λ e. e.area) held.divisor_is ∙ sym (area_oriented t) ∙ ap (λ w. unsigned_abs (doubled_area w)) (ap oriented view_is ∙ sym same_as) in
+pub area_held : (v : Corners) (d : Divisor) (a b c : Vertex) → d ≡ divisor_for v → corners a b c ≡ oriented v → IsUpright (corners a b c) → IsAreaOf d (corners a b c)
+area_held v d a b c is same_as upright =
+    let whole : d.area ≡ unsigned_abs (doubled_area (corners a b c)) = ap (λ e. e.area) is ∙ sym (area_oriented v) ∙ ap (λ w. unsigned_abs (doubled_area w)) (sym same_as) in
     let bound = area_bound a b c upright.small.one upright.small.three in record {
       divisor = record {
         some = omega (arith, ints, whole, upright.area);
         most = omega (arith, ints, whole, upright.area, bound);
-        reciprocal = rw held.divisor_is refl;
+        reciprocal = rw is refl;
       };
       is = omega (arith, ints, whole, upright.area);
     }

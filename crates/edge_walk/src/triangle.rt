@@ -21,25 +21,25 @@ pub struct Tri {
     c: Vertex,
     // whether b and c are exchanged in the oriented triangle
     turned: bool,
-    divisor: Divisor,
+    // the doubled area, without its sign
+    area: u32,
 }
 
 impl Model for Tri {
     ghost use Rattle.std.specs.Prelude.{◌≡◌, int_lt, pos, unsigned_abs};
     ghost use Rattle.std.proofs.Common.{ap, sym, ◌∙◌};
-    ghost use Rattle.edge_walk.specs.Divisor.{divisor_of};
     ghost use Rattle.edge_walk.specs.Triangle.{Corners, corners, doubled_area, IsDrawn};
-    ghost use Rattle.edge_walk.specs.Held.{IsHeld, is_turned, divisor_for};
+    ghost use Rattle.edge_walk.specs.Held.{IsHeld, is_turned, size_of};
 
     ghost Value = { Corners };
 
     ghost view = { λ t. corners t.a t.b t.c };
 
-    ghost invariant = { λ t. IsHeld (corners t.a t.b t.c) t.turned t.divisor };
+    ghost invariant = { λ t. IsHeld (corners t.a t.b t.c) t.turned t.area };
 
-    ghost inverse = { λ t. record { a = t.first; b = t.second; c = t.third; turned = is_turned t; divisor = divisor_for t } };
+    ghost inverse = { λ t. record { a = t.first; b = t.second; c = t.third; turned = is_turned t; area = size_of t } };
 
-    ghost inverse_ok = { λ t h. ap (λ s. record { a = t.a; b = t.b; c = t.c; turned = s; divisor = divisor_for (corners t.a t.b t.c) }) (sym h.turned_is) ∙ ap (λ s. record { a = t.a; b = t.b; c = t.c; turned = t.turned; divisor = s }) (sym h.divisor_is) };
+    ghost inverse_ok = { λ t h. ap (λ s. record { a = t.a; b = t.b; c = t.c; turned = s; area = size_of (corners t.a t.b t.c) }) (sym h.turned_is) ∙ ap (λ s. record { a = t.a; b = t.b; c = t.c; turned = t.turned; area = s }) (sym h.area_is) };
 }
 
 // A triangle whose doubled area is above 0.
@@ -81,7 +81,7 @@ impl Tri {
             b,
             c,
             turned: area < 0,
-            divisor: Divisor::new(area.unsigned_abs() as u32),
+            area: area.unsigned_abs() as u32,
         })
     }
 
@@ -173,7 +173,7 @@ impl Tri {
             attribute(&t.a, which),
             attribute(&t.b, which),
             attribute(&t.c, which),
-            &self.divisor,
+            &self.area_divisor(),
         )
     }
 
@@ -200,14 +200,14 @@ impl Tri {
         let t = self.upright();
         let weights = weights_at(&t.a, &t.b, &t.c, x, y);
         let mix = row_mix(&t.a, &t.b, &t.c, which, &weights);
-        RowLine::of(&mix, &self.divisor)
+        RowLine::of(&mix, &self.area_divisor())
     }
 
     /// What the sums of its attributes are divided by. It takes a division.
     pub fn area_divisor(&self) -> Divisor
         ensures { result ≡ divisor_for self.now }
     {
-        self.divisor
+        Divisor::new(self.area)
     }
 
     /// An attribute over the whole triangle.

@@ -1,15 +1,17 @@
 -- Rows of a rectangle.
-use Rattle.std.proofs.Common.{◌≡◌, ◌≤◌, ℕ, ◌+◌, ◌-◌, pos, ◌≤ℤ◌, ◌-ℤ◌, unsigned_abs, List, Option, None, Some, Bool, true, false, refl, sym, ap, ◌∙◌, arith, add-one}
+use Rattle.std.proofs.Common.{◌≡◌, ◌≤◌, ◌<◌, ℕ, ◌+◌, ◌-◌, pos, ◌≤ℤ◌, ◌-ℤ◌, unsigned_abs, List, Option, None, Some, Bool, true, false, refl, sym, ap, ◌∙◌, arith, add-one}
 use Rattle.std.proofs.lemmas.Int.{ints}
 use Rattle.px_num.specs.declared.shape.Cell.{Cell}
 use Rattle.span_lanes.specs.Cells.{Cells, row_cells}
-use Rattle.span_lanes.specs.Shade.{paint_pixel, row_u, shade, shade_at}
+use Rattle.span_lanes.specs.Pen.{Ink, ink_span, paint_row, with_row}
+use Rattle.span_lanes.specs.Shade.{paint_pixel, row_u, shade, shade_at, texture_of, HasInside, IsSpan, LiesIn}
+use Rattle.span_lanes.specs.declared.span.Paint.{Paint}
 use Rattle.span_lanes.specs.declared.span.Brush.{Brush}
 use Rattle.span_lanes.specs.declared.span.Texture.{Texture}
 use Rattle.span_lanes.proofs.CellsLemmas.{cells_append, row_same}
-use Rattle.prim_draw.specs.Boxes.{cells_in_rows}
+use Rattle.prim_draw.specs.Boxes.{cells_in_rows, IsBlock}
 use Rattle.prim_draw.specs.Costs.{tile_span}
-use Rattle.prim_draw.specs.Rectangles.{paint_from, tile_paint, tile_pixel}
+use Rattle.prim_draw.specs.Rectangles.{paint_from, tile_paint, tile_pixel, IsTile}
 use Rattle.prim_draw.specs.declared.boxes.Block.{Block}
 use Rattle.prim_draw.specs.declared.rectangles.Extent.{Extent}
 use Rattle.prim_draw.specs.declared.rectangles.Tile.{Tile}
@@ -47,3 +49,55 @@ row_drawn pixel mask x y w j first before after so_far here =
     ∙ ap (Cells pixel mask (row_cells x (y + j) w)) so_far
     ∙ sym (cells_append pixel mask (cells_in_rows x y w j) (row_cells x (y + j) w) first)
     ∙ ap (λ (k : ℕ). Cells pixel mask (cells_in_rows x y w k) first) (sym (add-one j))
+
+-- ---- one pen for all rows
+
+-- what the cells of a row are drawn with, from a column and a row of the whole rectangle on
+abbrev pub tile_ink : Tile → ℕ → ℕ → Ink
+tile_ink tile column row = record { paint = tile_paint tile column row; brush = tile.brush }
+
+other_row : (tile : Tile) (texture : Option Texture) (column row next : ℕ) → paint_row (row_u tile.v tile.flip_y next) (paint_from tile texture column row) ≡ paint_from tile texture column next
+other_row tile None column row next = refl
+other_row tile (Some texture) column row next = refl
+
+next_ink : (tile : Tile) (column row next : ℕ) → with_row (row_u tile.v tile.flip_y next) (tile_ink tile column row) ≡ tile_ink tile column next
+unfolding tile_paint
+next_ink tile column row next = ap (λ (paint : Paint). record { paint = paint; brush = tile.brush }) (other_row tile tile.texture column row next)
+
+-- a pen that took a row
+pub taken : (tile : Tile) (pen now : Ink) (column row v : ℕ) → (old : ℕ) × (pen ≡ tile_ink tile column old) → now ≡ with_row v pen → v ≡ row_u tile.v tile.flip_y row → now ≡ tile_ink tile column row
+taken tile pen now column row v before is v_is = is ∙ ap (with_row v) before.1 ∙ ap (λ k. with_row k (tile_ink tile column before.0)) v_is ∙ next_ink tile column before.0 row
+
+-- the span of row j of a block
+pub span_is : (tile : Tile) (e : Extent) (b : Block) (j column rows : ℕ) → column ≡ unsigned_abs (pos b.x -ℤ e.left) → rows ≡ unsigned_abs (pos b.y -ℤ e.top) → e.top ≤ℤ pos b.y
+    → ink_span (tile_ink tile column (rows + j)) b.x (b.y + j) b.w ≡ tile_span tile e b (b.y + j)
+span_is tile e b j column rows column_is rows_is above =
+    let row : rows + j ≡ unsigned_abs (pos (b.y + j) -ℤ e.top) = omega (arith, ints, rows_is, above) in
+    ap (λ k. ink_span (tile_ink tile k (rows + j)) b.x (b.y + j) b.w) column_is ∙ ap (λ k. ink_span (tile_ink tile (unsigned_abs (pos b.x -ℤ e.left)) k) b.x (b.y + j) b.w) row
+
+texture_is : (tile : Tile) (texture : Option Texture) (column row : ℕ) → texture_of (paint_from tile texture column row) ≡ texture
+texture_is tile None column row = refl
+texture_is tile (Some texture) column row = refl
+
+free : (tile : Tile) (texture : Option Texture) (column row x y n : ℕ) → HasInside (paint_from tile texture column row) x y n
+free tile None column row x y n = tt
+free tile (Some texture) column row x y n = tt
+
+module _ (tile : Tile) (e : Extent) (b : Block) (y height : ℕ) (is : IsTile height tile) where
+  pub can_span : IsBlock 1024 b → IsSpan (tile_span tile e b y)
+  unfolding tile_paint
+  can_span block = record {
+    some = block.columns;
+    in_row = block.right;
+    mask = is.mask;
+    mode = is.mode;
+    texture = rw (texture_is tile tile.texture (unsigned_abs (pos b.x -ℤ e.left)) (unsigned_abs (pos y -ℤ e.top))) is.texture;
+    inside = free tile tile.texture (unsigned_abs (pos b.x -ℤ e.left)) (unsigned_abs (pos y -ℤ e.top)) b.x y b.w;
+  }
+
+  pub span_lies : y < height → LiesIn height (tile_span tile e b y)
+  unfolding tile_paint
+  span_lies row = record {
+    row = row;
+    page = rw (texture_is tile tile.texture (unsigned_abs (pos b.x -ℤ e.left)) (unsigned_abs (pos y -ℤ e.top))) is.page;
+  }

@@ -10,3 +10,4 @@ pub mod Rectangles
 pub mod Settings
 pub mod Staying
 pub mod Triangles
+pub mod Walks

@@ -15,7 +15,7 @@ use crate::settings::{brush_in, texture_in};
 use crate::style::Style;
 use gp1_status::Regs;
 use px_num::{Box2, sign11};
-use span_lanes::{Brush, Paint, Span, Texture, draw_span};
+use span_lanes::{Brush, Paint, Pen, Texture};
 use std::sync::ledger::Ledger;
 use vram_store::{Steps, Vram};
 
@@ -187,37 +187,6 @@ impl Tile {
         }
     }
 
-    // Draws row j of a block of a rectangle.
-    fn draw_row<L: Ledger>(
-        &self,
-        vram: &mut Vram,
-        extent: &Extent,
-        block: &Block,
-        j: u16,
-        steps: &mut Steps<L>,
-    )
-        requires tile { IsTile (height_of vram.old) self.now }
-        requires is { IsExtent extent.now }
-        requires part { IsPartOf extent.now block.now }
-        requires small { IsBlock 1024 block.now }
-        requires block { IsBlock (height_of vram.old) block.now }
-        requires row { j < block.now.h }
-        ensures cells { vram.new
-            ≡ tiled_cells self.now extent.now (row_cells block.now.x (block.now.y + j) block.now.w) vram.old }
-        ensures long { length vram.new ≡ length vram.old }
-        ensures cost { steps.new ≤ steps.old + span_cost (tile_span self.now extent.now block.now (block.now.y + j)) }
-    {
-        let first = cells_before(extent, block);
-        let span = Span {
-            x: block.x,
-            y: block.y + j,
-            n: block.w,
-            paint: self.paint_at(first.columns, first.rows + j),
-            brush: self.brush,
-        };
-        draw_span(vram, &span, steps);
-    }
-
     // Draws the cells of a block of a rectangle.
     fn draw_rows<L: Ledger>(
         &self,
@@ -235,8 +204,11 @@ impl Tile {
         ensures long { length vram.new ≡ length vram.old }
         ensures cost { steps.new ≤ steps.old + tile_rows_cost self.now extent.now block.now block.now.h }
     {
+        let first = cells_before(extent, block);
+        let mut pen = Pen::new(&self.paint_at(first.columns, first.rows), &self.brush);
         for j in 0..block.h {
-            self.draw_row(vram, extent, block, j, steps);
+            pen.set_row(texel_at(self.v, self.flip_y, first.rows + j));
+            pen.draw(vram, block.x, block.y + j, block.w, steps);
         }
     }
 

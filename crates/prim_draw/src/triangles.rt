@@ -3,24 +3,25 @@ ghost use Rattle.std.specs.Prelude.{◌≡◌, ◌≤◌, ◌<◌, ◌+◌, ◌*
 ghost use Rattle.std.specs.List.{filter};
 ghost use Rattle.vram_store.specs.Vram.{height_of};
 ghost use Rattle.gp0_packets.specs.Ranges.{IsPlace};
+ghost use Rattle.edge_walk.specs.Extent.{bounding_box};
 ghost use Rattle.edge_walk.specs.Triangle.{is_drawn};
-ghost use Rattle.span_lanes.specs.Cells.{row_cells};
-ghost use Rattle.span_lanes.specs.Shade.{texture_of, HasInside, IsTexture};
-ghost use Rattle.prim_draw.specs.Boxes.{IsBlock, IsOnScreen, cells_of, row_box};
+ghost use Rattle.span_lanes.specs.Shade.{texture_of, IsTexture};
+ghost use Rattle.prim_draw.specs.Boxes.{IsOnScreen, LiesIn, block_of, cells_of};
 ghost use Rattle.prim_draw.specs.Costs.{side_by_side, triangle_rows_cost, triangle_cost};
-ghost use Rattle.prim_draw.specs.Triangles.{draws, drawn_triangle, painted_cells, placed_corners, row_inside};
+ghost use Rattle.prim_draw.specs.Triangles.{draws, drawn_triangle, painted_cells, placed_corners};
 ghost use Rattle.prim_draw.specs.Triangles.{run_cells};
-ghost use Rattle.prim_draw.specs.Triangles.{triangle_box, triangle_coat, triangle_paint, IsRun, FitsTriangle, IsAlike};
+ghost use Rattle.prim_draw.specs.Triangles.{triangle_box, triangle_coat, triangle_paint, FitsTriangle, IsAlike};
 ghost use Rattle.prim_draw.specs.Triangles.{IsCoat};
+ghost use Rattle.prim_draw.specs.Walks.{CanDraw, IsOnRow, TakesRow, coat_of_ink};
 
-use crate::boxes::{Block, block_of, clipped};
+use crate::boxes::{block_of, clipped};
 use crate::coat::Coat;
 use crate::settings::{brush_in, placed, texture_in};
 use crate::style::Style;
-use edge_walk::Tri;
+use edge_walk::{RowWalk, Tri};
 use gp1_status::Regs;
 use px_num::{Box2, Vertex};
-use span_lanes::{Paint, Span, draw_span};
+use span_lanes::{Paint, Pen};
 use std::marker::Model;
 use std::sync::ledger::Ledger;
 use vram_store::{Steps, Vram};
@@ -64,26 +65,13 @@ pub(crate) struct Run {
     pub(crate) n: u16,
 }
 
-// The box of one row of a block.
-fn row_box(block: &Block, y: u16) -> Box2
-    requires { IsBlock 1024 block.now }
-    ensures { result ≡ row_box block.now y }
+// The cells that a triangle draws of the row at which a walk stands, which then goes on.
+#[inline(always)]
+fn next_run(rows: &mut RowWalk) -> Option<Run>
+    requires { IsOnRow rows.old }
+    ensures { TakesRow rows.old rows.new result }
 {
-    Box2 {
-        x1: block.x as i32,
-        y1: y as i32,
-        x2: (block.x + block.w - 1) as i32,
-        y2: y as i32,
-    }
-}
-
-// The cells of a row of a block that a triangle draws.
-fn run_of(tri: &Tri, block: &Block, y: u16) -> Option<Run>
-    requires { IsBlock 1024 block.now }
-    ensures cells { run_cells result y ≡ row_inside tri.now block.now y }
-    ensures inside { IfSome result (IsRun tri.now y) }
-{
-    match tri.row_span(y as i32, &row_box(block, y)) {
+    match rows.next() {
         None => None,
         Some((first, last)) => Some(Run {
             x: first as u16,
@@ -92,62 +80,47 @@ fn run_of(tri: &Tri, block: &Block, y: u16) -> Option<Run>
     }
 }
 
+// Draws a run of cells, or none.
+#[inline(always)]
+fn draw_run<L: Ledger>(
+    vram: &mut Vram,
+    pen: &mut Pen,
+    found: Option<Run>,
+    y: u16,
+    steps: &mut Steps<L>,
+)
+    requires coat { IsCoat (height_of vram.old) (coat_of_ink pen.old) }
+    requires row { y < height_of vram.old }
+    requires run { IfSome found (CanDraw pen.old.paint y) }
+    ensures cells { vram.new ≡ painted_cells (coat_of_ink pen.old) (run_cells found y) vram.old }
+    ensures long { length vram.new ≡ length vram.old }
+    ensures pen { pen.new ≡ pen.old }
+    ensures cost { steps.new ≤ steps.old + side_by_side (coat_of_ink pen.old) (run_cells found y) }
+{
+    if let Some(run) = found {
+        pen.draw(vram, run.x, y, run.n, steps);
+    }
+}
+
 impl Coat {
-    // Draws a run of cells as one span.
-    fn draw_run<L: Ledger>(&self, vram: &mut Vram, run: Run, y: u16, steps: &mut Steps<L>)
-        requires coat { IsCoat (height_of vram.old) self.now }
-        requires row { y < height_of vram.old }
-        requires some { 1 ≤ run.n }
-        requires in_row { run.x + run.n ≤ 1024 }
-        requires inside { HasInside self.now.paint run.x y run.n }
-        ensures cells { vram.new ≡ painted_cells self.now (row_cells run.x y run.n) vram.old }
-        ensures long { length vram.new ≡ length vram.old }
-        ensures cost { steps.new ≤ steps.old + side_by_side self.now (row_cells run.x y run.n) }
-    {
-        let span = Span {
-            x: run.x,
-            y,
-            n: run.n,
-            paint: self.paint,
-            brush: self.brush,
-        };
-        draw_span(vram, &span, steps);
-    }
-
-    // Draws the cells of a row of a block that are inside of a triangle.
-    fn draw_row<L: Ledger>(
-        &self,
-        vram: &mut Vram,
-        tri: &Tri,
-        block: &Block,
-        y: u16,
-        steps: &mut Steps<L>,
-    )
+    // Draws the cells of a box that are inside of a triangle.
+    fn draw_rows<L: Ledger>(&self, vram: &mut Vram, tri: &Tri, clip: &Box2, steps: &mut Steps<L>)
         requires coat { IsCoat (height_of vram.old) self.now }
         requires fits { FitsTriangle tri.now self.now.paint }
-        requires block { IsBlock 1024 block.now }
-        requires row { y < height_of vram.old }
-        ensures cells { vram.new ≡ painted_cells self.now (row_inside tri.now block.now y) vram.old }
+        requires small { IsOnScreen 1024 clip.now }
+        requires clip { IsOnScreen (height_of vram.old) clip.now }
+        requires inside { LiesIn (bounding_box tri.now) clip.now }
+        ensures cells { vram.new ≡ painted_cells self.now (filter (draws tri.now) (cells_of (block_of clip.now))) vram.old }
         ensures long { length vram.new ≡ length vram.old }
-        ensures cost { steps.new ≤ steps.old + side_by_side self.now (row_inside tri.now block.now y) }
+        ensures cost { steps.new
+            ≤ steps.old + triangle_rows_cost self.now tri.now (block_of clip.now) (block_of clip.now).h }
     {
-        if let Some(run) = run_of(tri, block, y) {
-            self.draw_run(vram, run, y, steps);
-        }
-    }
-
-    // Draws the cells of a block that are inside of a triangle.
-    fn draw_rows<L: Ledger>(&self, vram: &mut Vram, tri: &Tri, block: &Block, steps: &mut Steps<L>)
-        requires coat { IsCoat (height_of vram.old) self.now }
-        requires fits { FitsTriangle tri.now self.now.paint }
-        requires small { IsBlock 1024 block.now }
-        requires block { IsBlock (height_of vram.old) block.now }
-        ensures cells { vram.new ≡ painted_cells self.now (filter (draws tri.now) (cells_of block.now)) vram.old }
-        ensures long { length vram.new ≡ length vram.old }
-        ensures cost { steps.new ≤ steps.old + triangle_rows_cost self.now tri.now block.now block.now.h }
-    {
+        let block = block_of(clip);
+        let mut rows = tri.rows(clip);
+        let mut pen = Pen::new(&self.paint, &self.brush);
         for j in 0..block.h {
-            self.draw_row(vram, tri, block, block.y + j, steps);
+            let run = next_run(&mut rows);
+            draw_run(vram, &mut pen, run, block.y + j, steps);
         }
     }
 }
@@ -190,6 +163,7 @@ fn clip_of(regs: &Regs, tri: &Tri) -> Option<Box2>
     ensures value { result ≡ triangle_box regs.now tri.now }
     ensures on_screen { IfSome result (IsOnScreen regs.now.height) }
     ensures in_reach { regs.now.height ≤ 1024 }
+    ensures inside { IfSome result (LiesIn (bounding_box tri.now)) }
 {
     clipped(regs, &tri.bounds())
 }
@@ -209,7 +183,7 @@ fn draw_clipped<L: Ledger>(
 {
     if let Some(clip) = clip_of(regs, tri) {
         let coat = coat_of(regs, style, tri);
-        coat.draw_rows(vram, tri, &block_of(&clip), steps);
+        coat.draw_rows(vram, tri, &clip, steps);
     }
 }
 

@@ -12,3 +12,4 @@ pub mod PlanLemmas
 pub mod SameLemmas
 pub mod SolidLemmas
 pub mod TexelLemmas
+mod TintLemmas

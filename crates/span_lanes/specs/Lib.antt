@@ -6,6 +6,7 @@ pub mod Hues
 pub mod Lanes
 pub mod Laws
 pub mod Paints
+pub mod Pen
 pub mod Plan
 pub mod Shade
 pub mod Texels

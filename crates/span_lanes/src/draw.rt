@@ -3,9 +3,11 @@ ghost use Rattle.std.specs.Prelude.{◌≡◌, ◌≤◌, ◌<◌, ◌+◌, ◌*
 ghost use Rattle.vram_store.specs.Vram.{height_of};
 ghost use Rattle.vram_store.specs.Plot.{later};
 ghost use Rattle.vram_store.specs.Chunk.{IsBlind};
-ghost use Rattle.span_lanes.specs.Cells.{Cells, row_cells};
 ghost use Rattle.span_lanes.specs.Chunk.{IsChunk, chunk_place, drawn_chunk, HasChunk};
-ghost use Rattle.span_lanes.specs.Shade.{IsSpan, LiesIn, texture_of, shade, drawn_span, shade_at};
+ghost use Rattle.span_lanes.specs.Shade.{IsSpan, LiesIn, texture_of, shade, drawn_span};
+ghost use Rattle.span_lanes.specs.declared.hues.Hues.TheVariants.{One, Lines};
+ghost use Rattle.span_lanes.specs.declared.span.Paint.TheVariants.{TexturedTri, TexturedRow};
+ghost use Rattle.span_lanes.specs.Pen.{IsTint, AreSlopes, HasSlopes, IsReady, ink_of};
 ghost use Rattle.span_lanes.specs.Hues.{AreHues};
 ghost use Rattle.span_lanes.specs.Lanes.{AreShiftsAt, HasCoordinates};
 ghost use Rattle.span_lanes.specs.Guard.{IsApart};
@@ -16,15 +18,18 @@ use crate::cells::draw_cell;
 use crate::colors::{Shifts, shifts_of};
 use crate::coordinates::Coordinates;
 use crate::fetch::read_apart;
-use crate::guard::{reads_itself, texels_at, texture_of};
+use crate::guard::{reads_itself, texels_at};
 use crate::hues::{Hues, hues_of};
 use crate::lanes::Lanes;
 use crate::plain::collect_plain;
-use crate::plan::{Plan, plan_of};
-use crate::solid::{draw_solid, solid_of};
+use crate::plan::{Plan, row_plan, tri_plan};
+use crate::slopes::Slopes;
+use crate::solid::draw_solid;
 use crate::textured::{collect_textured, read_texels};
+use crate::tint::Tint;
 use crate::track::track_lanes;
-use crate::{Span, Texture};
+use crate::{Paint, Span, Texture};
+use edge_walk::{RowLine, Tri};
 use px_num::Cell;
 use std::simd::prelude::*;
 use std::sync::ledger::Ledger;
@@ -94,24 +99,25 @@ fn draw_plain<L: Ledger>(
     store_chunk(vram, span, first, k, &lanes, steps);
 }
 
-// A span without a texture.
-fn draw_hues<L: Ledger>(vram: &mut Vram, span: &Span, steps: &mut Steps<L>)
+// A span without a texture, by its colours.
+#[inline(always)]
+fn draw_hues<L: Ledger>(vram: &mut Vram, span: &Span, hues: &Hues, steps: &mut Steps<L>)
     requires span { IsSpan span.now }
     requires height { LiesIn (height_of vram.old) span.now }
     requires plain { texture_of span.now.paint ≡ None }
+    requires hues { AreHues span.now.paint span.now.x span.now.y span.now.n hues.now }
     ensures cells { vram.new ≡ drawn_span span.now span.now.n vram.old }
     ensures long { length vram.new ≡ length vram.old }
     ensures cost { steps.new ≤ steps.old + span_cost span.now }
 {
-    let hues = hues_of(&span.paint, span.x, span.y);
     let shifts = shifts_of(span.brush.dither, span.x, span.y);
     let whole = span.n / 16;
     for c in 0..whole {
-        draw_plain(vram, span, &hues, shifts, 16 * c, 16, steps);
+        draw_plain(vram, span, hues, shifts, 16 * c, 16, steps);
     }
     let rest = span.n % 16;
     if rest > 0 {
-        draw_plain(vram, span, &hues, shifts, 16 * whole, rest as u8, steps);
+        draw_plain(vram, span, hues, shifts, 16 * whole, rest as u8, steps);
     }
 }
 
@@ -211,74 +217,185 @@ fn draw_textured<L: Ledger>(
     }
 }
 
-// A textured span.
-fn draw_chunks<L: Ledger>(vram: &mut Vram, span: &Span, texture: &Texture, steps: &mut Steps<L>)
+// A span of one colour.
+#[inline(never)]
+fn draw_one<L: Ledger>(vram: &mut Vram, span: &Span, color: u32, steps: &mut Steps<L>)
     requires span { IsSpan span.now }
     requires height { LiesIn (height_of vram.old) span.now }
-    requires texture { texture_of span.now.paint ≡ Some texture.now }
+    requires plain { texture_of span.now.paint ≡ None }
+    requires hues { AreHues span.now.paint span.now.x span.now.y span.now.n (One color) }
     ensures cells { vram.new ≡ drawn_span span.now span.now.n vram.old }
     ensures long { length vram.new ≡ length vram.old }
     ensures cost { steps.new ≤ steps.old + span_cost span.now }
 {
-    let plan = plan_of(span, texture);
-    let whole = span.n / 16;
-    for c in 0..whole {
-        draw_textured(vram, span, texture, &plan, 16 * c, 16, steps);
-    }
-    let rest = span.n % 16;
-    if rest > 0 {
-        draw_textured(vram, span, texture, &plan, 16 * whole, rest as u8, steps);
+    draw_hues(vram, span, &Hues::One { color }, steps);
+}
+
+// A span of colours along the row.
+#[inline(never)]
+fn draw_lines<L: Ledger>(
+    vram: &mut Vram,
+    span: &Span,
+    red: RowLine,
+    green: RowLine,
+    blue: RowLine,
+    steps: &mut Steps<L>,
+)
+    requires span { IsSpan span.now }
+    requires height { LiesIn (height_of vram.old) span.now }
+    requires plain { texture_of span.now.paint ≡ None }
+    requires hues { AreHues span.now.paint span.now.x span.now.y span.now.n (Lines red green blue) }
+    ensures cells { vram.new ≡ drawn_span span.now span.now.n vram.old }
+    ensures long { length vram.new ≡ length vram.old }
+    ensures cost { steps.new ≤ steps.old + span_cost span.now }
+{
+    draw_hues(vram, span, &Hues::Lines { red, green, blue }, steps);
+}
+
+// A span without a texture.
+#[inline(always)]
+fn draw_untextured<L: Ledger>(vram: &mut Vram, span: &Span, tint: &Tint, steps: &mut Steps<L>)
+    requires span { IsSpan span.now }
+    requires height { LiesIn (height_of vram.old) span.now }
+    requires plain { texture_of span.now.paint ≡ None }
+    requires tint { IsTint span.now.paint tint.now }
+    ensures cells { vram.new ≡ drawn_span span.now span.now.n vram.old }
+    ensures long { length vram.new ≡ length vram.old }
+    ensures cost { steps.new ≤ steps.old + span_cost span.now }
+{
+    match hues_of(span, tint) {
+        Hues::One { color } => draw_one(vram, span, color, steps),
+        Hues::Lines { red, green, blue } => draw_lines(vram, span, red, green, blue, steps),
     }
 }
 
-// A span that is not of one halfword.
-fn draw_varied<L: Ledger>(vram: &mut Vram, span: &Span, steps: &mut Steps<L>)
+// A textured span.
+#[inline(always)]
+fn draw_chunks<L: Ledger>(
+    vram: &mut Vram,
+    span: &Span,
+    texture: &Texture,
+    plan: &Plan,
+    steps: &mut Steps<L>,
+)
     requires span { IsSpan span.now }
     requires height { LiesIn (height_of vram.old) span.now }
+    requires texture { texture_of span.now.paint ≡ Some texture.now }
+    requires plan { IsPlan span.now texture.now plan.now }
     ensures cells { vram.new ≡ drawn_span span.now span.now.n vram.old }
     ensures long { length vram.new ≡ length vram.old }
     ensures cost { steps.new ≤ steps.old + span_cost span.now }
 {
-    match texture_of(&span.paint) {
-        None => draw_hues(vram, span, steps),
-        Some(texture) => draw_chunks(vram, span, &texture, steps),
+    let whole = span.n / 16;
+    for c in 0..whole {
+        draw_textured(vram, span, texture, plan, 16 * c, 16, steps);
+    }
+    let rest = span.n % 16;
+    if rest > 0 {
+        draw_textured(vram, span, texture, plan, 16 * whole, rest as u8, steps);
+    }
+}
+
+// A row of texels.
+#[inline(never)]
+fn draw_row<L: Ledger>(
+    vram: &mut Vram,
+    span: &Span,
+    color: u32,
+    texture: &Texture,
+    u: u8,
+    v: u8,
+    flip: bool,
+    steps: &mut Steps<L>,
+)
+    requires span { IsSpan span.now }
+    requires height { LiesIn (height_of vram.old) span.now }
+    requires paint { span.now.paint ≡ TexturedRow color texture.now u v flip }
+    ensures cells { vram.new ≡ drawn_span span.now span.now.n vram.old }
+    ensures long { length vram.new ≡ length vram.old }
+    ensures cost { steps.new ≤ steps.old + span_cost span.now }
+{
+    let plan = row_plan(span, texture, color, u, v, flip);
+    draw_chunks(vram, span, texture, &plan, steps);
+}
+
+// A row of a triangle with a texture.
+#[inline(never)]
+fn draw_tri<L: Ledger>(
+    vram: &mut Vram,
+    span: &Span,
+    tri: &Tri,
+    texture: &Texture,
+    tint: &Tint,
+    slopes: &Slopes,
+    steps: &mut Steps<L>,
+)
+    requires span { IsSpan span.now }
+    requires height { LiesIn (height_of vram.old) span.now }
+    requires paint { span.now.paint ≡ TexturedTri tri.now texture.now }
+    requires tint { IsTint span.now.paint tint.now }
+    requires slopes { AreSlopes tri.now slopes.now }
+    ensures cells { vram.new ≡ drawn_span span.now span.now.n vram.old }
+    ensures long { length vram.new ≡ length vram.old }
+    ensures cost { steps.new ≤ steps.old + span_cost span.now }
+{
+    let plan = tri_plan(span, tri, texture, hues_of(span, tint), slopes);
+    draw_chunks(vram, span, texture, &plan, steps);
+}
+
+// A span that is not of one halfword.
+#[inline(always)]
+fn draw_varied<L: Ledger>(
+    vram: &mut Vram,
+    span: &Span,
+    tint: &Tint,
+    slopes: &Option<Slopes>,
+    steps: &mut Steps<L>,
+)
+    requires span { IsSpan span.now }
+    requires height { LiesIn (height_of vram.old) span.now }
+    requires tint { IsTint span.now.paint tint.now }
+    requires slopes { HasSlopes span.now.paint slopes.now }
+    ensures cells { vram.new ≡ drawn_span span.now span.now.n vram.old }
+    ensures long { length vram.new ≡ length vram.old }
+    ensures cost { steps.new ≤ steps.old + span_cost span.now }
+{
+    match &span.paint {
+        Paint::Flat { .. } => draw_untextured(vram, span, tint, steps),
+        Paint::Shaded { .. } => draw_untextured(vram, span, tint, steps),
+        Paint::TexturedTri { tri, texture } => match slopes {
+            Some(slopes) => draw_tri(vram, span, tri, texture, tint, slopes, steps),
+            None => unreachable!(),
+        },
+        Paint::TexturedRow {
+            color,
+            texture,
+            u,
+            v,
+            flip,
+        } => draw_row(vram, span, *color, texture, *u, *v, *flip, steps),
     }
 }
 
 // A span: without a look at its cells where that is enough, and else chunk by chunk.
-fn draw_all<L: Ledger>(vram: &mut Vram, span: &Span, steps: &mut Steps<L>)
+#[inline(always)]
+pub(crate) fn draw_ready<L: Ledger>(
+    vram: &mut Vram,
+    span: &Span,
+    solid: Option<u16>,
+    tint: &Tint,
+    slopes: &Option<Slopes>,
+    steps: &mut Steps<L>,
+)
     requires span { IsSpan span.now }
     requires height { LiesIn (height_of vram.old) span.now }
+    requires ready { IsReady (ink_of span.now) solid tint.now slopes.now }
     ensures cells { vram.new ≡ drawn_span span.now span.now.n vram.old }
     ensures long { length vram.new ≡ length vram.old }
     ensures cost { steps.new ≤ steps.old + span_cost span.now }
 {
-    match solid_of(span) {
+    match solid {
         Some(h) => draw_solid(vram, span, h, steps),
-        None => draw_varied(vram, span, steps),
+        None => draw_varied(vram, span, tint, slopes, steps),
     }
-}
-
-/// Draws the cells of a span from left to right.
-///
-/// The outcome is that of one cell after another: each takes its pixel from video memory as it is then, also
-/// where its texel or its palette lies in the span itself, and is plotted under the mask setting. All other
-/// cells stay.
-///
-/// The span is cut from its left into chunks of sixteen cells and a last one. A chunk of k cells takes at most
-/// `2 + d * k` steps where no cell reads what an earlier one of the chunk writes, and else `(d + 2) * k`; d is
-/// 0 without a texture, 2 where the texture has a palette, and else 1.
-///
-/// The span's row and all rows of its texture page must lie in video memory, the setting and the mode be at
-/// most 3, page and window be such as [`texture_page::texel_cell`] takes, and all cells be inside of the
-/// paint's triangle, where it has one.
-pub fn draw_span<L: Ledger>(vram: &mut Vram, span: &Span, steps: &mut Steps<L>)
-    requires span { IsSpan span.now }
-    requires height { LiesIn (height_of vram.old) span.now }
-    ensures cells { vram.new
-        ≡ Cells (shade_at span.now) span.now.brush.mask (row_cells span.now.x span.now.y span.now.n) vram.old }
-    ensures long { length vram.new ≡ length vram.old }
-    ensures cost { steps.new ≤ steps.old + span_cost span.now }
-{
-    draw_all(vram, span, steps);
 }

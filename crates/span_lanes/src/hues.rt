@@ -1,14 +1,18 @@
 // The colours of a span.
 ghost use Rattle.std.specs.Prelude.{◌≡◌, ◌+◌, ◌*◌, ◌≤◌, ◌<◌, ℕ, pos, IsTrue};
 ghost use Rattle.edge_walk.specs.Line.{line_value};
-ghost use Rattle.edge_walk.specs.Triangle.{is_inside};
-ghost use Rattle.span_lanes.specs.Shade.{HasInside};
+ghost use Rattle.edge_walk.specs.Plane.{IsPlane};
+ghost use Rattle.edge_walk.specs.Triangle.{Corners, is_inside};
+ghost use Rattle.span_lanes.specs.declared.tint.Tint.TheVariants.{Planes};
+ghost use Rattle.span_lanes.specs.Shade.{IsSpan};
 ghost use Rattle.span_lanes.specs.Hues.{hue_at, AreHues, AreHuesOf, IsLineOf};
 ghost use Rattle.span_lanes.specs.Lanes.{HasColors};
+ghost use Rattle.span_lanes.specs.Pen.{IsTint, IsTintOf};
 
-use crate::Paint;
+use crate::Span;
 use crate::colors::{Colors, one_color};
-use edge_walk::{RowLine, Tri};
+use crate::tint::Tint;
+use edge_walk::{Plane, RowLine};
 
 // The colours of the cells of a span: one, or three channels along the row.
 #[derive(Clone, Copy)]
@@ -24,46 +28,36 @@ pub(crate) enum Hues {
 }
 
 // An attribute of a triangle from a cell inside to the right.
-pub(crate) fn line_of(tri: &Tri, which: u8, x: u16, y: u16) -> RowLine
-    requires which { which ≤ 4 }
-    requires inside { IsTrue (is_inside tri.now (pos x) (pos y)) }
-    ensures { IsLineOf tri.now which x y result }
+#[inline(always)]
+pub(crate) fn line_of(plane: &Plane, x: u16, y: u16) -> RowLine
+    ensures { (tri : Corners) (which : ℕ)
+        → IsPlane tri which plane.now → IsTrue (is_inside tri (pos x) (pos y)) → IsLineOf tri which x y result }
 {
-    tri.row_line(which, x as i32, y as i32)
+    plane.row_line(x as i32, y as i32)
 }
 
-#[tactic(auto, unfolding(crate::specs::Shade::color_in))]
-fn tri_lines(tri: &Tri, x: u16, y: u16) -> Hues
-    requires { IsTrue (is_inside tri.now (pos x) (pos y)) }
-    ensures { AreHuesOf tri.now x y result }
+#[inline(always)]
+fn tri_lines(red: &Plane, green: &Plane, blue: &Plane, x: u16, y: u16) -> Hues
+    ensures { (tri : Corners) → IsTintOf tri (Planes red.now green.now blue.now)
+        → IsTrue (is_inside tri (pos x) (pos y)) → AreHuesOf tri x y result }
 {
     Hues::Lines {
-        red: line_of(tri, 0, x, y),
-        green: line_of(tri, 1, x, y),
-        blue: line_of(tri, 2, x, y),
+        red: line_of(red, x, y),
+        green: line_of(green, x, y),
+        blue: line_of(blue, x, y),
     }
 }
 
-fn tri_hues(tri: &Tri, x: u16, y: u16) -> Hues
-    requires { IsTrue (is_inside tri.now (pos x) (pos y)) }
-    ensures { AreHuesOf tri.now x y result }
+// The colours of a span.
+#[inline(always)]
+pub(crate) fn hues_of(span: &Span, tint: &Tint) -> Hues
+    requires span { IsSpan span.now }
+    requires tint { IsTint span.now.paint tint.now }
+    ensures { AreHues span.now.paint span.now.x span.now.y span.now.n result }
 {
-    match tri.one_color() {
-        Some(color) => Hues::One { color },
-        None => tri_lines(tri, x, y),
-    }
-}
-
-// The colours of a paint from (x, y) to the right.
-pub(crate) fn hues_of(paint: &Paint, x: u16, y: u16) -> Hues
-    requires { HasInside paint.now x y 1 }
-    ensures { (n : ℕ) → HasInside paint.now x y n → AreHues paint.now x y n result }
-{
-    match paint {
-        Paint::Flat { color } => Hues::One { color: *color },
-        Paint::Shaded { tri } => tri_hues(tri, x, y),
-        Paint::TexturedTri { tri, .. } => tri_hues(tri, x, y),
-        Paint::TexturedRow { color, .. } => Hues::One { color: *color },
+    match tint {
+        Tint::Plain { color } => Hues::One { color: *color },
+        Tint::Planes { red, green, blue } => tri_lines(red, green, blue, span.x, span.y),
     }
 }
 

@@ -21,16 +21,19 @@ mod hues;
 mod lanes;
 pub mod laws;
 mod nibbles;
+mod pen;
 mod pixel;
 mod places;
 mod plain;
 mod plan;
+mod slopes;
 mod solid;
 mod span;
 mod textured;
+mod tint;
 mod track;
 
-pub use draw::draw_span;
+pub use pen::{Pen, draw_span};
 pub use span::{Brush, Paint, Span, Texture};
 
 #[cfg(test)]

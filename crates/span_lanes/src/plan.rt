@@ -1,13 +1,19 @@
 // What is chosen once for all chunks of a textured span.
 ghost use Rattle.std.specs.Prelude.{◌≡◌, ◌&&◌, not, Some};
 ghost use Rattle.span_lanes.specs.Shade.{IsSpan, texture_of};
+ghost use Rattle.span_lanes.specs.declared.span.Paint.TheVariants.{TexturedTri, TexturedRow};
+ghost use Rattle.span_lanes.specs.Hues.{AreHues};
+ghost use Rattle.span_lanes.specs.Pen.{AreSlopes};
 ghost use Rattle.span_lanes.specs.Plan.{IsPlan};
+ghost use Rattle.span_lanes.specs.Track.{IsTrack};
 
 use crate::apart::is_apart;
 use crate::colors::{Shifts, shifts_of};
-use crate::hues::{Hues, hues_of};
-use crate::track::{Track, track_of};
+use crate::hues::Hues;
+use crate::slopes::Slopes;
+use crate::track::{Along, Track, tri_track};
 use crate::{Span, Texture};
+use edge_walk::Tri;
 
 #[derive(Clone, Copy)]
 pub(crate) struct Plan {
@@ -24,16 +30,52 @@ fn is_dithered(dither: bool, raw: bool) -> bool
     dither && !raw
 }
 
-pub(crate) fn plan_of(span: &Span, texture: &Texture) -> Plan
+#[inline(always)]
+fn plan_with(span: &Span, texture: &Texture, hues: Hues, track: Track) -> Plan
     requires span { IsSpan span.now }
     requires texture { texture_of span.now.paint ≡ Some texture.now }
+    requires hues { AreHues span.now.paint span.now.x span.now.y span.now.n hues }
+    requires track { IsTrack span.now.paint span.now.x span.now.y span.now.n track }
     ensures { IsPlan span.now texture.now result }
 {
     let dither = is_dithered(span.brush.dither, texture.raw);
     Plan {
-        hues: hues_of(&span.paint, span.x, span.y),
+        hues,
         shifts: shifts_of(dither, span.x, span.y),
-        track: track_of(&span.paint, span.x, span.y),
+        track,
         apart: is_apart(span, texture),
     }
+}
+
+// The plan of a row of texels.
+#[inline(always)]
+pub(crate) fn row_plan(span: &Span, texture: &Texture, color: u32, u: u8, v: u8, flip: bool) -> Plan
+    requires span { IsSpan span.now }
+    requires paint { span.now.paint ≡ TexturedRow color texture.now u v flip }
+    ensures { IsPlan span.now texture.now result }
+{
+    let track = Track {
+        u: Along::Row { u, flip },
+        v: Along::Same { v },
+    };
+    plan_with(span, texture, Hues::One { color }, track)
+}
+
+// The plan of a row of a triangle.
+#[inline(always)]
+pub(crate) fn tri_plan(
+    span: &Span,
+    tri: &Tri,
+    texture: &Texture,
+    hues: Hues,
+    slopes: &Slopes,
+) -> Plan
+    requires span { IsSpan span.now }
+    requires paint { span.now.paint ≡ TexturedTri tri.now texture.now }
+    requires hues { AreHues span.now.paint span.now.x span.now.y span.now.n hues }
+    requires slopes { AreSlopes tri.now slopes.now }
+    ensures { IsPlan span.now texture.now result }
+{
+    let _ = tri;
+    plan_with(span, texture, hues, tri_track(slopes, span.x, span.y))
 }

@@ -1,8 +1,9 @@
 // Spans whose cells all become the same halfword.
-ghost use Rattle.std.specs.Prelude.{◌≡◌, ◌≤◌, ◌<◌, ◌+◌, ◌*◌, ◌&&◌, ◌||◌, not, IfSome, length};
+ghost use Rattle.std.specs.Prelude.{ℕ, ◌≡◌, ◌≤◌, ◌<◌, ◌+◌, ◌*◌, ◌&&◌, ◌||◌, not, IfSome, length};
 ghost use Rattle.vram_store.specs.Vram.{height_of};
 ghost use Rattle.vram_store.specs.Plot.{is_testing};
 ghost use Rattle.span_lanes.specs.declared.span.Paint.TheVariants.{Flat};
+ghost use Rattle.span_lanes.specs.Pen.{HasHalfword};
 ghost use Rattle.span_lanes.specs.Chunk.{IsChunk, drawn_chunk};
 ghost use Rattle.span_lanes.specs.Shade.{IsSpan, LiesIn, shade, drawn_span};
 ghost use Rattle.span_lanes.specs.Lanes.{IsSolid};
@@ -23,23 +24,23 @@ fn is_even(brush: &Brush) -> bool
     !looks(brush) && !brush.dither
 }
 
-fn solid_color(span: &Span, color: u32) -> Option<u16>
-    requires { span.now.paint ≡ Flat color }
-    ensures { IfSome result (λ h. IsSolid span.now h) }
+fn solid_color(brush: &Brush, color: u32) -> Option<u16>
+    ensures { IfSome result (λ h. (x y n : ℕ)
+        → IsSolid (record { x = x; y = y; n = n; paint = Flat color; brush = brush.now }) h) }
 {
-    if is_even(&span.brush) {
-        Some(force(span.brush.mask, tone(color, 0)))
+    if is_even(brush) {
+        Some(force(brush.mask, tone(color, 0)))
     } else {
         None
     }
 }
 
-// The halfword that each cell of a span becomes, where there is one whatever they hold.
-pub(crate) fn solid_of(span: &Span) -> Option<u16>
-    ensures { IfSome result (λ h. IsSolid span.now h) }
+// The halfword that each cell becomes, where there is one whatever they hold.
+pub(crate) fn solid_of(paint: &Paint, brush: &Brush) -> Option<u16>
+    ensures { HasHalfword paint.now brush.now result }
 {
-    match &span.paint {
-        Paint::Flat { color } => solid_color(span, *color),
+    match paint {
+        Paint::Flat { color } => solid_color(brush, *color),
         _ => None,
     }
 }

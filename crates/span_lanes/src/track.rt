@@ -1,15 +1,16 @@
 // The texel coordinates of a span.
 ghost use Rattle.std.specs.Prelude.{◌≡◌, ◌≤◌, ◌<◌, ◌+◌, ℕ, pos, IsTrue, slice_index};
-ghost use Rattle.edge_walk.specs.Triangle.{is_inside};
-ghost use Rattle.span_lanes.specs.Shade.{HasInside, row_u};
+ghost use Rattle.edge_walk.specs.Triangle.{Corners, is_inside};
+ghost use Rattle.span_lanes.specs.Shade.{row_u};
+ghost use Rattle.span_lanes.specs.Pen.{AreSlopes};
 ghost use Rattle.span_lanes.specs.Lanes.{AreCoordinates};
-ghost use Rattle.span_lanes.specs.Track.{along_at, IsAlong, IsTrack};
+ghost use Rattle.span_lanes.specs.Track.{along_at, IsAlong};
 
-use crate::Paint;
 use crate::coordinates::Coordinates;
 use crate::hues::line_of;
 use crate::pixel::u_of;
-use edge_walk::{RowLine, Tri};
+use crate::slopes::Slopes;
+use edge_walk::RowLine;
 use px_num::lanes::splat;
 use std::simd::prelude::*;
 
@@ -28,35 +29,20 @@ pub(crate) struct Track {
     pub(crate) v: Along,
 }
 
-fn tri_track(tri: &Tri, x: u16, y: u16) -> Track
-    requires { IsTrue (is_inside tri.now (pos x) (pos y)) }
-    ensures u { IsAlong tri.now 3 x y result.u }
-    ensures v { IsAlong tri.now 4 x y result.v }
+// The texel coordinates of a triangle from a cell inside to the right.
+#[inline(always)]
+pub(crate) fn tri_track(slopes: &Slopes, x: u16, y: u16) -> Track
+    ensures u { (tri : Corners)
+        → AreSlopes tri slopes.now → IsTrue (is_inside tri (pos x) (pos y)) → IsAlong tri 3 x y result.u }
+    ensures v { (tri : Corners)
+        → AreSlopes tri slopes.now → IsTrue (is_inside tri (pos x) (pos y)) → IsAlong tri 4 x y result.v }
 {
     Track {
         u: Along::Line {
-            line: line_of(tri, 3, x, y),
+            line: line_of(&slopes.u, x, y),
         },
         v: Along::Line {
-            line: line_of(tri, 4, x, y),
-        },
-    }
-}
-
-// The texel coordinates of a paint from (x, y) to the right. Zeros without a texture.
-pub(crate) fn track_of(paint: &Paint, x: u16, y: u16) -> Track
-    requires { HasInside paint.now x y 1 }
-    ensures { (n : ℕ) → HasInside paint.now x y n → IsTrack paint.now x y n result }
-{
-    match paint {
-        Paint::Flat { .. } | Paint::Shaded { .. } => Track {
-            u: Along::Same { v: 0 },
-            v: Along::Same { v: 0 },
-        },
-        Paint::TexturedTri { tri, .. } => tri_track(tri, x, y),
-        Paint::TexturedRow { u, v, flip, .. } => Track {
-            u: Along::Row { u: *u, flip: *flip },
-            v: Along::Same { v: *v },
+            line: line_of(&slopes.v, x, y),
         },
     }
 }

@@ -1,5 +1,4 @@
 use Rattle.std.proofs.Common.{arith, ◌+◌}
-use Rattle.span_lanes.proofs.ColorLemmas.{inside_first}
 use Rattle.span_lanes.proofs.ChunkLemmas.{AreDrawn, drawn_start, drawn_next, all_cells, all_cost}
 use Rattle.span_lanes.proofs.draw.draw_hues.Given.{Over}
 use Rattle.span_lanes.proofs.draw.draw_hues.Goals.{After-draw_plain-then-rest-gt0}
@@ -33,11 +32,3 @@ returns-else-rest-gt0-clause-cost g c = all_cost c.args.span.now c.loop-c.c _ _ 
 
 pub draw_plain-requires-clause-height : goal.draw_plain-requires-clause-height
 draw_plain-requires-clause-height g c = rw c.loop-c.invariant.long c.requires.height
-
-pub hues_of-hues-requires : goal.hues_of-hues-requires
-hues_of-hues-requires g c =
-    let span = c.args.span.now in
-    inside_first span.paint span.x span.y span.n c.requires.span.some c.requires.span.inside
-
-pub draw_plain-requires-clause-hues : goal.draw_plain-requires-clause-hues
-draw_plain-requires-clause-hues g c = c.hues_of-hues.ensures c.args.span.now.n c.requires.span.inside

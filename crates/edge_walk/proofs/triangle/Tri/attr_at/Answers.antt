@@ -14,11 +14,11 @@ weights_at-weights-requires-clause-inside c =
 
 pub mixed-requires-clause-divisor : goal.mixed-requires-clause-divisor
 mixed-requires-clause-divisor c =
-    (area_held _ _ c.self.inside.turned c.self.inside.divisor _ _ _ c.self.invariant c.self.view_is c.upright-t.ensures.same c.upright-t.ensures.upright).divisor
+    (area_held _ _ _ _ _ c.area_divisor.ensures c.upright-t.ensures.same c.upright-t.ensures.upright).divisor
 
 pub mixed-requires-clause-area : goal.mixed-requires-clause-area
 mixed-requires-clause-area c =
-    let area = area_held _ _ c.self.inside.turned c.self.inside.divisor _ _ _ c.self.invariant c.self.view_is c.upright-t.ensures.same c.upright-t.ensures.upright in
+    let area = area_held _ _ _ _ _ c.area_divisor.ensures c.upright-t.ensures.same c.upright-t.ensures.upright in
     omega (arith, ints, area.is, c.weights_at-weights.ensures.sum)
 
 pub returns-clause-value : goal.returns-clause-value

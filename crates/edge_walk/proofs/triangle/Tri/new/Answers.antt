@@ -1,12 +1,11 @@
 use Rattle.std.proofs.Common.{◌∙◌, IsTrue, false, refl, ap, arith, pos, int_lt, w64, SFits, rules, unsigned_abs}
 use Rattle.std.proofs.lemmas.Int.{to_z-of_z, ints}
-use Rattle.edge_walk.specs.Divisor.{divisor_of}
 use Rattle.edge_walk.proofs.Decided.{is_drawn-yes, is_drawn-no}
 use Rattle.edge_walk.proofs.MixLemmas.{area_small}
 use Rattle.edge_walk.proofs.triangle.Tri.new.Goals as goal
 
-pub overflow_cast-unsigned_abs : goal.overflow_cast-unsigned_abs
-overflow_cast-unsigned_abs c =
+pub overflow_cast-result : goal.overflow_cast-result
+overflow_cast-result c =
     let fits : SFits w64 c.doubled_area-area.result = search rules in
     let small = c.if-not-is_small.ensures.0 refl in
     let bound = area_small c.args.a c.args.b c.args.c small.one small.three in
@@ -18,7 +17,7 @@ invariant_of-result c =
     let is = c.doubled_area-area.ensures in record {
       drawn = record { small = c.if-not-is_small.ensures.0 refl; area = omega (arith, ints, is) };
       turned_is = simp to_z-of_z (ap (λ area. int_lt area (pos 0)) is);
-      divisor_is = c.new.ensures ∙ ap divisor_of (simp to_z-of_z at c.unsigned_abs.ensures.value ∙ ap unsigned_abs is);
+      area_is = simp to_z-of_z at c.unsigned_abs.ensures.value ∙ ap unsigned_abs is;
     }
 
 pub returns-clause-value : goal.returns-clause-value

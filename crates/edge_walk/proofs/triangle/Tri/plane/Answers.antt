@@ -2,7 +2,6 @@ use Rattle.std.proofs.Common.{◌≡◌, ◌∙◌, ◌≤ℤ◌, ◌+◌, ◌^�
 use Rattle.std.proofs.lemmas.Int.{ints, clamps}
 use Rattle.edge_walk.specs.Attribute.{mixed_of}
 use Rattle.edge_walk.specs.Extent.{bounding_box}
-use Rattle.edge_walk.specs.Held.{is_turned}
 use Rattle.edge_walk.specs.Plane.{from_least}
 use Rattle.edge_walk.specs.Triangle.{corners, is_within}
 use Rattle.edge_walk.proofs.Corner.{inside_is}
@@ -13,7 +12,7 @@ use Rattle.edge_walk.proofs.triangle.Tri.plane.Goals as goal
 use Rattle.edge_walk.proofs.triangle.Tri.plane.Goals.{After-upright-t}
 
 area : (c : After-upright-t) → IsAreaOf c.args.divisor.now (corners c.upright-t.result.a c.upright-t.result.b c.upright-t.result.c)
-area c = area_held c.args.self.now c.args.self.now (is_turned c.args.self.now) c.args.divisor.now _ _ _ (record { drawn = c.upright-t.ensures.drawn; turned_is = refl; divisor_is = c.requires.divisor }) refl c.upright-t.ensures.same c.upright-t.ensures.upright
+area c = area_held _ _ _ _ _ c.requires.divisor c.upright-t.ensures.same c.upright-t.ensures.upright
 
 pub of-requires-clause-divisor : goal.of-requires-clause-divisor
 of-requires-clause-divisor c = (area (goal.at.of-requires-clause-divisor c).After-upright-t).divisor

@@ -30,17 +30,17 @@ lane c area i inside area_is =
 
 pub of-requires-clause-divisor : goal.of-requires-clause-divisor
 of-requires-clause-divisor c =
-    (area_held _ _ c.self.inside.turned c.self.inside.divisor _ _ _ c.self.invariant c.self.view_is c.upright-t.ensures.same c.upright-t.ensures.upright).divisor
+    (area_held _ _ _ _ _ c.area_divisor.ensures c.upright-t.ensures.same c.upright-t.ensures.upright).divisor
 
 pub of-requires-clause-start : goal.of-requires-clause-start
 of-requires-clause-start c =
-    let area = area_held _ _ c.self.inside.turned c.self.inside.divisor _ _ _ c.self.invariant c.self.view_is c.upright-t.ensures.same c.upright-t.ensures.upright in
+    let area = area_held _ _ _ _ _ c.area_divisor.ensures c.upright-t.ensures.same c.upright-t.ensures.upright in
     omega (arith, ints, area.is, c.weights_at-weights.ensures.sum, c.row_mix-mix.ensures.bound)
 
 pub returns : goal.returns
 returns c at j lt inside =
-    let area = area_held _ _ c.self.inside.turned c.self.inside.divisor _ _ _ c.self.invariant c.self.view_is c.upright-t.ensures.same c.upright-t.ensures.upright in
+    let area = area_held _ _ _ _ _ c.area_divisor.ensures c.upright-t.ensures.same c.upright-t.ensures.upright in
     let here = lane (goal.at.returns c).After-row_mix-mix _ (at + j) inside area.is in
-    rw (c.of.ensures.first, c.of.ensures.step) (line_is c.row_mix-mix.result.start at j c.self.inside.divisor.area c.self.inside.divisor.reciprocal c.row_mix-mix.result.step lt area.divisor.some area.divisor.most area.divisor.reciprocal here.low here.high)
+    rw (c.of.ensures.first, c.of.ensures.step) (line_is c.row_mix-mix.result.start at j c.area_divisor.result.area c.area_divisor.result.reciprocal c.row_mix-mix.result.step lt area.divisor.some area.divisor.most area.divisor.reciprocal here.low here.high)
     ∙ here.value
     ∙ ap (λ w. mixed_of w c.args.which (c.args.x +ℤ pos (at + j)) c.args.y) c.upright-t.ensures.same

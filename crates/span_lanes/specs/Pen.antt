@@ -1,0 +1,73 @@
+-- A paint and a brush for many spans.
+use Rattle.std.specs.Prelude.{ℕ, Option, None, MatchOption, IfSome, ◌≡◌, pos, IsTrue}
+use Rattle.edge_walk.specs.Plane.{IsPlane}
+use Rattle.edge_walk.specs.Triangle.{Corners, is_inside}
+use Rattle.span_lanes.specs.declared.slopes.Slopes.{Slopes}
+use Rattle.span_lanes.specs.declared.span.Brush.{Brush}
+use Rattle.span_lanes.specs.declared.span.Paint.{Paint}
+use Rattle.span_lanes.specs.declared.span.Paint.TheVariants.{Flat, Shaded, TexturedTri, TexturedRow}
+use Rattle.span_lanes.specs.declared.span.Span.{Span}
+use Rattle.span_lanes.specs.declared.tint.Tint.{Tint}
+use Rattle.span_lanes.specs.declared.tint.Tint.TheVariants.{Plain, Planes}
+use Rattle.span_lanes.specs.Lanes.{IsSolid}
+use Rattle.span_lanes.specs.Shade.{color_in}
+
+pub record Ink : Type 0 where
+  pub paint : Paint
+  pub brush : Brush
+
+-- a span that is drawn with them
+abbrev pub ink_span : Ink → (x y n : ℕ) → Span
+ink_span ink x y n = record { x = x; y = y; n = n; paint = ink.paint; brush = ink.brush }
+
+abbrev pub ink_of : Span → Ink
+ink_of span = record { paint = span.paint; brush = span.brush }
+
+-- a row of texels that is another row of the page
+abbrev pub paint_row : ℕ → Paint → Paint
+paint_row v (Flat color) = Flat color
+paint_row v (Shaded tri) = Shaded tri
+paint_row v (TexturedTri tri texture) = TexturedTri tri texture
+paint_row v (TexturedRow color texture u old flip) = TexturedRow color texture u v flip
+
+abbrev pub with_row : ℕ → Ink → Ink
+with_row v ink = record { paint = paint_row v ink.paint; brush = ink.brush }
+
+-- ---- what is made ready
+
+-- the colours of a triangle
+abbrev pub IsTintOf : Corners → Tint → Type 0
+IsTintOf tri (Plain color) = (x y : ℕ) → IsTrue (is_inside tri (pos x) (pos y)) → color ≡ color_in tri x y
+IsTintOf tri (Planes red green blue) = IsPlane tri 0 red × IsPlane tri 1 green × IsPlane tri 2 blue
+
+-- the colours of a paint
+abbrev pub IsTint : Paint → Tint → Type 0
+IsTint (Flat color) tint = tint ≡ Plain color
+IsTint (Shaded tri) tint = IsTintOf tri tint
+IsTint (TexturedTri tri texture) tint = IsTintOf tri tint
+IsTint (TexturedRow color texture u v flip) tint = tint ≡ Plain color
+
+-- the texel coordinates of a triangle
+abbrev pub AreSlopes : Corners → Slopes → Type 0
+AreSlopes tri slopes = IsPlane tri 3 slopes.u × IsPlane tri 4 slopes.v
+
+-- those of a paint, where it has a triangle with a texture
+abbrev pub HasSlopes : Paint → Option Slopes → Type 0
+HasSlopes (Flat color) slopes = Unit {0}
+HasSlopes (Shaded tri) slopes = Unit {0}
+HasSlopes (TexturedTri tri texture) slopes = MatchOption slopes ⊥ (AreSlopes tri)
+HasSlopes (TexturedRow color texture u v flip) slopes = Unit {0}
+
+-- the halfword that all cells of one colour become, where there is one whatever they hold
+abbrev pub HasHalfword : Paint → Brush → Option ℕ → Type 0
+HasHalfword (Flat color) brush solid =
+    IfSome solid (λ h. (x y n : ℕ) → IsSolid (record { x = x; y = y; n = n; paint = Flat color; brush = brush }) h)
+HasHalfword (Shaded tri) brush solid = solid ≡ None
+HasHalfword (TexturedTri tri texture) brush solid = solid ≡ None
+HasHalfword (TexturedRow color texture u v flip) brush solid = solid ≡ None
+
+-- what is one for all spans of a paint and a brush
+pub record IsReady (ink : Ink) (solid : Option ℕ) (tint : Tint) (slopes : Option Slopes) : Type 0 where
+  pub halfword : HasHalfword ink.paint ink.brush solid
+  pub colors : IsTint ink.paint tint
+  pub coordinates : HasSlopes ink.paint slopes

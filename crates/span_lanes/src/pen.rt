@@ -1,0 +1,121 @@
+// A paint made ready.
+ghost use Rattle.std.specs.Prelude.{◌≡◌, ◌≤◌, ◌+◌, length};
+ghost use Rattle.vram_store.specs.Vram.{height_of};
+ghost use Rattle.span_lanes.specs.Cells.{Cells, row_cells};
+ghost use Rattle.span_lanes.specs.Cost.{span_cost};
+ghost use Rattle.span_lanes.specs.Shade.{IsSpan, LiesIn, shade_at};
+
+use crate::draw::draw_ready;
+use crate::slopes::{Slopes, slopes_of};
+use crate::solid::solid_of;
+use crate::tint::{Tint, tint_of};
+use crate::{Brush, Paint, Span};
+use std::marker::Model;
+use std::sync::ledger::Ledger;
+use vram_store::{Steps, Vram};
+
+/// A paint and a brush for the spans of a primitive: what is one for all of them is reckoned once.
+#[derive(Drop)]
+pub struct Pen {
+    // the last span that was drawn; at first one of no cells
+    span: Span,
+    // the halfword that all cells become, where there is one
+    solid: Option<u16>,
+    tint: Tint,
+    slopes: Option<Slopes>,
+}
+
+impl Model for Pen {
+    ghost use Rattle.span_lanes.specs.Pen.{Ink, ink_of, IsReady};
+
+    ghost Value = { Ink };
+
+    ghost view = { λ pen. ink_of pen.span };
+
+    ghost invariant = { λ pen. IsReady (ink_of pen.span) pen.solid pen.tint pen.slopes };
+}
+
+impl Pen {
+    ghost use Rattle.std.specs.Prelude.{◌≡◌, ◌≤◌, ◌+◌, length};
+    ghost use Rattle.vram_store.specs.Vram.{height_of};
+    ghost use Rattle.span_lanes.specs.Cells.{Cells, row_cells};
+    ghost use Rattle.span_lanes.specs.Cost.{span_cost};
+    ghost use Rattle.span_lanes.specs.Pen.{ink_span, with_row};
+    ghost use Rattle.span_lanes.specs.Shade.{IsSpan, LiesIn, shade_at};
+
+    /// A paint and a brush made ready.
+    pub fn new(paint: &Paint, brush: &Brush) -> Pen
+        ensures { result ≡ record { paint = paint.now; brush = brush.now } }
+    {
+        Pen {
+            span: Span {
+                x: 0,
+                y: 0,
+                n: 0,
+                paint: *paint,
+                brush: *brush,
+            },
+            solid: solid_of(paint, brush),
+            tint: tint_of(paint),
+            slopes: slopes_of(paint),
+        }
+    }
+
+    /// Takes another row of the page, where the paint is a row of texels.
+    pub fn set_row(&mut self, row: u8)
+        ensures { self.new ≡ with_row row self.old }
+    {
+        match &mut self.span.paint {
+            Paint::TexturedRow { v, .. } => *v = row,
+            _ => {}
+        }
+    }
+
+    /// Draws n cells from (x, y) to the right, as [`draw_span`] does.
+    pub fn draw<L: Ledger>(&mut self, vram: &mut Vram, x: u16, y: u16, n: u16, steps: &mut Steps<L>)
+        requires span { IsSpan (ink_span self.old x y n) }
+        requires height { LiesIn (height_of vram.old) (ink_span self.old x y n) }
+        ensures pen { self.new ≡ self.old }
+        ensures cells { vram.new
+            ≡ Cells (shade_at (ink_span self.old x y n)) self.old.brush.mask (row_cells x y n) vram.old }
+        ensures long { length vram.new ≡ length vram.old }
+        ensures cost { steps.new ≤ steps.old + span_cost (ink_span self.old x y n) }
+    {
+        self.span.x = x;
+        self.span.y = y;
+        self.span.n = n;
+        draw_ready(
+            vram,
+            &self.span,
+            self.solid,
+            &self.tint,
+            &self.slopes,
+            steps,
+        );
+    }
+}
+
+/// Draws the cells of a span from left to right.
+///
+/// The outcome is that of one cell after another: each takes its pixel from video memory as it is then, also
+/// where its texel or its palette lies in the span itself, and is plotted under the mask setting. All other
+/// cells stay.
+///
+/// The span is cut from its left into chunks of sixteen cells and a last one. A chunk of k cells takes at most
+/// `2 + d * k` steps where no cell reads what an earlier one of the chunk writes, and else `(d + 2) * k`; d is
+/// 0 without a texture, 2 where the texture has a palette, and else 1.
+///
+/// The span's row and all rows of its texture page must lie in video memory, the setting and the mode be at
+/// most 3, page and window be such as [`texture_page::texel_cell`] takes, and all cells be inside of the
+/// paint's triangle, where it has one.
+pub fn draw_span<L: Ledger>(vram: &mut Vram, span: &Span, steps: &mut Steps<L>)
+    requires span { IsSpan span.now }
+    requires height { LiesIn (height_of vram.old) span.now }
+    ensures cells { vram.new
+        ≡ Cells (shade_at span.now) span.now.brush.mask (row_cells span.now.x span.now.y span.now.n) vram.old }
+    ensures long { length vram.new ≡ length vram.old }
+    ensures cost { steps.new ≤ steps.old + span_cost span.now }
+{
+    let mut pen = Pen::new(&span.paint, &span.brush);
+    pen.draw(vram, span.x, span.y, span.n, steps);
+}
