@@ -27,6 +27,24 @@ pub fn tone_lanes(red: u16x16, green: u16x16, blue: u16x16, shifts: i16x16) -> u
     )
 }
 
+/// [`tone`](crate::tone) without dither in each lane, of channels that are at most 255.
+#[inline(always)]
+pub fn plain_tone_lanes(red: u16x16, green: u16x16, blue: u16x16) -> u16x16
+    requires long { (length red ≡ 16) × (length green ≡ 16) × (length blue ≡ 16) }
+    requires channels { EachLane (λ i. (slice_index red i ≤ 255)
+        × (slice_index green i ≤ 255) × (slice_index blue i ≤ 255)) }
+    ensures long { length result ≡ 16 }
+    ensures value { EachLane (λ i. slice_index result i
+        ≡ tone_of (slice_index red i) (slice_index green i) (slice_index blue i) (pos 0)) }
+    ensures low { EachLane (λ i. slice_index result i < 2 ^ 15) }
+{
+    pack_lanes(
+        shifted_down(red, 3),
+        shifted_down(green, 3),
+        shifted_down(blue, 3),
+    )
+}
+
 /// [`modulate`](crate::modulate) in each lane, by colours' channels that are at most 255.
 pub fn modulate_lanes(
     texels: u16x16,

@@ -319,8 +319,78 @@ fn draw_row<L: Ledger>(
     draw_chunks(vram, span, texture, &plan, steps);
 }
 
-// A row of a triangle with a texture.
+// A row of a triangle with a texture, by its colours.
+#[inline(always)]
+fn draw_sheet<L: Ledger>(
+    vram: &mut Vram,
+    span: &Span,
+    tri: &Tri,
+    texture: &Texture,
+    hues: Hues,
+    slopes: &Slopes,
+    steps: &mut Steps<L>,
+)
+    requires span { IsSpan span.now }
+    requires height { LiesIn (height_of vram.old) span.now }
+    requires paint { span.now.paint ≡ TexturedTri tri.now texture.now }
+    requires hues { AreHues span.now.paint span.now.x span.now.y span.now.n hues }
+    requires slopes { AreSlopes tri.now slopes.now }
+    ensures cells { vram.new ≡ drawn_span span.now span.now.n vram.old }
+    ensures long { length vram.new ≡ length vram.old }
+    ensures cost { steps.new ≤ steps.old + span_cost span.now }
+{
+    let plan = tri_plan(span, tri, texture, hues, slopes);
+    draw_chunks(vram, span, texture, &plan, steps);
+}
+
+// The same under one colour.
 #[inline(never)]
+fn draw_plain_sheet<L: Ledger>(
+    vram: &mut Vram,
+    span: &Span,
+    tri: &Tri,
+    texture: &Texture,
+    color: u32,
+    slopes: &Slopes,
+    steps: &mut Steps<L>,
+)
+    requires span { IsSpan span.now }
+    requires height { LiesIn (height_of vram.old) span.now }
+    requires paint { span.now.paint ≡ TexturedTri tri.now texture.now }
+    requires hues { AreHues span.now.paint span.now.x span.now.y span.now.n (One color) }
+    requires slopes { AreSlopes tri.now slopes.now }
+    ensures cells { vram.new ≡ drawn_span span.now span.now.n vram.old }
+    ensures long { length vram.new ≡ length vram.old }
+    ensures cost { steps.new ≤ steps.old + span_cost span.now }
+{
+    draw_sheet(vram, span, tri, texture, Hues::One { color }, slopes, steps);
+}
+
+// The same under several.
+#[inline(never)]
+fn draw_mixed_sheet<L: Ledger>(
+    vram: &mut Vram,
+    span: &Span,
+    tri: &Tri,
+    texture: &Texture,
+    hues: Hues,
+    slopes: &Slopes,
+    steps: &mut Steps<L>,
+)
+    requires span { IsSpan span.now }
+    requires height { LiesIn (height_of vram.old) span.now }
+    requires paint { span.now.paint ≡ TexturedTri tri.now texture.now }
+    requires hues { AreHues span.now.paint span.now.x span.now.y span.now.n hues }
+    requires slopes { AreSlopes tri.now slopes.now }
+    ensures cells { vram.new ≡ drawn_span span.now span.now.n vram.old }
+    ensures long { length vram.new ≡ length vram.old }
+    ensures cost { steps.new ≤ steps.old + span_cost span.now }
+{
+    draw_sheet(vram, span, tri, texture, hues, slopes, steps);
+}
+
+// A row of a triangle with a texture.
+#[inline(always)]
 fn draw_tri<L: Ledger>(
     vram: &mut Vram,
     span: &Span,
@@ -339,8 +409,11 @@ fn draw_tri<L: Ledger>(
     ensures long { length vram.new ≡ length vram.old }
     ensures cost { steps.new ≤ steps.old + span_cost span.now }
 {
-    let plan = tri_plan(span, tri, texture, hues_of(span, tint), slopes);
-    draw_chunks(vram, span, texture, &plan, steps);
+    let hues = hues_of(span, tint);
+    match hues {
+        Hues::One { color } => draw_plain_sheet(vram, span, tri, texture, color, slopes, steps),
+        Hues::Lines { .. } => draw_mixed_sheet(vram, span, tri, texture, hues, slopes, steps),
+    }
 }
 
 // A span that is not of one halfword.

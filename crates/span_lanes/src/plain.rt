@@ -13,7 +13,7 @@ use crate::back::back_of;
 use crate::colors::{Shifts, tones_of};
 use crate::hues::{Hues, hue_lanes};
 use crate::lanes::Lanes;
-use blend_dither::{blend_lanes, tone};
+use blend_dither::{blend_lanes, plain_tone_lanes, tone};
 use px_num::lanes::splat;
 use std::simd::prelude::*;
 use std::sync::ledger::Ledger;
@@ -49,7 +49,31 @@ fn mixed_tones(hues: &Hues, shifts: Shifts, first: u16) -> u16x16
     tones_of(hue_lanes(hues, first), shifts)
 }
 
-// The tones of sixteen cells from cell `first` on. One colour without dither has one tone.
+// The tones of sixteen cells from cell `first` on, by their channels, without dither.
+#[inline(always)]
+fn even_tones(hues: &Hues, first: u16) -> u16x16
+    ensures long { length result ≡ 16 }
+    ensures low { EachLane (λ i. slice_index result i < 2 ^ 15) }
+    ensures value { EachLane (λ j. slice_index result j ≡ tone_with (hue_at hues.now first j) (pos 0)) }
+{
+    let colors = hue_lanes(hues, first);
+    plain_tone_lanes(colors.red, colors.green, colors.blue)
+}
+
+// Those of one colour, or of several.
+#[inline(always)]
+fn undithered_tones(hues: &Hues, first: u16) -> u16x16
+    ensures long { length result ≡ 16 }
+    ensures low { EachLane (λ i. slice_index result i < 2 ^ 15) }
+    ensures value { EachLane (λ j. slice_index result j ≡ tone_with (hue_at hues.now first j) (pos 0)) }
+{
+    match hues {
+        Hues::One { color } => splat(tone(*color, 0)),
+        Hues::Lines { .. } => even_tones(hues, first),
+    }
+}
+
+// The tones of sixteen cells from cell `first` on.
 #[inline(always)]
 fn hue_tones(hues: &Hues, dither: bool, shifts: Shifts, first: u16) -> u16x16
     requires shifts { AreShifts shifts.lanes }
@@ -59,9 +83,10 @@ fn hue_tones(hues: &Hues, dither: bool, shifts: Shifts, first: u16) -> u16x16
     ensures value { EachLane (λ j. slice_index result j
         ≡ tone_with (hue_at hues.now first j) (slice_index_or shifts.lanes j (pos 0))) }
 {
-    match hues {
-        Hues::One { color } if !dither => splat(tone(*color, 0)),
-        _ => mixed_tones(hues, shifts, first),
+    if dither {
+        mixed_tones(hues, shifts, first)
+    } else {
+        undithered_tones(hues, first)
     }
 }
 
