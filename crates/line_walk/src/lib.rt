@@ -6,8 +6,11 @@
 
 mod rise;
 mod segment;
+mod slope;
+mod walk;
 
 pub use segment::Segment;
+pub use walk::Walk;
 
 #[cfg(test)]
 mod tests {

@@ -1,5 +1,6 @@
 // A segment and its points.
 use crate::rise::{Run, along};
+use crate::walk::Walk;
 use px_num::Vertex;
 use std::marker::Model;
 
@@ -32,6 +33,7 @@ impl Segment {
     ghost use Rattle.std.specs.Option.{is_some};
     ghost use Rattle.std.specs.Prelude.{◌≡◌, ◌<◌, ◌≤◌, ◌^◌, SomeIff};
     ghost use Rattle.line_walk.specs.Line.{ends, len_of, point_of, is_near, IsNear, IsBetweenEnds};
+    ghost use Rattle.line_walk.specs.Walk.{Walking};
 
     /// The segment with these vertices. None exactly where the size rule refuses it: they lie more than 1023 apart in
     /// X or more than 511 in Y (psx-spx, "GPU Render Line Commands").
@@ -49,6 +51,20 @@ impl Segment {
         }
     }
 
+    /// The vertex that it begins at.
+    pub fn first(&self) -> Vertex
+        ensures { result ≡ self.now.first }
+    {
+        self.a
+    }
+
+    /// The vertex that it ends at.
+    pub fn second(&self) -> Vertex
+        ensures { result ≡ self.now.second }
+    {
+        self.b
+    }
+
     /// The number of points: 1 more than the longer side has steps.
     pub fn len(&self) -> u32
         ensures value { result ≡ len_of self.now }
@@ -56,6 +72,13 @@ impl Segment {
         ensures most { result ≤ 1024 }
     {
         self.steps + 1
+    }
+
+    /// The points in their order, from the first end on.
+    pub fn walk(&self) -> Walk
+        ensures { ◌≡◌ {A = Walking} result (record { ends = self.now; at = 0 }) }
+    {
+        Walk::new(self.a, self.b, self.steps)
     }
 
     /// The `k`-th point from the first end on, counted from 0. Its place and each colour channel are rounded to
@@ -113,7 +136,7 @@ fn color_along(from: u32, to: u32, n: u32, k: u32) -> u32
 }
 
 // The same, and sooner where both ends have one colour.
-fn color_at(from: u32, to: u32, n: u32, k: u32) -> u32
+pub(crate) fn color_at(from: u32, to: u32, n: u32, k: u32) -> u32
     requires steps { n ≤ 1023 }
     requires k { k ≤ n }
     ensures value { result ≡ color_along from to n k }

@@ -1,0 +1,76 @@
+// The points of a segment in their order.
+use crate::rise::Run;
+use crate::segment::color_at;
+use crate::slope::{Slope, first_slope, next_slope, value_of};
+use px_num::Vertex;
+use std::marker::Model;
+
+/// A walk along a segment, point by point and without a division for a place. Contracts see it as the segment's two
+/// vertices and the number of the point that comes next.
+#[derive(Drop)]
+pub struct Walk {
+    a: Vertex,
+    b: Vertex,
+    steps: u32,
+    at: u32,
+    x: Slope,
+    y: Slope,
+}
+
+impl Model for Walk {
+    ghost use Rattle.line_walk.specs.Line.{ends};
+    ghost use Rattle.line_walk.specs.Walk.{Walking, IsWalk};
+
+    ghost Value = { Walking };
+
+    ghost view = { λ w. record { ends = ends w.a w.b; at = w.at } };
+
+    ghost invariant = { λ w. IsWalk (ends w.a w.b) w.steps w.at w.x w.y };
+}
+
+impl Walk {
+    ghost use Rattle.std.specs.Prelude.{◌≡◌, ◌<◌, ◌≤◌, ◌+◌, ◌^◌};
+    ghost use Rattle.line_walk.specs.Line.{ends, len_of, point_of, steps_of, IsNear, IsBetweenEnds};
+    ghost use Rattle.line_walk.specs.Walk.{Walking};
+
+    /// At the first of the points from `a` to `b`.
+    pub(crate) fn new(a: Vertex, b: Vertex, steps: u32) -> Walk
+        requires near { IsNear a b }
+        requires steps { steps ≡ steps_of (ends a b) }
+        ensures { ◌≡◌ {A = Walking} result (record { ends = ends a b; at = 0 }) }
+    {
+        let cuts = steps.max(1);
+        let across = Run { from: a.x, to: b.x };
+        let down = Run { from: a.y, to: b.y };
+        Walk {
+            a,
+            b,
+            steps,
+            at: 0,
+            x: first_slope(&across, cuts),
+            y: first_slope(&down, cuts),
+        }
+    }
+
+    /// The next point, as [`Segment::point`](crate::Segment::point) gives it.
+    pub fn next(&mut self) -> Vertex
+        requires { self.old.at < len_of self.old.ends }
+        ensures point { result ≡ point_of self.old.ends self.old.at }
+        ensures between { IsBetweenEnds self.old.ends result }
+        ensures color { result.color < 2 ^ 24 }
+        ensures on { ◌≡◌ {A = Walking} self.new (record { ends = self.old.ends; at = self.old.at + 1 }) }
+    {
+        let point = Vertex {
+            x: value_of(&self.x),
+            y: value_of(&self.y),
+            color: color_at(self.a.color, self.b.color, self.steps, self.at),
+            u: 0,
+            v: 0,
+        };
+        let cuts = self.steps.max(1);
+        self.x = next_slope(self.x, cuts);
+        self.y = next_slope(self.y, cuts);
+        self.at += 1;
+        point
+    }
+}
