@@ -1,12 +1,12 @@
 -- The sums of an attribute over a triangle, in numbers that wrap.
-use Rattle.std.proofs.Common.{ℕ, ◌+◌, ◌-◌, ◌*◌, ◌/◌, ◌%◌, ◌^◌, ◌≤◌, ◌<◌, ◌≡◌, ℤ, pos, ◌+ℤ◌, ◌-ℤ◌, ◌*ℤ◌, ◌≤ℤ◌, int_lt, unsigned_abs, Bool, true, false, cond, IsTrue, refl, sym, ap, ◌∙◌, arith}
+use Rattle.std.proofs.Common.{ℕ, ◌+◌, ◌-◌, ◌*◌, ◌/◌, ◌%◌, ◌^◌, ◌≤◌, ◌<◌, ◌≡◌, ℤ, pos, ◌+ℤ◌, ◌-ℤ◌, ◌*ℤ◌, int_lt, unsigned_abs, Bool, true, false, IsTrue, refl, sym, ap, ◌∙◌, arith}
 use Rattle.std.proofs.Math.Nat.{add-mul-mod_self_right, mod-eq_of_lt, mul-le-mul_left}
 use Rattle.std.proofs.lemmas.Int.{ints}
 use borrow.Author.Differences.{up, down}
 use Rattle.px_num.specs.declared.shape.Vertex.{Vertex}
-use Rattle.px_num.proofs.Ring.{at, add, sub, mul, same}
+use Rattle.px_num.proofs.Ring.{at, sub, mul, same}
 use Rattle.edge_walk.specs.Line.{wrapped, scaled, line_value}
-use Rattle.edge_walk.specs.Triangle.{Corners, corners, doubled_area, edge, is_within, IsUpright}
+use Rattle.edge_walk.specs.Triangle.{corners, doubled_area, edge, is_within, IsUpright}
 use Rattle.edge_walk.specs.Attribute.{attribute, step_of, row_step_of, weight, mixed_of, AreBytes}
 use Rattle.edge_walk.specs.Plane.{from_least, line_at}
 use Rattle.edge_walk.specs.declared.plane.Plane.{Plane}

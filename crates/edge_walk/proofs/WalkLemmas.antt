@@ -1,5 +1,5 @@
 -- Edges from row to row.
-use Rattle.std.proofs.Common.{ℕ, ◌+◌, ◌-◌, ◌*◌, ◌%◌, ◌^◌, ◌≤◌, ◌<◌, ◌≡◌, ℤ, pos, ◌+ℤ◌, ◌-ℤ◌, ◌*ℤ◌, ◌≤ℤ◌, ◌<ℤ◌, ◌↔◌, Bool, true, false, cond, IsTrue, int_lt, unsigned_abs, refl, sym, ap, ◌∙◌, arith}
+use Rattle.std.proofs.Common.{ℕ, ◌+◌, ◌-◌, ◌*◌, ◌%◌, ◌^◌, ◌≤◌, ◌<◌, ◌≡◌, ℤ, pos, ◌+ℤ◌, ◌-ℤ◌, ◌*ℤ◌, ◌≤ℤ◌, ◌↔◌, Bool, true, false, cond, IsTrue, int_lt, unsigned_abs, refl, ap, ◌∙◌, arith}
 use Rattle.std.specs.Int.{int_min, int_max}
 use Rattle.std.proofs.Math.Nat.{mul-le-mul_right, le-mul_of_pos_right}
 use Rattle.std.proofs.lemmas.Int.{ints, clamps, unsigned_abs-mul}

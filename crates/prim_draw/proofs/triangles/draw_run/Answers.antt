@@ -1,4 +1,4 @@
-use Rattle.std.proofs.Common.{◌≡◌, ◌∙◌, Some, refl}
+use Rattle.std.proofs.Common.{◌∙◌}
 use Rattle.prim_draw.specs.Walks.{coat_of_ink}
 use Rattle.prim_draw.proofs.RowLemmas.{span_of_row, span_pixels}
 use Rattle.prim_draw.proofs.triangles.draw_run.Goals as goal

@@ -1,4 +1,4 @@
-use Rattle.std.proofs.Common.{ℕ, ◌≡◌, ◌≤◌, ◌+◌, ◌-◌, ◌-ℤ◌, ◌+ℤ◌, ◌≤ℤ◌, ℤ, pos, unsigned_abs, to_z, w32, SFits, sym, arith}
+use Rattle.std.proofs.Common.{ℕ, ◌≡◌, ◌≤◌, ◌+◌, ◌-◌, ◌-ℤ◌, ◌+ℤ◌, ◌≤ℤ◌, ℤ, pos, unsigned_abs, w32, SFits, sym, arith}
 use Rattle.std.proofs.lemmas.Int.{to_z-of_z, ints}
 use Rattle.edge_walk.specs.Row.{IsRowSpan}
 use Rattle.prim_draw.specs.Boxes.{block_of, row_box}
@@ -7,7 +7,7 @@ use Rattle.edge_walk.specs.Triangle.{Corners}
 use Rattle.px_num.specs.declared.shape.Box2.{Box2}
 use Rattle.prim_draw.specs.Walks.{IsRowOf}
 use Rattle.prim_draw.proofs.WalkLemmas.{IsBoxOf, box_is, row_span, row_none}
-use Rattle.prim_draw.specs.Triangles.{draws, IsRun}
+use Rattle.prim_draw.specs.Triangles.{draws}
 use Rattle.prim_draw.proofs.RowLemmas.{IsFound, filtered, first_in, last_in, found, none_found}
 use Rattle.prim_draw.proofs.triangles.next_run.Goals as goal
 

@@ -1,7 +1,5 @@
-use Rattle.std.proofs.Common.{◌≡◌, SFits, w32, w64, arith, rules, refl, sym, ap, ◌∙◌, ◌≤◌, ◌<◌, ◌^◌, pos, ◌-ℤ◌, ◌*ℤ◌, unsigned_abs}
+use Rattle.std.proofs.Common.{◌≡◌, SFits, w32, w64, arith, rules, refl, ◌≤◌, ◌-ℤ◌, ◌*ℤ◌, unsigned_abs}
 use Rattle.std.proofs.lemmas.Int.{to_z-of_z, ints}
-use Rattle.edge_walk.specs.Row.{least_value}
-use Rattle.edge_walk.specs.Triangle.{is_kept_edge}
 use Rattle.edge_walk.proofs.WalkLemmas.{product_small}
 use Rattle.edge_walk.proofs.side.Side.at.Goals as goal
 use Rattle.edge_walk.proofs.side.Side.at.Goals.{After-edge_row-row}

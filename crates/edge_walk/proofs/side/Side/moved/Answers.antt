@@ -1,4 +1,4 @@
-use Rattle.std.proofs.Common.{◌^◌, SFits, w32, refl, ap, ◌∙◌, arith, rules}
+use Rattle.std.proofs.Common.{SFits, w32, arith, rules}
 use Rattle.std.proofs.lemmas.Int.{to_z-of_z}
 use Rattle.edge_walk.proofs.WalkLemmas.{moved_with, size_small}
 use Rattle.edge_walk.proofs.side.Side.moved.Goals as goal

@@ -1,7 +1,6 @@
-use Rattle.std.proofs.Common.{◌≡◌, ◌∙◌, SFits, w32, w64, refl, sym, ap, arith, rules, ◌<◌, pos, ◌-ℤ◌, ◌+ℤ◌, ◌^◌}
+use Rattle.std.proofs.Common.{◌≡◌, ◌∙◌, SFits, w64, ap, rules}
 use Rattle.std.specs.Int.{int_min, int_max}
-use Rattle.std.proofs.lemmas.Int.{to_z-of_z, ints}
-use Rattle.edge_walk.specs.Walk.{IsBoundOf}
+use Rattle.std.proofs.lemmas.Int.{to_z-of_z}
 use Rattle.edge_walk.proofs.WalkLemmas.{at_most, at_least, level_none, level_all}
 use Rattle.edge_walk.proofs.side.Side.narrowed.Goals as goal
 

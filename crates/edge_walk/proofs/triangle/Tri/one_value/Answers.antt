@@ -1,4 +1,4 @@
-use Rattle.std.proofs.Common.{◌∙◌, refl, sym, ap}
+use Rattle.std.proofs.Common.{◌∙◌, sym, ap}
 use Rattle.edge_walk.specs.Attribute.{mixed_of}
 use Rattle.edge_walk.proofs.Corner.{inside_is}
 use Rattle.edge_walk.proofs.MixLemmas.{same_mixed}

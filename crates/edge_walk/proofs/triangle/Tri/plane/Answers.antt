@@ -1,9 +1,8 @@
-use Rattle.std.proofs.Common.{◌≡◌, ◌∙◌, ◌≤ℤ◌, ◌+◌, ◌^◌, ℤ, pos, ◌+ℤ◌, SFits, w32, IsTrue, refl, sym, ap, arith, rules}
+use Rattle.std.proofs.Common.{◌∙◌, ◌+◌, pos, ◌+ℤ◌, SFits, w32, sym, ap, arith, rules}
 use Rattle.std.proofs.lemmas.Int.{ints, clamps}
 use Rattle.edge_walk.specs.Attribute.{mixed_of}
 use Rattle.edge_walk.specs.Extent.{bounding_box}
-use Rattle.edge_walk.specs.Plane.{from_least}
-use Rattle.edge_walk.specs.Triangle.{corners, is_within}
+use Rattle.edge_walk.specs.Triangle.{corners}
 use Rattle.edge_walk.proofs.Corner.{inside_is}
 use Rattle.edge_walk.proofs.InBox.{within-in_box}
 use Rattle.edge_walk.proofs.MixLemmas.{IsAreaOf, area_held}

@@ -1,4 +1,4 @@
-use Rattle.std.proofs.Common.{◌≡◌, ℤ, SFits, w32, arith, rules, pos, ◌≤ℤ◌, ◌+ℤ◌, refl, sym, subst, ◌∙◌}
+use Rattle.std.proofs.Common.{SFits, w32, arith, rules, sym, subst}
 use Rattle.std.proofs.lemmas.Int.{to_z-of_z, ints}
 use Rattle.edge_walk.specs.Triangle.{Corners, corners, oriented, IsSmall}
 use Rattle.edge_walk.specs.Walk.{IsSide}

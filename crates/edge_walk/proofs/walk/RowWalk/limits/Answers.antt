@@ -1,4 +1,4 @@
-use Rattle.std.proofs.Common.{◌≡◌, SFits, w32, arith, rules, pos, ◌≤ℤ◌, refl}
+use Rattle.std.proofs.Common.{SFits, w32, arith, rules}
 use Rattle.std.proofs.lemmas.Int.{to_z-of_z, ints}
 use Rattle.edge_walk.specs.Triangle.{is_within}
 use Rattle.edge_walk.proofs.RowLemmas.{three_iff}

@@ -1,4 +1,4 @@
-use Rattle.std.proofs.Common.{◌≡◌, SFits, w32, arith, rules, pos, ◌≤ℤ◌, ◌+ℤ◌, refl, ◌∙◌}
+use Rattle.std.proofs.Common.{SFits, w32, arith, rules, pos, ◌+ℤ◌}
 use Rattle.std.proofs.lemmas.Int.{to_z-of_z, ints}
 use Rattle.edge_walk.proofs.WalkLemmas.{reached}
 use Rattle.edge_walk.proofs.walk.RowWalk.moved.Goals as goal

@@ -1,8 +1,6 @@
-use Rattle.std.proofs.Common.{◌≡◌, ℤ, ◌≤ℤ◌, SFits, w32, w64, refl, arith, rules}
+use Rattle.std.proofs.Common.{◌≤ℤ◌, SFits, w32, w64, refl, arith}
 use Rattle.std.proofs.lemmas.Int.{to_z-of_z, ints}
-use Rattle.px_num.specs.declared.shape.Box2.{Box2}
-use Rattle.edge_walk.specs.Triangle.{Corners, is_inside}
-use Rattle.edge_walk.specs.Walk.{AreRows}
+use Rattle.edge_walk.specs.Triangle.{is_inside}
 use Rattle.edge_walk.proofs.SpanLemmas.{span_is, none_is}
 use Rattle.edge_walk.proofs.walk.RowWalk.next.Goals as goal
 use Rattle.edge_walk.proofs.walk.RowWalk.next.Goals.{After-limits-limits}

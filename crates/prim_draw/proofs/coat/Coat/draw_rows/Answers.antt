@@ -1,4 +1,4 @@
-use Rattle.std.proofs.Common.{◌≡◌, ◌≤◌, ◌+◌, ◌-◌, ◌<◌, ℕ, pos, ◌≤ℤ◌, ◌∙◌, sym, refl, ap, subst, add-one, arith, List, IfSome}
+use Rattle.std.proofs.Common.{◌≡◌, ◌≤◌, ◌+◌, ℕ, pos, ◌∙◌, sym, refl, ap, subst, add-one, arith, List, IfSome}
 use Rattle.std.proofs.lemmas.Int.{ints}
 use Rattle.px_num.specs.declared.shape.Cell.{Cell}
 use Rattle.edge_walk.specs.Walk.{AreRows}

@@ -1,4 +1,4 @@
-use Rattle.std.proofs.Common.{◌≡◌, ◌≤◌, ◌<◌, ◌+◌, ◌/◌, ℕ, ◌∙◌, sym, refl, ap, subst, add-one, arith}
+use Rattle.std.proofs.Common.{◌≡◌, ◌≤◌, ◌<◌, ◌+◌, ◌/◌, ℕ, ◌∙◌, sym, ap, subst, add-one, arith}
 use Rattle.vram_store.specs.Vram.{height_of}
 use Rattle.span_lanes.specs.Cells.{Cells, row_cells}
 use Rattle.span_lanes.specs.Cost.{span_cost}
