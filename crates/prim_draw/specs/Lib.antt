@@ -3,6 +3,7 @@ pub mod Areas
 pub mod Boxes
 pub mod Costs
 pub mod Draw
+pub mod Ink
 pub mod Laws
 pub mod Lines
 pub mod Parts

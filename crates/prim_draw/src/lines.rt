@@ -1,16 +1,17 @@
 // Segments by points.
-ghost use Rattle.std.specs.Prelude.{◌≡◌, ◌≤◌, ◌<◌, ◌+◌, ◌*◌, IsTrue, length, pos, true, if◌then◌else◌};
+ghost use Rattle.std.specs.Prelude.{◌≡◌, ◌≤◌, ◌<◌, ◌+◌, ◌*◌, ℕ, IfSome, IsTrue, length, pos, true, if◌then◌else◌};
 ghost use Rattle.px_num.specs.Fold.{each_below};
 ghost use Rattle.vram_store.specs.Vram.{height_of};
 ghost use Rattle.gp0_packets.specs.Ranges.{IsPlace};
-ghost use Rattle.line_walk.specs.Line.{len_of};
+ghost use Rattle.line_walk.specs.Line.{len_of, point_of};
 ghost use Rattle.prim_draw.specs.Costs.{ends_cost, points_cost};
+ghost use Rattle.prim_draw.specs.Ink.{AreInked, IsInMemory, inked_points};
 ghost use Rattle.prim_draw.specs.Lines.{drawn_ends, drawn_point, drawn_points, ends_box, is_between, is_in};
 ghost use Rattle.prim_draw.specs.Lines.{placed_ends, segment_box};
 ghost use Rattle.prim_draw.specs.Settings.{IsArea};
 
 use crate::boxes::clipped;
-use crate::point::plot_color;
+use crate::point::{ink_of, plot_color};
 use crate::settings::{brush_in, drawing_area, placed};
 use gp1_status::Regs;
 use line_walk::Segment;
@@ -82,6 +83,64 @@ fn draw_point<L: Ledger>(
 }
 
 // Draws the points of a segment in their order.
+fn draw_each<L: Ledger>(
+    vram: &mut Vram,
+    area: &Box2,
+    brush: &Brush,
+    segment: &Segment,
+    steps: &mut Steps<L>,
+)
+    requires area { IsArea (height_of vram.old) area.now }
+    requires mode { brush.now.mode ≤ 3 }
+    ensures cells { vram.new ≡ drawn_points area.now brush.now segment.now (len_of segment.now) vram.old }
+    ensures long { length vram.new ≡ length vram.old }
+    ensures cost { steps.new ≤ steps.old + points_cost area.now segment.now (len_of segment.now) }
+{
+    let mut walk = segment.walk();
+    for k in 0..segment.len() {
+        draw_point(vram, area, brush, &walk.next(), steps);
+    }
+}
+
+// Whether both ends of a segment lie in a box, and so all its points.
+fn lies_in(b: &Box2, segment: &Segment) -> bool
+    ensures first { result ≡ true → is_in b.now segment.now.first ≡ true }
+    ensures second { result ≡ true → is_in b.now segment.now.second ≡ true }
+{
+    is_in(b, &segment.first()) && is_in(b, &segment.second())
+}
+
+// The halfword that each point of a segment is drawn as. None where that may differ, or a point may lie outside.
+fn ink_for(area: &Box2, brush: &Brush, segment: &Segment) -> Option<u16>
+    requires { brush.now.mode ≤ 3 }
+    ensures { IfSome result (λ ink. AreInked area.now brush.now segment.now ink) }
+{
+    let color = segment.first().color;
+    if color != segment.second().color {
+        None
+    } else if lies_in(area, segment) {
+        ink_of(brush, color % 0x100_0000)
+    } else {
+        None
+    }
+}
+
+// Writes the points of a segment as one halfword.
+fn put_points<L: Ledger>(vram: &mut Vram, segment: &Segment, ink: u16, steps: &mut Steps<L>)
+    requires in_memory { (k : ℕ) → k < len_of segment.now → IsInMemory (height_of vram.old) (point_of segment.now k) }
+    ensures cells { vram.new ≡ inked_points segment.now ink (len_of segment.now) vram.old }
+    ensures long { length vram.new ≡ length vram.old }
+    ensures cost { steps.new ≡ steps.old + len_of segment.now }
+{
+    let points = segment.len();
+    let mut walk = segment.walk();
+    for k in 0..points {
+        let point = walk.next();
+        vram.put(point.x as u16, point.y as u16, ink, steps);
+    }
+}
+
+// Draws the points of a segment in their order.
 fn draw_points<L: Ledger>(
     vram: &mut Vram,
     area: &Box2,
@@ -95,8 +154,9 @@ fn draw_points<L: Ledger>(
     ensures long { length vram.new ≡ length vram.old }
     ensures cost { steps.new ≤ steps.old + points_cost area.now segment.now (len_of segment.now) }
 {
-    for k in 0..segment.len() {
-        draw_point(vram, area, brush, &segment.point(k), steps);
+    match ink_for(area, brush, segment) {
+        Some(ink) => put_points(vram, segment, ink, steps),
+        None => draw_each(vram, area, brush, segment, steps),
     }
 }
 

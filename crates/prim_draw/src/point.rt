@@ -1,9 +1,10 @@
 // One point in one colour.
-ghost use Rattle.std.specs.Prelude.{◌≡◌, ◌≤◌, ◌<◌, ◌+◌, Some, false, length};
+ghost use Rattle.std.specs.Prelude.{◌≡◌, ◌≤◌, ◌<◌, ◌+◌, IfSome, Some, false, length};
 ghost use Rattle.blend_dither.specs.Color.{IsShift};
 ghost use Rattle.span_lanes.specs.Shade.{blended_if, flat_pixel, shift_of};
 ghost use Rattle.vram_store.specs.Plot.{is_testing, written_over};
 ghost use Rattle.vram_store.specs.Vram.{height_of};
+ghost use Rattle.prim_draw.specs.Ink.{IsInk};
 ghost use Rattle.prim_draw.specs.Lines.{plotted};
 
 use blend_dither::{blend, pack, shift_at, tone};
@@ -115,5 +116,26 @@ pub(crate) fn plot_color<L: Ledger>(
         plot_seen(vram, brush, to, color, steps);
     } else {
         plot_unseen(vram, brush, to, color, steps);
+    }
+}
+
+// Whether plotting asks for the cell: for what it holds or for its place.
+fn asks_for_cell(brush: &Brush) -> bool
+    ensures opaque { result ≡ false → brush.now.semi ≡ false }
+    ensures plain { result ≡ false → brush.now.dither ≡ false }
+    ensures untested { result ≡ false → is_testing brush.now.mask ≡ false }
+{
+    brush.semi || brush.dither || tests(brush.mask)
+}
+
+/// The halfword that a colour is plotted as. None where that may hang on the cell.
+pub(crate) fn ink_of(brush: &Brush, color: u32) -> Option<u16>
+    requires { brush.now.mode ≤ 3 }
+    ensures { IfSome result (λ ink. IsInk brush.now color ink) }
+{
+    if asks_for_cell(brush) {
+        None
+    } else {
+        Some(force(brush.mask, pixel_over(brush, color, 0, 0)))
     }
 }

@@ -1,0 +1,16 @@
+use Rattle.std.proofs.Common.{◌∙◌, arith}
+use Rattle.line_walk.specs.Line.{len_of}
+use Rattle.prim_draw.proofs.InkLemmas.{in_memory, inked_are, inked_cost}
+use Rattle.prim_draw.proofs.lines.draw_points.Goals as goal
+
+pub put_points-requires : goal.put_points-requires
+put_points-requires g c = record { in_memory = λ k lt. in_memory _ c.args.area.now _ c.requires.area (c.in-Some.ensures k lt).inside }
+
+pub returns-in-Some-clause-cells : goal.returns-in-Some-clause-cells
+returns-in-Some-clause-cells g c =
+    c.put_points.ensures.cells ∙ inked_are c.args.area.now c.args.brush.now c.args.segment.now c.in-Some.ink (len_of c.args.segment.now) c.args.vram.now c.in-Some.ensures (omega arith)
+
+pub returns-in-Some-clause-cost : goal.returns-in-Some-clause-cost
+returns-in-Some-clause-cost g c =
+    let few = inked_cost c.args.area.now c.args.brush.now c.args.segment.now c.in-Some.ink (len_of c.args.segment.now) c.in-Some.ensures (omega arith) in
+    omega (arith, few, c.put_points.ensures.cost)
