@@ -3,3 +3,4 @@ pub mod Items
 pub mod Kinds
 pub mod Next
 pub mod Pushed
+pub mod Skipped
