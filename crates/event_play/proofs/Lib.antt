@@ -11,3 +11,4 @@ pub mod Reports
 pub mod Turns
 pub mod Firsts
 pub mod InARow
+pub mod DataWords

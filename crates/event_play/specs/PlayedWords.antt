@@ -1,5 +1,5 @@
 -- Words that are written to GP0, an event each, where no line is due for them.
-use Rattle.std.specs.Prelude.{◌≡◌, ◌≤◌, ℕ, ◌+◌, List, [], ◌++◌, fold, option_to_list}
+use Rattle.std.specs.Prelude.{◌≡◌, ◌≤◌, ℕ, ◌+◌, ◌-◌, ◌^◌, min, List, [], ◌++◌, fold, option_to_list}
 use Rattle.gpu_core.specs.Cost.{FeedCost, FeedBoxCost}
 use Rattle.gpu_core.specs.Kept.{Kept, kept_of}
 use Rattle.gpu_core.specs.Machine.{Feed, FeedNote}
@@ -22,6 +22,10 @@ after_word t word = record {
 
 abbrev pub after_words : Tale → (words : List ℕ) → Tale
 after_words t words = fold after_word t words
+
+-- the number of events played behind so many more; it stays at 2^64 - 1 once there
+abbrev pub number_behind : (played count : ℕ) → ℕ
+number_behind played count = min (played + count) (2 ^ 64 - 1)
 
 -- a drawing processor, the number of events played, the taps and the steps are those of a tale that began at `first`
 pub record IsTold (t : Tale) (first now : Outlets) (gpu : Kept) (played : ℕ) : Type 0 where

@@ -1,13 +1,14 @@
 // Words that go to GP0, one after another. A call that feeds words has more than five parameters, since a word reaches
 // all that playing works on: the drawing processor, main memory, the sink, the taps and the steps.
-ghost use Rattle.std.specs.Prelude.{◌≡◌, ◌≤◌, ◌<◌, ◌^◌, [], ◌∷◌, map, flat_map, option_to_list, IfSome};
+ghost use Rattle.std.specs.Prelude.{◌≡◌, ◌≤◌, ◌<◌, ◌^◌, ◌+◌, [], ◌∷◌, length, take, map, flat_map};
+ghost use Rattle.std.specs.Prelude.{option_to_list, IfSome};
 ghost use Rattle.dev_io.specs.Device.{Writes};
 ghost use Rattle.list_dma.specs.Node.{node_words};
 ghost use Rattle.list_dma.specs.Walk.{chain, list_words};
 ghost use Rattle.packet_text.specs.Line.{listed};
 ghost use Rattle.event_play.specs.Block.{block_words, IsBlock};
 ghost use Rattle.event_play.specs.Feeding.{FeedsWords};
-ghost use Rattle.event_play.specs.PlayedWords.{IsTold, after_words};
+ghost use Rattle.event_play.specs.PlayedWords.{IsTold, after_words, number_behind};
 ghost use Rattle.event_play.specs.Replay.{Tale};
 ghost use Rattle.event_play.specs.Step.{words_of};
 ghost use Rattle.event_play.specs.Streams.{Outlets, outlets, without_sink};
@@ -193,9 +194,38 @@ pub(crate) fn feed_events<T: Listener, L: Ledger>(
         → IsTold (after_words t words.now) first (without_sink (map T.heard taps.new.items) steps.new) gpu.new result }
 {
     let mut number = played;
-    for word in words {
-        number = number.saturating_add(1);
-        let _ = gpu.gp0(number, *word, taps, steps);
+    let mut at = 0;
+    'words: while at < words.len() {
+        let count = feed_first(gpu, number, &words[at..], taps, steps);
+        number = number.saturating_add(count as u64);
+        at += count;
     }
     number
+}
+
+/// Feeds the first of these words in an event of its own, or the first of them that are data words of the open load, an
+/// event each, and says how many that are.
+#[inline(always)]
+fn feed_first<T: Listener, L: Ledger>(
+    gpu: &mut Gpu,
+    played: u64,
+    words: &[u32],
+    taps: &mut Vec<T>,
+    steps: &mut Steps<L>,
+) -> usize
+    requires { 0 < length words.now }
+    ensures some { 0 < result }
+    ensures within { result ≤ length words.now }
+    ensures told { (t : Tale) (first : Outlets)
+        → IsTold t first (without_sink (map T.heard taps.old.items) steps.old) gpu.old played
+        → IsTold (after_words t (take result words.now)) first
+        (without_sink (map T.heard taps.new.items) steps.new) gpu.new (number_behind played result) }
+{
+    let count = (gpu.wanted() as usize).min(words.len());
+    if count == 0 {
+        let _ = gpu.gp0(played.saturating_add(1), words[0], taps, steps);
+        return 1;
+    }
+    gpu.load(played, &words[..count], taps, steps);
+    count
 }

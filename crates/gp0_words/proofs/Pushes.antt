@@ -27,7 +27,7 @@ pushed old new word answer kept p a = rw (p, a) (pushed_next old word kept)
 
 -- ---- two pixels of a load
 
-wanted_is : (h : Pending) → 0 < wanted h → h ≡ pending.Pixels (wanted h)
+pub wanted_is : (h : Pending) → 0 < wanted h → h ≡ pending.Pixels (wanted h)
 wanted_is pending.Idle some = absurd (omega arith)
 wanted_is (pending.Packet words) some = absurd (omega arith)
 wanted_is (pending.Pixels left) some = refl

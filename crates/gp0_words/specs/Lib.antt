@@ -4,3 +4,4 @@ pub mod Kinds
 pub mod Next
 pub mod Pushed
 pub mod Resuming
+pub mod Skipped

@@ -1,6 +1,7 @@
 // One word more, on what is pending.
 ghost use Rattle.std.specs.Prelude.{◌≡◌, ◌<◌, ◌≤◌, ◌+◌, ℕ, IsTrue, false, nat_lt, None, Some, length, slice_index};
 ghost use Rattle.gp0_words.specs.Kinds.{kind_of, start_len, first_len_of};
+ghost use Rattle.gp0_words.specs.Skipped.{behind_pixels};
 ghost use Rattle.gp0_words.specs.Next.{wanted, next_pending, next_item, pending_behind, collected_pending, collected_item, IsPending};
 
 use crate::item::Item;
@@ -148,6 +149,18 @@ pub fn pixels_after(left: u32) -> Pending
 {
     if left > 1 {
         Pending::Pixels { left: left - 1 }
+    } else {
+        Pending::Idle
+    }
+}
+
+/// What is pending behind so many data words of a load that wanted so many.
+pub fn pixels_behind(left: u32, count: u32) -> Pending
+    requires { count ≤ left }
+    ensures { result ≡ behind_pixels (Pending.Pixels left) count }
+{
+    if count < left {
+        Pending::Pixels { left: left - count }
     } else {
         Pending::Idle
     }

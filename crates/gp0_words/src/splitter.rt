@@ -1,14 +1,16 @@
 // The stream, cut word by word.
-ghost use Rattle.std.specs.Prelude.{◌≡◌, ◌↔◌, ℕ, Some, List, [], ◌∷◌, ◌++◌, IsTrue, false, option_to_list, MatchOption, IfSome};
+ghost use Rattle.std.specs.Prelude.{◌≡◌, ◌↔◌, ◌≤◌, ◌<◌, ℕ, Some, List, [], ◌∷◌, ◌++◌, IsTrue, false, option_to_list};
+ghost use Rattle.std.specs.Prelude.{MatchOption, IfSome};
 ghost use Rattle.gp0_words.specs.Items.{Items, Rest, IsIdle};
 ghost use Rattle.gp0_words.specs.Kinds.{class_of};
-ghost use Rattle.gp0_words.specs.Next.{next_pending, next_item, IsPending};
+ghost use Rattle.gp0_words.specs.Next.{wanted, next_pending, next_item, IsPending};
 ghost use Rattle.gp0_words.specs.Pushed.{IsPushed};
 ghost use Rattle.gp0_words.specs.Resuming.{list_of};
+ghost use Rattle.gp0_words.specs.Skipped.{behind_pixels};
 ghost use Rattle.gp0_words.specs.declared.item.Item.TheVariants.{Whole, Pixels};
 
 use crate::item::Item;
-use crate::pending::{Pending, pixels_after, take, wanted};
+use crate::pending::{Pending, pixels_after, pixels_behind, take, wanted};
 use crate::resuming::may_be_pending;
 use std::marker::Model;
 
@@ -75,6 +77,25 @@ impl Splitter {
         }
         self.pending = pixels_after(left);
         true
+    }
+
+    /// How many data words the open load still wants, 0 where none is open.
+    pub fn wanted(&self) -> u32
+        ensures value { result ≡ wanted self.now }
+        ensures bounds { IsPending self.now }
+    {
+        wanted(&self.pending)
+    }
+
+    /// Takes so many data words of the open load: each of them would be answered as two pixels.
+    pub fn skip_pixels(&mut self, count: usize)
+        requires some { 0 < wanted self.old }
+        requires wanted { count ≤ wanted self.old }
+        ensures pending { self.new ≡ behind_pixels self.old count }
+        ensures bounds { IsPending self.old × IsPending self.new }
+    {
+        let left = wanted(&self.pending);
+        self.pending = pixels_behind(left, count as u32);
     }
 
     /// Whether the next word is a register's, at an idle splitter: `push` answers it as a packet of one word, and the splitter

@@ -1,8 +1,11 @@
 // The machine.
-ghost use Rattle.std.specs.Prelude.{◌≡◌, ◌≤◌, ◌+◌, ◌*◌, length, map, Some, None, IfOk, IfSome};
+ghost use Rattle.std.specs.Prelude.{◌≡◌, ◌≤◌, ◌<◌, ◌+◌, ◌*◌, length, map, Some, None, IfOk, IfSome};
+ghost use Rattle.gp0_words.specs.Next.{wanted};
+ghost use Rattle.gpu_taps.specs.Pixels.{pixel_notes, after_notes};
 ghost use Rattle.vram_store.specs.Vram.{blank};
 ghost use Rattle.gpu_core.specs.Cost.{FeedCost, TakeCost};
 ghost use Rattle.gpu_core.specs.Kept.{kept_of};
+ghost use Rattle.gpu_core.specs.Loading.{FeedsData};
 ghost use Rattle.gpu_core.specs.Machine.{State, first_state, Feed, FeedNote, Gp1, Take, TakenWord, Idle, Status};
 ghost use Rattle.gpu_core.specs.Machine.{told_option, tall_state};
 
@@ -10,7 +13,7 @@ use crate::parts::Parts;
 use gp0_packets::Note;
 use gp0_words::Splitter;
 use gp1_status::{Regs, clears};
-use gpu_taps::{Listener, tell_all};
+use gpu_taps::{Listener, tell_all, tell_all_pixels};
 use px_num::OutOfMemory;
 use std::alloc::Global;
 use std::marker::Model;
@@ -117,6 +120,33 @@ impl Gpu {
                 tell(taps, note)
             }
         }
+    }
+
+    /// How many data words the open load still wants, 0 where none is open.
+    pub fn wanted(&self) -> u32
+        ensures { result ≡ wanted self.now.pending }
+    {
+        self.splitter.wanted()
+    }
+
+    /// Takes data words of the open load, an event each, behind so many events. It does what `gp0` does with one after
+    /// another, but that each listener is told all their notes before the next one is.
+    pub fn load<T: Listener, L: Ledger>(
+        &mut self,
+        played: u64,
+        words: &[u32],
+        taps: &mut Vec<T>,
+        steps: &mut Steps<L>,
+    )
+        requires some { 0 < length words.now }
+        requires wanted { length words.now ≤ wanted self.old.pending }
+        ensures feed { (s : State) → kept_of s ≡ self.old → FeedsData s words.now self.new steps.old steps.new }
+        ensures taps { map T.heard taps.new.items
+            ≡ map (after_notes (pixel_notes (played + 1) words.now)) (map T.heard taps.old.items) }
+    {
+        self.splitter.skip_pixels(words.len());
+        self.parts.take_all_pixels(words, steps);
+        tell_all_pixels(taps, played, words);
     }
 
     /// Takes a word of GP1. Opcodes 00h and 01h also end an unfinished packet, load, polyline and store.

@@ -1,0 +1,131 @@
+-- Data words of the open load, one after another.
+use Rattle.std.proofs.Common.{◌≡◌, ◌<◌, ◌≤◌, ◌+◌, ◌-◌, ◌*◌, ◌/◌, ℕ, suc, zero, List, [], ◌∷◌, Option, Some, None, min, length, fold}
+use Rattle.std.proofs.Common.{nat_lt, true, false, refl, ap, sym, ◌∙◌, inl, inr, arith}
+use Rattle.std.proofs.lemmas.Bool.{cases_Bool, ltb-true}
+use Rattle.std.proofs.lemmas.Bool.Decides.{nat_tests}
+use Rattle.gp0_words.proofs.Pushes.{pushed, wanted_is}
+use Rattle.gp0_words.specs.Next.{wanted, next_pending, IsPending}
+use Rattle.gp0_words.specs.Pushed.{IsPushed}
+use Rattle.gp0_words.specs.Skipped.{behind_pixels}
+use Rattle.gp0_words.specs.declared.item.Item.TheVariants as item
+use Rattle.gp0_words.specs.declared.pending.Pending.{Pending}
+use Rattle.gp0_words.specs.declared.pending.Pending.TheVariants as pending
+use Rattle.gpu_taps.specs.Pixels.{pixel_note}
+use Rattle.vram_copy.proofs.LoadLemmas.{one_more_word, pixels_more}
+use Rattle.vram_copy.specs.Words.{advanced, advanced_by, pixels_next, pixels_in, LoadWord, LoadWords}
+use Rattle.vram_copy.specs.declared.transfer.Transfer.{Transfer}
+use Rattle.gpu_core.specs.Cost.{FeedCost, pixels_of}
+use Rattle.gpu_core.specs.Kept.{Kept, kept_of, words_left, IsLinked}
+use Rattle.gpu_core.specs.Loading.{open_still, with_words, pixels_in_load, feeds_cost, AreData, FeedsData, Wants}
+use Rattle.gpu_core.specs.Machine.{Parts, State, Feed, FeedNote, with_pixels}
+use Rattle.gpu_core.proofs.Fed.{fed, data_effect, data_cost, data_note}
+use Rattle.gpu_core.proofs.Link.{fewer, one_more}
+
+-- what the machine keeps while a load is open
+abbrev loading : Parts → (left : ℕ) → Kept
+loading p left = record { parts = p; pending = pending.Pixels left }
+
+-- ---- one word
+
+record IsOne (s : State) (p : Parts) (job : Transfer) (left word : ℕ) : Type 0 where
+  pub feed : kept_of (Feed s word) ≡ record { parts = with_pixels p (Some job) word; pending = next_pending (pending.Pixels left) word }
+  pub note : (event : ℕ) → FeedNote s event word ≡ Some (pixel_note event word)
+  pub cost : FeedCost s word ≡ 2 * pixels_next job
+
+one : (s : State) (p : Parts) (job : Transfer) (left word : ℕ) → kept_of s ≡ loading p left → p.load ≡ Some job
+    → IsPending (pending.Pixels left) → IsOne s p job left word
+one s p job left word e open_load kept =
+    let push : IsPushed (pending.Pixels left) (next_pending (pending.Pixels left) word) word (Some (item.Pixels word)) =
+    pushed (pending.Pixels left) (next_pending (pending.Pixels left) word) word (Some (item.Pixels word)) kept refl refl in
+    let is = λ (event : ℕ). fed s (loading p left) (next_pending (pending.Pixels left) word) event word
+    (Some (item.Pixels word)) e push in
+    let f : Parts → Kept = λ p. record { parts = p; pending = next_pending (pending.Pixels left) word } in
+    record {
+      feed = (is 0).feed ∙ ap f (data_effect p word ∙ ap (λ load. with_pixels p load word) open_load);
+      note = λ event. (is event).note ∙ ap Some (data_note p.regs event word);
+      cost = (is 0).cost ∙ data_cost p word ∙ ap (λ load. 2 * pixels_of load) open_load;
+    }
+
+-- ---- more of them
+
+behind_more : (left n : ℕ) → behind_pixels (pending.Pixels (left - 1)) n ≡ behind_pixels (pending.Pixels left) (suc n)
+behind_more left n =
+    elim (cases_Bool (nat_lt (suc n) left)) [
+      | inl is ↦
+          let more : nat_lt n (left - 1) ≡ true = grind (arith, nat_tests, is) in
+          let same : left - 1 - n ≡ left - suc n = omega arith in
+          rw (is, more, same) refl
+      | inr is ↦
+          let none : nat_lt n (left - 1) ≡ false = grind (arith, nat_tests, is) in
+          rw (is, none) refl
+    ]
+
+record IsLoaded (s : State) (p : Parts) (job : Transfer) (left : ℕ) (words : List ℕ) : Type 0 where
+  pub feed : kept_of (fold Feed s words)
+      ≡ record { parts = with_words p (Some job) words; pending = behind_pixels (pending.Pixels left) (length words) }
+  pub data_words : AreData s words
+  pub cost : feeds_cost s words ≡ 2 * pixels_in job (length words)
+
+loaded : (words : List ℕ) (s : State) (p : Parts) (job : Transfer) (left : ℕ) → 0 < length words
+    → kept_of s ≡ loading p left → p.load ≡ Some job → IsPending (pending.Pixels left)
+    → IsLinked (pending.Pixels left) (Some job) → length words ≤ left → IsLoaded s p job left words
+loaded [] s p job left some e open_load kept link few = absurd (omega (arith, some))
+loaded (word ∷ []) s p job left some e open_load kept link few =
+    let first = one s p job left word e open_load kept in
+    record {
+      feed = first.feed;
+      data_words = (first.note, tt);
+      cost = let c = first.cost in omega (arith, c);
+    }
+loaded (word ∷ next ∷ words) s p job left some e open_load kept link few =
+    let first = one s p job left word e open_load kept in
+    let n = length (next ∷ words) in
+    let on : nat_lt 1 left ≡ true = grind (arith, few) in
+    let still : nat_lt (job.at + pixels_next job) (job.w * job.h) ≡ true =
+    sym (one_more (job.w * job.h) job.at left link.0 link.1) ∙ on in
+    let within = ltb-true (job.at + pixels_next job) (job.w * job.h) still in
+    let q : Parts = record p { m = LoadWord p.m p.regs.mask job word; load = Some (advanced job) } in
+    let at_next : kept_of (Feed s word) ≡ loading q (left - 1) = first.feed ∙ rw (on, still) refl in
+    let rest = loaded (next ∷ words) (Feed s word) q (advanced job) (left - 1) (omega arith) at_next refl
+    (let most = kept.1 in (omega (arith, few), omega (arith, most)))
+    (fewer (job.w * job.h) job.at left link.0 within, within) (omega (arith, few)) in
+    let f : Transfer → Parts = λ j. record p {
+      m = LoadWords (LoadWord p.m p.regs.mask job word) p.regs.mask (advanced job) (next ∷ words);
+      load = open_still j;
+    } in
+    record {
+      feed = rest.feed ∙ ap (λ (p : Parts). record { parts = p; pending = behind_pixels (pending.Pixels (left - 1)) n })
+          (ap f (one_more_word job n))
+          ∙ ap (λ (h : Pending). record { parts = f (advanced_by job (suc n)); pending = h }) (behind_more left n);
+      data_words = (first.note, rest.data_words);
+      cost = let a = first.cost in let b = rest.cost in let more = pixels_more job n in omega (arith, a, b, more);
+    }
+
+-- ---- a load that is open
+
+pub loads : (s : State) (p : Parts) (load : Option Transfer) (h new : Pending) (now : Parts) (words : List ℕ)
+    (steps steps_now : ℕ)
+    → kept_of s ≡ record { parts = p; pending = h } → p.load ≡ load → IsPending h → IsLinked h load → 0 < length words
+    → length words ≤ wanted h → new ≡ behind_pixels h (length words) → now ≡ with_words p load words
+    → steps_now ≤ steps + 2 * pixels_in_load load (length words)
+    → FeedsData s words (record { parts = now; pending = new }) steps steps_now
+loads s p load (pending.Pixels left) new now words steps steps_now e open_load kept link some few after parts cost =
+    with_job load open_load link parts cost
+  where
+    with_job : (load : Option Transfer) → p.load ≡ load → IsLinked (pending.Pixels left) load → now ≡ with_words p load words
+        → steps_now ≤ steps + 2 * pixels_in_load load (length words)
+        → FeedsData s words (record { parts = now; pending = new }) steps steps_now
+    with_job None open_load link parts cost = absurd link
+    with_job (Some job) open_load link parts cost =
+        let is = loaded words s p job left some e open_load kept link few in
+        record {
+          feed = rw (after, parts) is.feed;
+          data_words = is.data_words;
+          cost = let c = is.cost in omega (arith, c, cost);
+        }
+loads s p load pending.Idle new now words steps steps_now e open_load kept link some few after parts cost =
+    absurd (omega (arith, some, few))
+loads s p load (pending.Packet held) new now words steps steps_now e open_load kept link some few after parts cost =
+    absurd (omega (arith, some, few))
+loads s p load (pending.Poly command color vertex half) new now words steps steps_now e open_load kept link some few after parts cost =
+    absurd (omega (arith, some, few))
