@@ -16,13 +16,14 @@ IsBoundOf AtMost fall size = pos size ≡ fall
 IsBoundOf AtLeast fall size = pos size ≡ (pos 0 -ℤ fall)
 IsBoundOf Level fall size = (fall ≡ pos 0) × (size ≡ 1)
 
--- the edge from p to q in row y: what its value at p's column is above the least one, as a quotient and a rest, and how these go from row to row.
--- The quotients are raised by 2^20
+-- the edge from p to q in row y: how much its value at p's column is above the least one, as a quotient and a rest, and
+-- how these go from row to row. The quotients are raised by 2^20
 pub record IsSide (p q : Vertex) (y : ℤ) (s : Side) : Type 0 where
   pub bound : IsBoundOf s.bound (q.y -ℤ p.y) s.size
   pub start : s.start ≡ p.x
   pub rest : s.rest < s.size
-  pub value : pos (s.whole * s.size + s.rest) ≡ (((q.x -ℤ p.x) *ℤ (y -ℤ p.y) -ℤ least_value p q) +ℤ pos (2 ^ 20 * s.size))
+  pub value : pos (s.whole * s.size + s.rest)
+      ≡ (((q.x -ℤ p.x) *ℤ (y -ℤ p.y) -ℤ least_value p q) +ℤ pos (2 ^ 20 * s.size))
   pub raised : ℕ
   pub by : s.by ≡ (raised + (2 ^ 32 - 2 ^ 20)) % 2 ^ 32
   pub more : s.more < s.size

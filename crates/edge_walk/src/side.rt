@@ -1,5 +1,6 @@
 // An edge from row to row.
-ghost use Rattle.std.specs.Prelude.{◌≡◌, ◌+◌, ◌*◌, ◌^◌, ◌≤◌, ◌<◌, ◌↔◌, ℤ, pos, ◌+ℤ◌, ◌-ℤ◌, ◌*ℤ◌, ◌≤ℤ◌, unsigned_abs, IsTrue};
+ghost use Rattle.std.specs.Prelude.{◌≡◌, ◌+◌, ◌*◌, ◌^◌, ◌≤◌, ◌<◌, ◌↔◌, IsTrue};
+ghost use Rattle.std.specs.Prelude.{ℤ, pos, ◌+ℤ◌, ◌-ℤ◌, ◌*ℤ◌, ◌≤ℤ◌, unsigned_abs};
 ghost use Rattle.px_num.specs.declared.shape.Vertex.{Vertex};
 ghost use Rattle.edge_walk.specs.Row.{IsBetween};
 ghost use Rattle.edge_walk.specs.Triangle.{IsNear, is_on_side};
@@ -24,14 +25,19 @@ pub(crate) enum Bound {
 #[derive(Clone, Copy)]
 pub(crate) struct Side {
     bound: Bound,
+    // the column of its first vertex
     start: i32,
+    // how far from there its own column lies: a quotient, raised, and its rest
     whole: u32,
     rest: u32,
+    // by how much both grow from row to row
     by: u32,
     more: u32,
+    // what is divided by: the rows between its vertices
     size: u32,
 }
 
+// Quotients are held so much greater than they are, so that none lies below 0.
 const RAISE: u32 = 0x10_0000;
 
 /// A quotient, raised by 2^20, and its rest.
@@ -47,6 +53,7 @@ struct Column {
     x: i64,
 }
 
+/// How an edge bounds the columns, and what its values are divided by.
 #[derive(Clone, Copy)]
 struct Shape {
     bound: Bound,
@@ -79,6 +86,7 @@ fn shape_of(fall: i64) -> Shape
     }
 }
 
+// A number that is divided by a size, so that its quotient is raised.
 #[inline(always)]
 fn raised(value: i64, size: u32) -> u32
     requires value { unsigned_abs value < 2 ^ 20 }

@@ -51,7 +51,8 @@ impl RowWalk {
     #[inline(always)]
     pub fn next(&mut self) -> Option<(i32, i32)>
         ensures span { (t : Corners) (clip : Box2) (y : ℤ) → AreRows t clip y self.old → y ≤ℤ clip.y2
-            → MatchOption result ((x : ℤ) → IsInBox clip x y → is_inside t x y ≡ false) (λ span. IsRowSpan t y clip span.0 span.1) }
+            → MatchOption result ((x : ℤ) → IsInBox clip x y → is_inside t x y ≡ false)
+            (λ span. IsRowSpan t y clip span.0 span.1) }
         ensures next { (t : Corners) (clip : Box2) (y : ℤ)
             → AreRows t clip y self.old → y ≤ℤ clip.y2 → AreRows t clip (y +ℤ pos 1) self.new }
     {

@@ -27,7 +27,8 @@ pub record IsOnRow (rows : RowWalk) : Type 0 where
 
 -- the cells that are found in the row at which a walk stands, which then stands at the next row
 pub record TakesRow (old new : RowWalk) (found : Option Run) : Type 0 where
-  pub cells : (t : Corners) (clip : Box2) (y : ℕ) → IsRowOf t clip y old → run_cells found y ≡ row_inside t (block_of clip) y
+  pub cells : (t : Corners) (clip : Box2) (y : ℕ)
+      → IsRowOf t clip y old → run_cells found y ≡ row_inside t (block_of clip) y
   pub inside : (t : Corners) (clip : Box2) (y : ℕ) → IsRowOf t clip y old → IfSome found (IsRun t y)
   pub next : (t : Corners) (clip : Box2) (y : ℕ) → IsRowOf t clip y old → AreRows t clip (pos (y + 1)) new
 

@@ -110,7 +110,8 @@ impl Coat {
         requires small { IsOnScreen 1024 clip.now }
         requires clip { IsOnScreen (height_of vram.old) clip.now }
         requires inside { LiesIn (bounding_box tri.now) clip.now }
-        ensures cells { vram.new ≡ painted_cells self.now (filter (draws tri.now) (cells_of (block_of clip.now))) vram.old }
+        ensures cells { vram.new
+            ≡ painted_cells self.now (filter (draws tri.now) (cells_of (block_of clip.now))) vram.old }
         ensures long { length vram.new ≡ length vram.old }
         ensures cost { steps.new
             ≤ steps.old + triangle_rows_cost self.now tri.now (block_of clip.now) (block_of clip.now).h }
