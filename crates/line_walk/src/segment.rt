@@ -136,6 +136,7 @@ fn color_along(from: u32, to: u32, n: u32, k: u32) -> u32
 }
 
 // The same, and sooner where both ends have one colour.
+#[inline(always)]
 pub(crate) fn color_at(from: u32, to: u32, n: u32, k: u32) -> u32
     requires steps { n ≤ 1023 }
     requires k { k ≤ n }

@@ -37,6 +37,7 @@ pub(crate) fn first_slope(run: &Run, n: u32) -> Slope
 }
 
 // One step on.
+#[inline(always)]
 pub(crate) fn next_slope(slope: Slope, n: u32) -> Slope
     requires steps { n ≤ 1023 }
     requires rest { slope.rest < 2 * n }
@@ -62,6 +63,7 @@ pub(crate) fn next_slope(slope: Slope, n: u32) -> Slope
 }
 
 // The value that a slope has come to.
+#[inline(always)]
 pub(crate) fn value_of(slope: &Slope) -> i32
     requires low { negsuc 2147483647 ≤ℤ value_of slope.now }
     requires high { value_of slope.now ≤ℤ pos 2147483647 }

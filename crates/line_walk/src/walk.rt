@@ -53,6 +53,7 @@ impl Walk {
     }
 
     /// The next point, as [`Segment::point`](crate::Segment::point) gives it.
+    #[inline(always)]
     pub fn next(&mut self) -> Vertex
         requires { self.old.at < len_of self.old.ends }
         ensures point { result ≡ point_of self.old.ends self.old.at }

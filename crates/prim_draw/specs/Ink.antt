@@ -32,4 +32,5 @@ pub record IsInMemory (height : ℕ) (p : Vertex) : Type 0 where
 
 -- the first n points of a segment become this halfword
 abbrev pub inked_points : Ends → ℕ → ℕ → List ℕ → List ℕ
-inked_points s ink n m = each_below (λ k cells. set cells (cell_of (point_of s k)).x (cell_of (point_of s k)).y ink) n m
+inked_points s ink n m =
+    each_below (λ k cells. let cell = cell_of (point_of s k) in set cells cell.x cell.y ink) n m

@@ -127,7 +127,8 @@ fn ink_for(area: &Box2, brush: &Brush, segment: &Segment) -> Option<u16>
 
 // Writes the points of a segment as one halfword.
 fn put_points<L: Ledger>(vram: &mut Vram, segment: &Segment, ink: u16, steps: &mut Steps<L>)
-    requires in_memory { (k : ℕ) → k < len_of segment.now → IsInMemory (height_of vram.old) (point_of segment.now k) }
+    requires in_memory { (k : ℕ) → k < len_of segment.now
+        → IsInMemory (height_of vram.old) (point_of segment.now k) }
     ensures cells { vram.new ≡ inked_points segment.now ink (len_of segment.now) vram.old }
     ensures long { length vram.new ≡ length vram.old }
     ensures cost { steps.new ≡ steps.old + len_of segment.now }
