@@ -1,6 +1,6 @@
 // The stream, cut word by word.
-ghost use Rattle.std.specs.Prelude.{◌≡◌, ◌↔◌, ◌≤◌, ◌<◌, ℕ, Some, List, [], ◌∷◌, ◌++◌, IsTrue, false, option_to_list};
-ghost use Rattle.std.specs.Prelude.{MatchOption, IfSome};
+ghost use Rattle.std.specs.Prelude.{◌≡◌, ◌↔◌, ◌≤◌, ◌<◌, ℕ, None, Some, List, [], ◌∷◌, ◌++◌, IsTrue, false};
+ghost use Rattle.std.specs.Prelude.{option_to_list, MatchOption, IfSome};
 ghost use Rattle.gp0_words.specs.Items.{Items, Rest, IsIdle};
 ghost use Rattle.gp0_words.specs.Kinds.{class_of};
 ghost use Rattle.gp0_words.specs.Next.{wanted, next_pending, next_item, IsPending};
@@ -10,7 +10,7 @@ ghost use Rattle.gp0_words.specs.Skipped.{behind_pixels};
 ghost use Rattle.gp0_words.specs.declared.item.Item.TheVariants.{Whole, Pixels};
 
 use crate::item::Item;
-use crate::pending::{Pending, pixels_after, pixels_behind, take, wanted};
+use crate::pending::{Pending, extend, pixels_after, pixels_behind, take, wanted};
 use crate::resuming::may_be_pending;
 use std::marker::Model;
 
@@ -105,6 +105,15 @@ impl Splitter {
         ensures class { IsTrue result → class_of word ≡ 7 }
     {
         word >> 29 == 7 && self.is_idle()
+    }
+
+    /// Takes the next word where it is one more of a begun packet and not its last, and says whether it is; else nothing
+    /// changes. It does what `push` does then, and sooner.
+    pub fn push_inside(&mut self, word: u32) -> bool
+        ensures inside { IsTrue result → IsPushed self.old self.new word None }
+        ensures others { result ≡ false → self.new ≡ self.old }
+    {
+        extend(&mut self.pending, word)
     }
 
     /// Drops all that is pending: it stands for the empty list.

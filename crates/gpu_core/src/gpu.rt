@@ -75,6 +75,7 @@ impl Gpu {
     /// Takes a word of GP0 in the event of this number. Where it completes an item, the item takes effect, every
     /// listener of the list is told its note, in order, and the note is answered. None comes exactly where no item was
     /// completed.
+    #[inline(always)]
     pub fn gp0<T: Listener, L: Ledger>(
         &mut self,
         event: u64,
@@ -96,10 +97,14 @@ impl Gpu {
             self.parts.set_register(word);
             return tell(taps, bare_note(event, 7, word));
         }
+        if self.splitter.push_inside(word) {
+            return None;
+        }
         self.push(event, word, taps, steps)
     }
 
     // The same for any word.
+    #[inline(never)]
     fn push<T: Listener, L: Ledger>(
         &mut self,
         event: u64,

@@ -1,9 +1,9 @@
-use Rattle.std.proofs.Common.{Some, sym, ap, ◌∙◌}
+use Rattle.std.proofs.Common.{Some, sym, ap, ◌∙◌, arith}
 use Rattle.gp0_words.specs.declared.item.Item.TheVariants as item
 use Rattle.gpu_core.specs.Kept.{Kept}
 use Rattle.gpu_core.specs.Machine.{Parts, Effect}
 use Rattle.gpu_core.proofs.Fed.{fed, data_effect, data_cost, data_note, register_packet, register_note}
-use Rattle.gpu_core.proofs.Link.{environment-keeps, linked}
+use Rattle.gpu_core.proofs.Link.{environment-keeps, linked, linked_inside}
 use Rattle.gpu_core.proofs.gpu.Gpu.gp0.Goals as goal
 
 pub invariant_of-self : goal.invariant_of-self
@@ -59,3 +59,29 @@ returns-then-passes-clause-note g c = λ s e.
     let same = c.push_pixels.ensures.others c.if-push_pixels.false in
     let is = fed s (record { parts = p; pending = c.push_pixels.new.self }) _ c.args.event c.args.word _ (rw same (e ∙ sym c.self.view_is)) push in
     is.note ∙ ap Some (register_note p.regs c.args.event c.args.word (c.passes.ensures.class c.if-passes.true) ∙ sym c.bare_note-then-passes.ensures) ∙ sym c.tell-then-passes.ensures.note
+
+pub invariant_of-self-then-push_inside : goal.invariant_of-self-then-push_inside
+invariant_of-self-then-push_inside g c =
+    let p : Parts = c.self.inside.parts in
+    let push = c.push_inside.ensures.inside c.if-push_inside.true in
+    let same = c.push_pixels.ensures.others c.if-push_pixels.false in
+    rw push.pending (linked_inside c.push_pixels.new.self c.args.word p.load (rw same c.self.invariant) (sym push.decided))
+
+pub returns-then-push_inside-clause-feed : goal.returns-then-push_inside-clause-feed
+returns-then-push_inside-clause-feed g c = λ s e.
+    let p : Parts = c.self.inside.parts in
+    let push = c.push_inside.ensures.inside c.if-push_inside.true in
+    let same = c.push_pixels.ensures.others c.if-push_pixels.false in
+    let is = fed s (record { parts = p; pending = c.push_pixels.new.self }) _ c.args.event c.args.word _ (rw same (e ∙ sym c.self.view_is)) push in
+    is.feed
+
+pub returns-then-push_inside-clause-note : goal.returns-then-push_inside-clause-note
+returns-then-push_inside-clause-note g c = λ s e.
+    let p : Parts = c.self.inside.parts in
+    let push = c.push_inside.ensures.inside c.if-push_inside.true in
+    let same = c.push_pixels.ensures.others c.if-push_pixels.false in
+    let is = fed s (record { parts = p; pending = c.push_pixels.new.self }) _ c.args.event c.args.word _ (rw same (e ∙ sym c.self.view_is)) push in
+    is.note
+
+pub returns-then-push_inside-clause-cost : goal.returns-then-push_inside-clause-cost
+returns-then-push_inside-clause-cost g c = λ s e. omega arith
