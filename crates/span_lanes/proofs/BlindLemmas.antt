@@ -19,7 +19,7 @@ use Rattle.span_lanes.specs.Shade.{IsSpan, at_cell, texel, row_u, paint_pixel, s
 use Rattle.span_lanes.specs.Guard.{paint_texel, paint_texels, target, clut_strip, palette_of, PaintHazard, HasHazard}
 
 -- a cell that none of j lanes of a row writes
-same_cell : (m now : List ℕ) (x y j cx cy : ℕ) → AgreesApart (1024 * y + x) j m now → cx < 1024 → x + j ≤ 1024
+pub same_cell : (m now : List ℕ) (x y j cx cy : ℕ) → AgreesApart (1024 * y + x) j m now → cx < 1024 → x + j ≤ 1024
     → ((i : ℕ) → i < j → cx ≡ x + i → cy ≡ y → ⊥) → get_or now (1024 * cy + cx) 0 ≡ get_or m (1024 * cy + cx) 0
 same_cell m now x y j cx cy agree low room apart = elim (cases_lt cy y) [
   | inl above ↦ agree.others (1024 * cy + cx) (inl (omega arith))

@@ -20,6 +20,14 @@ drawn_start span before m = record {
   long = refl;
 }
 
+-- none is drawn yet, and some steps were taken
+pub drawn_begun : (span : Span) (before steps : ℕ) (m : List ℕ) → steps ≤ before → AreDrawn span 0 before steps m m
+drawn_begun span before steps m le = record {
+  cells = (drawn_start span before m).cells;
+  cost = omega (arith, le);
+  long = refl;
+}
+
 -- one chunk more
 pub drawn_next : (span : Span) (c before steps after : ℕ) (m now next : List ℕ) (first k : ℕ) → AreDrawn span c before steps m now
     → first ≡ 16 * c → k ≡ min (span.n - 16 * c) 16 → 16 * c < span.n

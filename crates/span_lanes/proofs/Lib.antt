@@ -11,5 +11,6 @@ pub mod PlainLemmas
 pub mod PlanLemmas
 pub mod SameLemmas
 pub mod SolidLemmas
+mod SwatchLemmas
 pub mod TexelLemmas
 mod TintLemmas

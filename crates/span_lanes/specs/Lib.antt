@@ -9,5 +9,6 @@ pub mod Paints
 pub mod Pen
 pub mod Plan
 pub mod Shade
+pub mod Swatches
 pub mod Texels
 pub mod Track

@@ -3,12 +3,12 @@ use Rattle.std.specs.Prelude.{ℕ, ◌≡◌, ◌+◌, ◌<◌, ◌&&◌, not, I
 use Rattle.span_lanes.specs.declared.plan.Plan.{Plan}
 use Rattle.span_lanes.specs.declared.span.Texture.{Texture}
 use Rattle.span_lanes.specs.declared.span.Span.{Span}
-use Rattle.span_lanes.specs.Shade.{texel}
+use Rattle.span_lanes.specs.Shade.{texel, front_of, shift_of}
 use Rattle.span_lanes.specs.Guard.{IsApart}
 use Rattle.span_lanes.specs.Hues.{AreHues}
 use Rattle.span_lanes.specs.Lanes.{AreShiftsAt}
 use Rattle.span_lanes.specs.Track.{IsTrack}
-use Rattle.span_lanes.specs.Paints.{paint_u, paint_v}
+use Rattle.span_lanes.specs.Paints.{paint_color, paint_u, paint_v}
 
 pub record IsPlan (span : Span) (t : Texture) (plan : Plan) : Type 0 where
   pub hues : AreHues span.paint span.x span.y span.n plan.hues
@@ -22,3 +22,10 @@ pub record HasTexels (span : Span) (t : Texture) (first n : ℕ) (m lanes : List
   pub value : (j : ℕ) → j < n → slice_index lanes j
       ≡ texel t (paint_u span.paint (span.x + first + j) span.y (first + j))
       (paint_v span.paint (span.x + first + j) span.y (first + j)) m
+
+-- the first n lanes are what colours make of the texels of n cells of a span from a first one on
+abbrev pub HasFronts : (span : Span) (t : Texture) (first n : ℕ) (texels fronts : List ℕ) → Type 0
+HasFronts span t first n texels fronts =
+    (j : ℕ) → j < n → slice_index fronts j
+    ≡ front_of t.raw (paint_color span.paint (span.x + first + j) span.y)
+    (shift_of (span.brush.dither && not t.raw) (span.x + first + j) span.y) (slice_index texels j)

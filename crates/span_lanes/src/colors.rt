@@ -41,7 +41,7 @@ pub(crate) struct Shifts {
 }
 
 // No dither.
-fn no_shifts() -> Shifts
+pub(crate) fn no_shifts() -> Shifts
     ensures small { AreShifts result.lanes }
     ensures value { EachLane (λ i. slice_index_or result.lanes i (pos 0) ≡ pos 0) }
 {

@@ -2,7 +2,7 @@
 ghost use Rattle.std.specs.Prelude.{◌≡◌, ◌≤◌, ◌<◌, ◌+◌, ◌*◌, ◌%◌, None, Some, length};
 ghost use Rattle.vram_store.specs.Vram.{height_of};
 ghost use Rattle.vram_store.specs.Plot.{later};
-ghost use Rattle.vram_store.specs.Chunk.{IsBlind};
+ghost use Rattle.vram_store.specs.Chunk.{AgreesApart, IsBlind};
 ghost use Rattle.span_lanes.specs.Chunk.{IsChunk, chunk_place, drawn_chunk, HasChunk};
 ghost use Rattle.span_lanes.specs.Shade.{IsSpan, LiesIn, texture_of, shade, drawn_span};
 ghost use Rattle.span_lanes.specs.declared.hues.Hues.TheVariants.{One, Lines};
@@ -25,6 +25,7 @@ use crate::plain::collect_plain;
 use crate::plan::{Plan, row_plan, tri_plan};
 use crate::slopes::Slopes;
 use crate::solid::draw_solid;
+use crate::swatches::{draw_swatches, suits};
 use crate::textured::{collect_textured, read_texels};
 use crate::tint::Tint;
 use crate::track::track_lanes;
@@ -52,7 +53,7 @@ fn draw_cells<L: Ledger>(vram: &mut Vram, span: &Span, first: u16, k: u8, steps:
 
 // Stores the pixels of a chunk that does not read what it writes.
 #[inline(always)]
-fn store_chunk<L: Ledger>(
+pub(crate) fn store_chunk<L: Ledger>(
     vram: &mut Vram,
     span: &Span,
     first: u16,
@@ -66,6 +67,7 @@ fn store_chunk<L: Ledger>(
     requires blind { IsBlind (later (shade span.now) first) (chunk_place span.now first) k vram.old }
     requires lanes { HasChunk span.now first k vram.old lanes.now }
     ensures cells { vram.new ≡ drawn_chunk span.now first k vram.old }
+    ensures others { AgreesApart (chunk_place span.now first) k vram.old vram.new }
     ensures long { length vram.new ≡ length vram.old }
     ensures cost { steps.new ≤ steps.old + 1 }
 {
@@ -296,6 +298,31 @@ fn draw_chunks<L: Ledger>(
     }
 }
 
+// A textured span, by what suits it.
+#[inline(always)]
+fn draw_planned<L: Ledger>(
+    vram: &mut Vram,
+    span: &Span,
+    texture: &Texture,
+    plan: &Plan,
+    steps: &mut Steps<L>,
+)
+    requires span { IsSpan span.now }
+    requires height { LiesIn (height_of vram.old) span.now }
+    requires texture { texture_of span.now.paint ≡ Some texture.now }
+    requires plan { IsPlan span.now texture.now plan.now }
+    ensures cells { vram.new ≡ drawn_span span.now span.now.n vram.old }
+    ensures long { length vram.new ≡ length vram.old }
+    ensures cost { steps.new ≤ steps.old + span_cost span.now }
+{
+    match plan.hues {
+        Hues::One { color } if suits(span, texture, plan) => {
+            draw_swatches(vram, span, texture, plan, color, steps)
+        }
+        _ => draw_chunks(vram, span, texture, plan, steps),
+    }
+}
+
 // A row of texels.
 #[inline(never)]
 fn draw_row<L: Ledger>(
@@ -316,7 +343,7 @@ fn draw_row<L: Ledger>(
     ensures cost { steps.new ≤ steps.old + span_cost span.now }
 {
     let plan = row_plan(span, texture, color, u, v, flip);
-    draw_chunks(vram, span, texture, &plan, steps);
+    draw_planned(vram, span, texture, &plan, steps);
 }
 
 // A row of a triangle with a texture, by its colours.
@@ -340,7 +367,7 @@ fn draw_sheet<L: Ledger>(
     ensures cost { steps.new ≤ steps.old + span_cost span.now }
 {
     let plan = tri_plan(span, tri, texture, hues, slopes);
-    draw_chunks(vram, span, texture, &plan, steps);
+    draw_planned(vram, span, texture, &plan, steps);
 }
 
 // The same under one colour.

@@ -132,7 +132,7 @@ fn close_halfwords<L: Ledger>(
 
 // The halfwords of k cells: at once where they stand side by side.
 #[inline(always)]
-fn halfwords_of<L: Ledger>(
+pub(crate) fn halfwords_of<L: Ledger>(
     vram: &Vram,
     xs: u16x16,
     ys: u16x16,
@@ -159,7 +159,7 @@ fn halfwords_of<L: Ledger>(
 
 // The first sixteen entries of a palette, whose row is one of the first 512.
 #[inline(always)]
-fn sixteen_entries<L: Ledger>(vram: &Vram, clut: u16, steps: &mut Steps<L>) -> u16x16
+pub(crate) fn sixteen_entries<L: Ledger>(vram: &Vram, clut: u16, steps: &mut Steps<L>) -> u16x16
     ensures long { length result ≡ 16 }
     ensures value { EachLane (λ i. slice_index result i ≡ at_cell vram.now (clut_place clut i)) }
     ensures cost { steps.new ≤ steps.old + 1 }

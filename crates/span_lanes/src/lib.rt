@@ -29,6 +29,7 @@ mod plan;
 mod slopes;
 mod solid;
 mod span;
+mod swatches;
 mod textured;
 mod tint;
 mod track;

@@ -24,7 +24,7 @@ pub(crate) struct Plan {
     pub(crate) apart: bool,
 }
 
-fn is_dithered(dither: bool, raw: bool) -> bool
+pub(crate) fn is_dithered(dither: bool, raw: bool) -> bool
     ensures { result ≡ (dither && not raw) }
 {
     dither && !raw

@@ -9,7 +9,7 @@ ghost use Rattle.span_lanes.specs.Chunk.{IsChunk, HasChunk};
 ghost use Rattle.span_lanes.specs.Shade.{IsTexture, IsSpan, LiesIn, texture_of, is_high, blended_if, front_of, at_cell};
 ghost use Rattle.span_lanes.specs.Shade.{shade};
 ghost use Rattle.span_lanes.specs.Hues.{hue_at};
-ghost use Rattle.span_lanes.specs.Plan.{IsPlan, HasTexels};
+ghost use Rattle.span_lanes.specs.Plan.{IsPlan, HasTexels, HasFronts};
 ghost use Rattle.span_lanes.specs.Lanes.{AreShifts, AreCoordinates};
 ghost use Rattle.span_lanes.specs.Guard.{texel_cells};
 ghost use Rattle.overlap_guard.specs.Hazard.{cell_at};
@@ -200,7 +200,7 @@ fn modulated(hues: &Hues, shifts: Shifts, first: u16, texels: u16x16) -> u16x16
 // The colours of sixteen texels from cell `first` on, or the texels themselves.
 #[inline(always)]
 #[tactic(auto, unfolding(crate::specs::Shade::front_of))]
-fn fronts(raw: bool, hues: &Hues, shifts: Shifts, first: u16, texels: u16x16) -> u16x16
+pub(crate) fn fronts(raw: bool, hues: &Hues, shifts: Shifts, first: u16, texels: u16x16) -> u16x16
     requires shifts { AreShifts shifts.lanes }
     requires long { length texels ≡ 16 }
     ensures long { length result ≡ 16 }
@@ -211,6 +211,39 @@ fn fronts(raw: bool, hues: &Hues, shifts: Shifts, first: u16, texels: u16x16) ->
         texels
     } else {
         modulated(hues, shifts, first, texels)
+    }
+}
+
+// The pixels of k cells of a textured span by their texels and what colours make of these.
+#[inline(always)]
+pub(crate) fn collect_fronts<L: Ledger>(
+    vram: &Vram,
+    span: &Span,
+    texture: &Texture,
+    texels: u16x16,
+    front: u16x16,
+    first: u16,
+    k: u8,
+    steps: &mut Steps<L>,
+) -> Lanes
+    requires span { IsSpan span.now }
+    requires height { LiesIn (height_of vram.now) span.now }
+    requires chunk { IsChunk span.now first k }
+    requires texture { texture_of span.now.paint ≡ Some texture.now }
+    requires texels { HasTexels span.now texture.now first k vram.now texels }
+    requires long { length front ≡ 16 }
+    requires front { HasFronts span.now texture.now first k texels front }
+    ensures lanes { HasChunk span.now first k vram.now result }
+    ensures cost { steps.new ≤ steps.old + 1 }
+{
+    let _ = texture;
+    let x = span.x + first;
+    let brush = span.brush;
+    let back = back_of(vram, &brush, x, span.y, k, steps);
+    let plotted = plotted_lanes(brush.semi, brush.mode, back, texels, front);
+    Lanes {
+        cells: force_lanes(brush.mask, plotted),
+        bits: both(open_bits(brush.mask, back), drawn_bits(texels)),
     }
 }
 
@@ -236,13 +269,6 @@ pub(crate) fn collect_textured<L: Ledger>(
     ensures lanes { HasChunk span.now first k vram.now result }
     ensures cost { steps.new ≤ steps.old + 1 }
 {
-    let x = span.x + first;
-    let brush = span.brush;
-    let back = back_of(vram, &brush, x, span.y, k, steps);
     let front = fronts(texture.raw, &plan.hues, plan.shifts, first, texels);
-    let plotted = plotted_lanes(brush.semi, brush.mode, back, texels, front);
-    Lanes {
-        cells: force_lanes(brush.mask, plotted),
-        bits: both(open_bits(brush.mask, back), drawn_bits(texels)),
-    }
+    collect_fronts(vram, span, texture, texels, front, first, k, steps)
 }

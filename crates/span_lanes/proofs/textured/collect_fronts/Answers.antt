@@ -1,0 +1,38 @@
+use Rattle.std.proofs.Common.{ℕ, ℤ, ◌≡◌, ◌<◌, ◌+◌, ◌*◌, ◌&&◌, not, Bool, cond, get_or, sym, ap, ◌∙◌, arith}
+use Rattle.span_lanes.specs.Shade.{textured_pixel, shift_of, texel}
+use Rattle.span_lanes.specs.Paints.{paint_color, paint_u, paint_v}
+use Rattle.span_lanes.specs.Lanes.{DoesFor}
+use Rattle.span_lanes.proofs.BackLemmas.{textured_back, kept_back}
+use Rattle.span_lanes.proofs.TexelLemmas.{shade_textured, textured_lane}
+use Rattle.span_lanes.proofs.textured.collect_fronts.Goals as goal
+
+pub returns-clause-lanes : goal.returns-clause-lanes
+returns-clause-lanes g c = record {
+  lane = λ j lt.
+      let span = c.args.span.now in
+      let t = c.args.texture.now in
+      let in_lanes : j < 16 = omega arith in
+      let x : ℕ = span.x + c.args.first + j in
+      let i : ℕ = c.args.first + j in
+      let same_x : span.x + (c.args.first + j) ≡ x = omega arith in
+      let place : 1024 * span.y + (span.x + c.args.first + j) ≡ 1024 * span.y + (span.x + c.args.first) + j = omega arith in
+      let cell : ℕ = get_or c.args.vram.now (1024 * span.y + (span.x + c.args.first) + j) 0 in
+      let back : DoesFor span.brush cell (get_or c.back_of-back.result j 0) = c.back_of-back.ensures.value j lt in
+      let here : get_or c.args.vram.now (1024 * span.y + (span.x + c.args.first + j)) 0 ≡ cell = ap (λ (k : ℕ). get_or c.args.vram.now k 0) place in
+      let same = c.requires.texels.value j lt in
+      let color : ℕ = paint_color span.paint x span.y in
+      let shift : ℤ = shift_of (span.brush.dither && not t.raw) x span.y in
+      let u : ℕ = paint_u span.paint x span.y i in
+      let v : ℕ = paint_v span.paint x span.y i in
+      textured_lane span.brush.mask _ _ span.brush t.raw color shift _ _ _ _ _ _ _ _
+      (shade_textured span t i x c.args.vram.now c.requires.texture (omega arith)
+      ∙ ap (λ (b : ℕ). textured_pixel span.brush t.raw color shift b (texel t u v c.args.vram.now)) here
+      ∙ textured_back span.brush t.raw color shift cell _ (texel t u v c.args.vram.now) back
+      ∙ ap (λ (h : ℕ). textured_pixel span.brush t.raw color shift (get_or c.back_of-back.result j 0) h) (sym same))
+      (c.requires.front j lt)
+      (c.plotted_lanes-plotted.ensures.value j in_lanes)
+      (c.both.ensures j in_lanes)
+      (c.open_bits.ensures j in_lanes ∙ ap (λ (b : Bool). cond b 0 1) (kept_back span.brush cell _ back))
+      (c.drawn_bits.ensures j in_lanes)
+      (c.force_lanes.ensures.value j in_lanes);
+}

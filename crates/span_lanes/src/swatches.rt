@@ -1,0 +1,195 @@
+// Textures of four bits under one colour, whose palette is read and coloured once a span.
+ghost use Rattle.std.specs.Prelude.{◌≡◌, ◌≢◌, ◌≤◌, ◌<◌, ◌+◌, ◌*◌, ◌/◌, ◌%◌, ◌&&◌, not, false, IsTrue, Some, ℕ, pos};
+ghost use Rattle.std.specs.Prelude.{length, slice_index};
+ghost use Rattle.vram_store.specs.Vram.{height_of};
+ghost use Rattle.span_lanes.specs.declared.hues.Hues.TheVariants.{One};
+ghost use Rattle.span_lanes.specs.Chunk.{IsChunk, drawn_chunk};
+ghost use Rattle.span_lanes.specs.Cost.{chunk_cost, span_cost};
+ghost use Rattle.span_lanes.specs.Guard.{IsApart};
+ghost use Rattle.span_lanes.specs.Lanes.{AreCoordinates};
+ghost use Rattle.span_lanes.specs.Plan.{IsPlan};
+ghost use Rattle.span_lanes.specs.Shade.{IsTexture, IsSpan, LiesIn, texture_of, front_of, drawn_span};
+ghost use Rattle.span_lanes.specs.Swatches.{AreSwatches};
+ghost use Rattle.span_lanes.specs.Texels.{AreTexels};
+
+use crate::colors::no_shifts;
+use crate::coordinates::Coordinates;
+use crate::draw::store_chunk;
+use crate::fetch::{halfwords_of, sixteen_entries};
+use crate::hues::Hues;
+use crate::nibbles::{entries_at, indexes};
+use crate::places::places_of;
+use crate::plan::{Plan, is_dithered};
+use crate::textured::{collect_fronts, fronts};
+use crate::track::track_lanes;
+use crate::{Span, Texture};
+use std::simd::prelude::*;
+use std::sync::ledger::Ledger;
+use vram_store::{Steps, Vram};
+
+// The sixteen entries of a palette, and what a colour makes of them.
+#[derive(Clone, Copy)]
+pub(crate) struct Swatches {
+    pub(crate) color: u32,
+    pub(crate) entries: u16x16,
+    pub(crate) fronts: u16x16,
+}
+
+// Texels, and what a colour makes of them.
+#[derive(Clone, Copy)]
+struct Drawn {
+    texels: u16x16,
+    fronts: u16x16,
+}
+
+#[inline(always)]
+fn swatches_of<L: Ledger>(
+    vram: &Vram,
+    texture: &Texture,
+    color: u32,
+    steps: &mut Steps<L>,
+) -> Swatches
+    ensures swatches { AreSwatches texture.now vram.now result }
+    ensures color { result.color ≡ color }
+    ensures cost { steps.new ≤ steps.old + 1 }
+{
+    let entries = sixteen_entries(vram, texture.clut, steps);
+    let hues = Hues::One { color };
+    Swatches {
+        color,
+        entries,
+        fronts: fronts(texture.raw, &hues, no_shifts(), 0, entries),
+    }
+}
+
+// k texels by their coordinates.
+#[inline(always)]
+fn read_drawn<L: Ledger>(
+    vram: &Vram,
+    texture: &Texture,
+    swatches: &Swatches,
+    at: &Coordinates,
+    k: u8,
+    steps: &mut Steps<L>,
+) -> Drawn
+    requires texture { IsTexture texture.now }
+    requires page { texture.now.page.y + 255 < height_of vram.now }
+    requires depth { texture.now.page.depth ≡ 0 }
+    requires swatches { AreSwatches texture.now vram.now swatches.now }
+    requires across { AreCoordinates at.now.us }
+    requires down { AreCoordinates at.now.vs }
+    requires some { 1 ≤ k }
+    requires few { k ≤ 16 }
+    ensures long { (length result.texels ≡ 16) × (length result.fronts ≡ 16) }
+    ensures texels { AreTexels texture.now at.now k vram.now result.texels }
+    ensures fronts { (j : ℕ) → j < k → slice_index result.fronts j
+        ≡ front_of texture.now.raw swatches.now.color (pos 0) (slice_index result.texels j) }
+    ensures cost { steps.new ≤ steps.old + k }
+{
+    let places = places_of(texture, at);
+    let halfwords = halfwords_of(vram, places.xs, places.ys, k, steps);
+    let index = indexes(places.across, halfwords);
+    Drawn {
+        texels: entries_at(swatches.entries, index),
+        fronts: entries_at(swatches.fronts, index),
+    }
+}
+
+// A chunk of a span that lies apart from its texels and is on another row than its palette.
+#[inline(always)]
+fn swatch_chunk<L: Ledger>(
+    vram: &mut Vram,
+    span: &Span,
+    texture: &Texture,
+    plan: &Plan,
+    swatches: &Swatches,
+    first: u16,
+    k: u8,
+    steps: &mut Steps<L>,
+)
+    requires span { IsSpan span.now }
+    requires height { LiesIn (height_of vram.old) span.now }
+    requires chunk { IsChunk span.now first k }
+    requires whole { first % 16 ≡ 0 }
+    requires texture { texture_of span.now.paint ≡ Some texture.now }
+    requires depth { texture.now.page.depth ≡ 0 }
+    requires plan { IsPlan span.now texture.now plan.now }
+    requires apart { IsApart span.now }
+    requires row { texture.now.clut / 64 % 512 ≢ span.now.y }
+    requires even { (span.now.brush.dither && not texture.now.raw) ≡ false }
+    requires hue { plan.now.hues ≡ One swatches.now.color }
+    requires swatches { AreSwatches texture.now vram.old swatches.now }
+    ensures cells { vram.new ≡ drawn_chunk span.now first k vram.old }
+    ensures long { length vram.new ≡ length vram.old }
+    ensures swatches { AreSwatches texture.now vram.new swatches.now }
+    ensures cost { steps.new + 1 ≤ steps.old + chunk_cost span.now first k }
+{
+    let at = track_lanes(&plan.track, first);
+    let drawn = read_drawn(vram, texture, swatches, &at, k, steps);
+    let lanes = collect_fronts(
+        vram,
+        span,
+        texture,
+        drawn.texels,
+        drawn.fronts,
+        first,
+        k,
+        steps,
+    );
+    store_chunk(vram, span, first, k, &lanes, steps);
+}
+
+// A span that lies apart from its texels and is on another row than its palette.
+#[inline(always)]
+pub(crate) fn draw_swatches<L: Ledger>(
+    vram: &mut Vram,
+    span: &Span,
+    texture: &Texture,
+    plan: &Plan,
+    color: u32,
+    steps: &mut Steps<L>,
+)
+    requires span { IsSpan span.now }
+    requires height { LiesIn (height_of vram.old) span.now }
+    requires texture { texture_of span.now.paint ≡ Some texture.now }
+    requires depth { texture.now.page.depth ≡ 0 }
+    requires plan { IsPlan span.now texture.now plan.now }
+    requires apart { IsApart span.now }
+    requires row { texture.now.clut / 64 % 512 ≢ span.now.y }
+    requires even { (span.now.brush.dither && not texture.now.raw) ≡ false }
+    requires hue { plan.now.hues ≡ One color }
+    ensures cells { vram.new ≡ drawn_span span.now span.now.n vram.old }
+    ensures long { length vram.new ≡ length vram.old }
+    ensures cost { steps.new ≤ steps.old + span_cost span.now }
+{
+    let swatches = swatches_of(vram, texture, color, steps);
+    let whole = span.n / 16;
+    for c in 0..whole {
+        swatch_chunk(vram, span, texture, plan, &swatches, 16 * c, 16, steps);
+    }
+    let rest = span.n % 16;
+    if rest > 0 {
+        swatch_chunk(
+            vram,
+            span,
+            texture,
+            plan,
+            &swatches,
+            16 * whole,
+            rest as u8,
+            steps,
+        );
+    }
+}
+
+// Whether a palette of sixteen entries can be coloured for a whole span.
+pub(crate) fn suits(span: &Span, texture: &Texture, plan: &Plan) -> bool
+    requires plan { IsPlan span.now texture.now plan.now }
+    ensures apart { IsTrue result → IsApart span.now }
+    ensures depth { IsTrue result → texture.now.page.depth ≡ 0 }
+    ensures row { IsTrue result → texture.now.clut / 64 % 512 ≢ span.now.y }
+    ensures even { IsTrue result → (span.now.brush.dither && not texture.now.raw) ≡ false }
+{
+    let dithered = is_dithered(span.brush.dither, texture.raw);
+    plan.apart && texture.page.depth == 0 && texture.clut / 64 % 512 != span.y && !dithered
+}
