@@ -1,0 +1,6 @@
+pub mod Places
+pub mod Saying
+pub mod Settling
+pub mod Stream
+pub mod Telling
+pub mod Window
