@@ -1,3 +1,5 @@
+pub mod File
+pub mod Passing
 pub mod Places
 pub mod Saying
 pub mod Settling
