@@ -1,0 +1,11 @@
+pub mod Awaiting
+pub mod Files
+pub mod Firsts
+pub mod Packets
+pub mod Rests
+pub mod Ports
+pub mod PushLemmas
+pub mod SettlingLemmas
+pub mod StreamLaw
+pub mod WindowLaw
+pub mod WindowLemmas
