@@ -1,0 +1,259 @@
+-- Slots that are settled by what an event says.
+use Rattle.std.proofs.Common.{◌≡◌, ◌<◌, ◌≤◌, ◌+◌, ◌-◌, not, ltb, ℕ, suc, List, [], ◌∷◌, ◌++◌, Option, None, Some, Bool, true, false, cond, length, take, drop, slice_get, get_or, option_to_list, refl, sym, ap, ◌∙◌, arith, append_assoc}
+use Rattle.std.proofs.lemmas.Bool.{lt-ltb, le-ltb}
+use Rattle.std.proofs.lemmas.List.{length-append, drop_more, take_more}
+use Rattle.circular_buffer.specs.Buffer.{keep_last}
+use Rattle.px_num.specs.declared.shape.Box2.{Box2}
+use Rattle.gp0_words.specs.Next.{next_item}
+use Rattle.gp0_words.specs.declared.item.Item.{Item}
+use Rattle.gp0_packets.specs.Packets.{packet_of}
+use Rattle.gp0_packets.specs.declared.packet.Packet.{Packet}
+use Rattle.gp0_packets.specs.declared.packet.Packet.TheVariants as packet
+use Rattle.gpu_capture.specs.declared.event.Event.{Event}
+use Rattle.gpu_capture.specs.declared.event.Event.TheVariants as event
+use Rattle.prim_draw.specs.Areas.{moved_box}
+use Rattle.dead_drawing.specs.Control.{Control}
+use Rattle.capture_slim.specs.Saying.{cover_of, loud_if, said, said_by, said_at, covers, is_quiet, settle_by}
+use Rattle.capture_slim.specs.Settling.{all_shut, shut, mark_of, settled_by, turned}
+use Rattle.dead_drawing.specs.Dead.{holds_in, fills, fills_by, fills_at, is_calm, is_calm_by, is_calm_at}
+use Rattle.capture_slim.specs.Window.{left_of, dropped_words, judged, kept_words, open_words, settle, settled}
+use Rattle.capture_slim.specs.Places.{kept_of}
+use Rattle.capture_slim.specs.Stream.{leaving_from, staying_from}
+use Rattle.capture_slim.specs.Telling.{IsSettled, AreSettled}
+use Rattle.capture_slim.specs.declared.saying.Saying.{Saying}
+use Rattle.capture_slim.specs.declared.saying.Saying.TheVariants.{Quiet, Loud, Cover}
+use Rattle.capture_slim.specs.declared.slot.Mark.{Mark}
+use Rattle.capture_slim.specs.declared.slot.Mark.TheVariants.{Kept, Dropped, Open}
+use Rattle.capture_slim.specs.declared.slot.Slot.{Slot}
+
+-- ---- what is said
+
+-- a saying, as the two tests that it stands for
+record Says (say : Saying) (b : Box2) (filling calming : Bool) : Type 0 where
+  fill : covers say b ≡ filling
+  calm : is_quiet say ≡ calming
+
+cover_says : (area : Option Box2) (b : Box2) → Says (cover_of area) b (holds_in area b) true
+cover_says None b = record { fill = refl; calm = refl }
+cover_says (Some area) b = record { fill = refl; calm = refl }
+
+loud_says : (textured : Bool) (b : Box2) → Says (loud_if textured) b false (not textured)
+loud_says true b = record { fill = refl; calm = refl }
+loud_says false b = record { fill = refl; calm = refl }
+
+packet_says : (what : Packet) (b : Box2) → Says (said what) b (fills what b) (is_calm what)
+packet_says (packet.Fill color x y w h) b = cover_says (moved_box x y w h) b
+packet_says (packet.Poly four a b c d shaded textured semi raw clut page) box = loud_says textured box
+packet_says (packet.Rect x y w h color textured semi raw u v clut) b = loud_says textured b
+packet_says other b = record { fill = refl; calm = refl }
+
+item_says : (height : ℕ) (item : Option Item) (b : Box2)
+    → Says (said_by height item) b (fills_by height item b) (is_calm_by height item)
+item_says height None b = record { fill = refl; calm = refl }
+item_says height (Some item) b = packet_says (packet_of height item) b
+
+event_says : (c : Control) (e : Event) (b : Box2) → Says (said_at c e) b (fills_at c e b) (is_calm_at c e)
+event_says c (event.Gp0 word) b = item_says c.regs.height (next_item c.pending word) b
+event_says c other b = record { fill = refl; calm = refl }
+
+open_by : (b : Box2) (i age : ℕ) (say : Saying) → cond (covers say b) (cond (ltb (age + i) 4096) Dropped Kept) (cond (is_quiet say) (Open b i) Kept) ≡ settle_by (Open b i) age say
+open_by b i age Quiet = refl
+open_by b i age Loud = refl
+open_by b i age (Cover area) = refl
+
+mark_by : (mark : Mark) (age : ℕ) (c : Control) (e : Event) → settle mark age c e ≡ settle_by mark age (said_at c e)
+mark_by Kept age c e = refl
+mark_by Dropped age c e = refl
+mark_by (Open b i) age c e =
+    let says = event_says c e b in
+    ap (λ (t : Bool). cond t (cond (ltb (age + i) 4096) Dropped Kept) (cond (is_calm_at c e) (Open b i) Kept)) (sym says.fill)
+    ∙ ap (λ (t : Bool). cond (covers (said_at c e) b) (cond (ltb (age + i) 4096) Dropped Kept) (cond t (Open b i) Kept)) (sym says.calm)
+    ∙ open_by b i age (said_at c e)
+
+pub settled_is_by : (slots : List Slot) (behind : ℕ) (c : Control) (e : Event) → settled slots behind c e ≡ settled_by slots behind (said_at c e)
+settled_is_by [] behind c e = refl
+settled_is_by (s ∷ slots) behind c e =
+    ap (λ (m : Mark). record { event = s.event; mark = m } ∷ settled slots behind c e) (mark_by s.mark (length slots + behind) c e)
+    ∙ ap (λ (ss : List Slot). record { event = s.event; mark = settle_by s.mark (length slots + behind) (said_at c e) } ∷ ss) (settled_is_by slots behind c e)
+
+-- ---- slot by slot
+
+pub settled_by_long : (slots : List Slot) (behind : ℕ) (say : Saying) → length (settled_by slots behind say) ≡ length slots
+settled_by_long [] behind say = refl
+settled_by_long (s ∷ slots) behind say = ap suc (settled_by_long slots behind say)
+
+-- one slot more at the end
+pub settled_by_push : (slots : List Slot) (s : Slot) (behind : ℕ) (say : Saying)
+    → settled_by (slots ++ s ∷ []) behind say ≡ settled_by slots (suc behind) say ++ record { event = s.event; mark = settle_by s.mark behind say } ∷ []
+settled_by_push [] s behind say = let age : 0 + behind ≡ behind = omega arith in rw age refl
+settled_by_push (x ∷ slots) s behind say =
+    let age : length (slots ++ s ∷ []) + behind ≡ length slots + suc behind = omega (arith, length-append slots (s ∷ [])) in
+    ap (λ (n : ℕ). record { event = x.event; mark = settle_by x.mark n say } ∷ settled_by (slots ++ s ∷ []) behind say) age
+    ∙ ap (λ (ss : List Slot). record { event = x.event; mark = settle_by x.mark (length slots + suc behind) say } ∷ ss) (settled_by_push slots s behind say)
+
+-- what fits is kept whole
+pub keep_all : {X : Type 0} (n : ℕ) (xs : List X) → length xs ≤ n → keep_last n xs ≡ xs
+keep_all n xs le = let none : length xs - n ≡ 0 = omega (arith, le) in ap (λ (k : ℕ). drop k xs) none
+
+-- the first of some slots is settled and goes to the end
+pub turned_is : (items : List Slot) (s : Slot) (n age : ℕ) (say : Saying) → Some s ≡ slice_get items 0 → length items ≤ n
+    → keep_last n (drop 1 items ++ record { event = s.event; mark = settle_by s.mark age say } ∷ []) ≡ turned items age say
+turned_is [] s n age say e le = absurd cc
+turned_is (x ∷ items) s n age say e le =
+    let same : s ≡ x = cc in
+    keep_all n _ (omega (arith, le, length-append items (record { event = s.event; mark = settle_by s.mark age say } ∷ [])))
+    ∙ ap (λ (y : Slot). items ++ record { event = y.event; mark = settle_by y.mark age say } ∷ []) same
+
+pub turned_none : (items : List Slot) (age : ℕ) (say : Saying) → None ≡ slice_get items 0 → 0 < length items → ⊥
+turned_none [] age say e some = omega (arith, some)
+turned_none (x ∷ items) age say e some = absurd cc
+
+turned_split : (settled_ones back : List Slot) (s : Slot) (age : ℕ) (say : Saying)
+    → turned ((s ∷ back) ++ settled_ones) age say ≡ back ++ (settled_ones ++ record { event = s.event; mark = settle_by s.mark age say } ∷ [])
+turned_split settled_ones back s age say = append_assoc back settled_ones (record { event = s.event; mark = settle_by s.mark age say } ∷ [])
+
+-- one slot more of the front is settled
+pub turned_next : (items : List Slot) (i behind age : ℕ) (say : Saying) → i < length items → age ≡ length items - (i + 1) + behind
+    → turned (drop i items ++ settled_by (take i items) (length items - i + behind) say) age say
+    ≡ drop (i + 1) items ++ settled_by (take (i + 1) items) (length items - (i + 1) + behind) say
+turned_next items i behind age say lt is =
+    let d : Slot = record { event = event.Read; mark = Kept } in
+    let s = get_or items i d in
+    let first : drop i items ≡ s ∷ drop (i + 1) items = drop_more items i d lt in
+    let front : take (i + 1) items ≡ take i items ++ s ∷ [] = take_more items i d lt in
+    let more : length items - i + behind ≡ suc age = omega (arith, lt, is) in
+    let same : length items - (i + 1) + behind ≡ age = sym is in
+    rw (first, front, more, same)
+    (turned_split (settled_by (take i items) (suc age) say) (drop (i + 1) items) s age say
+    ∙ ap (λ (ss : List Slot). drop (i + 1) items ++ ss) (sym (settled_by_push (take i items) s age say)))
+
+-- ---- what leaves slots as they are, or shuts them
+
+quiet_mark : (mark : Mark) (age : ℕ) → settle_by mark age Quiet ≡ mark
+quiet_mark Kept age = refl
+quiet_mark Dropped age = refl
+quiet_mark (Open b i) age = refl
+
+pub quiet_stays : (slots : List Slot) (behind : ℕ) → settled_by slots behind Quiet ≡ slots
+quiet_stays [] behind = refl
+quiet_stays (s ∷ slots) behind =
+    ap (λ (m : Mark). record { event = s.event; mark = m } ∷ settled_by slots behind Quiet) (quiet_mark s.mark (length slots + behind))
+    ∙ ap (λ (ss : List Slot). s ∷ ss) (quiet_stays slots behind)
+
+loud_mark : (mark : Mark) (age : ℕ) → settle_by mark age Loud ≡ settle_by mark 0 Loud
+loud_mark Kept age = refl
+loud_mark Dropped age = refl
+loud_mark (Open b i) age = refl
+
+pub loud_shuts : (slots : List Slot) (behind : ℕ) → settled_by slots behind Loud ≡ all_shut slots
+loud_shuts [] behind = refl
+loud_shuts (s ∷ slots) behind =
+    ap (λ (m : Mark). record { event = s.event; mark = m } ∷ settled_by slots behind Loud) (loud_mark s.mark (length slots + behind))
+    ∙ ap (λ (ss : List Slot). shut s ∷ ss) (loud_shuts slots behind)
+
+pub shut_push : (slots : List Slot) (s : Slot) → all_shut (slots ++ s ∷ []) ≡ all_shut slots ++ shut s ∷ []
+shut_push [] s = refl
+shut_push (x ∷ slots) s = ap (λ (ss : List Slot). shut x ∷ ss) (shut_push slots s)
+
+pub shut_long : (slots : List Slot) → length (all_shut slots) ≡ length slots
+shut_long [] = refl
+shut_long (s ∷ slots) = ap suc (shut_long slots)
+
+shut_settled : (mark : Mark) → IsSettled (settle_by mark 0 Loud)
+shut_settled Kept = tt
+shut_settled Dropped = tt
+shut_settled (Open b i) = tt
+
+pub settled_append : (first last : List Slot) → AreSettled first → AreSettled last → AreSettled (first ++ last)
+settled_append [] last all more = more
+settled_append (s ∷ first) last all more = (all.0, settled_append first last all.1 more)
+
+pub all_shut_settled : (slots : List Slot) → AreSettled (all_shut slots)
+all_shut_settled [] = tt
+all_shut_settled (s ∷ slots) = (shut_settled s.mark, all_shut_settled slots)
+
+settled_mark : (mark : Mark) (age : ℕ) (say : Saying) → IsSettled mark → settle_by mark age say ≡ mark
+settled_mark Kept age say is = refl
+settled_mark Dropped age say is = refl
+settled_mark (Open b i) age say is = absurd is
+
+-- settled slots stay as they are
+pub settled_first : (first last : List Slot) (behind : ℕ) (say : Saying) → AreSettled first
+    → settled_by (first ++ last) behind say ≡ first ++ settled_by last behind say
+settled_first [] last behind say are = refl
+settled_first (s ∷ first) last behind say are =
+    ap (λ (m : Mark). record { event = s.event; mark = m } ∷ settled_by (first ++ last) behind say) (settled_mark s.mark (length (first ++ last) + behind) say are.0)
+    ∙ ap (λ (ss : List Slot). s ∷ ss) (settled_first first last behind say are.1)
+
+-- ---- words at the end
+
+pub kept_words_push : (words : List ℕ) (w : ℕ) → kept_words (words ++ w ∷ []) ≡ kept_words words ++ record { event = event.Gp0 w; mark = Kept } ∷ []
+kept_words_push [] w = refl
+kept_words_push (v ∷ vs) w = ap (λ (ss : List Slot). record { event = event.Gp0 v; mark = Kept } ∷ ss) (kept_words_push vs w)
+
+dropped_push : (words : List ℕ) (w : ℕ) → dropped_words (words ++ w ∷ []) ≡ dropped_words words ++ record { event = event.Gp0 w; mark = Dropped } ∷ []
+dropped_push [] w = refl
+dropped_push (v ∷ vs) w = ap (λ (ss : List Slot). record { event = event.Gp0 v; mark = Dropped } ∷ ss) (dropped_push vs w)
+
+open_push : (words : List ℕ) (w i n : ℕ) (b : Box2) → n ≡ i + length words → open_words (words ++ w ∷ []) i b ≡ open_words words i b ++ record { event = event.Gp0 w; mark = Open b n } ∷ []
+open_push [] w i n b e = let same : n ≡ i = omega (arith, e) in rw same refl
+open_push (v ∷ vs) w i n b e = ap (λ (ss : List Slot). record { event = event.Gp0 v; mark = Open b i } ∷ ss) (open_push vs w (suc i) n b (omega (arith, e)))
+
+pub judged_push : (area : Option Box2) (words : List ℕ) (w n : ℕ) → n ≡ length words → judged (words ++ w ∷ []) area ≡ judged words area ++ record { event = event.Gp0 w; mark = mark_of area n } ∷ []
+judged_push None words w n e = dropped_push words w
+judged_push (Some b) words w n e = open_push words w 0 n b (omega (arith, e))
+
+pub kept_count : (words : List ℕ) → length (kept_words words) ≡ length words
+kept_count [] = refl
+kept_count (w ∷ ws) = ap suc (kept_count ws)
+
+dropped_count : (words : List ℕ) → length (dropped_words words) ≡ length words
+dropped_count [] = refl
+dropped_count (w ∷ ws) = ap suc (dropped_count ws)
+
+open_count : (words : List ℕ) (i : ℕ) (b : Box2) → length (open_words words i b) ≡ length words
+open_count [] i b = refl
+open_count (w ∷ ws) i b = ap suc (open_count ws (suc i) b)
+
+pub judged_count : (area : Option Box2) (words : List ℕ) → length (judged words area) ≡ length words
+judged_count None words = dropped_count words
+judged_count (Some b) words = open_count words 0 b
+
+-- ---- slots that move
+
+-- one slot more is shut
+pub shut_next : (items : List Slot) (i : ℕ) → i < length items
+    → all_shut (take i items) ++ all_shut (take 1 (drop i items)) ≡ all_shut (take (i + 1) items)
+shut_next items i lt =
+    let d : Slot = record { event = event.Read; mark = Kept } in
+    let s = get_or items i d in
+    let first : drop i items ≡ s ∷ drop (i + 1) items = drop_more items i d lt in
+    let front : take (i + 1) items ≡ take i items ++ s ∷ [] = take_more items i d lt in
+    rw (first, front) (sym (shut_push (take i items) s))
+
+pub drop_next : (items : List Slot) (i : ℕ) → i < length items → drop 1 (drop i items) ≡ drop (i + 1) items
+drop_next items i lt =
+    let d : Slot = record { event = event.Read; mark = Kept } in
+    ap (λ (ss : List Slot). drop 1 ss) (drop_more items i d lt)
+
+-- no slot leaves
+pub none_leaves : (all : List Slot) (words : List ℕ) → length all + length words ≤ 4096
+    → (leaving_from all words ≡ []) × (staying_from all words ≡ all)
+none_leaves [] words few = (refl, refl)
+none_leaves (s ∷ slots) words few =
+    let lt = lt-ltb (length slots + length words) 4096 (omega (arith, few)) in
+    (rw lt refl, rw lt refl)
+
+-- the first one leaves
+pub first_leaves : (all : List Slot) (words : List ℕ) (slot : Slot) → 4096 < length all + length words
+    → Some slot ≡ slice_get all 0
+    → (leaving_from all words ≡ left_of slot.event slot.mark ∷ []) × (staying_from all words ≡ drop 1 all)
+first_leaves [] words slot many is = absurd cc
+first_leaves (s ∷ slots) words slot many is =
+    let same : s ≡ slot = cc in
+    let le = le-ltb (length slots + length words) 4096 (omega (arith, many)) in
+    (rw le (ap (λ (t : Slot). left_of t.event t.mark ∷ []) same), rw le refl)
+
+pub one_kept : (out : Option Event) → option_to_list out ≡ kept_of (out ∷ [])
+one_kept None = refl
+one_kept (Some e) = refl

@@ -1,0 +1,10 @@
+use Rattle.std.proofs.Common.{◌≡◌, ◌+◌, ◌-◌, ◌++◌, length, take, drop}
+use Rattle.circular_buffer.specs.Buffer.{buffer}
+use Rattle.capture_slim.specs.Settling.{settled_by}
+use Rattle.capture_slim.proofs.settling.settle_all.Given as goal
+
+-- those that are settled have gone to the end
+abbrev pub invariant-loop-i : goal.invariant-loop-i
+invariant-loop-i l = record {
+  slots : l.slots ≡ buffer (drop l.i l.initial.slots.items ++ settled_by (take l.i l.initial.slots.items) (length l.initial.slots.items - l.i + l.behind) l.saying) l.initial.slots.capacity;
+}

@@ -1,0 +1,151 @@
+-- A capture that is written without its dead drawing as the events come (our own rule).
+use Rattle.std.specs.Prelude.{◌≡◌, ◌≤◌, ◌<◌, ◌⊎◌, ℕ, List, [], ◌∷◌, ◌++◌, ◌+◌, Option, length}
+use Rattle.dev_io.specs.Device.{prepended, appended, AppendsPart, IsAtEnd}
+use Rattle.gpu_capture.specs.Capture.{Captured, capture, then_events, limit}
+use Rattle.gpu_capture.specs.Written.{spelled_end, written}
+use Rattle.gpu_capture.specs.declared.event.Event.{Event}
+use Rattle.gpu_capture.specs.declared.event.Stop.{Stop}
+use Rattle.gpu_capture.specs.declared.event.Stop.TheVariants.{End, Truncated, ReadFault}
+use Rattle.event_play.specs.Ends.{IsNotEnd}
+use Rattle.event_play.specs.Ports.{IsAtPorts, AreAtPorts}
+use Rattle.dead_drawing.specs.Dead.{window_events}
+use Rattle.dead_drawing.specs.Laws.{height_for}
+use Rattle.dead_drawing.specs.Slim.{Slim}
+use Rattle.capture_flat.specs.Passing.{AreNeeded, AreNeededToEnd}
+use Rattle.capture_slim.specs.File.{begun, head_due, Fails}
+use Rattle.capture_slim.specs.Places.{slim_first}
+use Rattle.capture_slim.specs.declared.ending.SlimEnding.{SlimEnding}
+use Rattle.capture_slim.specs.declared.ending.SlimEnding.TheVariants.{Done, Stopped, NotFlat, TooLong, WriteFailed}
+
+-- the bytes left of the source and those that the sink holds, None where they are not told
+pub record Streams : Type 0 where
+  pub left : Option (List ℕ)
+  pub held : Option (List ℕ)
+
+abbrev pub streams : (left held : Option (List ℕ)) → Streams
+streams left held = record { left = left; held = held }
+
+-- how far a capture was read: its version, the bytes taken, and the events of the ports that they say
+pub record Way : Type 0 where
+  pub version : ℕ
+  pub taken : List ℕ
+  pub events : List Event
+
+-- all that is written of its events, if they are all
+abbrev pub slim_of : Way → List Event
+slim_of way = Slim (height_for way.version) way.events
+
+-- what is written of its first n events
+abbrev pub first_slim : Way → ℕ → List Event
+first_slim way n = slim_first (height_for way.version) n way.events
+
+-- the bytes taken say these events first, in a capture of the version of the way
+abbrev pub SaysFirst : Way → List Event → Type 0
+SaysFirst way events = (rest : List ℕ)
+    → (more : Captured) × (capture (way.taken ++ rest) ≡ then_events events more) × (more.version ≡ way.version)
+
+-- what a capture of the bytes taken says where the reader stopped behind the events of the way
+abbrev pub SaysStop : Way → Stop → (left : Option (List ℕ)) → Type 0
+SaysStop way (ReadFault byte) left =
+    capture way.taken ≡ record { version = way.version; events = way.events; ending = Truncated byte; rest = [] }
+SaysStop way (Truncated byte) left =
+    (capture way.taken ≡ record { version = way.version; events = way.events; ending = Truncated byte; rest = [] })
+    × IsAtEnd left
+SaysStop way stop left =
+    (rest : List ℕ) → capture (way.taken ++ rest)
+    ≡ record { version = way.version; events = way.events; ending = stop; rest = rest }
+
+-- ---- how the reading stands
+
+-- the reader stopped behind the events of the way
+pub record StopsBehind (way : Way) (stop : Stop) (left : Option (List ℕ)) : Type 0 where
+  pub says : SaysStop way stop left
+  pub needed : AreNeededToEnd way.events way.taken
+
+-- the next event is none of the ports
+pub record RefusesNext (way : Way) : Type 0 where
+  pub event : Event
+  pub refused : IsAtPorts event → ⊥
+  pub says : SaysFirst way (way.events ++ event ∷ [])
+  pub needed : AreNeeded (way.events ++ event ∷ []) way.taken
+
+-- the last event of the way is so many events behind one of this number
+pub record ReadsOn (way : Way) (number : ℕ) : Type 0 where
+  pub number_is : length way.events ≡ number + window_events
+  pub says : SaysFirst way way.events
+  pub needed : AreNeeded way.events way.taken
+
+-- one of this number is among the last events where the reading ends
+pub record IsAmongLast (way : Way) (number : ℕ) : Type 0 where
+  pub some : number ≤ length way.events
+  pub late : length way.events < number + window_events
+
+-- the record of the event of this number is due
+abbrev pub IsDue : Way → (number : ℕ) → (left : Option (List ℕ)) → Type 0
+IsDue way number left =
+    ReadsOn way number ⊎ (IsAmongLast way number × (((stop : Stop) × StopsBehind way stop left) ⊎ RefusesNext way))
+
+-- ---- the endings
+
+-- all was read and written
+pub record IsWhole (way : Way) (before now : Streams) : Type 0 where
+  pub stops : StopsBehind way End now.left
+  pub held : now.held ≡ appended before.held (written way.version (slim_of way))
+  pub fits : length (written way.version (slim_of way)) ≤ limit
+
+-- the events of the way were written as if they were all
+pub record WritesAll (way : Way) (number : ℕ) (before now : Streams) : Type 0 where
+  pub number_is : number ≡ length way.events + 1
+  pub held : now.held ≡ appended before.held (begun way.version (slim_of way))
+  pub fits : length (written way.version (slim_of way)) ≤ limit
+
+-- The record of this event, which stays, is due: it would be too much, or a proper part of it was written. All those
+-- before it were written.
+pub record FailsRecord (way : Way) (number : ℕ) (before now : Streams) (ending : SlimEnding) : Type 0 where
+  pub due : IsDue way number now.left
+  pub earlier : ℕ
+  pub number_is : number ≡ earlier + 1
+  pub event : Event
+  pub stays : first_slim way number ≡ first_slim way earlier ++ event ∷ []
+  pub fails : Fails way.version before.held now.held (first_slim way earlier) event number ending
+
+-- a proper part of the End record was written
+pub record LacksEnd (way : Way) (number : ℕ) (before now : Streams) : Type 0 where
+  pub number_is : number ≡ length way.events + 1
+  pub stops : StopsBehind way End now.left
+  pub held : AppendsPart (appended before.held (begun way.version (slim_of way))) now.held
+      (head_due way.version (slim_of way) ++ spelled_end)
+  pub fits : length (written way.version (slim_of way)) ≤ limit
+
+abbrev pub SaysEnding : Way → (before now : Streams) → SlimEnding → Type 0
+SaysEnding way before now Done = IsWhole way before now
+SaysEnding way before now (Stopped number stop) =
+    WritesAll way number before now × StopsBehind way stop now.left × IsNotEnd stop
+SaysEnding way before now (NotFlat number) = WritesAll way number before now × RefusesNext way
+SaysEnding way before now (TooLong number) = FailsRecord way number before now (TooLong number)
+SaysEnding way before now (WriteFailed number) =
+    FailsRecord way number before now (WriteFailed number) ⊎ LacksEnd way number before now
+
+-- how a capture without dead drawing ends
+pub record EndsSlim (before now : Streams) (ending : SlimEnding) : Type 0 where
+  pub way : Way
+  pub bytes : before.left ≡ prepended way.taken now.left
+  pub ports : AreAtPorts way.events
+  pub says : SaysEnding way before now ending
+
+-- ---- causes
+
+-- it ended by a fault of the source
+abbrev pub MayReadFault : SlimEnding → Type 0
+MayReadFault (Stopped number (ReadFault byte)) = Unit {0}
+MayReadFault ending = ⊥
+
+-- it ended by a fault of the sink
+abbrev pub MayWriteFault : SlimEnding → Type 0
+MayWriteFault (WriteFailed number) = Unit {0}
+MayWriteFault ending = ⊥
+
+-- it never stops with End
+abbrev pub IsEnding : SlimEnding → Type 0
+IsEnding (Stopped number End) = ⊥
+IsEnding ending = Unit {0}

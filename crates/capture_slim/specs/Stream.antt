@@ -1,0 +1,43 @@
+-- Events that come in and go out one by one (our own rule).
+use Rattle.std.specs.Prelude.{◌≡◌, ℕ, List, [], ◌∷◌, ◌++◌, Option, Some, ◌+◌, nat_lt, length, if◌then◌else◌}
+use Rattle.gpu_capture.specs.declared.event.Event.{Event}
+use Rattle.dead_drawing.specs.Dead.{window_events}
+use Rattle.capture_slim.specs.declared.slot.Slot.{Slot}
+use Rattle.capture_slim.specs.Places.{places}
+use Rattle.capture_slim.specs.Window.{Window, all_left, first_window, left_of, pushed, waiting}
+
+-- the first slot leaves where there are more events than the window has
+abbrev pub leaving_from : List Slot → List ℕ → List (Option Event)
+leaving_from [] words = []
+leaving_from (s ∷ slots) words =
+    if nat_lt (length slots + length words) window_events then [] else left_of s.event s.mark ∷ []
+
+abbrev pub staying_from : List Slot → List ℕ → List Slot
+staying_from [] words = []
+staying_from (s ∷ slots) words = if nat_lt (length slots + length words) window_events then s ∷ slots else slots
+
+abbrev pub leaving : Window → List (Option Event)
+leaving w = leaving_from w.slots w.words
+
+abbrev pub staying : Window → Window
+staying w = record { slots = staying_from w.slots w.words; words = w.words; control = w.control }
+
+-- what leaves as events come
+abbrev pub outs : List Event → Window → List (Option Event)
+outs [] w = []
+outs (e ∷ events) w = leaving (pushed w e) ++ outs events (staying (pushed w e))
+
+-- the window behind them
+abbrev pub behind : List Event → Window → Window
+behind [] w = w
+behind (e ∷ events) w = behind events (staying (pushed w e))
+
+-- What leaves as events come is decided whatever follows, and with all that waits at the end it is each event in its
+-- place.
+abbrev pub StreamLaw : Type 0
+StreamLaw = (height : ℕ) (events : List Event) → places height events
+    ≡ outs events (first_window height) ++ all_left (waiting (behind events (first_window height)))
+
+abbrev pub LeavesLaw : Type 0
+LeavesLaw = (height : ℕ) (events more : List Event) → (rest : List (Option Event))
+    × (places height (events ++ more) ≡ outs events (first_window height) ++ rest)

@@ -1,0 +1,132 @@
+-- Events that wait for a fill: what is known of them when only the events up to now are known (our own rule).
+use Rattle.std.specs.Prelude.{◌≡◌, ◌<◌, ◌≤◌, ℕ, suc, ◌+◌, ◌-◌, ◌&&◌, true, List, [], ◌∷◌, ◌++◌, Option, Some, None}
+use Rattle.std.specs.Prelude.{if◌then◌else◌, nat_lt, length, map, slice_index}
+use Rattle.px_num.specs.declared.shape.Box2.{Box2}
+use Rattle.gp0_words.specs.Kinds.{first_len_of}
+use Rattle.gp0_words.specs.declared.pending.Pending.TheVariants as pending
+use Rattle.gp0_packets.specs.Packets.{whole_of}
+use Rattle.gpu_capture.specs.declared.event.Event.{Event}
+use Rattle.gpu_capture.specs.declared.event.Event.TheVariants as event
+use Rattle.gpu_core.specs.Machine.{is_idle}
+use Rattle.prim_draw.specs.Areas.{area_of}
+use Rattle.dead_drawing.specs.Control.{Control, controlled, first_control}
+use Rattle.dead_drawing.specs.Dead.{fills_at, is_calm_at, is_covered, is_droppable, window_events}
+use Rattle.capture_slim.specs.declared.slot.Mark.{Mark}
+use Rattle.capture_slim.specs.declared.slot.Mark.TheVariants.{Kept, Dropped, Open}
+use Rattle.capture_slim.specs.declared.slot.Slot.{Slot}
+use Rattle.capture_slim.specs.Places.{places, places_from}
+
+-- the slots, the words of a packet that is not whole yet and may be dropped, and the control now
+pub record Window : Type 0 where
+  pub slots : List Slot
+  pub words : List ℕ
+  pub control : Control
+
+-- ---- an event comes
+
+-- what an event says of a mark that is so many events old
+abbrev pub settle : Mark → (age : ℕ) → Control → Event → Mark
+settle Kept age c e = Kept
+settle Dropped age c e = Dropped
+settle (Open area i) age c e =
+    if fills_at c e area then (if nat_lt (age + i) window_events then Dropped else Kept)
+    else (if is_calm_at c e then Open area i else Kept)
+
+-- the same of slots before so many others
+abbrev pub settled : List Slot → (behind : ℕ) → Control → Event → List Slot
+settled [] behind c e = []
+settled (s ∷ slots) behind c e =
+    record { event = s.event; mark = settle s.mark (length slots + behind) c e } ∷ settled slots behind c e
+
+abbrev pub kept : Event → Slot
+kept e = record { event = e; mark = Kept }
+
+abbrev pub kept_words : List ℕ → List Slot
+kept_words [] = []
+kept_words (w ∷ ws) = kept (event.Gp0 w) ∷ kept_words ws
+
+abbrev pub dropped_words : List ℕ → List Slot
+dropped_words [] = []
+dropped_words (w ∷ ws) = record { event = event.Gp0 w; mark = Dropped } ∷ dropped_words ws
+
+abbrev pub open_words : List ℕ → (offset : ℕ) → Box2 → List Slot
+open_words [] i area = []
+open_words (w ∷ ws) i area = record { event = event.Gp0 w; mark = Open area i } ∷ open_words ws (suc i) area
+
+-- the words of a packet that is whole now
+abbrev pub judged : List ℕ → Option Box2 → List Slot
+judged words None = dropped_words words
+judged words (Some area) = open_words words 0 area
+
+abbrev pub with_words : Control → List Slot → Control → (words : List ℕ) → Window
+with_words c slots now words =
+    if nat_lt (length words) (first_len_of (slice_index words 0))
+    then record { slots = slots; words = words; control = now }
+    else record {
+      slots = slots ++ judged words (area_of c.regs (whole_of c.regs.height words));
+      words = [];
+      control = now;
+    }
+
+-- no packet that may be dropped is begun
+abbrev pub with_event : List ℕ → List Slot → Control → Event → Window
+with_event words slots now e = record { slots = slots ++ (kept_words words ++ kept e ∷ []); words = []; control = now }
+
+abbrev pub with_word : Control → List ℕ → List Slot → Control → (word : ℕ) → Window
+with_word c [] slots now word =
+    if is_idle c.pending && is_droppable word then with_words c slots now (word ∷ [])
+    else with_event [] slots now (event.Gp0 word)
+with_word c (v ∷ vs) slots now word = with_words c slots now ((v ∷ vs) ++ word ∷ [])
+
+abbrev pub pushed_by : Control → List ℕ → Event → List Slot → Control → Window
+pushed_by c words (event.Gp0 word) slots now = with_word c words slots now word
+pushed_by c words other slots now = with_event words slots now other
+
+unfoldable pub pushed : Window → Event → Window
+pushed w e = pushed_by w.control w.words e (settled w.slots (length w.words) w.control e) (controlled w.control e)
+
+-- ---- what it comes to, whatever follows
+
+abbrev pub out_of : Event → Mark → (age : ℕ) → Control → List Event → Option Event
+out_of e Kept age c behind = Some e
+out_of e Dropped age c behind = None
+out_of e (Open area i) age c behind =
+    if is_covered behind c (window_events - (age + i)) area then None else Some e
+
+abbrev pub resolved : List Slot → (after : ℕ) → Control → List Event → List (Option Event)
+resolved [] after c behind = []
+resolved (s ∷ slots) after c behind =
+    out_of s.event s.mark (length slots + after) c behind ∷ resolved slots after c behind
+
+-- the control at the first of the words
+abbrev pub start_of : List ℕ → Control → Control
+start_of [] c = c
+start_of (w ∷ ws) c = record { regs = c.regs; pending = pending.Idle }
+
+abbrev pub value : Window → List Event → List (Option Event)
+value w behind =
+    resolved w.slots (length w.words) w.control behind
+    ++ places_from (map event.Gp0 w.words ++ behind) (start_of w.words w.control) 0
+
+-- the words, if any, are all of an unfinished packet that may be dropped
+abbrev pub IsBegun : List ℕ → Control → Type 0
+IsBegun [] c = Unit {0}
+IsBegun (w ∷ ws) c =
+    (c.pending ≡ pending.Packet (w ∷ ws)) × (is_droppable w ≡ true) × (length (w ∷ ws) < first_len_of w)
+
+abbrev pub first_window : (height : ℕ) → Window
+first_window height = record { slots = []; words = []; control = first_control height }
+
+-- the event of a slot, if it stays where no event follows
+abbrev pub left_of : Event → Mark → Option Event
+left_of e Dropped = None
+left_of e Kept = Some e
+left_of e (Open area i) = Some e
+
+abbrev pub all_left : List Slot → List (Option Event)
+all_left [] = []
+all_left (s ∷ slots) = left_of s.event s.mark ∷ all_left slots
+
+-- all that waits
+abbrev pub waiting : Window → List Slot
+waiting w = w.slots ++ kept_words w.words

@@ -1,0 +1,129 @@
+// Which packets come, and what they say of those before them.
+ghost use Rattle.std.specs.Prelude.{◌≡◌, None};
+ghost use Rattle.px_num.specs.Height.{short_height, tall_height};
+ghost use Rattle.gp0_packets.specs.Ranges.{IsInRange};
+ghost use Rattle.gpu_core.specs.Machine.{is_idle};
+ghost use Rattle.dead_drawing.specs.Control.{controlled, first_control, regs_after};
+ghost use Rattle.capture_slim.specs.declared.saying.Saying.TheVariants.{Quiet};
+ghost use Rattle.capture_slim.specs.Saying.{said_at};
+ghost use Rattle.capture_slim.specs.Telling.{area_at};
+
+use crate::saying::{Saying, said};
+use gp0_packets::{Packet, decode};
+use gp0_words::Splitter;
+use gp1_status::{Regs, clears};
+use gpu_capture::Event;
+use prim_draw::area_of;
+use px_num::Box2;
+use std::marker::Model;
+
+/// The registers and what is pending.
+#[derive(Drop)]
+pub(crate) struct Track {
+    regs: Regs,
+    splitter: Splitter,
+}
+
+impl Model for Track {
+    ghost use Rattle.dead_drawing.specs.Control.{Control};
+
+    ghost Value = { Control };
+
+    ghost view = { λ t. record { regs = t.regs; pending = t.splitter } };
+
+    ghost invariant = { λ t. Unit };
+}
+
+/// What an event says of the packets before it, and the area of the packet that it completes.
+#[derive(Drop)]
+pub(crate) struct Told {
+    pub saying: Saying,
+    pub area: Option<Box2>,
+}
+
+fn quiet() -> Told
+    ensures saying { result.saying ≡ Quiet }
+    ensures area { result.area ≡ None }
+{
+    Told {
+        saying: Saying::Quiet,
+        area: None,
+    }
+}
+
+// What a packet does to the registers.
+fn put(regs: &mut Regs, packet: &Packet)
+    requires { IsInRange regs.old.height packet.now }
+    ensures { regs.new ≡ regs_after regs.old packet.now }
+{
+    match *packet {
+        Packet::Env { index, value } => regs.env(index, value),
+        Packet::Irq => regs.raise(),
+        Packet::Poly { textured, page, .. } => {
+            if textured {
+                regs.page(page);
+            }
+        }
+        _ => {}
+    }
+}
+
+impl Track {
+    /// After a reset, with nothing pending.
+    #[tactic(auto, unfolding(gp0_words::specs::Items::Rest))]
+    pub(crate) fn new() -> Track
+        ensures { result ≡ first_control short_height }
+    {
+        Track {
+            regs: Regs::new(),
+            splitter: Splitter::new(),
+        }
+    }
+
+    /// Goes on by an event, and answers what it says, and the area of the packet that it completes.
+    #[tactic(auto, unfolding(dead_drawing::specs::Control::controlled, gp0_words::specs::Items::Rest))]
+    pub(crate) fn follow(&mut self, event: &Event) -> Told
+        ensures control { self.new ≡ controlled self.old event.now }
+        ensures saying { result.saying ≡ said_at self.old event.now }
+        ensures area { result.area ≡ area_at self.old event.now }
+    {
+        match *event {
+            Event::Gp0 { word } => match self.splitter.push(word) {
+                None => quiet(),
+                Some(item) => {
+                    let packet = decode(&item, self.regs.is_tall());
+                    let area = area_of(&self.regs, &packet);
+                    let saying = said(&self.regs, &packet);
+                    put(&mut self.regs, &packet);
+                    Told { saying, area }
+                }
+            },
+            Event::Gp1 { word } => {
+                self.regs.gp1(word);
+                if clears(word) {
+                    self.splitter.clear();
+                }
+                quiet()
+            }
+            Event::Stat => quiet(),
+            _ => Told {
+                saying: Saying::Loud,
+                area: None,
+            },
+        }
+    }
+
+    /// Takes on the profile with 1024 rows.
+    pub(crate) fn set_tall(&mut self)
+        ensures { self.new ≡ record self.old { regs = record self.old.regs { height = tall_height } } }
+    {
+        self.regs.set_tall();
+    }
+
+    /// Whether nothing is pending.
+    pub(crate) fn is_idle(&self) -> bool
+        ensures { result ≡ is_idle self.now.pending }
+    {
+        self.splitter.is_idle()
+    }
+}
