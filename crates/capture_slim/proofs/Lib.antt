@@ -1,4 +1,9 @@
+pub mod Awaiting
+pub mod Files
+pub mod Firsts
 pub mod Packets
+pub mod Rests
+pub mod Ports
 pub mod PushLemmas
 pub mod SettlingLemmas
 pub mod StreamLaw

@@ -26,7 +26,6 @@ use Rattle.capture_slim.specs.Window.{Window, IsBegun, judged, kept, kept_words,
 use Rattle.capture_slim.specs.declared.slot.Slot.{Slot}
 use Rattle.capture_slim.proofs.Packets.{Shape, polygon, rectangle, line, shape_of, plain_kind, packet_is, next_of, last_item}
 use Rattle.capture_slim.proofs.SettlingLemmas.{kept_count, judged_count, settled_is_by}
-use Rattle.capture_slim.proofs.WindowLemmas.{word_kept}
 use Rattle.capture_slim.proofs.WindowLaw.{IsTaken, taken_more, taken_first}
 
 -- behind the settled slots what is kept is this window, with as much room as before and one event more

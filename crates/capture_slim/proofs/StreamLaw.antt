@@ -1,5 +1,5 @@
 -- What leaves the window.
-use Rattle.std.proofs.Common.{◌≡◌, ◌+◌, ltb, ℕ, List, [], ◌∷◌, ◌++◌, Option, Some, None, Bool, true, false, cond, length, refl, sym, ap, ◌∙◌, arith, append_assoc, append-nil, zero, suc}
+use Rattle.std.proofs.Common.{◌≡◌, ◌+◌, ltb, ℕ, List, [], ◌∷◌, ◌++◌, Option, Bool, true, false, cond, length, refl, sym, ap, ◌∙◌, append_assoc, append-nil, zero, suc}
 use Rattle.std.proofs.lemmas.Bool.{ltb-false}
 use Rattle.gpu_capture.specs.declared.event.Event.{Event}
 use Rattle.dead_drawing.specs.Control.{Control, controlled, first_control}

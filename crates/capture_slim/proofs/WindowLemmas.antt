@@ -1,12 +1,12 @@
 -- Slots that are settled as events come.
-use Rattle.std.proofs.Common.{◌≡◌, ◌+◌, ◌-◌, ltb, ℕ, zero, suc, List, [], ◌∷◌, ◌++◌, Option, Some, None, Bool, true, false, cond, length, map, refl, sym, ap, ◌∙◌, arith, append_assoc}
+use Rattle.std.proofs.Common.{◌≡◌, ◌+◌, ◌-◌, ltb, ℕ, zero, suc, List, [], ◌∷◌, ◌++◌, Option, Some, None, Bool, true, false, cond, length, map, refl, sym, ap, ◌∙◌, arith}
 use Rattle.std.proofs.lemmas.Bool.{le-ltb, lt-ltb}
 use Rattle.std.proofs.lemmas.List.{length-append}
 use Rattle.px_num.specs.declared.shape.Box2.{Box2}
 use Rattle.gpu_capture.specs.declared.event.Event.{Event}
 use Rattle.gpu_capture.specs.declared.event.Event.TheVariants as event
 use Rattle.dead_drawing.specs.Control.{Control, controlled}
-use Rattle.dead_drawing.specs.Dead.{window_events, fills_at, is_calm_at, is_covered}
+use Rattle.dead_drawing.specs.Dead.{fills_at, is_calm_at, is_covered}
 use Rattle.capture_slim.specs.declared.slot.Mark.{Mark}
 use Rattle.capture_slim.specs.declared.slot.Mark.TheVariants.{Kept, Dropped, Open}
 use Rattle.capture_slim.specs.declared.slot.Slot.{Slot}

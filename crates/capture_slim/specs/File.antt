@@ -2,13 +2,13 @@
 use Rattle.std.specs.Prelude.{◌≡◌, ◌≤◌, ◌<◌, ℕ, List, [], ◌∷◌, ◌++◌, ◌+◌, ◌==◌, Option, Some, length, if◌then◌else◌}
 use Rattle.dev_io.specs.Device.{appended, AppendsPart}
 use Rattle.gpu_capture.specs.Capture.{head_of, limit}
-use Rattle.gpu_capture.specs.Written.{spelled, spelled_end, written}
+use Rattle.gpu_capture.specs.Written.{spelled, written}
 use Rattle.gpu_capture.specs.declared.event.Event.{Event}
 use Rattle.capture_flat.specs.Out.{spell}
 use Rattle.capture_slim.specs.Places.{kept_of}
 use Rattle.capture_slim.specs.Window.{all_left, left_of}
 use Rattle.capture_slim.specs.declared.ending.SlimEnding.{SlimEnding}
-use Rattle.capture_slim.specs.declared.ending.SlimEnding.TheVariants.{Done, Stopped, NotFlat, TooLong, WriteFailed}
+use Rattle.capture_slim.specs.declared.ending.SlimEnding.TheVariants.{TooLong, WriteFailed}
 use Rattle.capture_slim.specs.declared.file.SlimFile.{SlimFile}
 use Rattle.capture_slim.specs.declared.slot.Slot.{Slot}
 
@@ -67,6 +67,13 @@ abbrev pub Fails : (version : ℕ) → (base held : Option (List ℕ)) → List 
 Fails version base held kept event number (TooLong at) = (at ≡ number) × IsTooMuch version base held kept event
 Fails version base held kept event number (WriteFailed at) = (at ≡ number) × IsLacking version base held kept event
 Fails version base held kept event number ending = ⊥
+
+-- the same of the first event that waits, which stays
+pub record FailsFirst (version : ℕ) (base held : Option (List ℕ)) (kept : List Event) (first : Option Event)
+    (number : ℕ) (ending : SlimEnding) : Type 0 where
+  pub event : Event
+  pub event_is : first ≡ Some event
+  pub fails : Fails version base held kept event number ending
 
 -- the event of one of these slots, behind so many that are gone
 pub record FailsSlots (version : ℕ) (base held : Option (List ℕ)) (kept : List Event) (slots : List Slot) (gone : ℕ)

@@ -1,3 +1,4 @@
+pub mod Came
 pub mod File
 pub mod Passing
 pub mod Places

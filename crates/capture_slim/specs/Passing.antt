@@ -35,10 +35,6 @@ pub record Way : Type 0 where
 abbrev pub slim_of : Way → List Event
 slim_of way = Slim (height_for way.version) way.events
 
--- what is written of its first n events
-abbrev pub first_slim : Way → ℕ → List Event
-first_slim way n = slim_first (height_for way.version) n way.events
-
 -- the bytes taken say these events first, in a capture of the version of the way
 abbrev pub SaysFirst : Way → List Event → Type 0
 SaysFirst way events = (rest : List ℕ)
@@ -76,14 +72,14 @@ pub record ReadsOn (way : Way) (number : ℕ) : Type 0 where
   pub needed : AreNeeded way.events way.taken
 
 -- one of this number is among the last events where the reading ends
-pub record IsAmongLast (way : Way) (number : ℕ) : Type 0 where
-  pub some : number ≤ length way.events
-  pub late : length way.events < number + window_events
+pub record IsAmongLast (events : List Event) (number : ℕ) : Type 0 where
+  pub some : number ≤ length events
+  pub late : length events < number + window_events
 
 -- the record of the event of this number is due
 abbrev pub IsDue : Way → (number : ℕ) → (left : Option (List ℕ)) → Type 0
 IsDue way number left =
-    ReadsOn way number ⊎ (IsAmongLast way number × (((stop : Stop) × StopsBehind way stop left) ⊎ RefusesNext way))
+    ReadsOn way number ⊎ (IsAmongLast way.events number × (((stop : Stop) × StopsBehind way stop left) ⊎ RefusesNext way))
 
 -- ---- the endings
 
@@ -99,15 +95,20 @@ pub record WritesAll (way : Way) (number : ℕ) (before now : Streams) : Type 0 
   pub held : now.held ≡ appended before.held (begun way.version (slim_of way))
   pub fits : length (written way.version (slim_of way)) ≤ limit
 
--- The record of this event, which stays, is due: it would be too much, or a proper part of it was written. All those
--- before it were written.
-pub record FailsRecord (way : Way) (number : ℕ) (before now : Streams) (ending : SlimEnding) : Type 0 where
-  pub due : IsDue way number now.left
+-- An event of these stays, and all those that stay before it were written: its record would be too much, or a proper
+-- part of it was written.
+pub record FailsAt (height version : ℕ) (events : List Event) (number : ℕ) (base held : Option (List ℕ))
+    (ending : SlimEnding) : Type 0 where
   pub earlier : ℕ
   pub number_is : number ≡ earlier + 1
   pub event : Event
-  pub stays : first_slim way number ≡ first_slim way earlier ++ event ∷ []
-  pub fails : Fails way.version before.held now.held (first_slim way earlier) event number ending
+  pub stays : slim_first height number events ≡ slim_first height earlier events ++ event ∷ []
+  pub fails : Fails version base held (slim_first height earlier events) event number ending
+
+-- so it is with this event of the way, whose record is due
+pub record FailsRecord (way : Way) (number : ℕ) (before now : Streams) (ending : SlimEnding) : Type 0 where
+  pub due : IsDue way number now.left
+  pub fails : FailsAt (height_for way.version) way.version way.events number before.held now.held ending
 
 -- a proper part of the End record was written
 pub record LacksEnd (way : Way) (number : ℕ) (before now : Streams) : Type 0 where

@@ -1,5 +1,5 @@
 -- Which events of a list stay where its dead packets are left out, each in its place (our own rule).
-use Rattle.std.specs.Prelude.{◌≡◌, ℕ, zero, suc, List, [], ◌∷◌, Option, Some, None, take, length}
+use Rattle.std.specs.Prelude.{◌≡◌, ℕ, zero, suc, List, [], ◌∷◌, Option, Some, None, take}
 use Rattle.gpu_capture.specs.declared.event.Event.{Event}
 use Rattle.dead_drawing.specs.Control.{Control, controlled, first_control}
 use Rattle.dead_drawing.specs.Dead.{dead_len}

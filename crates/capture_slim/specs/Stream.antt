@@ -1,5 +1,5 @@
 -- Events that come in and go out one by one (our own rule).
-use Rattle.std.specs.Prelude.{◌≡◌, ℕ, List, [], ◌∷◌, ◌++◌, Option, Some, ◌+◌, nat_lt, length, if◌then◌else◌}
+use Rattle.std.specs.Prelude.{◌≡◌, ℕ, List, [], ◌∷◌, ◌++◌, Option, None, ◌+◌, nat_lt, length, if◌then◌else◌}
 use Rattle.gpu_capture.specs.declared.event.Event.{Event}
 use Rattle.dead_drawing.specs.Dead.{window_events}
 use Rattle.capture_slim.specs.declared.slot.Slot.{Slot}
@@ -21,6 +21,15 @@ leaving w = leaving_from w.slots w.words
 
 abbrev pub staying : Window → Window
 staying w = record { slots = staying_from w.slots w.words; words = w.words; control = w.control }
+
+-- the event of the first slot, where it stays
+abbrev pub first_left : List Slot → Option Event
+first_left [] = None
+first_left (s ∷ slots) = left_of s.event s.mark
+
+-- the words go behind the slots
+abbrev pub closed : Window → Window
+closed w = record { slots = waiting w; words = []; control = w.control }
 
 -- what leaves as events come
 abbrev pub outs : List Event → Window → List (Option Event)

@@ -1,5 +1,5 @@
 -- What an event tells of the packet that it completes (our own rule).
-use Rattle.std.specs.Prelude.{◌≡◌, ◌≤◌, ℕ, ◌+◌, Option, Some, None, length, List, ◌++◌, [], ◌∷◌}
+use Rattle.std.specs.Prelude.{◌≡◌, ◌≤◌, ℕ, ◌+◌, Option, Some, None, length, List, [], ◌∷◌}
 use Rattle.px_num.specs.declared.shape.Box2.{Box2}
 use Rattle.gp0_words.specs.Next.{next_item}
 use Rattle.gp0_words.specs.declared.item.Item.{Item}
@@ -7,6 +7,7 @@ use Rattle.gp0_packets.specs.Packets.{packet_of}
 use Rattle.gp1_status.specs.Registers.{Registers}
 use Rattle.gpu_capture.specs.declared.event.Event.{Event}
 use Rattle.gpu_capture.specs.declared.event.Event.TheVariants as event
+use Rattle.event_play.specs.Ports.{IsAtPorts}
 use Rattle.prim_draw.specs.Areas.{area_of}
 use Rattle.dead_drawing.specs.Control.{Control}
 use Rattle.dead_drawing.specs.Dead.{window_events}
@@ -33,6 +34,11 @@ abbrev pub AreSettled : List Slot → Type 0
 AreSettled [] = Unit {0}
 AreSettled (s ∷ slots) = IsSettled s.mark × AreSettled slots
 
+-- events of the ports
+abbrev pub HoldPorts : List Slot → Type 0
+HoldPorts [] = Unit {0}
+HoldPorts (s ∷ slots) = IsAtPorts s.event × HoldPorts slots
+
 -- how many slots each part of the window has room for: all of them, with the words of a packet more
 abbrev pub room : ℕ
 room = 4128
@@ -42,5 +48,6 @@ pub record KeepsWindow (settled_room recent_room : ℕ) (old : List Slot) (w : W
   pub settled_room_is : settled_room ≡ room
   pub recent_room_is : recent_room ≡ room
   pub settled : AreSettled old
+  pub ports : HoldPorts w.slots
   pub few : length w.slots + length w.words ≤ window_events
   pub begun : IsBegun w.words w.control

@@ -1,5 +1,5 @@
 -- Events that wait for a fill: what is known of them when only the events up to now are known (our own rule).
-use Rattle.std.specs.Prelude.{◌≡◌, ◌<◌, ◌≤◌, ℕ, suc, ◌+◌, ◌-◌, ◌&&◌, true, List, [], ◌∷◌, ◌++◌, Option, Some, None}
+use Rattle.std.specs.Prelude.{◌≡◌, ◌<◌, ℕ, suc, ◌+◌, ◌-◌, ◌&&◌, true, List, [], ◌∷◌, ◌++◌, Option, Some, None}
 use Rattle.std.specs.Prelude.{if◌then◌else◌, nat_lt, length, map, slice_index}
 use Rattle.px_num.specs.declared.shape.Box2.{Box2}
 use Rattle.gp0_words.specs.Kinds.{first_len_of}
@@ -14,7 +14,7 @@ use Rattle.dead_drawing.specs.Dead.{fills_at, is_calm_at, is_covered, is_droppab
 use Rattle.capture_slim.specs.declared.slot.Mark.{Mark}
 use Rattle.capture_slim.specs.declared.slot.Mark.TheVariants.{Kept, Dropped, Open}
 use Rattle.capture_slim.specs.declared.slot.Slot.{Slot}
-use Rattle.capture_slim.specs.Places.{places, places_from}
+use Rattle.capture_slim.specs.Places.{places_from}
 
 -- the slots, the words of a packet that is not whole yet and may be dropped, and the control now
 pub record Window : Type 0 where

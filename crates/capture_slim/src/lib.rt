@@ -4,11 +4,15 @@
 mod ending;
 mod file;
 pub mod laws;
+mod pass;
 mod record;
+mod rest;
 mod saying;
 mod settling;
+mod slim;
 mod slot;
 mod track;
 mod waiting;
 
 pub use ending::SlimEnding;
+pub use pass::Slim;

@@ -5,7 +5,7 @@ ghost use Rattle.gpu_capture.specs.Capture.{IsVersion};
 ghost use Rattle.gpu_capture.specs.Written.{record_words, spelled, spelled_end};
 ghost use Rattle.event_play.specs.Ports.{IsAtPorts};
 ghost use Rattle.capture_slim.specs.File.{FailsDue, WritesDue, due, head_at};
-ghost use Rattle.capture_slim.specs.Passing.{MayWriteFault};
+ghost use Rattle.capture_slim.specs.Passing.{IsEnding, MayReadFault, MayWriteFault};
 
 use crate::ending::SlimEnding;
 use crate::file::SlimFile;
@@ -79,6 +79,7 @@ pub(crate) fn write_record<K: Sink>(
     requires event { IsAtPorts event.now }
     ensures ok { IfOk result (λ size. WritesDue file event.now (K.held out.old) (K.held out.new) size) }
     ensures ends { IfErr result (λ ending. FailsDue file number event.now (K.held out.old) (K.held out.new) ending) }
+    ensures known { IfErr result (λ ending. IsEnding ending × (MayReadFault ending → ⊥)) }
     ensures cause { IfErr result (λ ending. MayWriteFault ending → Rose (K.faults out.old) (K.faults out.new)) }
     ensures faults { K.faults out.old ≤ K.faults out.new }
 {

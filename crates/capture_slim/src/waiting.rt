@@ -1,11 +1,12 @@
 // Events that wait until it is known whether they stay.
-ghost use Rattle.std.specs.Prelude.{◌≡◌, ◌<◌, ◌≤◌, ◌+◌, ◌++◌, ◌∷◌, [], ◌&&◌, ◌||◌, ◌==◌, not, length, drop, slice_get, IfOk, option_to_list};
+ghost use Rattle.std.specs.Prelude.{◌≡◌, ◌<◌, ◌≤◌, ◌+◌, ◌++◌, ◌∷◌, [], ◌&&◌, ◌||◌, ◌==◌, not, length, drop, slice_get, IfOk, IfSome, option_to_list};
 ghost use Rattle.circular_buffer.specs.Buffer.{buffer};
 ghost use Rattle.px_num.specs.Height.{short_height, tall_height};
+ghost use Rattle.event_play.specs.Ports.{IsAtPorts};
 ghost use Rattle.dead_drawing.specs.Dead.{is_droppable};
 ghost use Rattle.capture_slim.specs.Places.{kept_of};
 ghost use Rattle.capture_slim.specs.Settling.{Kept, added, mark_of, put_word, taken_up};
-ghost use Rattle.capture_slim.specs.Stream.{leaving, leaving_from, staying, staying_from};
+ghost use Rattle.capture_slim.specs.Stream.{closed, first_left, leaving, leaving_from, staying, staying_from};
 ghost use Rattle.capture_slim.specs.Telling.{AreSettled};
 ghost use Rattle.capture_slim.specs.Window.{first_window, judged, kept, kept_words, left_of, pushed, waiting};
 
@@ -255,8 +256,10 @@ impl Waiting {
 
     /// Takes the next event. The event that is 4096 older leaves, and is answered where it stays in the list.
     pub(crate) fn push(&mut self, event: Event) -> Option<Event>
+        requires { IsAtPorts event }
         ensures left { option_to_list result ≡ kept_of (leaving (pushed self.old event)) }
         ensures now { self.new ≡ staying (pushed self.old event) }
+        ensures ports { IfSome result IsAtPorts }
     {
         let idle = self.track.is_idle();
         let behind = self.words.as_slice().len();
@@ -264,5 +267,33 @@ impl Waiting {
         heed(&mut self.settled, &mut self.recent, behind, &told.saying);
         add(&mut self.recent, &mut self.words, event, idle, told.area);
         leave(&mut self.settled, &mut self.recent, self.words.as_slice())
+    }
+
+    /// How many events wait.
+    pub(crate) fn len(&self) -> usize
+        ensures value { result ≡ length self.now.slots + length self.now.words }
+        ensures few { result ≤ 4096 }
+    {
+        self.settled.len() + self.recent.len() + self.words.as_slice().len()
+    }
+
+    /// No event follows: the words of a packet that is not whole stay.
+    pub(crate) fn close(&mut self)
+        ensures { self.new ≡ closed self.old }
+    {
+        put_words(&mut self.recent, self.words.as_slice());
+        self.words = Words::new();
+    }
+
+    /// Takes the first slot, where no event follows, and answers its event where it stays.
+    pub(crate) fn pop(&mut self) -> Option<Event>
+        ensures event { result ≡ first_left self.old.slots }
+        ensures now { self.new ≡ record self.old { slots = drop 1 self.old.slots } }
+        ensures ports { IfSome result IsAtPorts }
+    {
+        match pop(&mut self.settled, &mut self.recent) {
+            Some(slot) => left(slot),
+            None => None,
+        }
     }
 }

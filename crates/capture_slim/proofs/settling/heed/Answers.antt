@@ -1,4 +1,4 @@
-use Rattle.std.proofs.Common.{◌++◌, [], List, ap, ◌∙◌, sym, subst, append-nil}
+use Rattle.std.proofs.Common.{◌++◌, List, ap, ◌∙◌, sym, subst, append-nil}
 use Rattle.circular_buffer.specs.Buffer.{Buffer}
 use Rattle.capture_slim.specs.Settling.{all_shut, settled_by}
 use Rattle.capture_slim.specs.Telling.{AreSettled}

@@ -2,7 +2,6 @@ use Rattle.std.proofs.Common.{◌<◌, ◌+◌, ◌++◌, ◌∷◌, [], Option,
 use Rattle.std.proofs.lemmas.List.{length-append}
 use Rattle.gpu_capture.specs.declared.event.Event.{Event}
 use Rattle.capture_slim.specs.Places.{kept_of}
-use Rattle.capture_slim.specs.Window.{left_of}
 use Rattle.capture_slim.proofs.SettlingLemmas.{none_leaves, first_leaves, one_kept}
 use Rattle.capture_slim.proofs.waiting.leave.Goals as goal
 

@@ -2,8 +2,10 @@ use Rattle.std.proofs.Common.{◌≤◌, ◌+◌, ◌++◌, ℕ, List, length, s
 use Rattle.std.proofs.lemmas.List.{length-append}
 use Rattle.capture_slim.specs.Places.{kept_of}
 use Rattle.capture_slim.specs.Stream.{leaving, leaving_from, staying, staying_from}
+use Rattle.capture_slim.specs.Telling.{HoldPorts}
 use Rattle.capture_slim.specs.Window.{Window, IsBegun, pushed}
 use Rattle.capture_slim.specs.declared.slot.Slot.{Slot}
+use Rattle.capture_slim.proofs.Ports.{pushed_ports, staying_ports, left_ports}
 use Rattle.capture_slim.proofs.PushLemmas.{IsPushed, pushed_all, few_stay, few_words}
 use Rattle.capture_slim.proofs.SettlingLemmas.{settled_by_long}
 use Rattle.capture_slim.proofs.WindowLaw.{pushed_begun}
@@ -63,6 +65,16 @@ step c =
     c.self.invariant.begun c.as_slice-behind.ensures c.follow-told.ensures.saying c.follow-told.ensures.area c.is_idle-idle.ensures c.follow-told.ensures.control
     c.heed.ensures.slots c.add.ensures
 
+ports : (c : goal.After-leave) → HoldPorts (c.heed.new.settled.items ++ c.add.new.slots.items)
+ports c =
+    let before : Window = record { slots = c.self.inside.settled.items ++ c.self.inside.recent.items; words = c.self.inside.words; control = c.self.inside.track } in
+    let P : Window → Type 0 = λ w. HoldPorts w.slots in
+    subst P (sym (step c).is) (pushed_ports before c.args.event c.self.invariant.ports c.requires)
+
+pub returns-clause-ports : goal.returns-clause-ports
+returns-clause-ports c =
+    left_ports (c.heed.new.settled.items ++ c.add.new.slots.items) c.as_slice.result.now c.leave.result (ports c) c.leave.ensures.left
+
 pub returns-clause-left : goal.returns-clause-left
 returns-clause-left c =
     c.leave.ensures.left
@@ -97,6 +109,7 @@ invariant_of-self c =
       settled_room_is = c.leave.ensures.settled_room ∙ c.heed.ensures.settled_room ∙ c.self.invariant.settled_room_is;
       recent_room_is = c.leave.ensures.recent_room ∙ s.capacity ∙ c.heed.ensures.recent_room ∙ c.self.invariant.recent_room_is;
       settled = c.leave.ensures.settled;
+      ports = rw items (staying_ports all c.add.new.words (ports c));
       few = rw items (few_stay all c.add.new.words most (omega (arith, few_words c.add.new.words c.follow-told.new.self begun)));
       begun = begun;
     }

@@ -1,0 +1,335 @@
+-- What stays of the first events, by what left the window.
+use Rattle.std.proofs.Common.{◌≡◌, ◌≤◌, ◌+◌, ◌-◌, ◌++◌, ◌&&◌, ltb, ℕ, suc, List, [], ◌∷◌, Option, None, Some, Bool, true, false, cond, take, length, length-append, refl, ap, sym, ◌∙◌, append_assoc, append-nil, subst, arith, inl, inr}
+use Rattle.std.proofs.Math.Seq.{take-append-add}
+use Rattle.std.proofs.lemmas.Bool.{ltb-false}
+use Rattle.dev_io.specs.Device.{appended, AppendsPart}
+use Rattle.gpu_capture.specs.Written.{spelled_end}
+use Rattle.gpu_capture.specs.declared.event.Event.{Event}
+use Rattle.gpu_capture.specs.declared.event.Stop.{Stop}
+use Rattle.capture_flat.proofs.Pieces.{wrote_on}
+use Rattle.gpu_capture.specs.declared.event.Event.TheVariants as event
+use Rattle.gpu_core.specs.Machine.{is_idle}
+use Rattle.event_play.specs.Ports.{IsAtPorts, AreAtPorts}
+use Rattle.dead_drawing.specs.Control.{Control}
+use Rattle.dead_drawing.specs.Dead.{is_droppable}
+use Rattle.dead_drawing.specs.Slim.{Slim}
+use Rattle.capture_slim.specs.Came.{Came, ClosesFile, EndsPushed, EndsRefused, EndsStop, IsAll, FailsLast, FailsNow}
+use Rattle.capture_slim.specs.File.{begun, head_due, IsFile, Fails, FailsSlots}
+use Rattle.capture_slim.specs.Passing.{FailsAt}
+use Rattle.capture_slim.specs.Places.{kept_of, places, slim_first}
+use Rattle.capture_slim.specs.Stream.{outs, behind, leaving, leaving_from, staying, staying_from}
+use Rattle.capture_slim.specs.Window.{Window, kept, kept_words, with_words, with_event, with_word, pushed_by, pushed, first_window, all_left, left_of, waiting}
+use Rattle.capture_slim.specs.declared.ending.SlimEnding.{SlimEnding}
+use Rattle.capture_slim.specs.declared.ending.SlimEnding.TheVariants.{Done, Stopped, NotFlat, TooLong, WriteFailed}
+use Rattle.capture_slim.specs.declared.file.SlimFile.{SlimFile}
+use Rattle.capture_slim.specs.declared.slot.Slot.{Slot}
+use Rattle.capture_slim.proofs.Files.{head_same, begun_end, written_most}
+use Rattle.capture_slim.proofs.Rests.{kept_append, left_append}
+use Rattle.capture_slim.proofs.SettlingLemmas.{kept_count}
+use Rattle.capture_slim.proofs.StreamLaw.{stream_law, leaves_law, places_law}
+use Rattle.capture_slim.proofs.WindowLaw.{judged_long}
+use Rattle.capture_slim.proofs.WindowLemmas.{settled_long}
+
+abbrev Outs : Type 0
+Outs = List (Option Event)
+
+-- ---- one event more
+
+pub outs_more : (events : List Event) (e : Event) (w : Window) → outs (events ++ e ∷ []) w ≡ outs events w ++ leaving (pushed (behind events w) e)
+outs_more [] e w = append-nil (leaving (pushed w e))
+outs_more (x ∷ events) e w =
+    ap (λ (os : Outs). leaving (pushed w x) ++ os) (outs_more events e (staying (pushed w x)))
+    ∙ sym (append_assoc (leaving (pushed w x)) (outs events (staying (pushed w x))) (leaving (pushed (behind events (staying (pushed w x))) e)))
+
+pub behind_more : (events : List Event) (e : Event) (w : Window) → behind (events ++ e ∷ []) w ≡ staying (pushed (behind events w) e)
+behind_more [] e w = refl
+behind_more (x ∷ events) e w = behind_more events e (staying (pushed w x))
+
+-- ---- how many events wait, and how many have left
+
+abbrev pub size : Window → ℕ
+size w = length w.slots + length w.words
+
+words_size : (slots more : List Slot) (words : List ℕ) (now : Control) (part : Bool) → length more ≡ length words
+    → size (cond {A = Window} part (record { slots = slots; words = words; control = now })
+    (record { slots = slots ++ more; words = []; control = now })) ≡ length slots + length words
+words_size slots more words now true same = refl
+words_size slots more words now false same = omega (arith, same, length-append slots more)
+
+event_size : (words : List ℕ) (slots : List Slot) (now : Control) (e : Event) → size (with_event words slots now e) ≡ suc (length slots + length words)
+event_size words slots now e = omega (arith, length-append slots (kept_words words ++ kept e ∷ []), length-append (kept_words words) (kept e ∷ []), kept_count words)
+
+word_size : (c : Control) (words : List ℕ) (slots : List Slot) (now : Control) (word : ℕ) → size (with_word c words slots now word) ≡ suc (length slots + length words)
+word_size c (v ∷ vs) slots now word =
+    words_size slots _ ((v ∷ vs) ++ word ∷ []) now _ (judged_long ((v ∷ vs) ++ word ∷ []) _) ∙ (omega (arith, length-append (v ∷ vs) (word ∷ [])))
+word_size c [] slots now word = by_test (is_idle c.pending && is_droppable word)
+  where
+    by_test : (b : Bool) → size (cond b (with_words c slots now (word ∷ [])) (with_event [] slots now (event.Gp0 word))) ≡ suc (length slots + length {A = ℕ} [])
+    by_test true = words_size slots _ (word ∷ []) now _ (judged_long (word ∷ []) _) ∙ omega arith
+    by_test false = event_size [] slots now (event.Gp0 word)
+
+by_size : (c : Control) (words : List ℕ) (e : Event) (slots : List Slot) (now : Control) → size (pushed_by c words e slots now) ≡ suc (length slots + length words)
+by_size c words (event.Gp0 word) slots now = word_size c words slots now word
+by_size c words other slots now = event_size words slots now other
+
+pub pushed_size : (w : Window) (e : Event) → size (pushed w e) ≡ suc (size w)
+unfolding pushed
+pushed_size w e = by_size w.control w.words e _ _ ∙ ap (λ n. suc (n + length w.words)) (settled_long w.slots (length w.words) w.control e)
+
+pub leaves_size : (slots : List Slot) (words : List ℕ) → length (leaving_from slots words) + (length (staying_from slots words) + length words) ≡ length slots + length words
+leaves_size [] words = omega arith
+leaves_size (s ∷ slots) words = by_test (ltb (length slots + length words) 4096)
+  where
+    by_test : (b : Bool) → length (cond b [] (left_of s.event s.mark ∷ [])) + (length (cond b (s ∷ slots) slots) + length words) ≡ length (s ∷ slots) + length words
+    by_test true = omega arith
+    by_test false = omega arith
+
+pub counts : (events : List Event) (w : Window) → length (outs events w) + size (behind events w) ≡ size w + length events
+counts [] w = omega arith
+counts (e ∷ events) w =
+    let p = pushed w e in
+    omega (arith, counts events (staying p), length-append (leaving p) (outs events (staying p)), leaves_size p.slots p.words, pushed_size w e)
+
+pub waiting_size : (w : Window) → length (waiting w) ≡ size w
+waiting_size w = omega (arith, length-append w.slots (kept_words w.words), kept_count w.words)
+
+-- ---- an event of the list, in its place
+
+record Placed (all xs : Outs) (e : Event) : Type 0 where
+  before : kept_of (take (length xs) all) ≡ kept_of xs
+  behind : kept_of (take (length xs + 1) all) ≡ kept_of xs ++ e ∷ []
+
+placed : (all xs more : Outs) (e : Event) → all ≡ xs ++ Some e ∷ more → Placed all xs e
+placed all xs more e are =
+    let none : length xs + 0 ≡ length xs = omega arith in
+    let first = take-append-add xs (Some e ∷ more) 0 in
+    record {
+      before = ap (λ os. kept_of (take (length xs) os)) are ∙ ap (λ n. kept_of (take n (xs ++ Some e ∷ more))) (sym none) ∙ ap kept_of first
+          ∙ ap kept_of (append-nil xs);
+      behind = ap (λ os. kept_of (take (length xs + 1) os)) are ∙ ap kept_of (take-append-add xs (Some e ∷ more) 1) ∙ kept_append xs (Some e ∷ []);
+    }
+
+abbrev number_of : SlimEnding → ℕ
+number_of (TooLong number) = number
+number_of (WriteFailed number) = number
+number_of other = 0
+
+fails_number : (version : ℕ) (base held : Option (List ℕ)) (kept : List Event) (e : Event) (number : ℕ) (ending : SlimEnding)
+    → Fails version base held kept e number ending → number_of ending ≡ number
+fails_number version base held kept e number (TooLong at) fails = fails.0
+fails_number version base held kept e number (WriteFailed at) fails = fails.0
+fails_number version base held kept e number Done fails = absurd fails
+fails_number version base held kept e number (Stopped at stop) fails = absurd fails
+fails_number version base held kept e number (NotFlat at) fails = absurd fails
+
+-- the record of an event in its place was not written
+pub fails_at : (height version : ℕ) (events : List Event) (xs more : Outs) (e : Event) (number : ℕ) (base held : Option (List ℕ)) (ending : SlimEnding)
+    → places height events ≡ xs ++ Some e ∷ more → number ≡ length xs + 1 → Fails version base held (kept_of xs) e number ending
+    → FailsAt height version events (number_of ending) base held ending
+fails_at height version events xs more e number base held ending are at fails =
+    let all = places height events in
+    let place = placed all xs more e are in
+    let same = fails_number version base held (kept_of xs) e number ending fails in
+    let P : ℕ → Type 0 = λ n. Fails version base held (slim_first height (length xs) events) e n ending in
+    let Q : List Event → Type 0 = λ es. Fails version base held es e number ending in
+    record {
+      earlier = length xs;
+      number_is = same ∙ at;
+      event = e;
+      stays = ap (λ n. kept_of (take n all)) (same ∙ at) ∙ place.behind ∙ ap (λ es. es ++ e ∷ []) (sym place.before);
+      fails = subst P (sym same) (subst Q (sym place.before) fails);
+    }
+
+-- ---- the end
+
+module _ (height : ℕ) (events : List Event) (window : Window) (file : SlimFile) (count : ℕ) (base held : Option (List ℕ))
+    (came : Came height events window file count base held) where
+  abbrev gone : Outs
+  gone = outs events (first_window height)
+
+  pub all_places : places height events ≡ gone ++ all_left (waiting window)
+  all_places = stream_law height events ∙ ap (λ (w : Window). gone ++ all_left (waiting w)) (sym came.window_is)
+
+  pub slim_is : kept_of gone ++ kept_of (all_left (waiting window)) ≡ Slim height events
+  slim_is = sym (kept_append gone (all_left (waiting window))) ∙ ap kept_of (sym all_places) ∙ places_law height events
+
+  pub counted : length gone + length (waiting window) ≡ count
+  counted = omega (arith, waiting_size window, counts events (first_window height), ap size came.window_is, came.count_is)
+
+  pub rest_fails : (now : Option (List ℕ)) (ending : SlimEnding) → length (waiting window) ≤ 4096
+      → FailsSlots file.version base now (kept_of gone) (waiting window) (count - length (waiting window)) ending
+      → FailsLast height file.version events (number_of ending) base now ending
+  rest_fails now ending most fails =
+      let done = all_left fails.done in
+      let xs = gone ++ done in
+      let are : places height events ≡ xs ++ Some fails.event ∷ all_left fails.after =
+      all_places ∙ ap (λ (ss : List Slot). gone ++ all_left ss) fails.are
+      ∙ ap (λ os. gone ++ os) (left_append fails.done (fails.slot ∷ fails.after) ∙ ap (λ (out : Option Event). done ++ out ∷ all_left fails.after) fails.event_is)
+      ∙ sym (append_assoc gone done (Some fails.event ∷ all_left fails.after)) in
+      let long = length-append gone done in
+      let at : fails.number ≡ length xs + 1 = omega (arith, fails.number_is, long, left_long fails.done, counted) in
+      let P : List Event → Type 0 = λ es. Fails file.version base now es fails.event fails.number ending in
+      let fails_here = subst P (sym (kept_append gone done)) fails.fails in
+      let same = fails_number file.version base now (kept_of xs) fails.event fails.number ending fails_here in
+      let slots = ap length fails.are in
+      record {
+        last = record {
+          some = omega (arith, same, fails.number_is, counted, came.count_is, slots, length-append fails.done (fails.slot ∷ fails.after));
+          late = omega (arith, same, fails.number_is, counted, came.count_is, most);
+        };
+        fails = fails_at height file.version events xs (all_left fails.after) fails.event fails.number base now ending are at fails_here;
+      }
+    where
+      left_long : (slots : List Slot) → length (all_left slots) ≡ length slots
+      left_long [] = refl
+      left_long (s ∷ slots) = ap suc (left_long slots)
+
+  -- all was written
+  pub rest_all : (now : Option (List ℕ)) (size number : ℕ)
+      → IsFile (record { version = file.version; size = size }) base now (kept_of gone ++ kept_of (all_left (waiting window)))
+      → number ≡ count + 1
+      → IsAll height file.version events number base now
+  rest_all now size number is at =
+      let P : List Event → Type 0 = λ es. IsFile (record { version = file.version; size = size }) base now es in
+      let file_is = subst P slim_is is in
+      record {
+        number_is = at ∙ ap (λ n. n + 1) came.count_is;
+        stands = file_is.stands;
+        fits = written_most file.version (Slim height events) (omega (arith, file_is.fits, file_is.size_is));
+      }
+
+  pub rest_file : (now : Option (List ℕ)) (size : ℕ)
+      → IsFile (record { version = file.version; size = size }) base now (kept_of gone ++ kept_of (all_left (waiting window)))
+      → IsFile (record { version = file.version; size = size }) base now (Slim height events)
+  rest_file now size is =
+      let P : List Event → Type 0 = λ es. IsFile (record { version = file.version; size = size }) base now es in subst P slim_is is
+
+  -- ---- an event of the ports comes
+
+  module _ (e : Event) (next : Window) (next_is : next ≡ staying (pushed window e)) (port : IsAtPorts e) where
+    ports_more : (es : List Event) → AreAtPorts es → AreAtPorts (es ++ e ∷ [])
+    ports_more [] are = (port, tt)
+    ports_more (x ∷ es) are = (are.0, ports_more es are.1)
+
+    now_is : next ≡ behind (events ++ e ∷ []) (first_window height)
+    now_is = next_is ∙ ap (λ w. staying (pushed w e)) came.window_is ∙ sym (behind_more events e (first_window height))
+
+    outs_now : outs (events ++ e ∷ []) (first_window height) ≡ gone ++ leaving (pushed window e)
+    outs_now = outs_more events e (first_window height) ∙ ap (λ w. gone ++ leaving (pushed w e)) (sym came.window_is)
+
+    kept_now : (left : List Event) → left ≡ kept_of (leaving (pushed window e))
+        → kept_of gone ++ left ≡ kept_of (outs (events ++ e ∷ []) (first_window height))
+    kept_now left is = ap (λ es. kept_of gone ++ es) is ∙ sym (kept_append gone (leaving (pushed window e))) ∙ ap kept_of (sym outs_now)
+
+    pub comes : (now : Option (List ℕ)) (size : ℕ) (left : List Event) → left ≡ kept_of (leaving (pushed window e))
+        → IsFile (record { version = file.version; size = size }) base now (kept_of gone ++ left)
+        → Came height (events ++ e ∷ []) next (record { version = file.version; size = size }) (count + 1) base now
+    comes now size left is file_is =
+        let P : List Event → Type 0 = λ es. IsFile (record { version = file.version; size = size }) base now es in
+        record {
+          ports = ports_more events came.ports;
+          window_is = now_is;
+          count_is = omega (arith, came.count_is, length-append events (e ∷ []));
+          file_is = subst P (kept_now left is) file_is;
+        }
+
+    one_leaves : (slots : List Slot) (words : List ℕ) (left : Event) → left ∷ [] ≡ kept_of (leaving_from slots words)
+        → (leaving_from slots words ≡ Some left ∷ []) × (4096 ≤ length (staying_from slots words) + length words)
+    one_leaves [] words left is = absurd cc
+    one_leaves (s ∷ slots) words left is = by_test (ltb (length slots + length words) 4096) refl is
+      where
+        one_out : (out : Option Event) → left ∷ [] ≡ kept_of (out ∷ []) → out ∷ [] ≡ Some left ∷ []
+        one_out None is = absurd cc
+        one_out (Some x) is = let same : x ≡ left = cc in ap (λ y. Some y ∷ []) same
+
+        by_test : (b : Bool) → ltb (length slots + length words) 4096 ≡ b → left ∷ [] ≡ kept_of (cond b [] (left_of s.event s.mark ∷ []))
+            → (cond b [] (left_of s.event s.mark ∷ []) ≡ Some left ∷ []) × (4096 ≤ length (cond b (s ∷ slots) slots) + length words)
+        by_test true e is = absurd cc
+        by_test false e is = (one_out (left_of s.event s.mark) is, ltb-false _ _ e)
+
+    -- the one that leaves could not be written
+    pub now_fails : (now : Option (List ℕ)) (ending : SlimEnding) (left : Event) (number : ℕ) → left ∷ [] ≡ kept_of (leaving (pushed window e))
+        → number + size next ≡ count + 1 → size next ≤ 4096
+        → Fails file.version base now (kept_of gone) left number ending
+        → FailsNow height file.version (events ++ e ∷ []) (number_of ending) base now ending
+    now_fails now ending left number is at most fails =
+        let p = pushed window e in
+        let leaves = one_leaves p.slots p.words left is in
+        let all = leaves_law height (events ++ e ∷ []) [] in
+        let are : places height (events ++ e ∷ []) ≡ gone ++ Some left ∷ all.0 =
+        ap (places height) (sym (append-nil (events ++ e ∷ []))) ∙ all.1 ∙ ap (λ os. os ++ all.0) (outs_now ∙ ap (λ os. gone ++ os) leaves.0)
+        ∙ append_assoc gone (Some left ∷ []) all.0 in
+        let next_size = ap size next_is in
+        let same = fails_number file.version base now (kept_of gone) left number ending fails in
+        let long = length-append events (e ∷ []) in
+        let before = pushed_size window e in
+        record {
+          due = omega (arith, same, at, most, leaves.1, next_size, came.count_is, long);
+          fails = fails_at height file.version (events ++ e ∷ []) gone all.0 left number base now ending are
+              (omega (arith, at, most, leaves.1, next_size, counted, waiting_size window, before, ap length leaves.0, leaves_size p.slots p.words)) fails;
+        }
+
+-- ---- endings
+
+pub pushed_ends : (height version : ℕ) (events : List Event) (base held : Option (List ℕ)) (kept : List Event) (e : Event) (number : ℕ) (ending : SlimEnding)
+    → Fails version base held kept e number ending → FailsNow height version events (number_of ending) base held ending
+    → EndsPushed height version events base held ending
+pushed_ends height version events base held kept e number (TooLong at) fails now = now
+pushed_ends height version events base held kept e number (WriteFailed at) fails now = now
+pushed_ends height version events base held kept e number Done fails now = absurd fails
+pushed_ends height version events base held kept e number (Stopped at stop) fails now = absurd fails
+pushed_ends height version events base held kept e number (NotFlat at) fails now = absurd fails
+
+pub refused_ends : (height version : ℕ) (events : List Event) (base held : Option (List ℕ)) (kept : List Event) (e : Event) (number : ℕ) (ending : SlimEnding)
+    → Fails version base held kept e number ending → FailsLast height version events (number_of ending) base held ending
+    → EndsRefused height version events base held ending
+refused_ends height version events base held kept e number (TooLong at) fails now = now
+refused_ends height version events base held kept e number (WriteFailed at) fails now = now
+refused_ends height version events base held kept e number Done fails now = absurd fails
+refused_ends height version events base held kept e number (Stopped at stop) fails now = absurd fails
+refused_ends height version events base held kept e number (NotFlat at) fails now = absurd fails
+
+pub stop_fails : (height version : ℕ) (events : List Event) (stop : Stop) (base held : Option (List ℕ)) (kept : List Event) (e : Event) (number : ℕ) (ending : SlimEnding)
+    → Fails version base held kept e number ending → FailsLast height version events (number_of ending) base held ending
+    → EndsStop height version events stop base held ending
+stop_fails height version events stop base held kept e number (TooLong at) fails now = now
+stop_fails height version events stop base held kept e number (WriteFailed at) fails now = inl now
+stop_fails height version events stop base held kept e number Done fails now = absurd fails
+stop_fails height version events stop base held kept e number (Stopped at told) fails now = absurd fails
+stop_fails height version events stop base held kept e number (NotFlat at) fails now = absurd fails
+
+-- all that stays was written, and the file is closed
+pub closes : (height : ℕ) (file : SlimFile) (events : List Event) (stop : Stop) (number : ℕ) (base mid now : Option (List ℕ)) (ending : SlimEnding)
+    → IsFile file base mid (Slim height events) → number ≡ length events + 1 → ClosesFile file stop number mid now ending
+    → EndsStop height file.version events stop base now ending
+closes height file events stop number base mid now Done is at ends =
+    let all = Slim height events in (
+      ends.0,
+      wrote_on base mid now (begun file.version all) _ is.stands ends.1
+          ∙ ap (λ bytes. appended base (begun file.version all ++ (bytes ++ spelled_end))) (head_same file base mid all is)
+          ∙ ap (appended base) (begun_end file.version all),
+      written_most file.version all (omega (arith, is.fits, is.size_is)),
+    )
+closes height file events stop number base mid now (Stopped at told) is counted ends = (
+  ends.1,
+  ends.2,
+  record {
+    number_is = ends.0 ∙ counted;
+    stands = ends.3 ∙ is.stands;
+    fits = written_most file.version (Slim height events) (omega (arith, is.fits, is.size_is));
+  },
+)
+closes height file events stop number base mid now (WriteFailed at) is counted ends =
+    let all = Slim height events in
+    let P : Option (List ℕ) → Type 0 = λ m. AppendsPart m now (head_due file.version all ++ spelled_end) in
+    let Q : List ℕ → Type 0 = λ bytes. AppendsPart mid now (bytes ++ spelled_end) in
+    inr (
+      ends.1,
+      record {
+        number_is = ends.0 ∙ counted;
+        stands = subst P is.stands (subst Q (head_same file base mid all is) ends.2);
+        fits = written_most file.version all (omega (arith, is.fits, is.size_is));
+      },
+    )
+closes height file events stop number base mid now (TooLong at) is counted ends = absurd ends
+closes height file events stop number base mid now (NotFlat at) is counted ends = absurd ends

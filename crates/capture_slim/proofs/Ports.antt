@@ -1,0 +1,106 @@
+-- The window holds events of the ports where only such ones came.
+use Rattle.std.proofs.Common.{◌≡◌, ◌+◌, ◌&&◌, ltb, ℕ, suc, List, [], ◌∷◌, ◌++◌, Option, None, Some, Bool, true, false, cond, IfSome, option_to_list, length, drop, subst}
+use Rattle.px_num.specs.declared.shape.Box2.{Box2}
+use Rattle.gpu_capture.specs.declared.event.Event.{Event}
+use Rattle.gpu_capture.specs.declared.event.Event.TheVariants as event
+use Rattle.gpu_core.specs.Machine.{is_idle}
+use Rattle.event_play.specs.Ports.{IsAtPorts}
+use Rattle.dead_drawing.specs.Control.{Control}
+use Rattle.dead_drawing.specs.Dead.{is_droppable}
+use Rattle.capture_slim.specs.Places.{kept_of}
+use Rattle.capture_slim.specs.Stream.{first_left, leaving_from, staying_from}
+use Rattle.capture_slim.specs.Telling.{HoldPorts}
+use Rattle.capture_slim.specs.Window.{Window, settled, kept, kept_words, judged, dropped_words, open_words, with_words, with_event, with_word, pushed_by, pushed, left_of}
+use Rattle.capture_slim.specs.declared.slot.Mark.{Mark}
+use Rattle.capture_slim.specs.declared.slot.Mark.TheVariants.{Kept, Dropped, Open}
+use Rattle.capture_slim.specs.declared.slot.Slot.{Slot}
+
+pub ports_append : (first last : List Slot) → HoldPorts first → HoldPorts last → HoldPorts (first ++ last)
+ports_append [] last are more = more
+ports_append (s ∷ first) last are more = (are.0, ports_append first last are.1 more)
+
+settled_ports : (slots : List Slot) (after : ℕ) (c : Control) (e : Event) → HoldPorts slots → HoldPorts (settled slots after c e)
+settled_ports [] after c e are = tt
+settled_ports (s ∷ slots) after c e are = (are.0, settled_ports slots after c e are.1)
+
+pub kept_ports : (words : List ℕ) → HoldPorts (kept_words words)
+kept_ports [] = tt
+kept_ports (w ∷ ws) = (tt, kept_ports ws)
+
+dropped_ports : (words : List ℕ) → HoldPorts (dropped_words words)
+dropped_ports [] = tt
+dropped_ports (w ∷ ws) = (tt, dropped_ports ws)
+
+open_ports : (words : List ℕ) (i : ℕ) (area : Box2) → HoldPorts (open_words words i area)
+open_ports [] i area = tt
+open_ports (w ∷ ws) i area = (tt, open_ports ws (suc i) area)
+
+judged_ports : (words : List ℕ) (area : Option Box2) → HoldPorts (judged words area)
+judged_ports words None = dropped_ports words
+judged_ports words (Some area) = open_ports words 0 area
+
+words_ports : (slots more : List Slot) (words : List ℕ) (now : Control) (part : Bool) → HoldPorts slots → HoldPorts more
+    → HoldPorts (cond {A = Window} part (record { slots = slots; words = words; control = now })
+    (record { slots = slots ++ more; words = []; control = now })).slots
+words_ports slots more words now true are added = are
+words_ports slots more words now false are added = ports_append slots more are added
+
+event_ports : (words : List ℕ) (slots : List Slot) (now : Control) (e : Event) → HoldPorts slots → IsAtPorts e
+    → HoldPorts (with_event words slots now e).slots
+event_ports words slots now e are port =
+    ports_append slots (kept_words words ++ kept e ∷ []) are (ports_append (kept_words words) (kept e ∷ []) (kept_ports words) (port, tt))
+
+word_ports : (c : Control) (words : List ℕ) (slots : List Slot) (now : Control) (word : ℕ) → HoldPorts slots
+    → HoldPorts (with_word c words slots now word).slots
+word_ports c (v ∷ vs) slots now word are = words_ports slots _ _ now _ are (judged_ports ((v ∷ vs) ++ word ∷ []) _)
+word_ports c [] slots now word are = by_test (is_idle c.pending && is_droppable word)
+  where
+    by_test : (b : Bool) → HoldPorts (cond b (with_words c slots now (word ∷ [])) (with_event [] slots now (event.Gp0 word))).slots
+    by_test true = words_ports slots _ _ now _ are (judged_ports (word ∷ []) _)
+    by_test false = event_ports [] slots now (event.Gp0 word) are tt
+
+by_ports : (c : Control) (words : List ℕ) (e : Event) (slots : List Slot) (now : Control) → HoldPorts slots → IsAtPorts e
+    → HoldPorts (pushed_by c words e slots now).slots
+by_ports c words (event.Gp0 word) slots now are port = word_ports c words slots now word are
+by_ports c words other slots now are port = event_ports words slots now other are port
+
+pub pushed_ports : (w : Window) (e : Event) → HoldPorts w.slots → IsAtPorts e → HoldPorts (pushed w e).slots
+unfolding pushed
+pushed_ports w e are port =
+    by_ports w.control w.words e _ _ (settled_ports w.slots (length w.words) w.control e are) port
+
+pub staying_ports : (slots : List Slot) (words : List ℕ) → HoldPorts slots → HoldPorts (staying_from slots words)
+staying_ports [] words are = tt
+staying_ports (s ∷ slots) words are = by_test (ltb (length slots + length words) 4096)
+  where
+    by_test : (b : Bool) → HoldPorts (cond b (s ∷ slots) slots)
+    by_test true = are
+    by_test false = are.1
+
+mark_ports : (mark : Mark) (e : Event) → IsAtPorts e → IfSome (left_of e mark) IsAtPorts
+mark_ports Kept e port = port
+mark_ports Dropped e port = tt
+mark_ports (Open area i) e port = port
+
+pub first_ports : (slots : List Slot) → HoldPorts slots → IfSome (first_left slots) IsAtPorts
+first_ports [] are = tt
+first_ports (s ∷ slots) are = mark_ports s.mark s.event are.0
+
+pub drop_ports : (slots : List Slot) → HoldPorts slots → HoldPorts (drop 1 slots)
+drop_ports [] are = tt
+drop_ports (s ∷ slots) are = are.1
+
+one_ports : (out result : Option Event) → option_to_list result ≡ kept_of (out ∷ []) → IfSome out IsAtPorts → IfSome result IsAtPorts
+one_ports out None is port = tt
+one_ports None (Some e) is port = absurd cc
+one_ports (Some x) (Some e) is port = let same : x ≡ e = cc in subst IsAtPorts same port
+
+pub left_ports : (slots : List Slot) (words : List ℕ) (result : Option Event) → HoldPorts slots
+    → option_to_list result ≡ kept_of (leaving_from slots words) → IfSome result IsAtPorts
+left_ports slots words None are is = tt
+left_ports [] words (Some e) are is = absurd cc
+left_ports (s ∷ slots) words (Some e) are is = by_test (ltb (length slots + length words) 4096) is
+  where
+    by_test : (b : Bool) → e ∷ [] ≡ kept_of (cond b [] (left_of s.event s.mark ∷ [])) → IsAtPorts e
+    by_test true is = absurd cc
+    by_test false is = one_ports (left_of s.event s.mark) (Some e) is (mark_ports s.mark s.event are.0)

@@ -1,0 +1,99 @@
+-- How far a capture has come whose events are passed on, and how it ends there (our own rule).
+use Rattle.std.specs.Prelude.{◌≡◌, ◌≤◌, ◌⊎◌, ℕ, List, [], ◌∷◌, ◌++◌, ◌+◌, Option, length}
+use Rattle.dev_io.specs.Device.{appended, AppendsPart}
+use Rattle.gpu_capture.specs.Capture.{limit}
+use Rattle.gpu_capture.specs.Written.{spelled_end, written}
+use Rattle.gpu_capture.specs.declared.event.Event.{Event}
+use Rattle.gpu_capture.specs.declared.event.Stop.{Stop}
+use Rattle.gpu_capture.specs.declared.event.Stop.TheVariants.{End}
+use Rattle.event_play.specs.Ends.{IsNotEnd}
+use Rattle.event_play.specs.Ports.{IsAtPorts, AreAtPorts}
+use Rattle.dead_drawing.specs.Dead.{window_events}
+use Rattle.dead_drawing.specs.Slim.{Slim}
+use Rattle.capture_slim.specs.File.{IsFile, begun, head_at, head_due}
+use Rattle.capture_slim.specs.Passing.{FailsAt, IsAmongLast}
+use Rattle.capture_slim.specs.Places.{kept_of}
+use Rattle.capture_slim.specs.Stream.{outs, behind}
+use Rattle.capture_slim.specs.Window.{Window, first_window}
+use Rattle.capture_slim.specs.declared.ending.SlimEnding.{SlimEnding}
+use Rattle.capture_slim.specs.declared.ending.SlimEnding.TheVariants.{Done, Stopped, NotFlat, TooLong, WriteFailed}
+use Rattle.capture_slim.specs.declared.file.SlimFile.{SlimFile}
+
+-- these events of the ports came, and what was due of them was written
+pub record Came (height : ℕ) (events : List Event) (window : Window) (file : SlimFile) (count : ℕ)
+    (base held : Option (List ℕ)) : Type 0 where
+  pub ports : AreAtPorts events
+  pub window_is : window ≡ behind events (first_window height)
+  pub count_is : count ≡ length events
+  pub file_is : IsFile file base held (kept_of (outs events (first_window height)))
+
+-- all events were written as if they were all
+pub record IsAll (height version : ℕ) (events : List Event) (number : ℕ) (base held : Option (List ℕ)) : Type 0 where
+  pub number_is : number ≡ length events + 1
+  pub stands : held ≡ appended base (begun version (Slim height events))
+  pub fits : length (written version (Slim height events)) ≤ limit
+
+-- at the end of the reading the record of one of the last events was not written
+pub record FailsLast (height version : ℕ) (events : List Event) (number : ℕ) (base held : Option (List ℕ))
+    (ending : SlimEnding) : Type 0 where
+  pub last : IsAmongLast events number
+  pub fails : FailsAt height version events number base held ending
+
+-- how it ends at an event that is none of the ports
+abbrev pub EndsRefused : (height version : ℕ) → List Event → (base held : Option (List ℕ)) → SlimEnding → Type 0
+EndsRefused height version events base held (NotFlat number) = IsAll height version events number base held
+EndsRefused height version events base held (TooLong number) =
+    FailsLast height version events number base held (TooLong number)
+EndsRefused height version events base held (WriteFailed number) =
+    FailsLast height version events number base held (WriteFailed number)
+EndsRefused height version events base held ending = ⊥
+
+-- the record that is due at the last event was not written
+pub record FailsNow (height version : ℕ) (events : List Event) (number : ℕ) (base held : Option (List ℕ))
+    (ending : SlimEnding) : Type 0 where
+  pub due : length events ≡ number + window_events
+  pub fails : FailsAt height version events number base held ending
+
+-- how an event of the ports ends it
+abbrev pub EndsPushed : (height version : ℕ) → List Event → (base held : Option (List ℕ)) → SlimEnding → Type 0
+EndsPushed height version events base held (TooLong number) =
+    FailsNow height version events number base held (TooLong number)
+EndsPushed height version events base held (WriteFailed number) =
+    FailsNow height version events number base held (WriteFailed number)
+EndsPushed height version events base held ending = ⊥
+
+-- how any event ends it
+abbrev pub EndsEvent : (height version : ℕ) → List Event → Event → (base held : Option (List ℕ)) → SlimEnding → Type 0
+EndsEvent height version events event base held ending =
+    (IsAtPorts event × EndsPushed height version (events ++ event ∷ []) base held ending)
+    ⊎ ((IsAtPorts event → ⊥) × EndsRefused height version events base held ending)
+
+-- a proper part of the End record was written
+pub record EndsPart (height version : ℕ) (events : List Event) (number : ℕ) (base held : Option (List ℕ)) : Type 0 where
+  pub number_is : number ≡ length events + 1
+  pub stands : AppendsPart (appended base (begun version (Slim height events))) held
+      (head_due version (Slim height events) ++ spelled_end)
+  pub fits : length (written version (Slim height events)) ≤ limit
+
+-- how a stop of the reader ends it
+abbrev pub EndsStop : (height version : ℕ) → List Event → Stop → (base held : Option (List ℕ)) → SlimEnding → Type 0
+EndsStop height version events stop base held Done =
+    (stop ≡ End) × (held ≡ appended base (written version (Slim height events)))
+    × (length (written version (Slim height events)) ≤ limit)
+EndsStop height version events stop base held (Stopped number told) =
+    (told ≡ stop) × IsNotEnd stop × IsAll height version events number base held
+EndsStop height version events stop base held (TooLong number) =
+    FailsLast height version events number base held (TooLong number)
+EndsStop height version events stop base held (WriteFailed number) =
+    FailsLast height version events number base held (WriteFailed number)
+    ⊎ ((stop ≡ End) × EndsPart height version events number base held)
+EndsStop height version events stop base held ending = ⊥
+
+-- what is written at a stop of the reader, behind all that stays
+abbrev pub ClosesFile : SlimFile → Stop → (number : ℕ) → (before now : Option (List ℕ)) → SlimEnding → Type 0
+ClosesFile file stop number before now Done = (stop ≡ End) × (now ≡ appended before (head_at file ++ spelled_end))
+ClosesFile file stop number before now (Stopped at told) =
+    (at ≡ number) × (told ≡ stop) × IsNotEnd stop × (now ≡ before)
+ClosesFile file stop number before now (WriteFailed at) =
+    (at ≡ number) × (stop ≡ End) × AppendsPart before now (head_at file ++ spelled_end)
+ClosesFile file stop number before now ending = ⊥

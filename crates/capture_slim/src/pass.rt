@@ -1,0 +1,112 @@
+// A whole capture is read, and written without its dead drawing.
+ghost use Rattle.std.specs.Prelude.{◌≡◌, ◌≤◌, IfOk};
+ghost use Rattle.px_num.specs.Height.{short_height};
+ghost use Rattle.dev_io.specs.Device.{Rose};
+ghost use Rattle.dead_drawing.specs.Laws.{height_for};
+ghost use Rattle.capture_slim.specs.Passing.{EndsSlim, IsEnding, MayReadFault, MayWriteFault, streams};
+ghost use Rattle.capture_slim.specs.Window.{first_window};
+
+use crate::ending::SlimEnding;
+use crate::file::SlimFile;
+use crate::slim::{finish, take_event};
+use crate::waiting::Waiting;
+use dev_io::{Sink, Source};
+use gpu_capture::EventReader;
+use px_num::OutOfMemory;
+use std::alloc::Global;
+use std::marker::Model;
+
+/// The version whose captures are played in the tall profile.
+const TALL_VERSION: u8 = 3;
+
+/// What leaves dead drawing out of a capture. Contracts see the window of events that wait.
+#[derive(Drop)]
+pub struct Slim {
+    window: Waiting,
+}
+
+impl Model for Slim {
+    ghost use Rattle.capture_slim.specs.Window.{Window};
+
+    ghost Value = { Window };
+
+    ghost view = { λ slim. slim.window };
+}
+
+impl Slim {
+    /// One that no event has come to. All memory that it needs is taken here.
+    pub fn new(alloc: Global) -> Result<Slim, OutOfMemory>
+        ensures { IfOk result (λ slim. slim ≡ first_window short_height) }
+    {
+        match Waiting::new(alloc) {
+            Ok(window) => Ok(Slim { window }),
+            Err(_) => Err(OutOfMemory),
+        }
+    }
+
+    /// Reads a capture of the ports, and writes a capture of the same version without its dead drawing. It takes no
+    /// memory.
+    ///
+    /// The record of an event is due 4096 events later, or where the reading ends if that is earlier, and the head with
+    /// the first record or the End record. After every ending all that was due before it stands, and no byte was taken
+    /// past what that ending needs.
+    pub fn pass<S: Source, K: Sink>(&mut self, source: &mut S, out: &mut K) -> SlimEnding
+        requires { self.old ≡ first_window short_height }
+        ensures ends { EndsSlim (streams (S.left source.old) (K.held out.old))
+            (streams (S.left source.new) (K.held out.new)) result }
+        ensures known { IsEnding result }
+        ensures read_cause { MayReadFault result → Rose (S.faults source.old) (S.faults source.new) }
+        ensures write_cause { MayWriteFault result → Rose (K.faults out.old) (K.faults out.new) }
+        ensures read_faults { S.faults source.old ≤ S.faults source.new }
+        ensures write_faults { K.faults out.old ≤ K.faults out.new }
+    {
+        pass_on(&mut self.window, source, out)
+    }
+}
+
+// The same through a window.
+fn pass_on<S: Source, K: Sink>(window: &mut Waiting, source: &mut S, out: &mut K) -> SlimEnding
+    requires { window.old ≡ first_window short_height }
+    ensures ends { EndsSlim (streams (S.left source.old) (K.held out.old))
+        (streams (S.left source.new) (K.held out.new)) result }
+    ensures known { IsEnding result }
+    ensures read_cause { MayReadFault result → Rose (S.faults source.old) (S.faults source.new) }
+    ensures write_cause { MayWriteFault result → Rose (K.faults out.old) (K.faults out.new) }
+    ensures read_faults { S.faults source.old ≤ S.faults source.new }
+    ensures write_faults { K.faults out.old ≤ K.faults out.new }
+{
+    let mut reader = EventReader::new();
+    let mut next = reader.next(source);
+    let version = reader.version();
+    raise(window, version);
+    let known = version.max(1);
+    let mut size = 0;
+    let mut count = 0;
+    'events: loop {
+        let file = SlimFile {
+            version: known,
+            size,
+        };
+        match next {
+            Ok(event) => {
+                match take_event(window, event, file, count, out) {
+                    Ok(now) => size = now,
+                    Err(ending) => return ending,
+                }
+                count += 1;
+                next = reader.next(source);
+            }
+            Err(stop) => return finish(window, stop, file, count, out),
+        }
+    }
+}
+
+// Takes on the profile in which captures of this version are played.
+fn raise(window: &mut Waiting, version: u8)
+    requires { window.old ≡ first_window short_height }
+    ensures { window.new ≡ first_window (height_for version) }
+{
+    if version == TALL_VERSION {
+        window.set_tall();
+    }
+}

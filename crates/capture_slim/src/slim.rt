@@ -1,0 +1,167 @@
+// A whole capture is read, and written without its dead drawing.
+ghost use Rattle.std.specs.Prelude.{◌≡◌, ◌≤◌, ◌<◌, ◌+◌, ◌++◌, ◌∷◌, [], ◌^◌, ◌↔◌, IsTrue, List, ℕ, Option, length, IfOk, IfErr};
+ghost use Rattle.dev_io.specs.Device.{Rose};
+ghost use Rattle.gpu_capture.specs.Capture.{IsVersion};
+ghost use Rattle.gpu_capture.specs.declared.event.Event.{Event as SpecEvent};
+ghost use Rattle.gpu_capture.specs.Reader.{IsReadFault};
+ghost use Rattle.event_play.specs.Ports.{IsAtPorts};
+ghost use Rattle.capture_slim.specs.Came.{Came, ClosesFile, EndsEvent, EndsPushed, EndsRefused, EndsStop};
+ghost use Rattle.capture_slim.specs.Passing.{MayReadFault, MayWriteFault, IsEnding};
+ghost use Rattle.capture_slim.specs.Window.{waiting};
+
+use crate::ending::SlimEnding;
+use crate::file::SlimFile;
+use crate::record::{write_last, write_record};
+use crate::rest::write_rest;
+use crate::waiting::Waiting;
+use dev_io::Sink;
+use gpu_capture::{Event, Stop};
+
+// Whether an event is one of the ports.
+fn is_at_ports(event: &Event) -> bool
+    ensures { IsTrue result ↔ IsAtPorts event.now }
+{
+    matches!(
+        *event,
+        Event::Gp0 { .. } | Event::Gp1 { .. } | Event::Read | Event::Skip | Event::Stat
+    )
+}
+
+// Takes an event of the ports behind so many, and writes the one that leaves where it stays. The answer is how many bytes
+// stand then.
+fn push_event<K: Sink>(
+    window: &mut Waiting,
+    event: Event,
+    file: SlimFile,
+    count: u64,
+    out: &mut K,
+) -> Result<u32, SlimEnding>
+    requires version { IsVersion file.version }
+    requires size { file.size + 4 ≤ 2 ^ 30 }
+    requires port { IsAtPorts event }
+    requires few { length (waiting window.old) ≤ count }
+    requires small { count < 2 ^ 60 }
+    ensures ok { (height : ℕ) (events : List SpecEvent) (base : Option (List ℕ))
+        → Came height events window.old file count base (K.held out.old)
+        → IfOk result (λ size. Came height (events ++ event ∷ []) window.new
+        (record { version = file.version; size = size }) (count + 1) base (K.held out.new)) }
+    ensures few { IfOk result (λ size. size + 4 ≤ 2 ^ 30) }
+    ensures ends { (height : ℕ) (events : List SpecEvent) (base : Option (List ℕ))
+        → Came height events window.old file count base (K.held out.old)
+        → IfErr result (λ ending. EndsPushed height file.version (events ++ event ∷ []) base (K.held out.new) ending) }
+    ensures known { IfErr result (λ ending. IsEnding ending × (MayReadFault ending → ⊥)) }
+    ensures cause { IfErr result (λ ending. MayWriteFault ending → Rose (K.faults out.old) (K.faults out.new)) }
+    ensures faults { K.faults out.old ≤ K.faults out.new }
+{
+    match window.push(event) {
+        None => Ok(file.size),
+        Some(left) => {
+            let number = count + 1 - window.len() as u64;
+            write_record(out, file, number, &left)
+        }
+    }
+}
+
+// Ends behind so many events at one that is none of the ports.
+fn refuse<K: Sink>(window: &mut Waiting, file: SlimFile, count: u64, out: &mut K) -> SlimEnding
+    requires version { IsVersion file.version }
+    requires size { file.size + 4 ≤ 2 ^ 30 }
+    requires few { length (waiting window.old) ≤ count }
+    requires small { count < 2 ^ 60 }
+    ensures ends { (height : ℕ) (events : List SpecEvent) (base : Option (List ℕ))
+        → Came height events window.old file count base (K.held out.old)
+        → EndsRefused height file.version events base (K.held out.new) result }
+    ensures known { IsEnding result }
+    ensures read { MayReadFault result → ⊥ }
+    ensures cause { MayWriteFault result → Rose (K.faults out.old) (K.faults out.new) }
+    ensures faults { K.faults out.old ≤ K.faults out.new }
+{
+    match write_rest(window, out, file, count) {
+        Ok(_) => SlimEnding::NotFlat { event: count + 1 },
+        Err(ending) => ending,
+    }
+}
+
+/// Takes any event behind so many: one of the ports is passed on, and any other ends it.
+pub(crate) fn take_event<K: Sink>(
+    window: &mut Waiting,
+    event: Event,
+    file: SlimFile,
+    count: u64,
+    out: &mut K,
+) -> Result<u32, SlimEnding>
+    requires version { IsVersion file.version }
+    requires size { file.size + 4 ≤ 2 ^ 30 }
+    requires few { length (waiting window.old) ≤ count }
+    requires small { count < 2 ^ 60 }
+    ensures ok { (height : ℕ) (events : List SpecEvent) (base : Option (List ℕ))
+        → Came height events window.old file count base (K.held out.old)
+        → IfOk result (λ size. Came height (events ++ event ∷ []) window.new
+        (record { version = file.version; size = size }) (count + 1) base (K.held out.new)) }
+    ensures few { IfOk result (λ size. size + 4 ≤ 2 ^ 30) }
+    ensures ends { (height : ℕ) (events : List SpecEvent) (base : Option (List ℕ))
+        → Came height events window.old file count base (K.held out.old)
+        → IfErr result (λ ending. EndsEvent height file.version events event base (K.held out.new) ending) }
+    ensures known { IfErr result (λ ending. IsEnding ending × (MayReadFault ending → ⊥)) }
+    ensures cause { IfErr result (λ ending. MayWriteFault ending → Rose (K.faults out.old) (K.faults out.new)) }
+    ensures faults { K.faults out.old ≤ K.faults out.new }
+{
+    if is_at_ports(&event) {
+        push_event(window, event, file, count, out)
+    } else {
+        Err(refuse(window, file, count, out))
+    }
+}
+
+/// Ends at a stop of the reader, behind so many events.
+pub(crate) fn finish<K: Sink>(
+    window: &mut Waiting,
+    stop: Stop,
+    file: SlimFile,
+    count: u64,
+    out: &mut K,
+) -> SlimEnding
+    requires version { IsVersion file.version }
+    requires size { file.size + 4 ≤ 2 ^ 30 }
+    requires few { length (waiting window.old) ≤ count }
+    requires small { count < 2 ^ 60 }
+    ensures ends { (height : ℕ) (events : List SpecEvent) (base : Option (List ℕ))
+        → Came height events window.old file count base (K.held out.old)
+        → EndsStop height file.version events stop base (K.held out.new) result }
+    ensures known { IsEnding result }
+    ensures read { MayReadFault result → IsReadFault stop }
+    ensures cause { MayWriteFault result → Rose (K.faults out.old) (K.faults out.new) }
+    ensures faults { K.faults out.old ≤ K.faults out.new }
+{
+    match write_rest(window, out, file, count) {
+        Ok(size) => {
+            let whole = SlimFile {
+                version: file.version,
+                size,
+            };
+            close_file(whole, stop, count + 1, out)
+        }
+        Err(ending) => ending,
+    }
+}
+
+// Writes the End record at an End, behind all that stays; the next event would have this number.
+fn close_file<K: Sink>(file: SlimFile, stop: Stop, number: u64, out: &mut K) -> SlimEnding
+    requires { IsVersion file.version }
+    ensures ends { ClosesFile file stop number (K.held out.old) (K.held out.new) result }
+    ensures known { IsEnding result }
+    ensures read { MayReadFault result → IsReadFault stop }
+    ensures cause { MayWriteFault result → Rose (K.faults out.old) (K.faults out.new) }
+    ensures faults { K.faults out.old ≤ K.faults out.new }
+{
+    match stop {
+        Stop::End => match write_last(out, file) {
+            Ok(()) => SlimEnding::Done,
+            Err(_) => SlimEnding::WriteFailed { event: number },
+        },
+        _ => SlimEnding::Stopped {
+            event: number,
+            stop,
+        },
+    }
+}
