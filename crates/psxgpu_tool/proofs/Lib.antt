@@ -5,6 +5,7 @@ pub mod Generating
 pub mod Heights
 pub mod Lines
 pub mod Running
+pub mod Slims
 pub mod Sums
 pub mod Told
 pub mod Words

@@ -19,20 +19,25 @@ use Rattle.event_play.proofs.BoxCosts.{costs_small}
 use Rattle.capture_flat.specs.Passing.{EndsFlat, IsEnding as IsFlatEnding, MayReadFault as MayReadFlat, MayWriteFault as MayWriteFlat}
 use Rattle.capture_flat.specs.declared.ending.FlatEnding.{FlatEnding}
 use Rattle.capture_flat.specs.declared.ending.FlatEnding.TheVariants as flat
+use Rattle.capture_slim.specs.Passing.{EndsSlim, IsEnding as IsSlimEnding, MayReadFault as MayReadSlim, MayWriteFault as MayWriteSlim}
+use Rattle.capture_slim.specs.declared.ending.SlimEnding.{SlimEnding}
+use Rattle.capture_slim.specs.declared.ending.SlimEnding.TheVariants as slim
 use Rattle.px_num.specs.Height.{short_height}
 use Rattle.psxgpu_tool.specs.Command.{Names, IsUsage}
 use Rattle.psxgpu_tool.specs.Demo.{Demo, demo_words}
 use Rattle.psxgpu_tool.specs.DemoOut.{demo_bytes, demo_tale, DemoOut, DemoCost, DemoBoxCost, cells_cost}
 use Rattle.psxgpu_tool.specs.First.{first, seen}
 use Rattle.psxgpu_tool.specs.FlatRun.{FlatRun}
-use Rattle.psxgpu_tool.specs.Line.{status_of, ending_line, ending_text, flat_status, flat_text, usage_line}
+use Rattle.psxgpu_tool.specs.SlimRun.{SlimRun, passed}
+use Rattle.psxgpu_tool.specs.Line.{status_of, ending_line, ending_text, flat_status, flat_text, slim_status, slim_text, usage_line}
 use Rattle.psxgpu_tool.specs.Outside.{Outside, Says, HasFailed, HasFailedToRead, EndsTelling}
 use Rattle.psxgpu_tool.specs.Run.{Whole, Refused, Starved, Cut, EndsAsCaptured, WithinCost, WithinBoxCost, Tells, Declined, DemoRun, Runs}
 use Rattle.psxgpu_tool.specs.Words.{HavePlayed, whole_replay}
-use Rattle.psxgpu_tool.specs.declared.command.Command.TheVariants.{Plays, Flat, Demo as DemoOf, Help, Version}
+use Rattle.psxgpu_tool.specs.declared.command.Command.TheVariants.{Plays, Flat, Slim, Demo as DemoOf, Help, Version}
 use Rattle.psxgpu_tool.proofs.First.{first_stands, first_short}
 use Rattle.psxgpu_tool.proofs.Flats.{flat_three, flat_four, flat_whole, flat_complete}
-use Rattle.psxgpu_tool.proofs.Commands.{same_mode, plays_no_help, plays_no_version, plays_no_demo, plays_no_flat, same_demo, demo_no_help, demo_no_version, demo_no_flat, flat_no_help, flat_no_version}
+use Rattle.psxgpu_tool.proofs.Slims.{slim_three, slim_four, slim_whole}
+use Rattle.psxgpu_tool.proofs.Commands.{same_mode, plays_no_help, plays_no_version, plays_no_demo, plays_no_flat, plays_no_slim, same_demo, demo_no_help, demo_no_version, demo_no_flat, demo_no_slim, flat_no_help, flat_no_version, flat_no_slim, slim_no_help, slim_no_version}
 use Rattle.psxgpu_tool.proofs.Told.{three_starved, four_cut, if_told, whole_run, refused_run, starved_run, cut_run, complete_run, cost_run, box_cost_run}
 
 -- the statuses of endings
@@ -91,6 +96,18 @@ known_flat (flat.Stopped n (BadRecord byte word)) = known 2 (inr (inl refl))
 known_flat (flat.Stopped n (TooLong byte)) = known 2 (inr (inl refl))
 known_flat (flat.Stopped n (ReadFault byte)) = known 3 (inr (inr (inl refl)))
 
+known_slim : (ending : SlimEnding) → IsKnown (slim_status ending)
+known_slim slim.Done = known 0 (inl refl)
+known_slim (slim.NotFlat n) = known 2 (inr (inl refl))
+known_slim (slim.TooLong n) = known 2 (inr (inl refl))
+known_slim (slim.WriteFailed n) = known 4 (inr (inr (inr refl)))
+known_slim (slim.Stopped n End) = known 2 (inr (inl refl))
+known_slim (slim.Stopped n (NotCapture byte)) = known 2 (inr (inl refl))
+known_slim (slim.Stopped n (Truncated byte)) = known 2 (inr (inl refl))
+known_slim (slim.Stopped n (BadRecord byte word)) = known 2 (inr (inl refl))
+known_slim (slim.Stopped n (TooLong byte)) = known 2 (inr (inl refl))
+known_slim (slim.Stopped n (ReadFault byte)) = known 3 (inr (inr (inl refl)))
+
 may_read : (ending : Ending) → status_of ending ≡ 3 → MayReadFault ending
 may_read ending three = let is = three_starved ending three in subst MayReadFault (sym is.1.1) tt
 
@@ -132,6 +149,7 @@ module _ (words : Vec (String Global) Global) (heard heard_now : List Reading) (
         box_cost = λ m names. subst (λ (m : Mode). WithinBoxCost m before now) (is m names)
             (if_told before.source.left _ (λ bytes told. box_cost_run mode heard heard_now before now rig bytes told ending ends));
         flat = λ names. absurd (plays_no_flat _ mode named.0 names.0);
+        slim = λ names. absurd (plays_no_slim _ mode named.0 names.0);
         demo = λ n names. absurd (plays_no_demo _ mode n named.0 names.0);
         help = λ names. absurd (plays_no_help _ mode named.0 names.0);
         version = λ names. absurd (plays_no_version _ mode named.0 names.0);
@@ -198,6 +216,7 @@ module _ (words : Vec (String Global) Global) (heard heard_now : List Reading) (
         cost = λ m names. absurd (plays_no_demo _ m n names.0 named.0);
         box_cost = λ m names. absurd (plays_no_demo _ m n names.0 named.0);
         flat = λ names. absurd (demo_no_flat _ n named.0 names.0);
+        slim = λ names. absurd (demo_no_slim _ n named.0 names.0);
         demo = λ m names. subst (λ (m : ℕ). DemoRun m heard before now (status_of ending)) (same_demo (map string_bytes words.items) n m named names) run;
         help = λ names. absurd (demo_no_help _ n named.0 names.0);
         version = λ names. absurd (demo_no_version _ n named.0 names.0);
@@ -235,6 +254,7 @@ module _ (words : Vec (String Global) Global) (heard heard_now : List Reading) (
     cost = λ m names. absurd (plays_no_flat _ m names.0 named.0);
     box_cost = λ m names. absurd (plays_no_flat _ m names.0 named.0);
     flat = λ names. run_of rig ends is_ending read_cause write_cause;
+    slim = λ names. absurd (flat_no_slim _ named.0 names.0);
     demo = λ n names. absurd (demo_no_flat _ n names.0 named.0);
     help = λ names. absurd (flat_no_help _ named.0 names.0);
     version = λ names. absurd (flat_no_version _ named.0 names.0);
@@ -243,6 +263,45 @@ module _ (words : Vec (String Global) Global) (heard heard_now : List Reading) (
     starving = λ five. absurd ((known_flat ending).remembered five);
     silent = silent;
     few = (known_flat ending).few;
+  }
+
+-- a capture without dead drawing
+module _ (words : Vec (String Global) Global) (heard : List Reading) (before now : Outside) (ending : SlimEnding)
+    (says : Says before.err now.err (slim_text ending heard)) (silent : slim_status ending ≡ 0 → now.err ≡ before.err) where
+  slim_run : EndsSlim (passed before) (passed now) ending → IsSlimEnding ending
+      → (MayReadSlim ending → HasFailedToRead before.source now.source)
+      → (MayWriteSlim ending → HasFailed before.out now.out) → now.steps ≡ before.steps
+      → SlimRun heard before now (slim_status ending)
+  slim_run ends is_ending read_cause write_cause free = record {
+    ends = inr (record { ending = ending; ends = ends; known = is_ending; status_is = refl; says = says });
+    whole = λ zero. if_told before.source.left _ (λ bytes told. slim_whole before now bytes told ending ends zero);
+    starved = λ three. read_cause (slim_three ending three);
+    cut = λ four. write_cause (slim_four ending four);
+    free = free;
+  }
+
+  pub slim_runs : Names words Slim → EndsSlim (passed before) (passed now) ending → IsSlimEnding ending
+      → (MayReadSlim ending → HasFailedToRead before.source now.source)
+      → (MayWriteSlim ending → HasFailed before.out now.out) → now.steps ≡ before.steps
+      → Runs words heard before now (slim_status ending)
+  slim_runs named ends is_ending read_cause write_cause free = record {
+    whole = λ m names. absurd (plays_no_slim _ m names.0 named.0);
+    refused = λ m names. absurd (plays_no_slim _ m names.0 named.0);
+    starved = λ m names. absurd (plays_no_slim _ m names.0 named.0);
+    cut = λ m names. absurd (plays_no_slim _ m names.0 named.0);
+    complete = λ m names. absurd (plays_no_slim _ m names.0 named.0);
+    cost = λ m names. absurd (plays_no_slim _ m names.0 named.0);
+    box_cost = λ m names. absurd (plays_no_slim _ m names.0 named.0);
+    flat = λ names. absurd (flat_no_slim _ names.0 named.0);
+    slim = λ names. slim_run ends is_ending read_cause write_cause free;
+    demo = λ n names. absurd (demo_no_slim _ n names.0 named.0);
+    help = λ names. absurd (slim_no_help _ named.0 names.0);
+    version = λ names. absurd (slim_no_version _ named.0 names.0);
+    usage = (λ one. absurd ((known_slim ending).used one), λ usage. absurd (usage Slim named));
+    misused = λ one. absurd ((known_slim ending).used one);
+    starving = λ five. absurd ((known_slim ending).remembered five);
+    silent = silent;
+    few = (known_slim ending).few;
   }
 
 -- nothing was played on a new rig
@@ -269,6 +328,7 @@ misused_runs words heard before now usage declined = record {
   cost = λ m names. absurd (usage (Plays m) names);
   box_cost = λ m names. absurd (usage (Plays m) names);
   flat = λ names. absurd (usage Flat names);
+  slim = λ names. absurd (usage Slim names);
   demo = λ n names. absurd (usage (DemoOf n) names);
   help = λ names. absurd (usage Help names);
   version = λ names. absurd (usage Version names);

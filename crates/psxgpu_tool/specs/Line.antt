@@ -7,6 +7,8 @@ use Rattle.gpu_capture.specs.declared.event.Stop.{Stop}
 use Rattle.gpu_capture.specs.declared.event.Stop.TheVariants.{End, NotCapture, Truncated, BadRecord, TooLong, ReadFault}
 use Rattle.capture_flat.specs.declared.ending.FlatEnding.{FlatEnding}
 use Rattle.capture_flat.specs.declared.ending.FlatEnding.TheVariants as flat
+use Rattle.capture_slim.specs.declared.ending.SlimEnding.{SlimEnding}
+use Rattle.capture_slim.specs.declared.ending.SlimEnding.TheVariants as slim
 use Rattle.event_play.specs.declared.ending.Ending.{Ending}
 use Rattle.event_play.specs.declared.ending.Ending.TheVariants.{Done, Stopped, Faulted, NoPicture, WriteFailed}
 use Rattle.event_play.specs.declared.fault.EventFault.{EventFault}
@@ -105,3 +107,23 @@ flat_status (flat.WriteFailed event) = 4
 
 abbrev pub flat_text : FlatEnding → List Reading → List ℕ
 flat_text ending heard = flat_line ending ++ last_items (flat_status ending) heard
+
+-- ---- the same for a capture without dead drawing
+
+abbrev pub slim_line : SlimEnding → List ℕ
+slim_line slim.Done = []
+slim_line (slim.Stopped event stop) = stop_line event stop
+slim_line (slim.NotFlat event) = event_line (codes "not-flat") event
+slim_line (slim.TooLong event) = event_line (codes "out-too-long") event
+slim_line (slim.WriteFailed event) = event_line (codes "write-fault") event
+
+abbrev pub slim_status : SlimEnding → ℕ
+slim_status slim.Done = 0
+slim_status (slim.Stopped event (ReadFault byte)) = 3
+slim_status (slim.Stopped event stop) = 2
+slim_status (slim.NotFlat event) = 2
+slim_status (slim.TooLong event) = 2
+slim_status (slim.WriteFailed event) = 4
+
+abbrev pub slim_text : SlimEnding → List Reading → List ℕ
+slim_text ending heard = slim_line ending ++ last_items (slim_status ending) heard

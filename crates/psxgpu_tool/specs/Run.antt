@@ -15,9 +15,10 @@ use Rattle.psxgpu_tool.specs.DemoOut.{demo_tale, DemoOut, DemoCost, DemoBoxCost}
 use Rattle.psxgpu_tool.specs.First.{first, play_of, seen}
 use Rattle.psxgpu_tool.specs.FlatRun.{FlatRun}
 use Rattle.psxgpu_tool.specs.Line.{ending_line, ending_text, status_of, usage_line, memory_line}
+use Rattle.psxgpu_tool.specs.SlimRun.{SlimRun}
 use Rattle.psxgpu_tool.specs.Outside.{Outside, Says, HasFailed, HasFailedToRead}
 use Rattle.psxgpu_tool.specs.declared.texts.TheConstants.{HELP, VERSION}
-use Rattle.psxgpu_tool.specs.declared.command.Command.TheVariants.{Plays, Flat, Demo, Help, Version}
+use Rattle.psxgpu_tool.specs.declared.command.Command.TheVariants.{Plays, Flat, Slim, Demo, Help, Version}
 
 -- ---- a command that reads a capture, by its mode and by what the taps said when they were handed in
 
@@ -153,6 +154,7 @@ pub record Runs (words : Vec (String Global) Global) (heard : List Reading) (bef
   pub cost : (mode : Mode) → Names words (Plays mode) → WithinCost mode before now
   pub box_cost : (mode : Mode) → Names words (Plays mode) → WithinBoxCost mode before now
   pub flat : Names words Flat → FlatRun heard before now status
+  pub slim : Names words Slim → SlimRun heard before now status
   -- a command that does not read
   pub demo : (packets : ℕ) → Names words (Demo packets) → DemoRun packets heard before now status
   pub help : Names words Help → TextRun HELP.now before now status

@@ -4,10 +4,11 @@ ghost use Rattle.dev_io.specs.Device.{Writes};
 ghost use Rattle.packet_text.specs.Tap.{last_lines};
 ghost use Rattle.psxgpu_tool.specs.Line.{event_line, place_line, bad_record_line, too_long_line, list_loop_line};
 ghost use Rattle.psxgpu_tool.specs.Line.{fault_line, stop_line, ending_line, ending_text, last_items, status_of};
-ghost use Rattle.psxgpu_tool.specs.Line.{flat_line, flat_text, flat_status};
+ghost use Rattle.psxgpu_tool.specs.Line.{flat_line, flat_text, flat_status, slim_line, slim_text, slim_status};
 ghost use Rattle.psxgpu_tool.specs.Outside.{sink_side, Says};
 
 use capture_flat::FlatEnding;
+use capture_slim::SlimEnding;
 use dev_io::{Failed, Sink, write_all, write_pieces};
 use event_play::{Ending, EventFault};
 use gpu_capture::Stop;
@@ -41,6 +42,21 @@ pub fn end_flat<E: Sink, T: Listener>(err: &mut E, ending: FlatEnding, taps: &Ve
     let status = flat_status(ending);
     if status != 0 {
         let _ = write_flat_end(err, ending, taps);
+    }
+    status
+}
+
+/// The same for a run that writes a capture without dead drawing.
+pub fn end_slim<E: Sink, T: Listener>(err: &mut E, ending: SlimEnding, taps: &Vec<T>) -> u8
+    ensures status { result ≡ slim_status ending }
+    ensures says { Says (sink_side (E.held err.old) (E.faults err.old)) (sink_side (E.held err.new) (E.faults err.new))
+        (slim_text ending (map T.heard taps.now.items)) }
+    ensures silent { result ≡ 0 → sink_side (E.held err.new) (E.faults err.new)
+        ≡ sink_side (E.held err.old) (E.faults err.old) }
+{
+    let status = slim_status(ending);
+    if status != 0 {
+        let _ = write_slim_end(err, ending, taps);
     }
     status
 }
@@ -105,6 +121,34 @@ fn write_flat_end<E: Sink, T: Listener>(
     write_last_items(err, flat_status(ending), taps)
 }
 
+/// The exit status of an ending of a capture without dead drawing.
+fn slim_status(ending: SlimEnding) -> u8
+    ensures { result ≡ slim_status ending }
+{
+    match ending {
+        SlimEnding::Done => 0,
+        SlimEnding::Stopped { stop, .. } => match stop {
+            Stop::ReadFault { .. } => 3,
+            _ => 2,
+        },
+        SlimEnding::NotFlat { .. } => 2,
+        SlimEnding::TooLong { .. } => 2,
+        SlimEnding::WriteFailed { .. } => 4,
+    }
+}
+
+/// Writes the line of an ending of a capture without dead drawing, and behind that of a refusal the last items.
+fn write_slim_end<E: Sink, T: Listener>(
+    err: &mut E,
+    ending: SlimEnding,
+    taps: &Vec<T>,
+) -> Result<(), Failed>
+    ensures { Writes E.held E.faults err.old err.new (slim_text ending (map T.heard taps.now.items)) result }
+{
+    write_slim_ending(err, ending)?;
+    write_last_items(err, slim_status(ending), taps)
+}
+
 /// Writes the last items of every tap that keeps them, where the status is that of a refusal.
 fn write_last_items<E: Sink, T: Listener>(
     err: &mut E,
@@ -152,6 +196,19 @@ fn write_flat_ending<E: Sink>(err: &mut E, ending: FlatEnding) -> Result<(), Fai
         FlatEnding::Faulted { event, fault } => write_fault(err, event, fault),
         FlatEnding::TooLong { event } => write_event(err, b"out-too-long", event),
         FlatEnding::WriteFailed { event } => write_event(err, b"write-fault", event),
+    }
+}
+
+/// Writes the line of an ending of a capture without dead drawing.
+fn write_slim_ending<E: Sink>(err: &mut E, ending: SlimEnding) -> Result<(), Failed>
+    ensures { Writes E.held E.faults err.old err.new (slim_line ending) result }
+{
+    match ending {
+        SlimEnding::Done => Ok(()),
+        SlimEnding::Stopped { event, stop } => write_stop(err, event, stop),
+        SlimEnding::NotFlat { event } => write_event(err, b"not-flat", event),
+        SlimEnding::TooLong { event } => write_event(err, b"out-too-long", event),
+        SlimEnding::WriteFailed { event } => write_event(err, b"write-fault", event),
     }
 }
 

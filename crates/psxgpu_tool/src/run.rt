@@ -6,9 +6,10 @@ ghost use Rattle.psxgpu_tool.specs.Run.{Runs};
 
 use crate::command::{Command, read_command};
 use crate::demo::{play_demo, tell_demo};
-use crate::line::{end, end_flat, tell};
+use crate::line::{end, end_flat, end_slim, tell};
 use crate::texts::{HELP, VERSION};
 use capture_flat::flat;
+use capture_slim::Slim;
 use dev_io::{Sink, Source, write_all};
 use event_play::{Ending, Rig};
 use gpu_taps::{Listener, Tap};
@@ -63,6 +64,13 @@ pub fn run<S: Source, K: Sink, E: Sink, L: Ledger>(
             Ok(mut rig) => {
                 let ending = flat(&mut rig, source, out, &mut taps, steps);
                 end_flat(err, ending, &taps)
+            }
+            Err(_) => tell_no_memory(err),
+        },
+        Some(Command::Slim) => match Slim::new(alloc) {
+            Ok(mut slim) => {
+                let ending = slim.pass(source, out);
+                end_slim(err, ending, &taps)
             }
             Err(_) => tell_no_memory(err),
         },

@@ -7,6 +7,7 @@ mod dumps;
 mod flat;
 mod lines;
 mod pictures;
+mod slim;
 mod told;
 
 use crate::run::run;
