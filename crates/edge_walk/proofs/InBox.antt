@@ -62,7 +62,7 @@ between u v w a b c x h = (
   by_lt_z (most_of a b c) x (λ beyond. absurd (not_all_below u v w _ _ _ h (omega (arith, ints, clamps)) (omega (arith, ints, clamps)) (omega (arith, ints, clamps)))) (λ le. le),
 )
 
-within-in_box : (a b c : Vertex) (x y : ℤ) → IsUpright (corners a b c) → IsTrue (is_within (corners a b c) x y) → IsInBox (bounding_box (corners a b c)) x y
+pub within-in_box : (a b c : Vertex) (x y : ℤ) → IsUpright (corners a b c) → IsTrue (is_within (corners a b c) x y) → IsInBox (bounding_box (corners a b c)) x y
 unfolding bounding_box
 within-in_box a b c x y upright inside =
     let low = positive_edges a b c x y inside in

@@ -5,5 +5,7 @@ pub mod InBox
 pub mod LineLemmas
 pub mod MixLemmas
 pub mod NearLemmas
+pub mod PlaneLemmas
 pub mod RowLemmas
 pub mod SpanLemmas
+pub mod WalkLemmas

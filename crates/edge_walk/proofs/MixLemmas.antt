@@ -130,7 +130,7 @@ edge_further p q x y z =
     (sub (sub (mul (sub (at q.x) (at p.x)) (sub (at y) (at p.y))) (mul (sub (at q.y) (at p.y)) (sub (at x) (at p.x)))) (mul (sub (at q.y) (at p.y)) (at z)))
     (omega arith)
 
-weight_is : (p q : Vertex) (x y : ℤ) → pos 0 ≤ℤ edge p q x y → pos (weight p q x y) ≡ edge p q x y
+pub weight_is : (p q : Vertex) (x y : ℤ) → pos 0 ≤ℤ edge p q x y → pos (weight p q x y) ≡ edge p q x y
 unfolding weight
 weight_is p q x y h = omega (arith, ints)
 

@@ -40,6 +40,13 @@ step_of t which =
     -ℤ pos (attribute which t.second) *ℤ (t.first.y -ℤ t.third.y)
     -ℤ pos (attribute which t.third) *ℤ (t.second.y -ℤ t.first.y)
 
+-- how much it grows from one row to the next
+abbrev pub row_step_of : Corners → ℕ → ℤ
+row_step_of t which =
+    pos 0 -ℤ pos (attribute which t.first) *ℤ (t.second.x -ℤ t.third.x)
+    -ℤ pos (attribute which t.second) *ℤ (t.third.x -ℤ t.first.x)
+    -ℤ pos (attribute which t.third) *ℤ (t.first.x -ℤ t.second.x)
+
 -- a colour in 24 bits is that of an inside cell
 pub record HasColor (t : Corners) (x y : ℤ) (color : ℕ) : Type 0 where
   pub red : attribute_at t 0 x y ≡ color % 256

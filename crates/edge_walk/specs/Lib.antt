@@ -3,5 +3,7 @@ pub mod Divisor
 pub mod Extent
 pub mod Held
 pub mod Line
+pub mod Plane
 pub mod Row
 pub mod Triangle
+pub mod Walk

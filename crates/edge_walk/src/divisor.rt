@@ -6,7 +6,7 @@ ghost use Rattle.std.specs.Prelude.{◌≡◌, ◌*◌, ◌/◌, ◌<◌, ◌≤
 /// The sum of an attribute is at most 255 times the area. The product of such a sum and the reciprocal is less than
 /// 2^56 over the area above 2^56 times the exact quotient, so it has the same whole part.
 #[derive(Clone, Copy)]
-pub(crate) struct Divisor {
+pub struct Divisor {
     area: u32,
     pub(crate) reciprocal: u64,
 }
@@ -24,7 +24,15 @@ impl Divisor {
         }
     }
 
-    /// The sum over the area, rounded down.
+    // The area times a byte, times the reciprocal.
+    pub(crate) fn times(&self, byte: u8) -> u64
+        requires { IsDivisor self.now }
+        ensures { result ≡ self.now.area * byte * self.now.reciprocal }
+    {
+        self.area as u64 * byte as u64 * self.reciprocal
+    }
+
+    // The sum over the area, rounded down.
     pub(crate) fn quotient(&self, sum: u32) -> u8
         requires divisor { IsDivisor self.now }
         requires sum { sum ≤ 255 * self.now.area }

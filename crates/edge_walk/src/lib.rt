@@ -10,11 +10,17 @@ mod edge;
 mod extent;
 mod line;
 mod mix;
+mod plane;
 mod rows;
+mod side;
 mod triangle;
+mod walk;
 
+pub use divisor::Divisor;
 pub use line::RowLine;
+pub use plane::Plane;
 pub use triangle::Tri;
+pub use walk::RowWalk;
 
 #[cfg(test)]
 mod tests {

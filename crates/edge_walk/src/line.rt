@@ -12,8 +12,8 @@ use std::simd::prelude::*;
 /// cell to cell, and wraps.
 #[derive(Clone, Copy)]
 pub struct RowLine {
-    first: u64,
-    step: u64,
+    pub(crate) first: u64,
+    pub(crate) step: u64,
 }
 
 // A size, or what it is when it is counted down from 2^64.
@@ -27,7 +27,7 @@ fn wrapped(falls: bool, size: u64) -> u64
 // A step over the area.
 #[inline(always)]
 #[tactic(auto, unfolding(crate::specs::Line::scaled))]
-fn scaled(step: i64, by: u64) -> u64
+pub(crate) fn scaled(step: i64, by: u64) -> u64
     ensures { result ≡ scaled step by }
 {
     wrapped(step < 0, step.unsigned_abs().wrapping_mul(by))

@@ -1,7 +1,7 @@
 // Attributes of a triangle, mixed by the weights of a cell.
 ghost use Rattle.std.specs.Prelude.{◌≡◌, ◌+◌, ◌*◌, ◌/◌, ◌^◌, ◌≤◌, ◌<◌, ℕ, ℤ, pos, ◌-ℤ◌, ◌+ℤ◌, ◌*ℤ◌, ◌≤ℤ◌, IsTrue, unsigned_abs, length, slice_index};
 ghost use Rattle.edge_walk.specs.Triangle.{IsNear, IsSmall, IsUpright, corners, edge, doubled_area, is_within};
-ghost use Rattle.edge_walk.specs.Attribute.{AreBytes, attribute, step_of};
+ghost use Rattle.edge_walk.specs.Attribute.{AreBytes, attribute, step_of, row_step_of};
 ghost use Rattle.edge_walk.specs.Divisor.{IsDivisor};
 
 use crate::divisor::Divisor;
@@ -77,12 +77,12 @@ pub(crate) struct RowMix {
     pub(crate) step: i64,
 }
 
-fn slope(a: u8, down: i64) -> i64
-    requires { unsigned_abs down ≤ 511 }
-    ensures value { result ≡ pos a *ℤ down }
-    ensures bound { unsigned_abs result ≤ 130305 }
+fn slope(a: u8, fall: i64) -> i64
+    requires { unsigned_abs fall ≤ 1023 }
+    ensures value { result ≡ pos a *ℤ fall }
+    ensures bound { unsigned_abs result ≤ 260865 }
 {
-    a as i64 * down
+    a as i64 * fall
 }
 
 // How much an attribute falls from one cell to the next, for each vertex.
@@ -94,13 +94,40 @@ struct Slopes {
 }
 
 fn opposite_sum(s: &Slopes) -> i64
-    requires first { unsigned_abs s.now.first ≤ 130305 }
-    requires second { unsigned_abs s.now.second ≤ 130305 }
-    requires third { unsigned_abs s.now.third ≤ 130305 }
+    requires first { unsigned_abs s.now.first ≤ 260865 }
+    requires second { unsigned_abs s.now.second ≤ 260865 }
+    requires third { unsigned_abs s.now.third ≤ 260865 }
     ensures value { result ≡ pos 0 -ℤ s.now.first -ℤ s.now.second -ℤ s.now.third }
-    ensures bound { unsigned_abs result ≤ 390915 }
+    ensures bound { unsigned_abs result ≤ 782595 }
 {
     0 - s.first - s.second - s.third
+}
+
+// How much the sum of an attribute grows from one cell of a row to the next.
+pub(crate) fn step_across(a: &Vertex, b: &Vertex, c: &Vertex, which: u8) -> i64
+    requires small { IsSmall (corners a.now b.now c.now) }
+    requires which { which ≤ 4 }
+    ensures step { result ≡ step_of (corners a.now b.now c.now) which }
+    ensures bytes { AreBytes which (corners a.now b.now c.now) }
+{
+    opposite_sum(&Slopes {
+        first: slope(attribute(a, which), difference(c.y, b.y)),
+        second: slope(attribute(b, which), difference(a.y, c.y)),
+        third: slope(attribute(c, which), difference(b.y, a.y)),
+    })
+}
+
+// How much it grows from one row to the next.
+pub(crate) fn step_down(a: &Vertex, b: &Vertex, c: &Vertex, which: u8) -> i64
+    requires small { IsSmall (corners a.now b.now c.now) }
+    requires which { which ≤ 4 }
+    ensures { result ≡ row_step_of (corners a.now b.now c.now) which }
+{
+    opposite_sum(&Slopes {
+        first: slope(attribute(a, which), difference(b.x, c.x)),
+        second: slope(attribute(b, which), difference(c.x, a.x)),
+        third: slope(attribute(c, which), difference(a.x, b.x)),
+    })
 }
 
 // The sum of an attribute at a cell, and its step along the row.
@@ -116,13 +143,8 @@ pub(crate) fn row_mix(a: &Vertex, b: &Vertex, c: &Vertex, which: u8, weights: &W
     let first = attribute(a, which);
     let second = attribute(b, which);
     let third = attribute(c, which);
-    let slopes = Slopes {
-        first: slope(first, difference(c.y, b.y)),
-        second: slope(second, difference(a.y, c.y)),
-        third: slope(third, difference(b.y, a.y)),
-    };
     RowMix {
         start: weighted(weights, first, second, third),
-        step: opposite_sum(&slopes),
+        step: step_across(a, b, c, which),
     }
 }

@@ -8,11 +8,11 @@ use px_num::{Vertex, floor_div};
 
 // An edge in one row: its value at x is `value - down * (x - start)`, and at `least` or more x is inside.
 #[derive(Clone, Copy)]
-struct EdgeRow {
+pub(crate) struct EdgeRow {
     start: i64,
-    down: i64,
-    value: i64,
-    least: i64,
+    pub(crate) down: i64,
+    pub(crate) value: i64,
+    pub(crate) least: i64,
 }
 
 // The columns from `low` to `high`, none where `low` is the greater one.
@@ -69,7 +69,7 @@ fn least_value(p: &Vertex, q: &Vertex) -> i64
     if is_kept_edge(p, q) { 0 } else { 1 }
 }
 
-fn edge_row(p: &Vertex, q: &Vertex, y: i32) -> EdgeRow
+pub(crate) fn edge_row(p: &Vertex, q: &Vertex, y: i32) -> EdgeRow
     requires { IsNear p.now q.now }
     ensures start { result.start ≡ p.now.x }
     ensures down { result.down ≡ q.now.y -ℤ p.now.y }

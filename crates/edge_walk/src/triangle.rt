@@ -4,7 +4,10 @@ use crate::edge::{all_three, doubled_area, is_on_side, is_small};
 use crate::extent::bounding_box;
 use crate::line::{RowLine, keep_first};
 use crate::mix::{attribute, mixed, row_mix, weights_at};
+use crate::plane::Plane;
 use crate::rows::{Limits, row_limits};
+use crate::side::Side;
+use crate::walk::RowWalk;
 use px_num::{Box2, Vertex};
 use std::marker::Model;
 use std::simd::prelude::*;
@@ -53,8 +56,11 @@ impl Tri {
     ghost use Rattle.px_num.specs.Lanes.{EachLane};
     ghost use Rattle.edge_walk.specs.Attribute.{attribute_at, HasColor};
     ghost use Rattle.edge_walk.specs.Extent.{bounding_box};
+    ghost use Rattle.edge_walk.specs.Held.{divisor_for};
     ghost use Rattle.edge_walk.specs.Line.{IsRowLine};
+    ghost use Rattle.edge_walk.specs.Plane.{IsPlane};
     ghost use Rattle.edge_walk.specs.Row.{IsInBox, IsRowSpan};
+    ghost use Rattle.edge_walk.specs.Walk.{AreRows, HasRows};
     ghost use Rattle.edge_walk.specs.Triangle.{corners, oriented, IsDrawn, IsUpright, is_drawn, is_inside};
 
     /// The triangle with these vertices. None exactly where its doubled area is 0, or the size rule refuses it: two of
@@ -137,6 +143,22 @@ impl Tri {
         }
     }
 
+    /// A walk over the rows of a box, which are rows of `bounds`. It stands at the first one.
+    #[inline(always)]
+    pub fn rows(&self, clip: &Box2) -> RowWalk
+        requires { HasRows self.now clip.now }
+        ensures { AreRows self.now clip.now clip.now.y1 result }
+    {
+        let t = self.upright();
+        RowWalk {
+            x1: clip.x1,
+            x2: clip.x2,
+            first: Side::at(&t.a, &t.b, clip.y1),
+            second: Side::at(&t.b, &t.c, clip.y1),
+            third: Side::at(&t.c, &t.a, clip.y1),
+        }
+    }
+
     /// Red, green, blue, u or v, numbered from 0, at a cell inside.
     pub fn attr_at(&self, which: u8, x: i32, y: i32) -> u8
         requires which { which ≤ 4 }
@@ -179,6 +201,40 @@ impl Tri {
         let weights = weights_at(&t.a, &t.b, &t.c, x, y);
         let mix = row_mix(&t.a, &t.b, &t.c, which, &weights);
         RowLine::of(&mix, &self.divisor)
+    }
+
+    /// What the sums of its attributes are divided by. It takes a division.
+    pub fn area_divisor(&self) -> Divisor
+        ensures { result ≡ divisor_for self.now }
+    {
+        self.divisor
+    }
+
+    /// An attribute over the whole triangle.
+    #[inline(always)]
+    pub fn plane(&self, which: u8, divisor: &Divisor) -> Plane
+        requires which { which ≤ 4 }
+        requires divisor { divisor.now ≡ divisor_for self.now }
+        ensures { IsPlane self.now which result }
+    {
+        let t = self.upright();
+        Plane::of(&t.a, &t.b, &t.c, which, divisor)
+    }
+
+    /// An attribute of all cells inside, where the three vertices have the same.
+    pub fn one_value(&self, which: u8) -> Option<u8>
+        requires { which ≤ 4 }
+        ensures byte { IfSome result (λ value. value ≤ 255) }
+        ensures value { IfSome result (λ value. (x y : ℤ)
+            → IsTrue (is_inside self.now x y) → attribute_at self.now which x y ≡ value) }
+    {
+        let t = self.upright();
+        let first = attribute(&t.a, which);
+        if attribute(&t.b, which) == first && attribute(&t.c, which) == first {
+            Some(first)
+        } else {
+            None
+        }
     }
 
     /// `attr_at` of the `n` cells inside from (x, y) to the right, and 0 in the lanes from `n` on.

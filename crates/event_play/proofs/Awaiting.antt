@@ -165,7 +165,7 @@ all_needed first t old xs ys goes was next part more is some =
     ]
 
 -- what is said of the bytes so far and of those of one step more
-goes_past : (first t : Tale) (old : Progress) (xs ys rest : List ℕ) (c : Captured) → GoesOn first old t xs
+pub goes_past : (first t : Tale) (old : Progress) (xs ys rest : List ℕ) (c : Captured) → GoesOn first old t xs
     → capture_from old (ys ++ rest) ≡ c → Play first ((xs ++ ys) ++ rest) ≡ replayed t c
 goes_past first t old xs ys rest c goes says = rw (append_assoc xs ys rest) (goes (ys ++ rest) ∙ ap (replayed t) says)
 

@@ -10,3 +10,4 @@ pub mod Reaching
 pub mod Reports
 pub mod Turns
 pub mod Firsts
+pub mod InARow

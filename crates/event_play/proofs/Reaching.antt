@@ -36,7 +36,7 @@ use Rattle.event_play.proofs.Firsts.{IsFirst}
 -- ---- one event more
 
 -- the replay goes on from the tale with that event
-goes_on : (t next : Tale) (event : Event) (c : Captured) → after_event t event ≡ Ok next
+pub goes_on : (t next : Tale) (event : Event) (c : Captured) → after_event t event ≡ Ok next
     → replayed t (then_events (event ∷ []) c) ≡ replayed next c
 goes_on t next event c is =
     ap (λ r. go_on r (λ next. Replay next c.events c.ending c.rest)

@@ -8,6 +8,7 @@ pub mod Fed
 pub mod Feeding
 pub mod Lines
 pub mod Out
+pub mod PlayedWords
 pub mod Playing
 pub mod Ports
 pub mod Replay

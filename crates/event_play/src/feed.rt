@@ -7,8 +7,10 @@ ghost use Rattle.list_dma.specs.Walk.{chain, list_words};
 ghost use Rattle.packet_text.specs.Line.{listed};
 ghost use Rattle.event_play.specs.Block.{block_words, IsBlock};
 ghost use Rattle.event_play.specs.Feeding.{FeedsWords};
+ghost use Rattle.event_play.specs.PlayedWords.{IsTold, after_words};
+ghost use Rattle.event_play.specs.Replay.{Tale};
 ghost use Rattle.event_play.specs.Step.{words_of};
-ghost use Rattle.event_play.specs.Streams.{outlets};
+ghost use Rattle.event_play.specs.Streams.{Outlets, outlets, without_sink};
 ghost use Rattle.event_play.specs.Work.{AreWords};
 
 use crate::block::{Block, address_in};
@@ -176,4 +178,24 @@ fn feed_nodes<K: Sink, T: Listener, L: Ledger>(
         }
     }
     Ok(())
+}
+
+/// Feeds words, an event each, behind so many events, and says how many were played then. No line is written for them.
+pub(crate) fn feed_events<T: Listener, L: Ledger>(
+    gpu: &mut Gpu,
+    played: u64,
+    words: &[u32],
+    taps: &mut Vec<T>,
+    steps: &mut Steps<L>,
+) -> u64
+    ensures { (t : Tale) (first : Outlets)
+        → IsTold t first (without_sink (map T.heard taps.old.items) steps.old) gpu.old played
+        → IsTold (after_words t words.now) first (without_sink (map T.heard taps.new.items) steps.new) gpu.new result }
+{
+    let mut number = played;
+    for word in words {
+        number = number.saturating_add(1);
+        let _ = gpu.gp0(number, *word, taps, steps);
+    }
+    number
 }

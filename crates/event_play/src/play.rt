@@ -1,24 +1,26 @@
 // A capture is played to its end.
-ghost use Rattle.std.specs.Prelude.{◌≡◌, ◌≤◌, ◌+◌, map, true, OnErr, IfErr};
+ghost use Rattle.std.specs.Prelude.{◌≡◌, ◌≤◌, ◌+◌, None, Some, map, true, OnOk, OnErr, IfErr};
 ghost use Rattle.dev_io.specs.Device.{Rose};
-ghost use Rattle.gpu_capture.specs.Reader.{IsReadFault};
+ghost use Rattle.gpu_capture.specs.Reader.{IsReadFault, work_left};
+ghost use Rattle.gpu_capture.specs.Words.{TakesWords, StopsBehind};
 ghost use Rattle.gpu_core.specs.Kept.{kept_of};
 ghost use Rattle.gpu_core.specs.Machine.{State};
 ghost use Rattle.event_play.specs.Causes.{MayReadFault, MayWriteFault, IsEnding};
 ghost use Rattle.event_play.specs.Ends.{PlaysOrEnds, EndsAt};
+ghost use Rattle.event_play.specs.PlayedWords.{IsTold, AreQuiet, after_words};
 ghost use Rattle.event_play.specs.Playing.{EndsPlay};
 ghost use Rattle.event_play.specs.Replay.{Tale, from_state, next_number, raised};
 ghost use Rattle.event_play.specs.RigState.{Stands, StandsFor};
 ghost use Rattle.event_play.specs.Step.{Machine};
-ghost use Rattle.event_play.specs.Streams.{outlets, streams};
+ghost use Rattle.event_play.specs.Streams.{Outlets, outlets, streams, without_sink};
 
 use crate::ending::{Ending, Mode};
-use crate::feed::feed_word;
+use crate::feed::{feed_events, feed_word};
 use crate::finals::{lacks_picture, write_finals, write_shown};
 use crate::rig::Rig;
 use crate::work::judge;
 use dev_io::{Sink, Source};
-use gpu_capture::{Event, EventReader, Stop};
+use gpu_capture::{Event, EventReader, Stop, WordBlock};
 use gpu_taps::Listener;
 use std::sync::ledger::Ledger;
 use vram_store::Steps;
@@ -52,6 +54,7 @@ impl Rig {
         ensures write_faults { K.faults out.old ≤ K.faults out.new }
     {
         let mut reader = EventReader::new();
+        let mut block = WordBlock::new();
         let mut next = reader.next(source);
         self.raise(reader.version());
         'events: loop {
@@ -59,6 +62,11 @@ impl Rig {
                 Ok(event) => {
                     if let Err(ending) = self.play_event(&event, out, mode, taps, steps) {
                         return ending;
+                    }
+                    let read = read_words(&mut reader, source, mode, &mut block);
+                    self.play_words(block.as_slice(), taps, steps);
+                    if let Err(stop) = read {
+                        return self.finish(stop, out, mode, taps, steps);
                     }
                     next = reader.next(source);
                 }
@@ -117,6 +125,23 @@ impl Rig {
         };
         self.played = event;
         Ok(())
+    }
+
+    // Plays words that are written to GP0, an event each, for which no line is due.
+    fn play_words<T: Listener, L: Ledger>(
+        &mut self,
+        words: &[u32],
+        taps: &mut Vec<T>,
+        steps: &mut Steps<L>,
+    )
+        ensures told { (t : Tale) (first : Outlets)
+            → IsTold t first (without_sink (map T.heard taps.old.items) steps.old) self.old.gpu self.old.played
+            → IsTold (after_words t words.now) first (without_sink (map T.heard taps.new.items) steps.new)
+            self.new.gpu self.new.played }
+        ensures ram { self.new.ram ≡ self.old.ram }
+        ensures running { self.new.running ≡ self.old.running }
+    {
+        self.played = feed_events(&mut self.gpu, self.played, words, taps, steps);
     }
 
     // The same for any event.
@@ -184,5 +209,32 @@ impl Rig {
             }
             _ => Ending::Stopped { event, stop },
         }
+    }
+}
+
+// Takes the words that come next at once, where the mode asks for no line of their notes.
+fn read_words<S: Source>(
+    reader: &mut EventReader,
+    source: &mut S,
+    mode: Mode,
+    block: &mut WordBlock,
+) -> Result<(), Stop>
+    requires { reader.old.stop ≡ None }
+    ensures quiet { AreQuiet mode block.new }
+    ensures takes { OnOk result (TakesWords reader.old.progress reader.new.progress
+        (S.left source.old) (S.left source.new) block.new) }
+    ensures forward { work_left reader.new.progress ≤ work_left reader.old.progress }
+    ensures runs_on { OnOk result (reader.new.stop ≡ None) }
+    ensures stop { IfErr result (λ stop. StopsBehind reader.old.progress reader.new.progress
+        (S.left source.old) (S.left source.new) block.new stop) }
+    ensures cause { IfErr result (λ stop. IsReadFault stop → Rose (S.faults source.old) (S.faults source.new)) }
+    ensures faults { S.faults source.old ≤ S.faults source.new }
+{
+    match mode {
+        Mode::List => {
+            block.clear();
+            Ok(())
+        }
+        _ => reader.words(source, block),
     }
 }

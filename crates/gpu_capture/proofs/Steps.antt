@@ -41,14 +41,14 @@ records_short version at place (a ∷ b ∷ []) lt short = rw (within place lt) 
 records_short version at place (a ∷ b ∷ c ∷ []) lt short = rw (within place lt) refl
 records_short version at place (a ∷ b ∷ c ∷ d ∷ bytes) lt short = absurd (omega arith)
 
-on : (version : ℕ) → 0 < version → nat_lt 0 version ≡ true
+pub on : (version : ℕ) → 0 < version → nat_lt 0 version ≡ true
 on version lt = grind arith
 
 off : (version : ℕ) → version ≡ 0 → nat_lt 0 version ≡ false
 off version none = rw none refl
 
 -- what the format says at a place behind the head where no event is still to be given
-at_word : (p : Progress) (bytes : List ℕ) → 0 < p.version → p.left ≡ 0 → capture_from p bytes ≡ records p.version p.due p.place bytes
+pub at_word : (p : Progress) (bytes : List ℕ) → 0 < p.version → p.left ≡ 0 → capture_from p bytes ≡ records p.version p.due p.place bytes
 at_word p bytes started none = rw (on p.version started, none) refl
 
 -- ---- none too many
@@ -64,7 +64,7 @@ none_needed p [] (x ∷ xs) is some = absurd cc
 none_needed p (x ∷ xs) more is some = absurd cc
 
 -- at most four bytes of a word
-word_needed : (p : Progress) (taken : List ℕ) → 0 < p.version → p.left ≡ 0 → p.place < limit → length taken ≤ 4 → AreNeeded p taken
+pub word_needed : (p : Progress) (taken : List ℕ) → 0 < p.version → p.left ≡ 0 → p.place < limit → length taken ≤ 4 → AreNeeded p taken
 word_needed p taken started none lt few part more is some =
     let short = part_shorter taken part more is some in
     record {
@@ -146,7 +146,7 @@ word_says : (p : Progress) (a b c d : ℕ) (bytes : List ℕ) → 0 < p.version 
 word_says p a b c d bytes started none lt = at_word p (a ∷ b ∷ c ∷ d ∷ bytes) started none ∙ rw (within p.place lt) refl
 
 -- the same for the word that was taken
-took_says : (p : Progress) (before now : Option (List ℕ)) (word : ℕ) (step : Step) (rest : List ℕ) → 0 < p.version → p.left ≡ 0
+pub took_says : (p : Progress) (before now : Option (List ℕ)) (word : ℕ) (step : Step) (rest : List ℕ) → 0 < p.version → p.left ≡ 0
     → (took : IsWord before now p.place word) → step ≡ word_step p.version p.due p.place word
     → capture_from p ((took.a ∷ took.b ∷ took.c ∷ took.d ∷ []) ++ rest)
     ≡ after_step p.version step (λ next. records p.version next (p.place + 4) rest) rest

@@ -4,4 +4,5 @@ pub mod Reader
 pub mod Record
 pub mod State
 pub mod Whole
+pub mod Words
 pub mod Written

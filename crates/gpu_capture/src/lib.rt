@@ -5,6 +5,7 @@
 //! `docs/CAPTURE.md` has the whole format.
 #![tactic(auto)]
 
+mod block;
 mod event;
 mod head;
 pub mod laws;
@@ -13,6 +14,7 @@ mod reader;
 mod record;
 mod write;
 
+pub use block::WordBlock;
 pub use event::{Event, Stop};
 pub use head::head_among;
 pub use progress::Progress;

@@ -13,7 +13,7 @@ use crate::record::{Due, Step, read_step};
 use byteorder::{ByteOrder, LittleEndian};
 use dev_io::{Source, fill};
 
-const LIMIT: u32 = 1 << 30;
+pub(crate) const LIMIT: u32 = 1 << 30;
 
 /// The known heads, in the order of their versions.
 const HEADS: [[u8; 8]; 3] = [*b"PSXGPUC1", *b"PSXGPUC2", *b"PSXGPUC3"];

@@ -5,7 +5,9 @@ ghost use Rattle.gpu_capture.specs.Record.{IsEvent};
 ghost use Rattle.gpu_capture.specs.Reader.{StopsAt, Takes, IsReadFault, IsStart, work_left, tag_due};
 ghost use Rattle.gpu_capture.specs.Capture.{IsVersion};
 ghost use Rattle.gpu_capture.specs.State.{ReaderState};
+ghost use Rattle.gpu_capture.specs.Words.{TakesWords, StopsBehind};
 
+use crate::block::WordBlock;
 use crate::event::{Event, Stop};
 use crate::progress::{Progress, advance, at_tag};
 use crate::record::Due;
@@ -107,6 +109,29 @@ impl EventReader {
                 self.stop = Some(stop);
                 Err(stop)
             }
+        }
+    }
+
+    /// Takes the next words of an open Gp0 record at once, as many as are left of it and find room in the block; none
+    /// where no such record is open. They are the next events. Whatever follows, no event of the record can be refused,
+    /// so no byte is taken too many. Where the reader stops behind them, that is the answer, and the words stand.
+    pub fn words<S: Source>(&mut self, source: &mut S, block: &mut WordBlock) -> Result<(), Stop>
+        requires { self.old.stop ≡ None }
+        ensures takes { OnOk result
+            (TakesWords self.old.progress self.new.progress (S.left source.old) (S.left source.new) block.new) }
+        ensures version { self.new.progress.version ≡ self.old.progress.version }
+        ensures forward { work_left self.new.progress ≤ work_left self.old.progress }
+        ensures runs_on { OnOk result (self.new.stop ≡ None) }
+        ensures stop { IfErr result (λ stop. StopsBehind self.old.progress self.new.progress
+            (S.left source.old) (S.left source.new) block.new stop) }
+        ensures kept { IfErr result (λ stop. self.new.stop ≡ Some stop) }
+        ensures cause { IfErr result (λ stop. IsReadFault stop → Rose (S.faults source.old) (S.faults source.new)) }
+        ensures faults { S.faults source.old ≤ S.faults source.new }
+    {
+        self.stop = block.take(&mut self.progress, source).err();
+        match self.stop {
+            None => Ok(()),
+            Some(stop) => Err(stop),
         }
     }
 }

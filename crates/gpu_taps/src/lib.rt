@@ -12,8 +12,8 @@ mod trace;
 
 pub use counts::Counts;
 pub use cover::Cover;
-pub use listener::{Listener, tell_all};
-pub use tap::Tap;
+pub use listener::{Listener, tell_all, tell_all_pixels};
+pub use tap::{Tap, pixel_note};
 pub use trace::Trace;
 
 #[cfg(test)]

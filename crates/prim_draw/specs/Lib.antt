@@ -1,3 +1,4 @@
+pub mod Apart
 pub mod Areas
 pub mod Boxes
 pub mod Costs
@@ -7,4 +8,5 @@ pub mod Lines
 pub mod Parts
 pub mod Rectangles
 pub mod Settings
+pub mod Staying
 pub mod Triangles

@@ -2,6 +2,7 @@
 ghost use Rattle.std.specs.Prelude.{◌≤◌, true, false};
 ghost use Rattle.prim_draw.specs.Costs.{draw_cost};
 ghost use Rattle.prim_draw.specs.Laws.{CostLaw, open_registers, raw_rectangle, white_half};
+ghost use Rattle.prim_draw.specs.Staying.{DrawingIsLocal, DrawingStays};
 
 /// What is drawn costs at most four steps for each cell of the boxes of its triangles, its segment or its rectangle.
 pub fn costs_are_small()
@@ -16,4 +17,10 @@ pub fn some_costs()
     ensures far { draw_cost (open_registers 0x110) (raw_rectangle 0 0 32 1) ≤ 36 }
     ensures half { draw_cost (open_registers 0) (white_half false false) ≤ 16 }
     ensures square { draw_cost (open_registers 0) (white_half true true) ≤ 30 }
+{}
+
+/// Drawing changes no cell outside of its area, and without texture it reads a cell only to change that cell.
+pub fn drawing_is_local()
+    ensures stays { DrawingStays }
+    ensures local { DrawingIsLocal }
 {}

@@ -4,14 +4,14 @@ use Rattle.std.proofs.lemmas.Bool.{cases_lt}
 use Rattle.px_num.specs.declared.shape.Cell.{Cell}
 use Rattle.px_num.proofs.FoldLemmas.{each_below-add, each_below-same}
 use Rattle.overlap_guard.specs.Hazard.{HasCopyHazard, has_copy_hazard}
-use Rattle.overlap_guard.proofs.TestLemmas.{copy_iff}
+use Rattle.overlap_guard.proofs.TestLemmas.{copy_iff, same_bool, false_of}
 use Rattle.vram_store.specs.Vram.{IsStored, at, set, bit}
 use Rattle.vram_store.specs.Plot.{is_testing, is_kept, forced, plot, draw_at, draw_lane, drawn_lanes}
 use Rattle.vram_store.specs.Chunk.{IsBlind, IsLane, HasLanes}
 use Rattle.vram_store.proofs.ChunkLaw.{chunk_law}
 use Rattle.vram_store.proofs.Drawn.{plot_is}
 use Rattle.vram_store.proofs.MaskLemmas.{kept_untested}
-use Rattle.vram_copy.specs.Rect.{right}
+use Rattle.vram_copy.specs.Rect.{beside, right}
 use Rattle.vram_copy.specs.Copy.{Copy, copied_rows, copied_row, copied_run}
 
 pub plot_untested : (m : List ℕ) (mask x y color : ℕ) → is_testing mask ≡ false → plot m mask x y color ≡ set m x y (forced mask color)
@@ -53,7 +53,7 @@ blind_of m s t n free room_s room_t = record {
   blind = λ j lt now apart. ap Some (apart.others (place s + j) (away s t n j free room_s room_t lt));
 }
 
-lane_of : (kept : Bool) (b h color : ℕ) → b ≡ cond kept 0 1 → h ≡ color → IsLane (cond kept None (Some color)) b h
+pub lane_of : (kept : Bool) (b h color : ℕ) → b ≡ cond kept 0 1 → h ≡ color → IsLane (cond kept None (Some color)) b h
 lane_of true b h color e f = λ one. absurd (omega (arith, e, one))
 lane_of false b h color e f = (e, f)
 
@@ -77,7 +77,47 @@ run_at_once old new mask s t n lanes bits free room_s room_t run stored =
 pub free_of : (s t : Cell) (n : ℕ) → has_copy_hazard s t n ≡ false → ¬ (HasCopyHazard s t n)
 free_of s t n off hazard = let on = (copy_iff s t n).1 hazard in cc
 
--- ---- chunks of a row
+-- ---- chunks of a piece
+
+-- a hazard hangs on how far apart the two sides are
+pub shifted_hazard : (s t : Cell) (d k : ℕ) → has_copy_hazard (beside s d) (beside t d) k ≡ has_copy_hazard s t k
+shifted_hazard s t d k =
+    same_bool (has_copy_hazard (beside s d) (beside t d) k) (has_copy_hazard s t k) (copy_iff (beside s d) (beside t d) k) (
+      λ h. let same = (copy_iff s t k).0 h in (same.0, same.1, (same.2.0, same.2.1, (omega (arith, same.2.2.0), same.2.2.1))),
+      λ h. (copy_iff s t k).1 (h.0, h.1, (h.2.0, h.2.1, (omega (arith, h.2.2.0), h.2.2.1))),
+    )
+
+-- fewer cells have none either
+pub shorter_free : (s t : Cell) (n k : ℕ) → has_copy_hazard s t n ≡ false → k ≤ n → has_copy_hazard s t k ≡ false
+shorter_free s t n k free le =
+    false_of (has_copy_hazard s t k) (copy_iff s t k) (λ h. free_of s t n free (h.0, omega (arith, h.1, le), h.2))
+
+pub free_beside : (s t : Cell) (n d k : ℕ) → has_copy_hazard s t n ≡ false → k ≤ n → has_copy_hazard (beside s d) (beside t d) k ≡ false
+free_beside s t n d k free le = shifted_hazard s t d k ∙ shorter_free s t n k free le
+
+-- the same of the cells as they are called
+pub free_of_both : (s t source target : Cell) (d n k : ℕ) → source ≡ beside s d → target ≡ beside t d → has_copy_hazard s t n ≡ false → k ≤ n
+    → has_copy_hazard source target k ≡ false
+free_of_both s t source target d n k at_s at_t free le =
+    ap (λ (cell : Cell). has_copy_hazard cell target k) at_s ∙ ap (λ (cell : Cell). has_copy_hazard (beside s d) cell k) at_t ∙ free_beside s t n d k free le
+
+pub piece_more : (m now new : List ℕ) (mask : ℕ) (s t source target : Cell) (done n : ℕ) → source ≡ beside s done → target ≡ beside t done
+    → now ≡ copied_run m mask s t done → new ≡ copied_run now mask source target n → new ≡ copied_run m mask s t (done + n)
+piece_more m now new mask s t source target done n at_s at_t so_far ran =
+    ran
+    ∙ ap (λ (cell : Cell). copied_run now mask cell target n) at_s
+    ∙ ap (λ (cell : Cell). copied_run now mask (beside s done) cell n) at_t
+    ∙ ap (λ cells. copied_run cells mask (beside s done) (beside t done) n) so_far
+    ∙ sym (each_below-add (λ i cells. plot cells mask (t.x + i) t.y (get_or cells (1024 * s.y + (s.x + i)) 0)) done n m
+    ∙ each_below-same (λ i cells. plot cells mask (t.x + (done + i)) t.y (get_or cells (1024 * s.y + (s.x + (done + i))) 0))
+    (λ i cells. plot cells mask (t.x + done + i) t.y (get_or cells (1024 * s.y + (s.x + done + i)) 0)) n (copied_run m mask s t done)
+    (λ i cells lt.
+    let over : t.x + (done + i) ≡ t.x + done + i = omega arith in
+    let from : s.x + (done + i) ≡ s.x + done + i = omega arith in
+    ap (λ x. plot cells mask x t.y (get_or cells (1024 * s.y + (s.x + (done + i))) 0)) over
+    ∙ ap (λ x. plot cells mask (t.x + done + i) t.y (get_or cells (1024 * s.y + x) 0)) from))
+
+-- ---- pieces of a row
 
 row_and_run : (m : List ℕ) (mask : ℕ) (s t : Cell) (done n : ℕ) → (s.x + done) % 1024 + n ≤ 1024 → (t.x + done) % 1024 + n ≤ 1024
     → copied_run (copied_row m mask s t done) mask (right s done) (right t done) n ≡ copied_row m mask s t (done + n)

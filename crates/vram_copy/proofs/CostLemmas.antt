@@ -1,12 +1,14 @@
 -- The steps of a row, chunk by chunk.
-use Rattle.std.proofs.Common.{◌≡◌, ◌<◌, ◌≤◌, inl, inr, ◌+◌, ◌*◌, ◌-◌, ◌%◌, ◌/◌, List, length, ℕ, zero, suc, true, false, min, arith, refl, ap, sym, ◌∙◌, add-zero}
-use Rattle.std.proofs.lemmas.Bool.{cases_lt, eqb-true, eq-eqb}
+use Rattle.std.proofs.Common.{◌≡◌, ◌<◌, ◌≤◌, cond, eqb, inl, inr, ◌+◌, ◌*◌, ◌-◌, ◌%◌, ◌/◌, List, length, ℕ, zero, suc, true, false, min, arith, refl, ap, sym, ◌∙◌, add-zero}
+use Rattle.std.proofs.lemmas.Bool.{cases_lt, cases_eq, eqb-true, eq-eqb}
 use Rattle.std.proofs.lemmas.Bool.Decides.{nat_tests}
 use Rattle.px_num.specs.declared.shape.Cell.{Cell}
 use Rattle.px_num.proofs.FoldLemmas.{each_below-next}
 use Rattle.vram_store.specs.Vram.{height_of}
-use Rattle.vram_copy.specs.Rect.{right}
-use Rattle.vram_copy.specs.Costs.{since_cut, begins_chunk, chunk_len, chunk_at, chunk_cost, cell_cost, cost_below, row_cost, rows_cost, copy_cost}
+use Rattle.vram_copy.specs.Rect.{beside, right}
+use Rattle.vram_copy.specs.Costs.{since_cut, begins_chunk, chunk_len, chunk_at, chunk_cost, piece_len, piece_cost, cell_cost, cost_below, row_cost, rows_cost, copy_cost}
+use Rattle.vram_copy.proofs.CopyLemmas.{shifted_hazard}
+use Rattle.overlap_guard.specs.Hazard.{has_copy_hazard}
 
 -- ---- which cells begin a chunk
 
@@ -94,27 +96,118 @@ module _ (s t : Cell) (w i n : ℕ) (begun : begins_chunk s t i ≡ true) (size 
 pub first_begins : (s t : Cell) → begins_chunk s t 0 ≡ true
 first_begins s t = begins_yes s t 0 (omega arith)
 
-size_of : (s t source target : Cell) (w done n : ℕ) → source ≡ right s done → target ≡ right t done → n ≡ chunk_len source.x target.x (w - done) → n ≡ chunk_at s t w done
-size_of s t source target w done n at_s at_t long =
-    long
-    ∙ ap (λ (cell : Cell). chunk_len cell.x target.x (w - done)) at_s
-    ∙ ap (λ (cell : Cell). chunk_len (right s done).x cell.x (w - done)) at_t
+-- ---- a piece, chunk by chunk
 
--- a chunk more of a row
-pub row_spent : (s t source target : Cell) (w done n start now new : ℕ) → source ≡ right s done → target ≡ right t done
-    → begins_chunk s t done ≡ true → 1 ≤ n → n ≡ chunk_len source.x target.x (w - done)
-    → now ≤ start + cost_below s t w done → new ≤ now + chunk_cost source target n
-    → new ≤ start + cost_below s t w (done + n)
-row_spent s t source target w done n start now new at_s at_t begun some long so_far step =
-    let size = size_of s t source target w done n at_s at_t long in
-    let price : chunk_cost source target n ≡ chunk_cost (right s done) (right t done) n =
-    ap (λ (cell : Cell). chunk_cost cell target n) at_s ∙ ap (λ (cell : Cell). chunk_cost (right s done) cell n) at_t in
-    let sum = chunk_spent s t w done n begun size some in
+shifted_cost : (s t : Cell) (d k : ℕ) → chunk_cost (beside s d) (beside t d) k ≡ chunk_cost s t k
+unfolding chunk_cost
+shifted_cost s t d k = ap (λ b. cond b (3 * k) 3) (shifted_hazard s t d k)
+
+free_cost : (s t : Cell) (k : ℕ) → has_copy_hazard s t k ≡ false → chunk_cost s t k ≡ 3
+unfolding chunk_cost
+free_cost s t k free = ap (λ b. cond b (3 * k) 3) free
+
+piece_next : (s t : Cell) (done k : ℕ) → done % 16 ≡ 0 → 1 ≤ k → k ≤ 16 → piece_cost s t (done + k) ≡ piece_cost s t done + chunk_cost s t k
+piece_next s t done k whole some most = elim (cases_lt k 16) [
+  | inl less ↦
+      let quotient : (done + k) / 16 ≡ done / 16 = omega (arith, whole, less) in
+      let rest : (done + k) % 16 ≡ k = omega (arith, whole, less) in
+      let not_all : eqb k 0 ≡ false = grind (arith, nat_tests) in
+      rw (quotient, rest, not_all, whole) (omega arith)
+  | inr all ↦
+      let e : k ≡ 16 = omega (arith, most, all) in
+      let quotient : (done + 16) / 16 ≡ done / 16 + 1 = omega (arith, whole) in
+      let rest : (done + 16) % 16 ≡ 0 = omega (arith, whole) in
+      rw (e, quotient, rest, whole) (omega arith)
+]
+
+-- a chunk more of a piece
+pub piece_spent : (s t source target : Cell) (done k start now new : ℕ) → source ≡ beside s done → target ≡ beside t done
+    → done % 16 ≡ 0 → 1 ≤ k → k ≤ 16 → now ≤ start + piece_cost s t done → new ≤ now + chunk_cost source target k
+    → new ≤ start + piece_cost s t (done + k)
+piece_spent s t source target done k start now new at_s at_t whole some most so_far step =
+    let price : chunk_cost source target k ≡ chunk_cost s t k =
+    ap (λ (cell : Cell). chunk_cost cell target k) at_s ∙ ap (λ (cell : Cell). chunk_cost (beside s done) cell k) at_t ∙ shifted_cost s t done k in
+    let sum = piece_next s t done k whole some most in
     omega (arith, price, sum, so_far, step)
 
-pub row_begins : (s t source target : Cell) (w done n : ℕ) → source ≡ right s done → target ≡ right t done
-    → begins_chunk s t done ≡ true → n ≡ chunk_len source.x target.x (w - done) → done + n < w → begins_chunk s t (done + n) ≡ true
-row_begins s t source target w done n at_s at_t begun long more = behind s t w done n begun (size_of s t source target w done n at_s at_t long) more
+-- a chunk that was moved at once
+pub free_spent : (s t source target : Cell) (done k start now new : ℕ) → source ≡ beside s done → target ≡ beside t done
+    → has_copy_hazard source target k ≡ false → done % 16 ≡ 0 → 1 ≤ k → k ≤ 16 → now ≤ start + piece_cost s t done → new ≤ now + 3
+    → new ≤ start + piece_cost s t (done + k)
+free_spent s t source target done k start now new at_s at_t free whole some most so_far step =
+    let price = free_cost source target k free in
+    piece_spent s t source target done k start now new at_s at_t whole some most so_far (omega (arith, price, step))
+
+-- ---- a row, piece by piece
+
+right_on : (s : Cell) (i d : ℕ) → (s.x + i) % 1024 + d < 1024 → right s (i + d) ≡ beside (right s i) d
+right_on s i d room = let x : (s.x + (i + d)) % 1024 ≡ (s.x + i) % 1024 + d = omega (arith, room) in rw x refl
+
+-- behind d cells of a piece that begins at cell i: what they cost, and that a chunk begins there
+record IsSpent (s t : Cell) (w i d : ℕ) : Type 0 where
+  spent : cost_below s t w (i + d) ≡ cost_below s t w i + piece_cost (right s i) (right t i) d
+  begins : i + d < w → begins_chunk s t (i + d) ≡ true
+
+module _ (s t : Cell) (w i n : ℕ) (size : n ≡ piece_len ((s.x + i) % 1024) ((t.x + i) % 1024) (w - i)) where
+  step : (d k : ℕ) → IsSpent s t w i d → d % 16 ≡ 0 → 1 ≤ k → k ≡ min 16 (n - d) → IsSpent s t w i (d + k)
+  step d k before whole some few =
+      let room_s : (s.x + i) % 1024 + d < 1024 = omega (arith, size, some, few) in
+      let room_t : (t.x + i) % 1024 + d < 1024 = omega (arith, size, some, few) in
+      let here_s : (s.x + (i + d)) % 1024 ≡ (s.x + i) % 1024 + d = omega (arith, room_s) in
+      let here_t : (t.x + (i + d)) % 1024 ≡ (t.x + i) % 1024 + d = omega (arith, room_t) in
+      let long : k ≡ chunk_at s t w (i + d) = rw (here_s, here_t) (omega (arith, size, some, few)) in
+      let begun : begins_chunk s t (i + d) ≡ true = before.begins (omega (arith, size, some, few)) in
+      let sum : i + (d + k) ≡ i + d + k = omega arith in
+      let price : chunk_cost (right s (i + d)) (right t (i + d)) k ≡ chunk_cost (right s i) (right t i) k =
+      ap (λ (cell : Cell). chunk_cost cell (right t (i + d)) k) (right_on s i d room_s)
+      ∙ ap (λ (cell : Cell). chunk_cost (beside (right s i) d) cell k) (right_on t i d room_t)
+      ∙ shifted_cost (right s i) (right t i) d k in
+      let chunk = chunk_spent s t w (i + d) k begun long some in
+      let piece = piece_next (right s i) (right t i) d k whole some (omega (arith, few)) in
+      let so_far = before.spent in
+      record {
+        spent = ap (cost_below s t w) sum ∙ omega (arith, price, chunk, piece, so_far);
+        begins = λ more. ap (begins_chunk s t) sum ∙ behind s t w (i + d) k begun long (omega (arith, more));
+      }
+
+  chunks_spent : (c : ℕ) → 16 * c ≤ n → begins_chunk s t i ≡ true → IsSpent s t w i (16 * c)
+  chunks_spent zero le begun = record {
+    spent = let none : i + 0 ≡ i = omega arith in ap (cost_below s t w) none ∙ omega arith;
+    begins = λ more. let none : i + 0 ≡ i = omega arith in ap (begins_chunk s t) none ∙ begun;
+  }
+  chunks_spent (suc c) le begun =
+      let e : 16 * suc c ≡ 16 * c + 16 = omega arith in
+      rw e (step (16 * c) 16 (chunks_spent c (omega (arith, le)) begun) (omega arith) (omega arith) (omega (arith, le)))
+
+  whole_piece : begins_chunk s t i ≡ true → IsSpent s t w i n
+  whole_piece begun = elim (cases_eq (n % 16) 0) [
+    | inl none ↦ let e : n ≡ 16 * (n / 16) = omega (arith, none) in rw e (chunks_spent (n / 16) (omega arith) begun)
+    | inr some ↦
+        let e : n ≡ 16 * (n / 16) + n % 16 = omega arith in
+        rw e (step (16 * (n / 16)) (n % 16) (chunks_spent (n / 16) (omega arith) begun) (omega arith) (omega (arith, some)) (omega arith))
+  ]
+
+-- a piece more of a row
+module _ (s t source target : Cell) (w done n : ℕ) (at_s : source ≡ right s done) (at_t : target ≡ right t done)
+    (begun : begins_chunk s t done ≡ true) (long : n ≡ piece_len source.x target.x (w - done)) where
+  piece : IsSpent s t w done n
+  piece =
+      whole_piece s t w done n
+      (long
+      ∙ ap (λ (cell : Cell). piece_len cell.x target.x (w - done)) at_s
+      ∙ ap (λ (cell : Cell). piece_len (right s done).x cell.x (w - done)) at_t)
+      begun
+
+  pub row_spent : (start now new : ℕ) → now ≤ start + cost_below s t w done → new ≤ now + piece_cost source target n
+      → new ≤ start + cost_below s t w (done + n)
+  row_spent start now new so_far step =
+      let price : piece_cost source target n ≡ piece_cost (right s done) (right t done) n =
+      ap (λ (cell : Cell). piece_cost cell target n) at_s ∙ ap (λ (cell : Cell). piece_cost (right s done) cell n) at_t in
+      let sum = piece.spent in
+      omega (arith, price, sum, so_far, step)
+
+  pub row_begins : done + n < w → begins_chunk s t (done + n) ≡ true
+  row_begins more = piece.begins more
 
 -- ---- whole copies
 

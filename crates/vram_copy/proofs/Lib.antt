@@ -2,4 +2,6 @@ pub mod CopyLemmas
 pub mod CostLemmas
 pub mod CutLemmas
 pub mod FillLemmas
+pub mod HalfLemmas
+pub mod LoadLemmas
 pub mod WordLemmas

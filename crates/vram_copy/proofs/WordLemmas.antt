@@ -3,11 +3,10 @@ use Rattle.std.proofs.Common.{◌≡◌, ◌<◌, ◌≤◌, ◌+◌, ◌-◌, �
 use Rattle.std.proofs.lemmas.Nat.{div-mul-add, mod-mul-add}
 use Rattle.px_num.specs.declared.shape.Cell.{Cell}
 use Rattle.vram_store.specs.Vram.{height_of, at}
-use Rattle.vram_store.specs.Plot.{plot}
 use Rattle.vram_copy.specs.Places.{IsPlace}
 use Rattle.vram_copy.specs.declared.cursor.Place.{Place}
 use Rattle.vram_copy.specs.declared.transfer.Transfer.{Transfer}
-use Rattle.vram_copy.specs.Words.{pixel_cell, half_of, LoadWord, StoreWord}
+use Rattle.vram_copy.specs.Words.{pixel_cell, StoreWord}
 
 -- the cell at a place
 pub cell_is : (height : ℕ) (job : Transfer) (place : Place) (i x y : ℕ) → IsPlace job.w place i
@@ -24,33 +23,8 @@ two_left n at more = omega arith
 one_left : (n at : ℕ) → at < n → n ≤ at + 1 → min 2 (n - at) ≡ 1
 one_left n at some last = omega arith
 
-first_half : (word : ℕ) → half_of word 0 ≡ word % 2 ^ 16
-first_half word = omega arith
-
-second_half : (word : ℕ) → word < 2 ^ 32 → half_of word 1 ≡ word / 2 ^ 16
-second_half word fits = omega arith
-
 no_more : (n : ℕ) → n + 0 ≡ n
 no_more n = omega arith
-
-pub load_two : (height : ℕ) (m now new : List ℕ) (mask : ℕ) (job : Transfer) (word low high : ℕ) (first second : Cell) → height ≡ height_of m → word < 2 ^ 32
-    → first ≡ pixel_cell height job job.at → second ≡ pixel_cell height job (job.at + 1)
-    → now ≡ plot m mask first.x first.y low → low ≡ word % 2 ^ 16 → job.at + 1 < job.w * job.h
-    → new ≡ plot now mask second.x second.y high → high ≡ word / 2 ^ 16
-    → new ≡ LoadWord m mask job word
-unfolding LoadWord
-load_two height m now new mask job word low high first second rows fits e f one lows more two highs =
-    let twice = two_left (job.w * job.h) job.at more in
-    rw (twice, two, one, e, f, lows, highs, ← rows, no_more job.at, first_half word, second_half word fits) refl
-
-pub load_one : (height : ℕ) (m new : List ℕ) (mask : ℕ) (job : Transfer) (word low : ℕ) (first : Cell) → height ≡ height_of m
-    → first ≡ pixel_cell height job job.at → new ≡ plot m mask first.x first.y low → low ≡ word % 2 ^ 16
-    → job.at < job.w * job.h → job.w * job.h ≤ job.at + 1
-    → new ≡ LoadWord m mask job word
-unfolding LoadWord
-load_one height m new mask job word low first rows e one lows some last =
-    let once = one_left (job.w * job.h) job.at some last in
-    rw (once, one, e, lows, ← rows, no_more job.at, first_half word) refl
 
 pub store_two : (height : ℕ) (m : List ℕ) (job : Transfer) (word low high : ℕ) (first second : Cell) → height ≡ height_of m
     → first ≡ pixel_cell height job job.at → second ≡ pixel_cell height job (job.at + 1)

@@ -32,6 +32,15 @@ chunk_at source target w i = chunk_len (right source i).x (right target i).x (w 
 unfoldable pub chunk_cost : Cell → Cell → ℕ → ℕ
 chunk_cost source target n = if has_copy_hazard source target n then 3 * n else 3
 
+-- the length of a piece that begins at two columns, where so many cells of the row are left
+abbrev pub piece_len : ℕ → ℕ → ℕ → ℕ
+piece_len source_x target_x left = min left (min (1024 - source_x) (1024 - target_x))
+
+-- a piece, whose whole chunks cost the same: source and target stay as far apart
+abbrev pub piece_cost : Cell → Cell → ℕ → ℕ
+piece_cost source target n =
+    n / 16 * chunk_cost source target 16 + (if n % 16 == 0 then 0 else chunk_cost source target (n % 16))
+
 -- the chunk that begins at cell i, if one does
 abbrev pub cell_cost : Cell → Cell → ℕ → ℕ → ℕ
 cell_cost source target w i =

@@ -13,3 +13,7 @@ down height cell j = record { x = cell.x; y = (cell.y + j) % height }
 -- n cells to the right of one, itself the first, that lie in one row of video memory of a height
 abbrev pub LieInRow : (height : ℕ) → Cell → (n : ℕ) → Type 0
 LieInRow height cell n = (cell.x + n ≤ 1024) × (cell.y < height)
+
+-- the cell so many columns to the right, in a row that is not left
+abbrev pub beside : Cell → ℕ → Cell
+beside cell i = record { x = cell.x + i; y = cell.y }

@@ -1,6 +1,7 @@
 -- Rectangles that are loaded or stored by words of two pixels (psx-spx, GP0(A0h) "Copy Rectangle (CPU to VRAM)"
 -- and GP0(C0h) "Copy Rectangle (VRAM to CPU)").
-use Rattle.std.specs.Prelude.{ℕ, List, Option, Some, None, ◌+◌, ◌-◌, ◌*◌, ◌/◌, ◌%◌, ◌^◌, nat_lt, if◌then◌else◌, min}
+use Rattle.std.specs.Prelude.{ℕ, List, [], ◌∷◌, Option, Some, None, ◌+◌, ◌-◌, ◌*◌, ◌/◌, ◌%◌, ◌^◌, nat_lt, if◌then◌else◌, min}
+use Rattle.std.specs.Prelude.{slice_index}
 use Rattle.px_num.specs.Fold.{each_below}
 use Rattle.px_num.specs.declared.shape.Cell.{Cell}
 use Rattle.vram_store.specs.Vram.{height_of, at}
@@ -15,9 +16,21 @@ pixel_cell height job i = record { x = (job.x + i % job.w) % 1024; y = (job.y + 
 abbrev pub pixels_next : Transfer → ℕ
 pixels_next job = min 2 (job.w * job.h - job.at)
 
+-- how many pixels the next n words have
+abbrev pub pixels_in : Transfer → ℕ → ℕ
+pixels_in job n = min (2 * n) (job.w * job.h - job.at)
+
 -- the transfer behind its next word
 abbrev pub advanced : Transfer → Transfer
 advanced job = record { x = job.x; y = job.y; w = job.w; h = job.h; at = job.at + pixels_next job }
+
+-- the transfer behind its next n words
+abbrev pub advanced_by : Transfer → ℕ → Transfer
+advanced_by job n = record { x = job.x; y = job.y; w = job.w; h = job.h; at = job.at + pixels_in job n }
+
+-- how many words the transfer still wants
+abbrev pub words_left : Transfer → ℕ
+words_left job = (job.w * job.h - job.at + 1) / 2
 
 -- the transfer that is still open behind its next word: none where that was the last
 abbrev pub after_word : Transfer → Option Transfer
@@ -36,6 +49,15 @@ pixels_from height m mask job word n =
 -- the pixels of a word are plotted; the spare half of an odd count is dropped
 unfoldable pub LoadWord : List ℕ → ℕ → Transfer → ℕ → List ℕ
 LoadWord m mask job word = pixels_from (height_of m) m mask job word (pixels_next job)
+
+-- words are plotted one after another
+abbrev pub LoadWords : List ℕ → ℕ → Transfer → List ℕ → List ℕ
+LoadWords m mask job [] = m
+LoadWords m mask job (word ∷ words) = LoadWords (LoadWord m mask job word) mask (advanced job) words
+
+-- pixel number i of some words
+abbrev pub pixel_of : List ℕ → ℕ → ℕ
+pixel_of words i = half_of (slice_index words (i / 2)) (i % 2)
 
 -- the next n pixels as a word, the first in the low half
 abbrev pub word_of : ℕ → List ℕ → Transfer → ℕ → ℕ

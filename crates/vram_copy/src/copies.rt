@@ -1,18 +1,17 @@
 // Copies in chunks of up to sixteen cells, under the guard.
-ghost use Rattle.std.specs.Prelude.{◌≡◌, ◌≤◌, ◌<◌, ◌+◌, ◌-◌, ◌*◌, ℕ, if◌then◌else◌, false, slice_index, length};
+ghost use Rattle.std.specs.Prelude.{◌≡◌, ◌≤◌, ◌<◌, ◌+◌, ◌-◌, ◌*◌, ℕ, false, min, length};
 ghost use Rattle.overlap_guard.specs.Hazard.{has_copy_hazard};
-ghost use Rattle.vram_store.specs.Vram.{bit, height_of};
-ghost use Rattle.vram_store.specs.Plot.{is_kept};
+ghost use Rattle.vram_store.specs.Vram.{height_of};
 ghost use Rattle.vram_copy.specs.Copy.{Copy, copied_row, copied_run};
-ghost use Rattle.vram_copy.specs.Rect.{LieInRow};
-ghost use Rattle.vram_copy.specs.Costs.{chunk_len, chunk_cost, row_cost, copy_cost};
+ghost use Rattle.vram_copy.specs.Rect.{beside, LieInRow};
+ghost use Rattle.vram_copy.specs.Costs.{piece_len, chunk_cost, piece_cost, row_cost, copy_cost};
 
 use crate::cells::{cell_down, cell_right};
-use crate::plots::copy_cell;
+use crate::plots::{copy_cell, open_cells};
 use overlap_guard::copy_hazard;
 use px_num::Cell;
 use std::sync::ledger::Ledger;
-use vram_store::mask::{force_lanes, open_bits, tests};
+use vram_store::mask::force_lanes;
 use vram_store::{Steps, Vram};
 
 /// Copies `h` rows of `w` cells from one place to another, plotting them under the mask setting
@@ -62,25 +61,122 @@ fn copy_row<L: Ledger>(
     while done < w {
         let source = cell_right(from, done);
         let target = cell_right(to, done);
-        let n = next_len(source.x, target.x, w - done);
-        copy_chunk(vram, mask, source, target, n, steps);
-        done += n as u16;
+        let n = piece_len(source.x, target.x, w - done);
+        copy_piece(vram, mask, source, target, n, steps);
+        done += n;
     }
 }
 
-// How many cells the next chunk has: up to 16, to the row's end, to where a side wraps.
-fn next_len(source_x: u16, target_x: u16, left: u16) -> u8
+// How many cells the next piece has: to the row's end or to where a side wraps.
+fn piece_len(source_x: u16, target_x: u16, left: u16) -> u16
     requires source_in { source_x < 1024 }
     requires target_in { target_x < 1024 }
     requires some { 1 ≤ left }
-    ensures value { result ≡ chunk_len source_x target_x left }
+    ensures value { result ≡ piece_len source_x target_x left }
     ensures some { 1 ≤ result }
-    ensures most { result ≤ 16 }
     ensures in_row { result ≤ left }
     ensures in_source { source_x + result ≤ 1024 }
     ensures in_target { target_x + result ≤ 1024 }
 {
-    left.min(16).min((1024 - source_x).min(1024 - target_x)) as u8
+    left.min((1024 - source_x).min(1024 - target_x))
+}
+
+// Cells that leave no row. The guard is asked once: both sides go on by as much, so they stay as far apart.
+fn copy_piece<L: Ledger>(
+    vram: &mut Vram,
+    mask: u8,
+    from: Cell,
+    to: Cell,
+    n: u16,
+    steps: &mut Steps<L>,
+)
+    requires some { 1 ≤ n }
+    requires source_in { LieInRow (height_of vram.old) from n }
+    requires target_in { LieInRow (height_of vram.old) to n }
+    ensures cells { vram.new ≡ copied_run vram.old mask from to n }
+    ensures long { length vram.new ≡ length vram.old }
+    ensures cost { steps.new ≤ steps.old + piece_cost from to n }
+{
+    if copy_hazard(from, to, n.min(16) as u8) {
+        copy_guarded(vram, mask, from, to, n, steps);
+    } else {
+        copy_apart(vram, mask, from, to, n, steps);
+    }
+}
+
+// A piece that does not meet itself, in whole chunks and a last one.
+fn copy_apart<L: Ledger>(
+    vram: &mut Vram,
+    mask: u8,
+    from: Cell,
+    to: Cell,
+    n: u16,
+    steps: &mut Steps<L>,
+)
+    requires source_in { LieInRow (height_of vram.old) from n }
+    requires target_in { LieInRow (height_of vram.old) to n }
+    requires free { has_copy_hazard from to (min n 16) ≡ false }
+    ensures cells { vram.new ≡ copied_run vram.old mask from to n }
+    ensures long { length vram.new ≡ length vram.old }
+    ensures cost { steps.new ≤ steps.old + piece_cost from to n }
+{
+    for c in 0..n / 16 {
+        let done = 16 * c;
+        copy_at_once(vram, mask, beside(from, done), beside(to, done), 16, steps);
+    }
+    let done = n / 16 * 16;
+    if done < n {
+        let last = (n - done) as u8;
+        copy_at_once(
+            vram,
+            mask,
+            beside(from, done),
+            beside(to, done),
+            last,
+            steps,
+        );
+    }
+}
+
+// A piece, chunk by chunk under the guard.
+fn copy_guarded<L: Ledger>(
+    vram: &mut Vram,
+    mask: u8,
+    from: Cell,
+    to: Cell,
+    n: u16,
+    steps: &mut Steps<L>,
+)
+    requires source_in { LieInRow (height_of vram.old) from n }
+    requires target_in { LieInRow (height_of vram.old) to n }
+    ensures cells { vram.new ≡ copied_run vram.old mask from to n }
+    ensures long { length vram.new ≡ length vram.old }
+    ensures cost { steps.new ≤ steps.old + piece_cost from to n }
+{
+    let mut done = 0;
+    while done < n {
+        let k = (n - done).min(16);
+        copy_chunk(
+            vram,
+            mask,
+            beside(from, done),
+            beside(to, done),
+            k as u8,
+            steps,
+        );
+        done += k;
+    }
+}
+
+// The cell so many columns to the right, in a row that is not left.
+fn beside(cell: Cell, i: u16) -> Cell
+    requires { cell.x + i < 1024 }
+    ensures { result ≡ beside cell i }
+{
+    Cell {
+        x: cell.x + i,
+        y: cell.y,
+    }
 }
 
 #[tactic(auto, unfolding(crate::specs::Costs::chunk_cost))]
@@ -122,15 +218,8 @@ fn copy_in_turn<L: Ledger>(
     ensures cost { steps.new ≤ steps.old + 3 * n }
 {
     for i in 0..n {
-        let source = Cell {
-            x: from.x + i as u16,
-            y: from.y,
-        };
-        let target = Cell {
-            x: to.x + i as u16,
-            y: to.y,
-        };
-        copy_cell(vram, mask, source, target, steps);
+        let i = i as u16;
+        copy_cell(vram, mask, beside(from, i), beside(to, i), steps);
     }
 }
 
@@ -155,19 +244,4 @@ fn copy_at_once<L: Ledger>(
     let lanes = force_lanes(mask, colors);
     let open = open_cells(vram, mask, to, n, steps);
     vram.store16(to.x, to.y, n, lanes, open, steps);
-}
-
-// A bit for each of n cells of a row, 0 where the cell stays as it is and 1 where a plot writes it.
-fn open_cells<L: Ledger>(vram: &Vram, mask: u8, to: Cell, n: u8, steps: &mut Steps<L>) -> u16
-    requires count { (1 ≤ n) × (n ≤ 16) }
-    requires target_in { LieInRow (height_of vram.now) to n }
-    ensures bits { (j : ℕ) → j < n
-        → bit result j ≡ (if is_kept mask (slice_index vram.now (1024 * to.y + to.x + j)) then 0 else 1) }
-    ensures cost { steps.new ≤ steps.old + 1 }
-{
-    if tests(mask) {
-        open_bits(mask, vram.load16(to.x, to.y, n, steps))
-    } else {
-        0xffff
-    }
 }

@@ -1,9 +1,10 @@
 // A transfer with the place of its next pixel.
-ghost use Rattle.std.specs.Prelude.{ℕ, ◌≡◌, ◌≤◌, ◌<◌, ◌+◌, ◌*◌, ◌/◌, ◌%◌, ◌^◌, length, nat_lt};
+ghost use Rattle.std.specs.Prelude.{ℕ, ◌≡◌, ◌≤◌, ◌<◌, ◌+◌, ◌*◌, ◌/◌, ◌%◌, ◌^◌, length, min, nat_lt};
 ghost use Rattle.vram_copy.specs.Places.{IsPlace};
-ghost use Rattle.vram_copy.specs.Words.{advanced, pixel_cell, pixels_next, LoadWord, StoreWord};
+ghost use Rattle.vram_copy.specs.Words.{advanced, advanced_by, pixel_cell, pixels_in, pixels_next, words_left};
+ghost use Rattle.vram_copy.specs.Words.{LoadWord, LoadWords, StoreWord};
 
-use crate::plots::plot_pixel;
+use crate::loads::load_run;
 use crate::transfer::Transfer;
 use px_num::{Cell, wrap_at, wrap_x};
 use std::marker::Model;
@@ -49,24 +50,34 @@ fn cell_at(job: &Transfer, place: Place, height: u16) -> Cell
     }
 }
 
-// The place behind another one.
-fn place_behind(job: &Transfer, place: Place) -> Place
-    requires column { place.column < job.now.w }
-    requires more { place.row * job.now.w + place.column < job.now.w * job.now.h }
-    ensures { (i : ℕ) → IsPlace job.now.w place i → IsPlace job.now.w result (i + 1) }
+// The place n pixels on in its row, or at the start of the next one.
+fn place_behind(job: &Transfer, place: Place, n: u16) -> Place
+    requires column { place.column + n ≤ job.now.w }
+    requires more { place.row * job.now.w + place.column + n ≤ job.now.w * job.now.h }
+    requires some { 1 ≤ n }
+    ensures { (i : ℕ) → IsPlace job.now.w place i → IsPlace job.now.w result (i + n) }
 {
     let width = job.w;
-    if place.column + 1 == width {
+    if place.column + n == width {
         Place {
             column: 0,
             row: place.row + 1,
         }
     } else {
         Place {
-            column: place.column + 1,
+            column: place.column + n,
             row: place.row,
         }
     }
+}
+
+// How many pixels the next n words have.
+fn count_pixels(job: &Transfer, n: usize) -> u32
+    requires { n ≤ words_left job.now }
+    ensures { result ≡ pixels_in job.now n }
+{
+    let left = (job.w as u32 * job.h as u32).saturating_sub(job.at);
+    left.min(2 * n as u32)
 }
 
 impl Cursor {
@@ -111,20 +122,38 @@ impl Cursor {
         ensures job { self.new ≡ advanced self.old }
         ensures cost { steps.new ≤ steps.old + 2 * pixels_next self.old }
     {
+        self.load_words(vram, mask, &[word], steps);
+    }
+
+    /// Plots the next two pixels from each of the words, one word after another and its low half first, under the mask
+    /// setting. Where one pixel is left for the last word, its high half is dropped. At most two steps a pixel.
+    pub fn load_words<L: Ledger>(
+        &mut self,
+        vram: &mut Vram,
+        mask: u8,
+        words: &[u32],
+        steps: &mut Steps<L>,
+    )
+        requires wanted { length words.now ≤ words_left self.old }
+        ensures cells { vram.new ≡ LoadWords vram.old mask self.old words.now }
+        ensures long { length vram.new ≡ length vram.old }
+        ensures job { self.new ≡ advanced_by self.old (length words.now) }
+        ensures cost { steps.new ≤ steps.old + 2 * pixels_in self.old (length words.now) }
+    {
         let height = vram.height();
-        let first = self.place;
-        let to = cell_at(&self.job, first, height);
-        plot_pixel(vram, mask, to, low_half(word), steps);
-        let second = place_behind(&self.job, first);
-        if self.job.at + 1 < self.job.w as u32 * self.job.h as u32 {
-            let to = cell_at(&self.job, second, height);
-            plot_pixel(vram, mask, to, high_half(word), steps);
-            self.place = place_behind(&self.job, second);
-            self.job.at += 2;
-        } else {
-            self.place = second;
-            self.job.at += 1;
+        let job = self.job;
+        let count = count_pixels(&job, words.len());
+        let mut place = self.place;
+        let mut done = 0;
+        while done < count {
+            let to = cell_at(&job, place, height);
+            let n = run_len(count - done, job.w - place.column, 1024 - to.x);
+            load_run(vram, mask, to, words, done as usize, n, steps);
+            place = place_behind(&job, place, n);
+            done += n as u32;
         }
+        self.place = place;
+        self.job.at += count;
     }
 
     /// The next two pixels as a word, the low half first, as video memory is now. Where one pixel is left, the high
@@ -139,11 +168,11 @@ impl Cursor {
         let first = self.place;
         let from = cell_at(&self.job, first, height);
         let low = vram.get(from.x, from.y, steps);
-        let second = place_behind(&self.job, first);
+        let second = place_behind(&self.job, first, 1);
         if self.job.at + 1 < self.job.w as u32 * self.job.h as u32 {
             let from = cell_at(&self.job, second, height);
             let high = vram.get(from.x, from.y, steps);
-            self.place = place_behind(&self.job, second);
+            self.place = place_behind(&self.job, second, 1);
             self.job.at += 2;
             joined(low, high)
         } else {
@@ -154,16 +183,11 @@ impl Cursor {
     }
 }
 
-fn low_half(word: u32) -> u16
-    ensures { result ≡ word % 2 ^ 16 }
+// How many pixels leave neither the words, nor the row of the rectangle, nor that of video memory.
+fn run_len(left: u32, in_row: u16, room: u16) -> u16
+    ensures { result ≡ min left (min in_row room) }
 {
-    (word & 0xffff) as u16
-}
-
-fn high_half(word: u32) -> u16
-    ensures { result ≡ word / 2 ^ 16 }
-{
-    (word >> 16) as u16
+    left.min(in_row.min(room) as u32) as u16
 }
 
 fn joined(low: u16, high: u16) -> u32

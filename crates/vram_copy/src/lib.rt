@@ -14,13 +14,14 @@ mod copies;
 mod cursor;
 mod fills;
 pub mod laws;
+mod loads;
 mod plots;
 mod transfer;
 
 pub use copies::copy;
 pub use cursor::Cursor;
 pub use fills::fill;
-pub use transfer::{Transfer, load_word, store_word};
+pub use transfer::{Transfer, load_word, load_words, store_word};
 
 #[cfg(test)]
 mod tests {

@@ -1,12 +1,13 @@
-// One pixel under the mask setting.
-ghost use Rattle.std.specs.Prelude.{◌≡◌, ◌≤◌, ◌<◌, ◌+◌, length};
-ghost use Rattle.vram_store.specs.Vram.{height_of};
-ghost use Rattle.vram_store.specs.Plot.{plot};
+// Pixels under the mask setting.
+ghost use Rattle.std.specs.Prelude.{◌≡◌, ◌≤◌, ◌<◌, ◌+◌, ◌*◌, ℕ, if◌then◌else◌, slice_index, length};
+ghost use Rattle.vram_store.specs.Vram.{bit, height_of};
+ghost use Rattle.vram_store.specs.Plot.{is_kept, plot};
 ghost use Rattle.vram_copy.specs.Copy.{copied_cell};
+ghost use Rattle.vram_copy.specs.Rect.{LieInRow};
 
 use px_num::Cell;
 use std::sync::ledger::Ledger;
-use vram_store::mask::{force, keeps, tests};
+use vram_store::mask::{force, keeps, open_bits, tests};
 use vram_store::{Steps, Vram};
 
 /// Plots a halfword at a cell. At most two steps.
@@ -50,4 +51,19 @@ pub fn copy_cell<L: Ledger>(vram: &mut Vram, mask: u8, from: Cell, to: Cell, ste
 {
     let color = vram.get(from.x, from.y, steps);
     plot_pixel(vram, mask, to, color, steps);
+}
+
+/// A bit for each of n cells of a row, 0 where the cell stays as it is and 1 where a plot writes it.
+pub fn open_cells<L: Ledger>(vram: &Vram, mask: u8, to: Cell, n: u8, steps: &mut Steps<L>) -> u16
+    requires count { (1 ≤ n) × (n ≤ 16) }
+    requires target_in { LieInRow (height_of vram.now) to n }
+    ensures bits { (j : ℕ) → j < n
+        → bit result j ≡ (if is_kept mask (slice_index vram.now (1024 * to.y + to.x + j)) then 0 else 1) }
+    ensures cost { steps.new ≤ steps.old + 1 }
+{
+    if tests(mask) {
+        open_bits(mask, vram.load16(to.x, to.y, n, steps))
+    } else {
+        0xffff
+    }
 }

@@ -1,6 +1,7 @@
 // Loads and stores, a word of up to two pixels at a time.
 ghost use Rattle.std.specs.Prelude.{◌≡◌, ◌≤◌, ◌<◌, ◌+◌, ◌*◌, length};
-ghost use Rattle.vram_copy.specs.Words.{advanced, pixels_next, LoadWord, StoreWord};
+ghost use Rattle.vram_copy.specs.Words.{advanced, advanced_by, pixels_in, pixels_next, words_left};
+ghost use Rattle.vram_copy.specs.Words.{LoadWord, LoadWords, StoreWord};
 
 use crate::cursor::Cursor;
 use std::sync::ledger::Ledger;
@@ -41,9 +42,33 @@ pub fn load_word<L: Ledger>(
     ensures job { job.new ≡ advanced job.old }
     ensures cost { steps.new ≤ steps.old + 2 * pixels_next job.old }
 {
-    let mut cursor = Cursor::new(*job);
-    cursor.load_word(vram, mask, word, steps);
-    *job = cursor.job();
+    load_words(vram, mask, job, &[word], steps);
+}
+
+/// Plots the next two pixels of a rectangle from each of the words, one word after another and its
+/// low half first, under the mask setting.
+///
+/// Where one pixel is left for the last word, its high half is dropped. X wraps at 1024 and Y at
+/// the height. The transfer goes on by the pixels plotted, at most two steps each (psx-spx,
+/// GP0(A0h)).
+pub fn load_words<L: Ledger>(
+    vram: &mut Vram,
+    mask: u8,
+    job: &mut Transfer,
+    words: &[u32],
+    steps: &mut Steps<L>,
+)
+    requires wanted { length words.now ≤ words_left job.old }
+    ensures cells { vram.new ≡ LoadWords vram.old mask job.old words.now }
+    ensures long { length vram.new ≡ length vram.old }
+    ensures job { job.new ≡ advanced_by job.old (length words.now) }
+    ensures cost { steps.new ≤ steps.old + 2 * pixels_in job.old (length words.now) }
+{
+    if !words.is_empty() {
+        let mut cursor = Cursor::new(*job);
+        cursor.load_words(vram, mask, words, steps);
+        *job = cursor.job();
+    }
 }
 
 /// The next two pixels of a rectangle as a word, the low half first, as video memory is now.

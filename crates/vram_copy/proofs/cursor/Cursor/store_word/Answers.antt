@@ -1,14 +1,16 @@
-use Rattle.std.proofs.Common.{◌+◌}
+use Rattle.std.proofs.Common.{◌+◌, arith}
 use Rattle.vram_copy.proofs.WordLemmas.{store_two, store_one, two_on}
 use Rattle.vram_copy.proofs.cursor.Cursor.store_word.Goals as goal
 
 pub place_behind-self-inside-requires-clause-column : goal.place_behind-self-inside-requires-clause-column
-place_behind-self-inside-requires-clause-column g c = (c.place_behind-second.ensures c.self.inside.job.at c.self.invariant).column
+place_behind-self-inside-requires-clause-column g c =
+    let is = c.place_behind-second.ensures c.self.inside.job.at c.self.invariant in
+    omega (arith, is.column)
 
 pub place_behind-self-inside-requires-clause-more : goal.place_behind-self-inside-requires-clause-more
 place_behind-self-inside-requires-clause-more g c =
     let is = c.place_behind-second.ensures c.self.inside.job.at c.self.invariant in
-    rw (← is.number) c.if-self.true
+    rw (← is.number) (omega (arith, c.if-self.true))
 
 pub invariant_of-self : goal.invariant_of-self
 invariant_of-self g c = two_on c.self.inside.job.w c.self.inside.job.at _ _ _ c.self.invariant c.place_behind-second.ensures c.place_behind-self-inside.ensures

@@ -2,7 +2,7 @@ use Rattle.std.proofs.Common.{arith, ◌∙◌, sym, ap, get_or, cond, ◌+◌, 
 use Rattle.vram_store.specs.Plot.{is_kept}
 use Rattle.vram_store.proofs.MaskLemmas.{open_untested}
 use Rattle.vram_store.proofs.Ones.{ones}
-use Rattle.vram_copy.proofs.copies.open_cells.Goals as goal
+use Rattle.vram_copy.proofs.plots.open_cells.Goals as goal
 
 pub returns-then-tests-clause-bits : goal.returns-then-tests-clause-bits
 returns-then-tests-clause-bits g c j lt =

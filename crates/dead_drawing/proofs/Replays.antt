@@ -1,0 +1,68 @@
+-- What is seen of a replay of events of the ports.
+use Rattle.std.proofs.Common.{◌≡◌, ℕ, List, [], ◌∷◌, ◌++◌, sym, ap, ◌∙◌, append_assoc, append-nil}
+use Rattle.gpu_capture.specs.declared.event.Event.{Event}
+use Rattle.gpu_capture.specs.declared.event.Event.TheVariants as event
+use Rattle.gpu_capture.specs.declared.event.Stop.TheVariants.{End}
+use Rattle.gpu_core.specs.Machine.{State, Status, Feed, Gp1, Take, TakenWord}
+use Rattle.event_play.specs.Alike.{AreAlike}
+use Rattle.event_play.specs.Ports.{AreAtPorts}
+use Rattle.event_play.specs.Replay.{Tale, Played, Replay}
+use Rattle.event_play.specs.Step.{Step}
+use Rattle.event_play.specs.declared.ending.Ending.{Ending}
+use Rattle.event_play.specs.declared.ending.Ending.TheVariants.{Done}
+use Rattle.dead_drawing.specs.Run.{after, shown_at, run, told}
+
+-- how a replay ended, the words that it showed, and the status word and the cells that it left
+pub record Outcome : Type 0 where
+  pub ending : Ending
+  pub shown : List ℕ
+  pub status : ℕ
+  pub cells : List ℕ
+
+abbrev pub outcome_of : Played → Outcome
+outcome_of r = record {
+  ending = r.ending;
+  shown = r.tale.shown;
+  status = Status r.tale.state.gpu;
+  cells = r.tale.state.gpu.parts.m;
+}
+
+-- of a state and the words shown up to it
+abbrev pub outcome_at : List ℕ → State → Outcome
+outcome_at shown s = record { ending = Done; shown = shown; status = Status s; cells = s.parts.m }
+
+-- of events from a state on, with these words shown before
+abbrev pub seen : State → (shown : List ℕ) → List Event → Outcome
+seen s shown events = outcome_at (shown ++ told s events) (run s events)
+
+-- the same outcome is the same to all that look at it
+pub alike_by : (a b : Played) → outcome_of a ≡ outcome_of b → AreAlike a.tale b.tale
+alike_by a b e = record {
+  shown = ap (λ (o : Outcome). o.shown) e;
+  status = ap (λ (o : Outcome). o.status) e;
+  cells = ap (λ (o : Outcome). o.cells) e;
+}
+
+step_on : (s : State) (shown one : List ℕ) (events : List Event)
+    → seen s (shown ++ one) events ≡ outcome_at (shown ++ (one ++ told s events)) (run s events)
+step_on s shown one events = ap (λ ns. outcome_at ns (run s events)) (append_assoc shown one (told s events))
+
+-- events of the ports have no fault
+pub replay_is : (events : List Event) (t : Tale) → AreAtPorts events
+    → outcome_of (Replay t events End []) ≡ seen t.state.gpu t.shown events
+unfolding Step after shown_at
+replay_is [] t ports = ap (λ ns. outcome_at ns t.state.gpu) (sym (append-nil t.shown))
+replay_is (event.Gp0 word ∷ events) t ports =
+    replay_is events _ ports.1 ∙ step_on (Feed t.state.gpu word) t.shown [] events
+replay_is (event.Gp1 word ∷ events) t ports =
+    replay_is events _ ports.1 ∙ step_on (Gp1 t.state.gpu word) t.shown [] events
+replay_is (event.Read ∷ events) t ports =
+    replay_is events _ ports.1 ∙ step_on (Take t.state.gpu) t.shown (TakenWord t.state.gpu ∷ []) events
+replay_is (event.Skip ∷ events) t ports =
+    replay_is events _ ports.1 ∙ step_on (Take t.state.gpu) t.shown [] events
+replay_is (event.Stat ∷ events) t ports =
+    replay_is events _ ports.1 ∙ step_on t.state.gpu t.shown (Status t.state.gpu ∷ []) events
+replay_is (event.Ram address word ∷ events) t ports = absurd ports.0
+replay_is (event.Dma channel madr bcr chcr ∷ events) t ports = absurd ports.0
+replay_is (event.Begin madr bcr chcr ∷ events) t ports = absurd ports.0
+replay_is (event.Turn ∷ events) t ports = absurd ports.0

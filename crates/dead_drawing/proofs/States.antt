@@ -1,0 +1,20 @@
+-- Two states that agree but for some cells, and whose words leave the same.
+use Rattle.std.proofs.Common.{◌≡◌, ℕ}
+use Rattle.gp0_words.specs.Items.{Rest}
+use Rattle.gpu_core.specs.Machine.{Parts, State}
+use Rattle.prim_draw.specs.Apart.{AgreeBut}
+
+pub record PartsAlike (among : ℕ → Type 0) (p q : Parts) : Type 0 where
+  pub cells : AgreeBut among p.m q.m
+  pub regs : q.regs ≡ p.regs
+  pub load : q.load ≡ p.load
+  pub store : q.store ≡ p.store
+
+pub record Alike (among : ℕ → Type 0) (s t : State) : Type 0 where
+  pub parts : PartsAlike among s.parts t.parts
+  pub rest : Rest t.words ≡ Rest s.words
+
+-- nobody sees the difference
+pub record Same (s t : State) : Type 0 where
+  pub parts : t.parts ≡ s.parts
+  pub rest : Rest t.words ≡ Rest s.words

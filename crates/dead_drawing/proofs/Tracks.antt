@@ -1,0 +1,159 @@
+-- The control of a state goes its way whatever the cells are.
+use Rattle.std.proofs.Common.{◌≡◌, ◌==◌, ◌&&◌, leb, ℕ, List, [], ◌∷◌, Option, None, Some, Bool, true, false, cond}
+use Rattle.std.proofs.Common.{refl, sym, ap, ◌∙◌, subst}
+use Rattle.gp0_words.specs.Items.{Rest}
+use Rattle.gp0_words.specs.Next.{next_item, next_pending}
+use Rattle.gp0_words.specs.declared.item.Item.{Item}
+use Rattle.gp0_words.specs.declared.pending.Pending.{Pending}
+use Rattle.gp0_words.specs.declared.pending.Pending.TheVariants as pending
+use Rattle.gp0_words.proofs.Cut.{Rest-push}
+use Rattle.gp0_packets.specs.Packets.{packet_of}
+use Rattle.gp0_packets.specs.declared.packet.Packet.{Packet}
+use Rattle.gp0_packets.specs.declared.packet.Packet.TheVariants as packet
+use Rattle.gp1_status.specs.Registers.{Registers, env_of, gp1_of, is_clearing, opcode_of}
+use Rattle.gpu_capture.specs.declared.event.Event.{Event}
+use Rattle.gpu_capture.specs.declared.event.Event.TheVariants as event
+use Rattle.gpu_core.specs.Machine.{Parts, State, Feed, Gp1, Take, Effect, after_item, cleared, new_item, taken_from}
+use Rattle.gpu_core.specs.Machine.{with_page, with_pixels}
+use Rattle.vram_copy.specs.declared.transfer.Transfer.{Transfer}
+use Rattle.dead_drawing.specs.Control.{Control, regs_after, regs_by, controlled, controls}
+use Rattle.dead_drawing.specs.Run.{after, run}
+use Rattle.dead_drawing.proofs.Events.{new_is}
+
+-- registers that are the same but for the latch
+abbrev pub IsButHeld : Registers → Registers → Type 0
+IsButHeld r now = now ≡ record r { held = now.held }
+
+pub record Tracks (c : Control) (s : State) : Type 0 where
+  pub regs : IsButHeld c.regs s.parts.regs
+  pub pending : Rest s.words ≡ c.pending
+
+held_cond : (b : Bool) (q q_now r r_now : Registers) → IsButHeld q q_now → IsButHeld r r_now
+    → IsButHeld (cond b q r) (cond b q_now r_now)
+held_cond true q q_now r r_now e f = e
+held_cond false q q_now r r_now e f = f
+
+-- ---- packets
+
+env_held : (r : Registers) (held index value : ℕ)
+    → IsButHeld (env_of r index value) (env_of (record r { held = held }) index value)
+env_held r held index value =
+    held_cond (index == 1) _ _ _ _ refl
+    (held_cond (index == 2) _ _ _ _ refl
+    (held_cond (index == 3) _ _ _ _ refl
+    (held_cond (index == 4) _ _ _ _ refl (held_cond (index == 5) _ _ _ _ refl refl))))
+
+page_held : (r : Registers) (held : ℕ) (textured : Bool) (page : ℕ)
+    → IsButHeld (with_page r textured page) (with_page (record r { held = held }) textured page)
+page_held r held true page = refl
+page_held r held false page = refl
+
+after_held : (r : Registers) (held : ℕ) (what : Packet)
+    → IsButHeld (regs_after r what) (regs_after (record r { held = held }) what)
+after_held r held (packet.Env index value) = env_held r held index value
+after_held r held packet.Irq = refl
+after_held r held (packet.Poly four a b c d shaded textured semi raw clut page) = page_held r held textured page
+after_held r held (packet.Segment a b semi) = refl
+after_held r held (packet.Rect x y w h color textured semi raw u v clut) = refl
+after_held r held (packet.Fill color x y w h) = refl
+after_held r held (packet.Copy from to w h) = refl
+after_held r held (packet.Load x y w h) = refl
+after_held r held (packet.Store x y w h) = refl
+after_held r held (packet.Pixels word) = refl
+after_held r held packet.Nop = refl
+after_held r held packet.Finish = refl
+
+by_held : (r : Registers) (held : ℕ) (item : Option Item)
+    → IsButHeld (regs_by r item) (regs_by (record r { held = held }) item)
+by_held r held None = refl
+by_held r held (Some item) = after_held r held (packet_of r.height item)
+
+pixels_regs : (p : Parts) (job : Option Transfer) (word : ℕ) → (with_pixels p job word).regs ≡ p.regs
+pixels_regs p None word = refl
+pixels_regs p (Some job) word = refl
+
+effect_regs : (p : Parts) (what : Packet) → (Effect p what).regs ≡ regs_after p.regs what
+unfolding Effect
+effect_regs p (packet.Env index value) = refl
+effect_regs p packet.Irq = refl
+effect_regs p (packet.Poly four a b c d shaded textured semi raw clut page) = refl
+effect_regs p (packet.Segment a b semi) = refl
+effect_regs p (packet.Rect x y w h color textured semi raw u v clut) = refl
+effect_regs p (packet.Fill color x y w h) = refl
+effect_regs p (packet.Copy from to w h) = refl
+effect_regs p (packet.Load x y w h) = refl
+effect_regs p (packet.Store x y w h) = refl
+effect_regs p (packet.Pixels word) = pixels_regs p p.load word
+effect_regs p packet.Nop = refl
+effect_regs p packet.Finish = refl
+
+item_regs : (p : Parts) (item : Option Item) → (after_item p item).regs ≡ regs_by p.regs item
+item_regs p None = refl
+item_regs p (Some item) = effect_regs p (packet_of p.regs.height item)
+
+feed_tracks : (c : Control) (s : State) (word : ℕ) → Tracks c s → Tracks (controlled c (event.Gp0 word)) (Feed s word)
+unfolding controlled Feed
+feed_tracks c s word h =
+    let same : new_item s.words word ≡ next_item c.pending word = new_is s.words word
+    ∙ ap (λ (p : Pending). next_item p word) h.pending in
+    let now : (after_item s.parts (new_item s.words word)).regs ≡ regs_by (record c.regs { held = s.parts.regs.held })
+    (next_item c.pending word) =
+    ap (λ (item : Option Item). (after_item s.parts item).regs) same ∙ item_regs s.parts (next_item c.pending word)
+    ∙ ap (λ (r : Registers). regs_by r (next_item c.pending word)) h.regs in
+    record {
+      regs = subst (IsButHeld (regs_by c.regs (next_item c.pending word))) (sym now)
+          (by_held c.regs s.parts.regs.held (next_item c.pending word));
+      pending = Rest-push s.words word ∙ ap (λ (p : Pending). next_pending p word) h.pending;
+    }
+
+-- ---- the other events
+
+gp1_held : (r : Registers) (held word : ℕ) → IsButHeld (gp1_of r word) (gp1_of (record r { held = held }) word)
+gp1_held r held word =
+    held_cond (opcode_of word == 0x00) _ _ _ _ refl
+    (held_cond (opcode_of word == 0x02) _ _ _ _ refl
+    (held_cond (opcode_of word == 0x03) _ _ _ _ refl
+    (held_cond (opcode_of word == 0x04) _ _ _ _ refl
+    (held_cond (opcode_of word == 0x05) _ _ _ _ refl
+    (held_cond (opcode_of word == 0x06) _ _ _ _ refl
+    (held_cond (opcode_of word == 0x07) _ _ _ _ refl
+    (held_cond (opcode_of word == 0x08) _ _ _ _ refl
+    (held_cond
+    (leb 0x10 (opcode_of word) && leb
+    (opcode_of word) 0x1f) _ _ _ _ refl refl))))))))
+
+gp1_tracks : (c : Control) (s : State) (word : ℕ) → Tracks c s → Tracks (controlled c (event.Gp1 word)) (Gp1 s word)
+unfolding controlled Gp1 Rest
+gp1_tracks c s word h = by_test (is_clearing word)
+  where
+    regs : IsButHeld (gp1_of c.regs word) (gp1_of s.parts.regs word)
+    regs = subst (λ (r : Registers). IsButHeld (gp1_of c.regs word) (gp1_of r word)) (sym h.regs)
+        (gp1_held c.regs s.parts.regs.held word)
+
+    by_test : (b : Bool) → Tracks (record { regs = gp1_of c.regs word; pending = cond b pending.Idle c.pending })
+        (cond b (record { parts = cleared (record s.parts { regs = gp1_of s.parts.regs word }); words = [] })
+        (record { parts = record s.parts { regs = gp1_of s.parts.regs word }; words = s.words }))
+    by_test true = record { regs = regs; pending = refl }
+    by_test false = record { regs = regs; pending = h.pending }
+
+taken_held : (r : Registers) (p : Parts) (job : Option Transfer) → IsButHeld r p.regs
+    → IsButHeld r (taken_from p job).parts.regs
+taken_held r p None e = e
+taken_held r p (Some job) e = ap (λ (q : Registers). record q { held = (taken_from p (Some job)).word }) e
+
+pub event_tracks : (c : Control) (s : State) (e : Event) → Tracks c s → Tracks (controlled c e) (after s e)
+unfolding controlled after Take
+event_tracks c s (event.Gp0 word) h = feed_tracks c s word h
+event_tracks c s (event.Gp1 word) h = gp1_tracks c s word h
+event_tracks c s event.Read h = record { regs = taken_held c.regs s.parts s.parts.store h.regs; pending = h.pending }
+event_tracks c s event.Skip h = record { regs = taken_held c.regs s.parts s.parts.store h.regs; pending = h.pending }
+event_tracks c s event.Stat h = h
+event_tracks c s (event.Ram address word) h = h
+event_tracks c s (event.Dma channel madr bcr chcr) h = h
+event_tracks c s (event.Begin madr bcr chcr) h = h
+event_tracks c s event.Turn h = h
+
+pub run_tracks : (events : List Event) (c : Control) (s : State) → Tracks c s
+    → Tracks (controls events c) (run s events)
+run_tracks [] c s h = h
+run_tracks (e ∷ events) c s h = run_tracks events (controlled c e) (after s e) (event_tracks c s e h)

@@ -1,0 +1,28 @@
+-- Events of the ports on the drawing processor alone: they have no fault, and leave main memory alone.
+use Rattle.std.specs.Prelude.{ℕ, List, [], ◌∷◌, ◌++◌}
+use Rattle.gpu_capture.specs.declared.event.Event.{Event}
+use Rattle.gpu_capture.specs.declared.event.Event.TheVariants as event
+use Rattle.gpu_core.specs.Machine.{State, Feed, Gp1, Take, TakenWord, Status}
+
+-- the state behind an event
+unfoldable pub after : State → Event → State
+after s (event.Gp0 word) = Feed s word
+after s (event.Gp1 word) = Gp1 s word
+after s event.Read = Take s
+after s event.Skip = Take s
+after s other = s
+
+-- the word that it shows, if any
+unfoldable pub shown_at : State → Event → List ℕ
+shown_at s event.Read = TakenWord s ∷ []
+shown_at s event.Stat = Status s ∷ []
+shown_at s other = []
+
+-- the state behind events, and the words that they show
+abbrev pub run : State → List Event → State
+run s [] = s
+run s (e ∷ events) = run (after s e) events
+
+abbrev pub told : State → List Event → List ℕ
+told s [] = []
+told s (e ∷ events) = shown_at s e ++ told (after s e) events

@@ -1,0 +1,41 @@
+use Rattle.std.proofs.Common.{◌≡◌, ◌∙◌, ◌≤ℤ◌, ◌+◌, ◌^◌, ℤ, pos, ◌+ℤ◌, SFits, w32, IsTrue, refl, sym, ap, arith, rules}
+use Rattle.std.proofs.lemmas.Int.{ints, clamps}
+use Rattle.edge_walk.specs.Attribute.{mixed_of}
+use Rattle.edge_walk.specs.Extent.{bounding_box}
+use Rattle.edge_walk.specs.Held.{is_turned}
+use Rattle.edge_walk.specs.Plane.{from_least}
+use Rattle.edge_walk.specs.Triangle.{corners, is_within}
+use Rattle.edge_walk.proofs.Corner.{inside_is}
+use Rattle.edge_walk.proofs.InBox.{within-in_box}
+use Rattle.edge_walk.proofs.MixLemmas.{IsAreaOf, area_held}
+use Rattle.edge_walk.proofs.PlaneLemmas.{plane_line}
+use Rattle.edge_walk.proofs.triangle.Tri.plane.Goals as goal
+use Rattle.edge_walk.proofs.triangle.Tri.plane.Goals.{After-upright-t}
+
+area : (c : After-upright-t) → IsAreaOf c.args.divisor.now (corners c.upright-t.result.a c.upright-t.result.b c.upright-t.result.c)
+area c = area_held c.args.self.now c.args.self.now (is_turned c.args.self.now) c.args.divisor.now _ _ _ (record { drawn = c.upright-t.ensures.drawn; turned_is = refl; divisor_is = c.requires.divisor }) refl c.upright-t.ensures.same c.upright-t.ensures.upright
+
+pub of-requires-clause-divisor : goal.of-requires-clause-divisor
+of-requires-clause-divisor c = (area (goal.at.of-requires-clause-divisor c).After-upright-t).divisor
+
+pub returns : goal.returns
+unfolding bounding_box
+returns c = record {
+  lines = λ x y inside at j lt there.
+      let t = c.upright-t.result in
+      let same = c.upright-t.ensures.same in
+      let held = area (goal.at.returns c).After-upright-t in
+      let here = sym (inside_is c.args.self.now t.a t.b t.c same x y) ∙ inside in
+      let box = within-in_box t.a t.b t.c x y c.upright-t.ensures.upright here in
+      let ax : SFits w32 t.a.x = search rules in
+      let bx : SFits w32 t.b.x = search rules in
+      let cx : SFits w32 t.c.x = search rules in
+      let ay : SFits w32 t.a.y = search rules in
+      let by : SFits w32 t.b.y = search rules in
+      let cy : SFits w32 t.c.y = search rules in
+      plane_line t.a t.b t.c c.args.which c.args.divisor.now.area c.args.divisor.now.reciprocal c.of.result c.upright-t.ensures.upright c.of.ensures.bytes held.is held.divisor.some held.divisor.most held.divisor.reciprocal
+      (record { across = c.of.ensures.across; down_is = c.of.ensures.down; base = c.of.ensures.base })
+      x y here (omega (arith, ints)) (omega (arith, ints)) (omega (arith, ints, clamps, box.0.0)) (omega (arith, ints, clamps, box.1.0))
+      at j lt (sym (inside_is c.args.self.now t.a t.b t.c same (x +ℤ pos (at + j)) y) ∙ there)
+      ∙ ap (λ w. mixed_of w c.args.which (x +ℤ pos (at + j)) y) same;
+}

@@ -1,0 +1,92 @@
+// An attribute over a whole triangle.
+ghost use Rattle.std.specs.Prelude.{◌≡◌, ◌+◌, ◌*◌, ◌%◌, ◌^◌, ◌≤◌, ℕ, IsTrue};
+ghost use Rattle.edge_walk.specs.Attribute.{AreBytes, attribute, row_step_of, step_of};
+ghost use Rattle.edge_walk.specs.Divisor.{IsDivisor};
+ghost use Rattle.edge_walk.specs.Line.{IsRowLine, scaled};
+ghost use Rattle.edge_walk.specs.Plane.{IsPlane, from_least, line_at};
+ghost use Rattle.edge_walk.specs.Triangle.{Corners, IsSmall, corners, is_inside};
+
+use crate::divisor::Divisor;
+use crate::line::{RowLine, scaled};
+use crate::mix::{attribute, step_across, step_down};
+use px_num::Vertex;
+
+/// An attribute over a triangle, of whose rows it gives the lines.
+///
+/// The sum of an attribute is linear in X and Y, and so is its product with the reciprocal of the area. It is held in
+/// numbers of 64 bits that wrap, since those of the cells inside do not.
+#[derive(Clone, Copy)]
+pub struct Plane {
+    base: u64,
+    across: u64,
+    down: u64,
+}
+
+#[inline(always)]
+fn from_least(x: i32) -> u64
+    ensures { result ≡ from_least x }
+{
+    (x as i64 + 0x8000_0000) as u64
+}
+
+// A number after so many steps, which wrap.
+#[inline(always)]
+fn after_steps(from: u64, step: u64, steps: u64) -> u64
+    ensures { result ≡ (from + step * steps) % 2 ^ 64 }
+{
+    from.wrapping_add(step.wrapping_mul(steps))
+}
+
+// The number that is another one after so many steps.
+#[inline(always)]
+fn before_steps(to: u64, step: u64, steps: u64) -> u64
+    ensures { (result + step * steps) % 2 ^ 64 ≡ to }
+{
+    to.wrapping_sub(step.wrapping_mul(steps))
+}
+
+impl Plane {
+    // The plane whose sum at the first vertex is that vertex's share of the area.
+    #[inline(always)]
+    pub(crate) fn of(a: &Vertex, b: &Vertex, c: &Vertex, which: u8, divisor: &Divisor) -> Plane
+        requires small { IsSmall (corners a.now b.now c.now) }
+        requires which { which ≤ 4 }
+        requires divisor { IsDivisor divisor.now }
+        ensures across { result.across ≡ scaled (step_of (corners a.now b.now c.now) which) divisor.now.reciprocal }
+        ensures down { result.down ≡ scaled (row_step_of (corners a.now b.now c.now) which) divisor.now.reciprocal }
+        ensures base { (result.base + result.across * from_least a.now.x + result.down * from_least a.now.y) % 2 ^ 64
+            ≡ divisor.now.area * attribute which a.now * divisor.now.reciprocal }
+        ensures bytes { AreBytes which (corners a.now b.now c.now) }
+    {
+        let across = scaled(step_across(a, b, c, which), divisor.reciprocal);
+        let down = scaled(step_down(a, b, c, which), divisor.reciprocal);
+        let first = divisor.times(attribute(a, which));
+        let row = before_steps(first, down, from_least(a.y));
+        Plane {
+            base: before_steps(row, across, from_least(a.x)),
+            across,
+            down,
+        }
+    }
+
+    /// The line from (x, y) to the right.
+    #[inline(always)]
+    pub fn row_line(&self, x: i32, y: i32) -> RowLine
+        ensures { (t : Corners) (which : ℕ)
+            → IsPlane t which self.now → IsTrue (is_inside t x y) → IsRowLine t which x y result }
+    {
+        self.line_at(x, y)
+    }
+
+    #[inline(always)]
+    #[tactic(auto, unfolding(crate::specs::Plane::line_at))]
+    fn line_at(&self, x: i32, y: i32) -> RowLine
+        ensures { result ≡ line_at self.now x y }
+    {
+        let row = after_steps(self.base, self.down, from_least(y));
+        RowLine {
+            first: after_steps(row, self.across, from_least(x)),
+            step: self.across,
+        }
+    }
+}

@@ -1,0 +1,182 @@
+-- Words of GP0 that are played at once, an event each.
+use Rattle.std.proofs.Common.{◌≡◌, ◌≤◌, inl, inr, ℕ, ◌+◌, ◌++◌, List, [], ◌∷◌, Option, None, Some, Result, Ok, Err, OnOk, ◌<◌}
+use Rattle.std.proofs.Common.{option_to_list}
+use Rattle.std.proofs.Common.{refl, ap, sym, ◌∙◌, append-nil, add-zero, take, arith}
+use Rattle.std.proofs.lemmas.List.Sums.{fold-append}
+use Rattle.dev_io.specs.Device.{appended}
+use Rattle.dev_io.proofs.Parts.{taken_on}
+use Rattle.gp0_packets.specs.declared.note.Note.{Note}
+use Rattle.gpu_capture.specs.Capture.{Captured, ended, then_events}
+use Rattle.gpu_capture.specs.Reader.{capture_from, work_left}
+use Rattle.gpu_capture.specs.Words.{TakesWords, StopsBehind, word_events}
+use Rattle.gpu_capture.specs.declared.event.Event.{Event}
+use Rattle.gpu_capture.specs.declared.event.Event.TheVariants.{Gp0}
+use Rattle.gpu_capture.specs.declared.event.Stop.{Stop}
+use Rattle.gpu_capture.specs.declared.event.Stop.TheVariants.{Truncated}
+use Rattle.gpu_capture.specs.declared.progress.Progress.{Progress}
+use Rattle.gpu_capture.proofs.Steps.{split}
+use Rattle.gpu_core.specs.Cost.{FeedCost, FeedBoxCost}
+use Rattle.gpu_core.specs.Kept.{Kept, kept_of}
+use Rattle.gpu_core.specs.Machine.{State, Feed, FeedNote, told_option}
+use Rattle.gpu_taps.specs.Tally.{Reading}
+use Rattle.event_play.specs.Out.{lines_of}
+use Rattle.event_play.specs.PlayedWords.{after_word, after_words, IsTold, AreQuiet}
+use Rattle.event_play.specs.Playing.{AreAllNeeded, IsShort}
+use Rattle.event_play.specs.Replay.{Tale, after_event, replayed, Play, next_number}
+use Rattle.event_play.specs.RigState.{RigState}
+use Rattle.event_play.specs.Step.{Step, StepCost, StepBoxCost}
+use Rattle.event_play.specs.Streams.{Outlets, Streams, streams, without_sink}
+use Rattle.event_play.specs.Told.{told_notes}
+use Rattle.event_play.specs.declared.ending.Mode.{Mode}
+use Rattle.event_play.specs.declared.ending.Mode.TheVariants.{Vram, Shot, Report, List as Listing, Play as Words}
+use Rattle.event_play.proofs.Awaiting.{Reaches, GoesOn, Awaits, goes_past, reads, events_left}
+use Rattle.event_play.proofs.Feeds.{told-append}
+use Rattle.event_play.proofs.Reaching.{goes_on}
+
+-- ---- tales
+
+pub after_words-append : (t : Tale) (xs ys : List ℕ) → after_words t (xs ++ ys) ≡ after_words (after_words t xs) ys
+after_words-append t xs ys = fold-append after_word t xs ys
+
+-- the event of a word is played
+word_is : (t : Tale) (word : ℕ) → after_event t (Gp0 word) ≡ Ok (after_word t word)
+unfolding Step StepCost StepBoxCost
+word_is t word =
+    let n = next_number t.played in
+    let note = option_to_list (FeedNote t.state.gpu n word) in
+    rw (append-nil t.shown, append-nil note, add-zero (FeedCost t.state.gpu word), add-zero (FeedBoxCost t.state.gpu word))
+    refl
+
+-- a replay of words goes on from the tale behind them
+pub words_are : (t : Tale) (words : List ℕ) (c : Captured)
+    → replayed t (then_events (word_events words) c) ≡ replayed (after_words t words) c
+words_are t [] c = refl
+words_are t (word ∷ words) c =
+    goes_on t (after_word t word) (Gp0 word) (then_events (word_events words) c) (word_is t word)
+    ∙ words_are (after_word t word) words c
+
+-- a tap that was told, and is told a note more
+told_more : (note : Option Note) (notes : List Note) (first : List Reading)
+    → told_option note (told_notes notes first) ≡ told_notes (notes ++ option_to_list note) first
+told_more None notes first = ap (λ ns. told_notes ns first) (sym (append-nil notes))
+told_more (Some note) notes first = sym (told-append notes (note ∷ []) first)
+
+pub word_told : (t : Tale) (first before now : Outlets) (was gpu : Kept) (played number word : ℕ) (note : Option Note)
+    → number ≡ next_number played → IsTold t first before was played
+    → ((s : State) → kept_of s ≡ was → kept_of (Feed s word) ≡ gpu)
+    → ((s : State) → kept_of s ≡ was → FeedNote s number word ≡ note)
+    → now.heard ≡ told_option note before.heard
+    → ((s : State) → kept_of s ≡ was → now.steps ≤ before.steps + FeedCost s word)
+    → IsTold (after_word t word) first now gpu number
+word_told t first before now was gpu played number word note counted told feed noted heard cost =
+    let n : next_number t.played ≡ number = ap next_number told.number ∙ sym counted in
+    let noted_is : FeedNote t.state.gpu (next_number t.played) word ≡ note =
+    ap (λ n. FeedNote t.state.gpu n word) n ∙ noted t.state.gpu told.state in
+    record {
+      state = feed t.state.gpu told.state;
+      number = n;
+      heard = heard ∙ ap (told_option note) told.heard ∙ told_more note t.notes first.heard
+          ∙ ap (λ note. told_notes (t.notes ++ option_to_list note) first.heard) (sym noted_is);
+      cost = let spent = cost t.state.gpu told.state in let was = told.cost in omega (arith, spent, was);
+    }
+
+-- ---- the bytes of words
+
+words_short : (t : Tale) (words : List ℕ) (version byte : ℕ)
+    → IsShort (replayed t (then_events (word_events words) (ended version (Truncated byte) []))).ending
+words_short t words version byte = rw (words_are t words (ended version (Truncated byte) [])) tt
+
+all_needed : (first t : Tale) (old new : Progress) (before now : Option (List ℕ)) (xs words : List ℕ)
+    → GoesOn first old t xs
+    → AreAllNeeded first xs → (takes : TakesWords old new before now words) → AreAllNeeded first (xs ++ takes.taken)
+all_needed first t old new before now xs words goes was takes part more is some =
+    elim (split xs takes.taken part more is) [
+      | inl behind ↦
+          let short = takes.needed behind.0 more behind.2 some in
+          let fewer = take short.count words in
+          let e : Play first part ≡ replayed t (then_events (word_events fewer) (ended short.version (Truncated short.byte) [])) =
+          ap (Play first) behind.1 ∙ goes behind.0 ∙ ap (replayed t) short.is in
+          rw e (words_short t fewer short.version short.byte)
+      | inr inside ↦ was part inside.0 inside.1 inside.2
+    ]
+
+-- where no line is due for words, what is due stays as it is
+quiet_lines : (mode : Mode) (t : Tale) (words : List ℕ) → AreQuiet mode words
+    → lines_of mode (after_words t words) ≡ lines_of mode t
+quiet_lines mode t [] quiet = refl
+quiet_lines Listing t (word ∷ words) quiet = absurd cc
+quiet_lines Words t (word ∷ words) quiet = quiet_lines Words (after_word t word) words tt
+quiet_lines Vram t (word ∷ words) quiet = refl
+quiet_lines Shot t (word ∷ words) quiet = refl
+quiet_lines Report t (word ∷ words) quiet = refl
+
+same_ram : (t : Tale) (words : List ℕ) → (after_words t words).state.ram ≡ t.state.ram
+same_ram t [] = refl
+same_ram t (word ∷ words) = same_ram (after_word t word) words
+
+same_running : (t : Tale) (words : List ℕ) → (after_words t words).state.running ≡ t.state.running
+same_running t [] = refl
+same_running t (word ∷ words) = same_running (after_word t word) words
+
+module _ (mode : Mode) (first : Tale) (before : Streams) (left after held : Option (List ℕ))
+    (heard heard_now : List Reading) (steps steps_now : ℕ) (was rig : RigState) (p q : Progress) (words : List ℕ)
+    (reached : Reaches mode first before (streams left held heard steps) was (GoesOn first p))
+    (quiet : AreQuiet mode words) (ram : rig.ram ≡ was.ram) (running : rig.running ≡ was.running)
+    (tells : (t : Tale) (first : Outlets) → IsTold t first (without_sink heard steps) was.gpu was.played
+    → IsTold (after_words t words) first (without_sink heard_now steps_now) rig.gpu rig.played) where
+  -- words were taken and played
+  pub words_play : TakesWords p q left after words
+      → Reaches mode first before (streams after held heard_now steps_now) rig (GoesOn first q)
+  words_play takes =
+      let t = reached.tale in
+      let told = tells t (without_sink before.heard before.steps) (record {
+        state = reached.stands.state.gpu;
+        number = reached.stands.played;
+        heard = reached.heard;
+        cost = reached.cost;
+      }) in
+      record {
+        taken = reached.taken ++ takes.taken;
+        bytes = taken_on before.left left after reached.taken takes.taken reached.bytes takes.bytes;
+        needed = all_needed first t p q left after reached.taken words reached.says reached.needed takes;
+        tale = after_words t words;
+        says = λ rest.
+            goes_past first t p reached.taken takes.taken rest (then_events (word_events words) (capture_from q rest))
+            reached.says (takes.says rest)
+            ∙ words_are t words (capture_from q rest);
+        stands = record {
+          state = record {
+            gpu = told.state;
+            ram = same_ram t words ∙ reached.stands.state.ram ∙ sym ram;
+            running = same_running t words ∙ reached.stands.state.running ∙ sym running;
+          };
+          played = told.number;
+        };
+        held = reached.held ∙ ap (appended before.held) (sym (quiet_lines mode t words quiet));
+        heard = told.heard;
+        cost = told.cost;
+      }
+
+-- words were taken and played, and then the reader stopped
+module _ (mode : Mode) (first : Tale) (before : Streams) (left after held : Option (List ℕ))
+    (heard heard_now : List Reading) (steps steps_now : ℕ) (was rig : RigState) (p q : Progress) (words : List ℕ)
+    (stop : Stop)
+    (reached : Reaches mode first before (streams left held heard steps) was (GoesOn first p))
+    (quiet : AreQuiet mode words) (ram : rig.ram ≡ was.ram) (running : rig.running ≡ was.running)
+    (tells : (t : Tale) (first : Outlets) → IsTold t first (without_sink heard steps) was.gpu was.played
+    → IsTold (after_words t words) first (without_sink heard_now steps_now) rig.gpu rig.played) where
+  pub words_stop : StopsBehind p q left after words stop
+      → Awaits mode first before (streams after held heard_now steps_now) rig q (Err stop)
+  words_stop behind =
+      reads mode first before (streams behind.left held heard_now steps_now) rig behind.mid q after
+      (words_play mode first before left behind.left held heard heard_now steps steps_now was rig p behind.mid words
+      reached quiet ram running tells behind.takes)
+      (Err stop) tt behind.stops
+
+-- fewer events are still to be played
+pub left_less : (old mid new : Progress) (was next : Result Event Stop) (event : Event) → was ≡ Ok event
+    → work_left mid ≤ work_left old → OnOk next (work_left new < work_left mid)
+    → events_left new next < events_left old was
+left_less old mid new was (Ok more) event is le less =
+    rw is (let lt : work_left new < work_left old = omega (arith, le, less) in omega (arith, lt))
+left_less old mid new was (Err stop) event is le less = rw is (omega arith)

@@ -1,0 +1,11 @@
+use Rattle.std.proofs.Common.{map, take}
+use Rattle.event_play.specs.PlayedWords.{IsTold, after_words}
+use Rattle.event_play.specs.Replay.{Tale}
+use Rattle.event_play.specs.Streams.{Outlets, without_sink}
+use Rattle.event_play.proofs.feed.feed_events.Given as goal
+
+abbrev pub invariant-loop-word : goal.invariant-loop-word
+invariant-loop-word g l = (t : Tale) (first : Outlets)
+    → IsTold t first (without_sink (map g.T.Listener.heard l.initial.taps.items) l.initial.steps) l.initial.gpu l.played
+    → IsTold (after_words t (take l.word-index l.words)) first
+    (without_sink (map g.T.Listener.heard l.taps.items) l.steps) l.gpu l.number

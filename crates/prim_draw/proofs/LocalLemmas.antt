@@ -1,0 +1,162 @@
+-- What is drawn without texture, in two states of video memory.
+use Rattle.std.proofs.Common.{◌≡◌, ℕ, List, [], ◌∷◌, Option, None, Some, Bool, true, false, cond, refl}
+use Rattle.std.specs.List.{filter}
+use Rattle.px_num.specs.declared.shape.Box2.{Box2}
+use Rattle.px_num.specs.declared.shape.Vertex.{Vertex}
+use Rattle.gp0_packets.specs.declared.packet.Packet.TheVariants as packet
+use Rattle.gp1_status.specs.Registers.{Registers}
+use Rattle.edge_walk.specs.Triangle.{Corners}
+use Rattle.line_walk.specs.Line.{Ends, is_near, len_of, point_of}
+use Rattle.span_lanes.specs.Cells.{Cells}
+use Rattle.span_lanes.specs.Shade.{paint_pixel}
+use Rattle.span_lanes.specs.declared.span.Brush.{Brush}
+use Rattle.span_lanes.specs.declared.span.Paint.{Paint}
+use Rattle.span_lanes.specs.declared.span.Paint.TheVariants.{Flat, Shaded, TexturedTri, TexturedRow}
+use Rattle.prim_draw.specs.Boxes.{block_of, cells_of}
+use Rattle.prim_draw.specs.Draw.{Draw}
+use Rattle.prim_draw.specs.Lines.{drawn_ends, drawn_point, drawn_points, is_in, cell_of as cell_at, placed_ends}
+use Rattle.prim_draw.specs.Parts.{polygon, polygon_style, rectangle_style}
+use Rattle.prim_draw.specs.Rectangles.{extent_at, drawn_all, drawn_rectangle, rectangle_box, tile_in, tile_paint}
+use Rattle.prim_draw.specs.Rectangles.{tile_pixel}
+use Rattle.prim_draw.specs.Settings.{brush_in, drawing_area}
+use Rattle.prim_draw.specs.Triangles.{draws, drawn_inside, drawn_polygon, drawn_triangle, pixel_at}
+use Rattle.prim_draw.specs.Triangles.{triangle_box, triangle_coat, triangle_paint, upper_half, lower_half}
+use Rattle.prim_draw.specs.declared.coat.Coat.{Coat}
+use Rattle.prim_draw.specs.declared.rectangles.Extent.{Extent}
+use Rattle.prim_draw.specs.declared.rectangles.Tile.{Tile}
+use Rattle.prim_draw.specs.declared.style.Style.{Style}
+use Rattle.prim_draw.specs.declared.polygon.Polygon.{Polygon}
+use Rattle.prim_draw.specs.Apart.{SameAt}
+use Rattle.prim_draw.specs.Staying.{DrawingIsLocal}
+use Rattle.prim_draw.proofs.ApartLemmas.{IsLocal, cells_same, each_same}
+
+-- ---- paints
+
+abbrev IsPlainPaint : Paint → Type 0
+IsPlainPaint (Flat color) = Unit {0}
+IsPlainPaint (Shaded tri) = Unit {0}
+IsPlainPaint (TexturedTri tri texture) = ⊥
+IsPlainPaint (TexturedRow color texture u v flip) = ⊥
+
+plain_local : (paint : Paint) (brush : Brush) → IsPlainPaint paint
+    → IsLocal (λ cell m. paint_pixel paint brush cell.x cell.y 0 m)
+plain_local (Flat color) brush plain = λ cell m now same. rw same refl
+plain_local (Shaded tri) brush plain = λ cell m now same. rw same refl
+plain_local (TexturedTri tri texture) brush plain = absurd plain
+plain_local (TexturedRow color texture u v flip) brush plain = absurd plain
+
+-- ---- triangles
+
+inside_same : (coat : Coat) (t : Corners) (b : Option Box2) (k : ℕ) (m now : List ℕ) → IsPlainPaint coat.paint
+    → SameAt k m now → SameAt k (drawn_inside coat t b m) (drawn_inside coat t b now)
+inside_same coat t None k m now plain same = same
+inside_same coat t (Some b) k m now plain same = cells_same (pixel_at coat) coat.brush.mask k
+    (plain_local coat.paint coat.brush plain) (filter (draws t) (cells_of (block_of b))) m now same
+
+flat_or_shaded : (b : Bool) (color : ℕ) (t : Corners) → IsPlainPaint (cond b (Shaded t) (Flat color))
+flat_or_shaded true color t = tt
+flat_or_shaded false color t = tt
+
+plain_paint : (r : Registers) (style : Style) (t : Corners) → style.textured ≡ false
+    → IsPlainPaint (triangle_paint r style t)
+unfolding triangle_paint
+plain_paint r style t e = rw e (flat_or_shaded style.shaded style.color t)
+
+triangle_same : (r : Registers) (style : Style) (t : Corners) (k : ℕ) (m now : List ℕ) → style.textured ≡ false
+    → SameAt k m now → SameAt k (drawn_triangle r style t m) (drawn_triangle r style t now)
+unfolding drawn_triangle triangle_coat
+triangle_same r style t k m now e same = inside_same (triangle_coat r style t) t (triangle_box r t) k m now
+    (plain_paint r style t e) same
+
+polygon_same : (r : Registers) (style : Style) (p : Polygon) (k : ℕ) (m now : List ℕ) → style.textured ≡ false
+    → SameAt k m now
+    → SameAt k (drawn_polygon r style p m) (drawn_polygon r style p now)
+unfolding drawn_polygon
+polygon_same r style p k m now e same = by_test p.four
+  where
+    by_test : (b : Bool)
+        → SameAt k
+        (cond b (drawn_triangle r style (lower_half r p) (drawn_triangle r style (upper_half r p) m))
+        (drawn_triangle r style (upper_half r p) m))
+        (cond b (drawn_triangle r style (lower_half r p) (drawn_triangle r style (upper_half r p) now))
+        (drawn_triangle r style (upper_half r p) now))
+    by_test true = triangle_same r style (lower_half r p) k _ _ e
+        (triangle_same r style (upper_half r p) k m now e same)
+    by_test false = triangle_same r style (upper_half r p) k m now e same
+
+-- ---- rectangles
+
+tile_local : (tile : Tile) (e : Extent) → tile.texture ≡ None → IsLocal (tile_pixel tile e)
+unfolding tile_paint
+tile_local tile e none = λ cell m now same. rw none (rw same refl)
+
+all_same : (tile : Tile) (e : Extent) (b : Option Box2) (k : ℕ) (m now : List ℕ) → tile.texture ≡ None
+    → SameAt k m now → SameAt k (drawn_all tile e b m) (drawn_all tile e b now)
+all_same tile e None k m now none same = same
+all_same tile e (Some b) k m now none same = cells_same (tile_pixel tile e) tile.brush.mask k (tile_local tile e none)
+    (cells_of (block_of b)) m now same
+
+rectangle_same : (r : Registers) (tile : Tile) (e : Extent) (k : ℕ) (m now : List ℕ) → tile.texture ≡ None
+    → SameAt k m now
+    → SameAt k (drawn_rectangle r tile e m) (drawn_rectangle r tile e now)
+unfolding drawn_rectangle
+rectangle_same r tile e k m now none same = all_same tile e (rectangle_box r e) k m now none same
+
+plain_tile : (r : Registers) (color : ℕ) (semi raw : Bool) (u v clut : ℕ)
+    → (tile_in r (rectangle_style color false semi raw clut) u v).texture ≡ None
+unfolding tile_in
+plain_tile r color semi raw u v clut = refl
+
+-- ---- lines
+
+point_same : (area : Box2) (brush : Brush) (p : Vertex) (k : ℕ) (m now : List ℕ) → SameAt k m now
+    → SameAt k (drawn_point area brush p m) (drawn_point area brush p now)
+unfolding drawn_point
+point_same area brush p k m now same = by_test (is_in area p)
+  where
+    by_test : (b : Bool)
+        → SameAt k
+        (cond b (Cells (pixel_at (record { paint = Flat p.color; brush = brush })) brush.mask (cell_at p ∷ []) m) m)
+        (cond b (Cells (pixel_at (record { paint = Flat p.color; brush = brush })) brush.mask
+        (cell_at p ∷ []) now) now)
+    by_test true = cells_same (pixel_at (record { paint = Flat p.color; brush = brush })) brush.mask k
+        (plain_local (Flat p.color) brush tt) (cell_at p ∷ []) m now same
+    by_test false = same
+
+points_same : (area : Box2) (brush : Brush) (s : Ends) (n k : ℕ) (m now : List ℕ) → SameAt k m now
+    → SameAt k (drawn_points area brush s n m) (drawn_points area brush s n now)
+points_same area brush s n k m now same =
+    each_same (SameAt k) (λ i. drawn_point area brush (point_of s i)) n m now same
+    (λ i a b h. point_same area brush (point_of s i) k a b h)
+
+ends_same : (r : Registers) (semi : Bool) (s : Ends) (k : ℕ) (m now : List ℕ) → SameAt k m now
+    → SameAt k (drawn_ends r semi s m) (drawn_ends r semi s now)
+unfolding drawn_ends
+ends_same r semi s k m now same = by_test (is_near s.first s.second)
+  where
+    by_test : (b : Bool) → SameAt k (cond b (drawn_points (drawing_area r) (brush_in r semi true) s (len_of s) m) m)
+        (cond b (drawn_points (drawing_area r) (brush_in r semi true) s (len_of s) now) now)
+    by_test true = points_same (drawing_area r) (brush_in r semi true) s (len_of s) k m now same
+    by_test false = same
+
+-- ---- packets
+
+pub drawing_is_local : DrawingIsLocal
+unfolding Draw
+drawing_is_local r (packet.Poly four a b c d shaded true semi raw clut page) k m now plain same = absurd plain
+drawing_is_local r (packet.Poly four a b c d shaded false semi raw clut page) k m now plain same =
+    polygon_same r (polygon_style shaded false semi raw clut a) (polygon four a b c d) k m now refl same
+drawing_is_local r (packet.Segment a b semi) k m now plain same = ends_same r semi (placed_ends r a b) k m now same
+drawing_is_local r (packet.Rect x y w h color true semi raw u v clut) k m now plain same = absurd plain
+drawing_is_local r (packet.Rect x y w h color false semi raw u v clut) k m now plain same =
+    rectangle_same r (tile_in r (rectangle_style color false semi raw clut) u v) (extent_at r x y w h) k m now
+    (plain_tile r color semi raw u v clut) same
+drawing_is_local r (packet.Fill color x y w h) k m now plain same = same
+drawing_is_local r (packet.Copy from to w h) k m now plain same = same
+drawing_is_local r (packet.Load x y w h) k m now plain same = same
+drawing_is_local r (packet.Store x y w h) k m now plain same = same
+drawing_is_local r (packet.Pixels word) k m now plain same = same
+drawing_is_local r (packet.Env index value) k m now plain same = same
+drawing_is_local r packet.Irq k m now plain same = same
+drawing_is_local r packet.Nop k m now plain same = same
+drawing_is_local r packet.Finish k m now plain same = same

@@ -1,0 +1,27 @@
+-- What drawing changes, and what it reads.
+use Rattle.std.specs.Prelude.{ℕ, List, Bool, true, false}
+use Rattle.gp0_packets.specs.declared.packet.Packet.{Packet}
+use Rattle.gp0_packets.specs.declared.packet.Packet.TheVariants as packet
+use Rattle.gp1_status.specs.Registers.{Registers}
+use Rattle.prim_draw.specs.Areas.{area_of}
+use Rattle.prim_draw.specs.Draw.{Draw}
+use Rattle.prim_draw.specs.Apart.{AgreeOutside, SameAt}
+
+-- no cell outside of a packet's area changes; where there is none, none at all
+abbrev pub DrawingStays : Type 0
+DrawingStays = (r : Registers) (p : Packet) (m : List ℕ) → AgreeOutside (area_of r p) m (Draw r p m)
+
+abbrev pub IsPlain : Bool → Type 0
+IsPlain true = ⊥
+IsPlain false = Unit {0}
+
+-- it samples no texture
+abbrev pub IsUntextured : Packet → Type 0
+IsUntextured (packet.Poly four a b c d shaded textured semi raw clut page) = IsPlain textured
+IsUntextured (packet.Rect x y w h color textured semi raw u v clut) = IsPlain textured
+IsUntextured other = Unit {0}
+
+-- where two states agree at a cell, they do so after the same drawing without texture
+abbrev pub DrawingIsLocal : Type 0
+DrawingIsLocal = (r : Registers) (p : Packet) (k : ℕ) (m now : List ℕ) → IsUntextured p → SameAt k m now
+    → SameAt k (Draw r p m) (Draw r p now)
