@@ -1,4 +1,5 @@
-//! Laws of the window, each of them the contract of a function that does nothing.
+//! Laws of the window and of what it leaves, each of them the contract of a function that does nothing.
+ghost use Rattle.dead_drawing.specs.Laws.{SlimReplaysAlike};
 ghost use Rattle.capture_slim.specs.Places.{PlacesLaw};
 ghost use Rattle.capture_slim.specs.Stream.{LeavesLaw, StreamLaw};
 
@@ -12,4 +13,10 @@ pub fn places_are_slim()
 pub fn window_leaves_slim()
     ensures stream { StreamLaw }
     ensures leaves { LeavesLaw }
+{}
+
+/// In every version, a list of events of the ports shows the same words without its dead packets, and leaves the same
+/// status word and video memory.
+pub fn slim_replays_alike()
+    ensures { SlimReplaysAlike }
 {}
