@@ -1,5 +1,5 @@
 -- A palette that is drawn by its entries.
-use Rattle.std.proofs.Common.{◌≡◌, ◌≢◌, ◌<◌, ◌≤◌, ℕ, List, ◌+◌, ◌*◌, ◌/◌, ◌%◌, sym, ◌∙◌, arith}
+use Rattle.std.proofs.Common.{◌≡◌, ◌≢◌, ◌≤◌, ℕ, List, ◌+◌, ◌*◌, ◌/◌, ◌%◌, sym, ◌∙◌, arith}
 use Rattle.texture_page.specs.Page.{clut_place}
 use Rattle.vram_store.specs.Chunk.{AgreesApart}
 use Rattle.span_lanes.specs.declared.span.Texture.{Texture}

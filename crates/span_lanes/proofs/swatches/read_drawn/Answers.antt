@@ -1,5 +1,4 @@
-use Rattle.std.proofs.Common.{◌∙◌, ◌<◌, ℕ, slice_index, sym, ap, pos, arith}
-use Rattle.texture_page.specs.Page.{index_in}
+use Rattle.std.proofs.Common.{◌∙◌, ◌<◌, sym, ap, pos, arith}
 use Rattle.span_lanes.specs.Shade.{front_of}
 use Rattle.span_lanes.proofs.TexelLemmas.{texel_four}
 use Rattle.span_lanes.proofs.swatches.read_drawn.Goals as goal

@@ -1,4 +1,4 @@
-use Rattle.std.proofs.Common.{◌+◌, ◌∙◌, ◌&&◌, not, ℕ, ◌≡◌, ◌<◌, arith}
+use Rattle.std.proofs.Common.{◌+◌, ◌&&◌, not, ℕ, ◌≡◌, arith}
 use Rattle.span_lanes.proofs.BlindLemmas.{span_blind}
 use Rattle.span_lanes.proofs.ColorLemmas.{no_shift}
 use Rattle.span_lanes.proofs.PlanLemmas.{coordinates_here, texels_here, apart_cost}
