@@ -8,16 +8,15 @@ use Rattle.psxgpu_tool.specs.Command.{names_of, AreNames}
 use Rattle.psxgpu_tool.specs.declared.command.Command.{Command}
 use Rattle.psxgpu_tool.specs.declared.command.Command.TheVariants.{Plays, Flat, Slim, Demo, Help, Version}
 
--- a number by which names differ: the first two letters
-abbrev first_letters : List (List ℕ) → ℕ
-first_letters names =
-    let name = slice_index_or names 0 [] in 256 * slice_index_or name 0 0 + slice_index_or name 1 0
+-- a number by which names differ: the first letter
+abbrev first_letter : List (List ℕ) → ℕ
+first_letter names = slice_index_or (slice_index_or names 0 []) 0 0
 
 letters : (names : List (List ℕ)) (a b : Command) → names ≡ names_of a → names ≡ names_of b
-    → first_letters (names_of a) ≡ first_letters (names_of b)
-letters names a b one other = ap first_letters (sym one ∙ other)
+    → first_letter (names_of a) ≡ first_letter (names_of b)
+letters names a b one other = ap first_letter (sym one ∙ other)
 
-same_letter : (a b : Mode) → first_letters (names_of (Plays a)) ≡ first_letters (names_of (Plays b)) → a ≡ b
+same_letter : (a b : Mode) → first_letter (names_of (Plays a)) ≡ first_letter (names_of (Plays b)) → a ≡ b
 same_letter Words Words e = refl
 same_letter Words Vram e = absurd (omega (arith, e))
 same_letter Words Shot e = absurd (omega (arith, e))
@@ -49,39 +48,29 @@ same_mode names a b one other = same_letter a b (letters names (Plays a) (Plays 
 
 -- ---- a command that reads, and one that does not
 
-abbrev dashes : ℕ
-dashes = 11565
+abbrev dash : ℕ
+dash = 45
 
-no_dash : (a : Mode) → first_letters (names_of (Plays a)) ≡ dashes → ⊥
+no_dash : (a : Mode) → first_letter (names_of (Plays a)) ≡ dash → ⊥
 no_dash Words e = omega (arith, e)
 no_dash Vram e = omega (arith, e)
 no_dash Shot e = omega (arith, e)
 no_dash Listing e = omega (arith, e)
 no_dash Report e = omega (arith, e)
 
-no_demo : (a : Mode) → first_letters (names_of (Plays a)) ≡ 25701 → ⊥
+no_demo : (a : Mode) → first_letter (names_of (Plays a)) ≡ 100 → ⊥
 no_demo Words e = omega (arith, e)
 no_demo Vram e = omega (arith, e)
 no_demo Shot e = omega (arith, e)
 no_demo Listing e = omega (arith, e)
 no_demo Report e = omega (arith, e)
 
-no_flat : (a : Mode) → first_letters (names_of (Plays a)) ≡ 26220 → ⊥
+no_flat : (a : Mode) → first_letter (names_of (Plays a)) ≡ 102 → ⊥
 no_flat Words e = omega (arith, e)
 no_flat Vram e = omega (arith, e)
 no_flat Shot e = omega (arith, e)
 no_flat Listing e = omega (arith, e)
 no_flat Report e = omega (arith, e)
-
-no_slim : (a : Mode) → first_letters (names_of (Plays a)) ≡ 29548 → ⊥
-no_slim Words e = omega (arith, e)
-no_slim Vram e = omega (arith, e)
-no_slim Shot e = omega (arith, e)
-no_slim Listing e = omega (arith, e)
-no_slim Report e = omega (arith, e)
-
-pub plays_no_slim : (names : List (List ℕ)) (a : Mode) → names ≡ names_of (Plays a) → names ≡ names_of Slim → ⊥
-plays_no_slim names a one other = no_slim a (letters names (Plays a) Slim one other)
 
 pub plays_no_flat : (names : List (List ℕ)) (a : Mode) → names ≡ names_of (Plays a) → names ≡ names_of Flat → ⊥
 plays_no_flat names a one other = no_flat a (letters names (Plays a) Flat one other)
@@ -112,10 +101,36 @@ demo_no_version names n one other = let e = letters names (Demo n) Version one o
 pub demo_no_flat : (names : List (List ℕ)) (n : ℕ) → names ≡ names_of (Demo n) → names ≡ names_of Flat → ⊥
 demo_no_flat names n one other = let e = letters names (Demo n) Flat one other in omega (arith, e)
 
+-- ---- flat
+
+pub flat_no_help : (names : List (List ℕ)) → names ≡ names_of Flat → names ≡ names_of Help → ⊥
+flat_no_help names one other = let e = letters names Flat Help one other in omega (arith, e)
+
+pub flat_no_version : (names : List (List ℕ)) → names ≡ names_of Flat → names ≡ names_of Version → ⊥
+flat_no_version names one other = let e = letters names Flat Version one other in omega (arith, e)
+
+-- ---- slim
+
+-- names that begin with the same letter differ in the third
+abbrev third_letter : List (List ℕ) → ℕ
+third_letter names = slice_index_or (slice_index_or names 0 []) 2 0
+
+thirds : (names : List (List ℕ)) (a b : Command) → names ≡ names_of a → names ≡ names_of b
+    → third_letter (names_of a) ≡ third_letter (names_of b)
+thirds names a b one other = ap third_letter (sym one ∙ other)
+
+no_slim : (a : Mode) → third_letter (names_of (Plays a)) ≡ 105 → ⊥
+no_slim Words e = omega (arith, e)
+no_slim Vram e = omega (arith, e)
+no_slim Shot e = omega (arith, e)
+no_slim Listing e = omega (arith, e)
+no_slim Report e = omega (arith, e)
+
+pub plays_no_slim : (names : List (List ℕ)) (a : Mode) → names ≡ names_of (Plays a) → names ≡ names_of Slim → ⊥
+plays_no_slim names a one other = no_slim a (thirds names (Plays a) Slim one other)
+
 pub demo_no_slim : (names : List (List ℕ)) (n : ℕ) → names ≡ names_of (Demo n) → names ≡ names_of Slim → ⊥
 demo_no_slim names n one other = let e = letters names (Demo n) Slim one other in omega (arith, e)
-
--- ---- flat and slim
 
 pub flat_no_slim : (names : List (List ℕ)) → names ≡ names_of Flat → names ≡ names_of Slim → ⊥
 flat_no_slim names one other = let e = letters names Flat Slim one other in omega (arith, e)
@@ -125,9 +140,3 @@ slim_no_help names one other = let e = letters names Slim Help one other in omeg
 
 pub slim_no_version : (names : List (List ℕ)) → names ≡ names_of Slim → names ≡ names_of Version → ⊥
 slim_no_version names one other = let e = letters names Slim Version one other in omega (arith, e)
-
-pub flat_no_help : (names : List (List ℕ)) → names ≡ names_of Flat → names ≡ names_of Help → ⊥
-flat_no_help names one other = let e = letters names Flat Help one other in omega (arith, e)
-
-pub flat_no_version : (names : List (List ℕ)) → names ≡ names_of Flat → names ≡ names_of Version → ⊥
-flat_no_version names one other = let e = letters names Flat Version one other in omega (arith, e)

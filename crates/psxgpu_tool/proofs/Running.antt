@@ -19,7 +19,7 @@ use Rattle.event_play.proofs.BoxCosts.{costs_small}
 use Rattle.capture_flat.specs.Passing.{EndsFlat, IsEnding as IsFlatEnding, MayReadFault as MayReadFlat, MayWriteFault as MayWriteFlat}
 use Rattle.capture_flat.specs.declared.ending.FlatEnding.{FlatEnding}
 use Rattle.capture_flat.specs.declared.ending.FlatEnding.TheVariants as flat
-use Rattle.capture_slim.specs.Passing.{EndsSlim, IsEnding as IsSlimEnding, MayReadFault as MayReadSlim, MayWriteFault as MayWriteSlim}
+use Rattle.capture_slim.specs.Passing.{EndsSlim, IsEnding as IsSlimEnding, MayReadFault as MayReadSlim, MayWriteFault as MayWriteSlim, streams as slim_streams}
 use Rattle.capture_slim.specs.declared.ending.SlimEnding.{SlimEnding}
 use Rattle.capture_slim.specs.declared.ending.SlimEnding.TheVariants as slim
 use Rattle.px_num.specs.Height.{short_height}
@@ -28,16 +28,16 @@ use Rattle.psxgpu_tool.specs.Demo.{Demo, demo_words}
 use Rattle.psxgpu_tool.specs.DemoOut.{demo_bytes, demo_tale, DemoOut, DemoCost, DemoBoxCost, cells_cost}
 use Rattle.psxgpu_tool.specs.First.{first, seen}
 use Rattle.psxgpu_tool.specs.FlatRun.{FlatRun}
-use Rattle.psxgpu_tool.specs.SlimRun.{SlimRun, passed}
 use Rattle.psxgpu_tool.specs.Line.{status_of, ending_line, ending_text, flat_status, flat_text, slim_status, slim_text, usage_line}
 use Rattle.psxgpu_tool.specs.Outside.{Outside, Says, HasFailed, HasFailedToRead, EndsTelling}
 use Rattle.psxgpu_tool.specs.Run.{Whole, Refused, Starved, Cut, EndsAsCaptured, WithinCost, WithinBoxCost, Tells, Declined, DemoRun, Runs}
+use Rattle.psxgpu_tool.specs.SlimRun.{SlimRun}
 use Rattle.psxgpu_tool.specs.Words.{HavePlayed, whole_replay}
 use Rattle.psxgpu_tool.specs.declared.command.Command.TheVariants.{Plays, Flat, Slim, Demo as DemoOf, Help, Version}
 use Rattle.psxgpu_tool.proofs.First.{first_stands, first_short}
 use Rattle.psxgpu_tool.proofs.Flats.{flat_three, flat_four, flat_whole, flat_complete}
-use Rattle.psxgpu_tool.proofs.Slims.{slim_three, slim_four, slim_whole}
-use Rattle.psxgpu_tool.proofs.Commands.{same_mode, plays_no_help, plays_no_version, plays_no_demo, plays_no_flat, plays_no_slim, same_demo, demo_no_help, demo_no_version, demo_no_flat, demo_no_slim, flat_no_help, flat_no_version, flat_no_slim, slim_no_help, slim_no_version}
+use Rattle.psxgpu_tool.proofs.Commands.{same_mode, plays_no_help, plays_no_version, plays_no_demo, plays_no_flat, same_demo, demo_no_help, demo_no_version, demo_no_flat, flat_no_help, flat_no_version, plays_no_slim, demo_no_slim, flat_no_slim, slim_no_help, slim_no_version}
+use Rattle.psxgpu_tool.proofs.Slims.{slim_three, slim_four, slim_whole, slim_complete}
 use Rattle.psxgpu_tool.proofs.Told.{three_starved, four_cut, if_told, whole_run, refused_run, starved_run, cut_run, complete_run, cost_run, box_cost_run}
 
 -- the statuses of endings
@@ -265,25 +265,32 @@ module _ (words : Vec (String Global) Global) (heard heard_now : List Reading) (
     few = (known_flat ending).few;
   }
 
--- a capture without dead drawing
+-- a capture without its dead drawing
 module _ (words : Vec (String Global) Global) (heard : List Reading) (before now : Outside) (ending : SlimEnding)
     (says : Says before.err now.err (slim_text ending heard)) (silent : slim_status ending ≡ 0 → now.err ≡ before.err) where
-  slim_run : EndsSlim (passed before) (passed now) ending → IsSlimEnding ending
-      → (MayReadSlim ending → HasFailedToRead before.source now.source)
-      → (MayWriteSlim ending → HasFailed before.out now.out) → now.steps ≡ before.steps
-      → SlimRun heard before now (slim_status ending)
-  slim_run ends is_ending read_cause write_cause free = record {
-    ends = inr (record { ending = ending; ends = ends; known = is_ending; status_is = refl; says = says });
+  slim_run_of : EndsSlim (slim_streams before.source.left before.out.held) (slim_streams now.source.left now.out.held) ending → IsSlimEnding ending
+      → (MayReadSlim ending → HasFailedToRead before.source now.source) → (MayWriteSlim ending → HasFailed before.out now.out)
+      → now.steps ≡ before.steps → SlimRun heard before now (slim_status ending)
+  slim_run_of ends is_ending read_cause write_cause free = record {
+    ends = inr (record {
+      ending = ending;
+      ends = ends;
+      known = is_ending;
+      status_is = refl;
+      says = says;
+      complete = λ read write few. if_told before.source.left _ (λ bytes told. slim_complete before now bytes told ending ends
+          (λ may. read (read_cause may)) (λ may. write (write_cause may)) few);
+    });
     whole = λ zero. if_told before.source.left _ (λ bytes told. slim_whole before now bytes told ending ends zero);
     starved = λ three. read_cause (slim_three ending three);
     cut = λ four. write_cause (slim_four ending four);
     free = free;
   }
 
-  pub slim_runs : Names words Slim → EndsSlim (passed before) (passed now) ending → IsSlimEnding ending
-      → (MayReadSlim ending → HasFailedToRead before.source now.source)
-      → (MayWriteSlim ending → HasFailed before.out now.out) → now.steps ≡ before.steps
-      → Runs words heard before now (slim_status ending)
+  pub slim_runs : Names words Slim
+      → EndsSlim (slim_streams before.source.left before.out.held) (slim_streams now.source.left now.out.held) ending → IsSlimEnding ending
+      → (MayReadSlim ending → HasFailedToRead before.source now.source) → (MayWriteSlim ending → HasFailed before.out now.out)
+      → now.steps ≡ before.steps → Runs words heard before now (slim_status ending)
   slim_runs named ends is_ending read_cause write_cause free = record {
     whole = λ m names. absurd (plays_no_slim _ m names.0 named.0);
     refused = λ m names. absurd (plays_no_slim _ m names.0 named.0);
@@ -293,7 +300,7 @@ module _ (words : Vec (String Global) Global) (heard : List Reading) (before now
     cost = λ m names. absurd (plays_no_slim _ m names.0 named.0);
     box_cost = λ m names. absurd (plays_no_slim _ m names.0 named.0);
     flat = λ names. absurd (flat_no_slim _ names.0 named.0);
-    slim = λ names. slim_run ends is_ending read_cause write_cause free;
+    slim = λ names. slim_run_of ends is_ending read_cause write_cause free;
     demo = λ n names. absurd (demo_no_slim _ n names.0 named.0);
     help = λ names. absurd (slim_no_help _ named.0 names.0);
     version = λ names. absurd (slim_no_version _ named.0 names.0);

@@ -15,8 +15,8 @@ use Rattle.psxgpu_tool.specs.DemoOut.{demo_tale, DemoOut, DemoCost, DemoBoxCost}
 use Rattle.psxgpu_tool.specs.First.{first, play_of, seen}
 use Rattle.psxgpu_tool.specs.FlatRun.{FlatRun}
 use Rattle.psxgpu_tool.specs.Line.{ending_line, ending_text, status_of, usage_line, memory_line}
-use Rattle.psxgpu_tool.specs.SlimRun.{SlimRun}
 use Rattle.psxgpu_tool.specs.Outside.{Outside, Says, HasFailed, HasFailedToRead}
+use Rattle.psxgpu_tool.specs.SlimRun.{SlimRun}
 use Rattle.psxgpu_tool.specs.declared.texts.TheConstants.{HELP, VERSION}
 use Rattle.psxgpu_tool.specs.declared.command.Command.TheVariants.{Plays, Flat, Slim, Demo, Help, Version}
 

@@ -46,7 +46,7 @@ pub fn end_flat<E: Sink, T: Listener>(err: &mut E, ending: FlatEnding, taps: &Ve
     status
 }
 
-/// The same for a run that writes a capture without dead drawing.
+/// The same for a run that writes a capture without its dead drawing.
 pub fn end_slim<E: Sink, T: Listener>(err: &mut E, ending: SlimEnding, taps: &Vec<T>) -> u8
     ensures status { result ≡ slim_status ending }
     ensures says { Says (sink_side (E.held err.old) (E.faults err.old)) (sink_side (E.held err.new) (E.faults err.new))
