@@ -24,7 +24,8 @@ use Rattle.capture_slim.specs.declared.saying.Saying.{Saying}
 use Rattle.capture_slim.specs.Telling.{area_by, area_at}
 use Rattle.capture_slim.specs.Window.{Window, IsBegun, judged, kept, kept_words, with_words, with_event, with_word, pushed_by, pushed, settled}
 use Rattle.capture_slim.specs.declared.slot.Slot.{Slot}
-use Rattle.capture_slim.proofs.Packets.{Shape, polygon, rectangle, line, shape_of, plain_kind, packet_is, next_of, last_item}
+use Rattle.dead_drawing.proofs.Droppable.{Shape, polygon, rectangle, line, shape_of, plain_kind, packet_is}
+use Rattle.dead_drawing.proofs.PacketWords.{next_of, last_item}
 use Rattle.capture_slim.proofs.SettlingLemmas.{kept_count, judged_count, settled_is_by}
 use Rattle.capture_slim.proofs.WindowLaw.{IsTaken, taken_more, taken_first}
 

@@ -21,7 +21,10 @@ use Rattle.capture_slim.specs.declared.slot.Mark.{Mark}
 use Rattle.capture_slim.specs.declared.slot.Mark.TheVariants.{Kept, Dropped, Open}
 use Rattle.capture_slim.specs.declared.slot.Slot.{Slot}
 use Rattle.capture_slim.specs.Window.{Window, settled, kept, kept_words, judged, dropped_words, with_words, with_event, with_word, pushed_by, pushed, out_of, resolved, start_of, value, left_of, all_left, waiting, IsBegun}
-use Rattle.capture_slim.proofs.Packets.{IsDroppable, shape_of, plain_kind, packet_is, held_of, first_of_all, control_last, control_part, control_stays, whole_regs}
+use Rattle.dead_drawing.specs.OnePacket.{IsDroppable}
+use Rattle.dead_drawing.proofs.Droppable.{shape_of, plain_kind, packet_is}
+use Rattle.dead_drawing.proofs.PacketWords.{held_of, first_of_all}
+use Rattle.dead_drawing.proofs.SlimLaw.{control_last, control_part, control_stays, whole_regs}
 use Rattle.capture_slim.proofs.WindowLemmas.{word_kept, word_gone, covered_zero, settled_is, resolved_append, kept_resolved, dropped_resolved, open_resolved, open_long}
 
 abbrev Outs : Type 0
