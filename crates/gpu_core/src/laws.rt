@@ -1,5 +1,5 @@
-//! What words and reads cost, and what decides how a machine goes on: laws that stand in the contracts of functions that
-//! do nothing.
+//! What words and reads cost, and what decides how a machine goes on: laws that stand in the contracts of functions
+//! that do nothing.
 ghost use Rattle.gpu_core.specs.Laws.{CostLaw, KeptDecides};
 
 /// Words of GP0 and reads cost at most four steps for each cell of a clipped box, of the rectangle of a fill or copy,
