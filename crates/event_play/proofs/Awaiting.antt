@@ -52,11 +52,12 @@ abbrev pub SaysNext : (List ℕ → Played) → Progress → Option (List ℕ) �
 SaysNext by_bytes p left (Ok event) t taken = (rest : List ℕ)
     → by_bytes (taken ++ rest) ≡ replayed t (then_events (event ∷ []) (capture_from p rest))
 SaysNext by_bytes p left (Err (ReadFault byte)) t taken = by_bytes taken ≡ stopped t (Truncated byte) []
-SaysNext by_bytes p left (Err (Truncated byte)) t taken = (by_bytes taken ≡ stopped t (Truncated byte) []) × IsAtEnd left
+SaysNext by_bytes p left (Err (Truncated byte)) t taken =
+    (by_bytes taken ≡ stopped t (Truncated byte) []) × IsAtEnd left
 SaysNext by_bytes p left (Err stop) t taken = (rest : List ℕ) → by_bytes (taken ++ rest) ≡ stopped t stop rest
 
-pub record Answers (by_bytes : List ℕ → Played) (p : Progress) (left : Option (List ℕ)) (next : Result Event Stop) (t : Tale)
-    (taken : List ℕ) : Type 0 where
+pub record Answers (by_bytes : List ℕ → Played) (p : Progress) (left : Option (List ℕ)) (next : Result Event Stop)
+    (t : Tale) (taken : List ℕ) : Type 0 where
   pub says : SaysNext by_bytes p left next t taken
   pub costs : (rest : List ℕ) → t.cost ≤ (by_bytes (taken ++ rest)).tale.cost
 
@@ -161,12 +162,14 @@ all_needed by_bytes t old xs ys goes was next part more is some =
     ]
 
 -- what is said of the bytes so far and of those of one step more
-pub goes_past : (by_bytes : List ℕ → Played) (t : Tale) (old : Progress) (xs ys rest : List ℕ) (c : Captured) → GoesOn by_bytes old t xs
-    → capture_from old (ys ++ rest) ≡ c → by_bytes ((xs ++ ys) ++ rest) ≡ replayed t c
-goes_past by_bytes t old xs ys rest c goes says = rw (append_assoc xs ys rest) (goes (ys ++ rest) ∙ ap (replayed t) says)
-
-stops_next : (by_bytes : List ℕ → Played) (t : Tale) (old new : Progress) (xs ys : List ℕ) (left : Option (List ℕ)) (stop : Stop)
+pub goes_past : (by_bytes : List ℕ → Played) (t : Tale) (old : Progress) (xs ys rest : List ℕ) (c : Captured)
     → GoesOn by_bytes old t xs
+    → capture_from old (ys ++ rest) ≡ c → by_bytes ((xs ++ ys) ++ rest) ≡ replayed t c
+goes_past by_bytes t old xs ys rest c goes says =
+    rw (append_assoc xs ys rest) (goes (ys ++ rest) ∙ ap (replayed t) says)
+
+stops_next : (by_bytes : List ℕ → Played) (t : Tale) (old new : Progress) (xs ys : List ℕ) (left : Option (List ℕ))
+    (stop : Stop) → GoesOn by_bytes old t xs
     → SaysStop stop old new.version ys left → SaysNext by_bytes new left (Err stop) t (xs ++ ys)
 stops_next by_bytes t old new xs ys left (ReadFault byte) goes says = goes ys ∙ ap (replayed t) says
 stops_next by_bytes t old new xs ys left (Truncated byte) goes says = (goes ys ∙ ap (replayed t) says.0, says.1)
@@ -192,7 +195,8 @@ module _ (mode : Mode) (by_bytes : List ℕ → Played) (before now : Streams) (
       (cost_grows reached.tale c.events c.ending c.rest)
 
   answered : (next : Result Event Stop) (taken : List ℕ) → now.left ≡ prepended taken left → AreNeeded old taken
-      → SaysNext by_bytes new left next reached.tale (reached.taken ++ taken) → Awaits mode by_bytes before read rig new next
+      → SaysNext by_bytes new left next reached.tale (reached.taken ++ taken)
+      → Awaits mode by_bytes before read rig new next
   answered next taken bytes needed says = record {
     taken = reached.taken ++ taken;
     bytes = taken_on before.left now.left left reached.taken taken reached.bytes bytes;

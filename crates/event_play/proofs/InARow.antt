@@ -86,15 +86,18 @@ words_short : (t : Tale) (words : List ℕ) (version byte : ℕ)
     → IsShort (replayed t (then_events (word_events words) (ended version (Truncated byte) []))).ending
 words_short t words version byte = rw (words_are t words (ended version (Truncated byte) [])) tt
 
-all_needed : (by_bytes : List ℕ → Played) (t : Tale) (old new : Progress) (before now : Option (List ℕ)) (xs words : List ℕ)
+all_needed : (by_bytes : List ℕ → Played) (t : Tale) (old new : Progress) (before now : Option (List ℕ))
+    (xs words : List ℕ)
     → GoesOn by_bytes old t xs
-    → AreAllNeeded by_bytes xs → (takes : TakesWords old new before now words) → AreAllNeeded by_bytes (xs ++ takes.taken)
+    → AreAllNeeded by_bytes xs → (takes : TakesWords old new before now words)
+    → AreAllNeeded by_bytes (xs ++ takes.taken)
 all_needed by_bytes t old new before now xs words goes was takes part more is some =
     elim (split xs takes.taken part more is) [
       | inl behind ↦
           let short = takes.needed behind.0 more behind.2 some in
           let fewer = take short.count words in
-          let e : by_bytes part ≡ replayed t (then_events (word_events fewer) (ended short.version (Truncated short.byte) [])) =
+          let e : by_bytes part
+          ≡ replayed t (then_events (word_events fewer) (ended short.version (Truncated short.byte) [])) =
           ap by_bytes behind.1 ∙ goes behind.0 ∙ ap (replayed t) short.is in
           rw e (words_short t fewer short.version short.byte)
       | inr inside ↦ was part inside.0 inside.1 inside.2
@@ -141,7 +144,8 @@ module _ (mode : Mode) (by_bytes : List ℕ → Played) (before : Streams) (left
         needed = all_needed by_bytes t p q left after reached.taken words reached.says reached.needed takes;
         tale = after_words t words;
         says = λ rest.
-            goes_past by_bytes t p reached.taken takes.taken rest (then_events (word_events words) (capture_from q rest))
+            goes_past by_bytes t p reached.taken takes.taken rest
+            (then_events (word_events words) (capture_from q rest))
             reached.says (takes.says rest)
             ∙ words_are t words (capture_from q rest);
         stands = record {

@@ -234,8 +234,8 @@ lacking_ends : (mode : Mode) (t : Tale) → lacks_picture mode t.state.gpu.parts
     → ending_under mode (whole t []) ≡ NoPicture (next_number t.played)
 lacking_ends mode t lacks = rw lacks refl
 
-module _ (mode : Mode) (by_bytes : List ℕ → Played) (before : Streams) (left : Option (List ℕ)) (mid now : Outlets) (rig : RigState)
-    (p : Progress) (stop : Stop)
+module _ (mode : Mode) (by_bytes : List ℕ → Played) (before : Streams) (left : Option (List ℕ)) (mid now : Outlets)
+    (rig : RigState) (p : Progress) (stop : Stop)
     (reached : Awaits mode by_bytes before (beside left mid) rig p (Err stop)) (is_small : AreSmall by_bytes)
     (same : now.heard ≡ mid.heard) where
   -- an ending behind the last event, by what it says and what was spent on the output
@@ -264,8 +264,8 @@ module _ (mode : Mode) (by_bytes : List ℕ → Played) (before : Streams) (left
   stop_costs steps rest = let grows = reached.says.costs rest in omega (arith, reached.cost, grows, steps)
 
 -- the end of the capture
-module _ (mode : Mode) (by_bytes : List ℕ → Played) (before : Streams) (left : Option (List ℕ)) (mid now : Outlets) (rig : RigState)
-    (p : Progress)
+module _ (mode : Mode) (by_bytes : List ℕ → Played) (before : Streams) (left : Option (List ℕ)) (mid now : Outlets)
+    (rig : RigState) (p : Progress)
     (reached : Awaits mode by_bytes before (beside left mid) rig p (Err End)) (is_small : AreSmall by_bytes)
     (same : now.heard ≡ mid.heard) where
   end_costs : lacks_picture mode reached.tale.state.gpu.parts.regs ≡ false
@@ -331,8 +331,8 @@ module _ (mode : Mode) (by_bytes : List ℕ → Played) (before : Streams) (left
       )
       refl (stop_costs mode by_bytes before left mid now rig p End reached is_small same steps)
 
-module _ (mode : Mode) (by_bytes : List ℕ → Played) (before : Streams) (left : Option (List ℕ)) (mid now : Outlets) (rig : RigState)
-    (p : Progress) where
+module _ (mode : Mode) (by_bytes : List ℕ → Played) (before : Streams) (left : Option (List ℕ)) (mid now : Outlets)
+    (rig : RigState) (p : Progress) where
   stopped_says : (stop : Stop) (t : Tale) (taken : List ℕ) → SaysNext by_bytes p left (Err stop) t taken → IsNotEnd stop
       → now.held ≡ appended before.held (lines_of mode t)
       → SaysEnding mode by_bytes t t taken before (beside left now) (Stopped (next_number t.played) stop)
@@ -343,27 +343,27 @@ module _ (mode : Mode) (by_bytes : List ℕ → Played) (before : Streams) (left
   stopped_says (BadRecord byte word) t taken says not held = (says, held)
   stopped_says (TooLong byte) t taken says not held = (says, held)
 
-  pub stop_ends : (stop : Stop) (reached : Awaits mode by_bytes before (beside left mid) rig p (Err stop)) → AreSmall by_bytes
-      → now.heard ≡ mid.heard
+  pub stop_ends : (stop : Stop) (reached : Awaits mode by_bytes before (beside left mid) rig p (Err stop))
+      → AreSmall by_bytes → now.heard ≡ mid.heard
       → (ending : Ending) → EndsAt mode reached.tale.state.gpu (next_number rig.played) stop mid now ending
       → EndsPlay mode by_bytes before (beside left now) rig ending
   stop_ends stop reached is_small same Done (is, writes) =
       let P : Stop → Type 0 = λ stop. (reached : Awaits mode by_bytes before (beside left mid) rig p (Err stop))
       → WritesEnd mode reached.tale.state.gpu mid now → EndsPlay mode by_bytes before (beside left now) rig Done in
-      subst P (sym is) (λ reached writes. done_ends mode by_bytes before left mid now rig p reached is_small same writes)
-      reached writes
+      subst P (sym is) (λ reached writes. done_ends mode by_bytes before left mid now rig p reached is_small same
+      writes) reached writes
   stop_ends stop reached is_small same (WriteFailed number) (is, at, writes) =
       let P : Stop → Type 0 = λ stop. (reached : Awaits mode by_bytes before (beside left mid) rig p (Err stop))
       → WritesEndPart mode reached.tale.state.gpu mid now
       → EndsPlay mode by_bytes before (beside left now) rig (WriteFailed number) in
-      subst P (sym is) (λ reached writes. finals_end mode by_bytes before left mid now rig p reached is_small same number
-      at writes) reached writes
+      subst P (sym is) (λ reached writes. finals_end mode by_bytes before left mid now rig p reached is_small same
+      number at writes) reached writes
   stop_ends stop reached is_small same (NoPicture number) (is, at, lacks, unchanged) =
       let P : Stop → Type 0 = λ stop. (reached : Awaits mode by_bytes before (beside left mid) rig p (Err stop))
       → lacks_picture mode reached.tale.state.gpu.parts.regs ≡ true
       → EndsPlay mode by_bytes before (beside left now) rig (NoPicture number) in
-      subst P (sym is) (λ reached lacks. lacks_end mode by_bytes before left mid now rig p reached is_small same number at
-      lacks unchanged) reached lacks
+      subst P (sym is) (λ reached lacks. lacks_end mode by_bytes before left mid now rig p reached is_small same
+      number at lacks unchanged) reached lacks
   stop_ends stop reached is_small same (Stopped number told) (at, is, not, unchanged) =
       let t = reached.tale in
       let Q : Ending → Type 0 = λ ending. EndsPlay mode by_bytes before (beside left now) rig ending in
@@ -372,7 +372,8 @@ module _ (mode : Mode) (by_bytes : List ℕ → Played) (before : Streams) (left
       let held : now.held ≡ mid.held = ap (λ (at : Outlets). at.held) unchanged in
       let steps : now.steps ≡ mid.steps = ap (λ (at : Outlets). at.steps) unchanged in
       subst Q e
-      (ends_behind mode by_bytes before left mid now rig p stop reached is_small same (Stopped (next_number t.played) stop)
+      (ends_behind mode by_bytes before left mid now rig p stop reached is_small same
+      (Stopped (next_number t.played) stop)
       (stopped_says stop t reached.taken reached.says.says not (held ∙ reached.held)) refl
       (stop_costs mode by_bytes before left mid now rig p stop reached is_small same steps))
   stop_ends stop reached is_small same (Faulted number fault) ends = absurd ends

@@ -68,8 +68,8 @@ pub record DueAtEnd (mode : Mode) (heard : List Reading) (by_bytes : List ℕ �
   pub last_is : last ≡ t
   pub bytes : due ≡ final_bytes mode (told_notes t.notes heard) t.state.gpu
 
--- What has been written begins all that there is to write. Of what is due at this number, and was to be written next, at
--- least one byte is lacking: all that was due before stands, and nothing that is due later.
+-- What has been written begins all that there is to write. Of what is due at this number, and was to be written next,
+-- at least one byte is lacking: all that was due before stands, and nothing that is due later.
 pub record LacksBytes (mode : Mode) (by_bytes : List ℕ → Played) (t last : Tale) (taken : List ℕ) (number : ℕ)
     (before now : Streams) : Type 0 where
   pub number_is : number ≡ next_number t.played
