@@ -1,4 +1,5 @@
 pub mod Alike
+pub mod AlikeStates
 pub mod Block
 pub mod Causes
 pub mod Costs

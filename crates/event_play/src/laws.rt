@@ -1,4 +1,5 @@
 //! Laws of events, each of them the contract of a function that does nothing.
+ghost use Rattle.event_play.specs.AlikeStates.{AlikeReplayAlike};
 ghost use Rattle.event_play.specs.Costs.{CostsAreSmall};
 ghost use Rattle.event_play.specs.Turns.{TurnsAreWhole};
 
@@ -13,4 +14,10 @@ pub fn turns_are_whole()
 /// pixel that it loads or reads.
 pub fn costs_are_small()
     ensures { CostsAreSmall }
+{}
+
+/// Machines that agree in all but their words, and whose words leave the same pending, replay every capture alike: they
+/// show the same words, tell the same notes, end the same way, cost the same and give the same output.
+pub fn alike_replay_alike()
+    ensures { AlikeReplayAlike }
 {}
