@@ -13,3 +13,4 @@ pub mod Firsts
 pub mod InARow
 pub mod DataWords
 pub mod AlikeStates
+pub mod Splits

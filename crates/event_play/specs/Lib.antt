@@ -14,6 +14,7 @@ pub mod Playing
 pub mod Ports
 pub mod Replay
 pub mod RigState
+pub mod Splits
 pub mod Step
 pub mod Stepping
 pub mod Streams
