@@ -4,6 +4,10 @@
 mod fault;
 mod outline;
 mod section;
+mod parts;
+mod taking;
+mod values;
 
 pub use fault::SnapFault;
 pub use outline::Outline;
+pub use taking::take_word;
