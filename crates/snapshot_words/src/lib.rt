@@ -5,9 +5,11 @@ mod fault;
 mod outline;
 mod section;
 mod parts;
+mod read;
 mod taking;
 mod values;
 
 pub use fault::SnapFault;
 pub use outline::Outline;
+pub use read::read_outline;
 pub use taking::take_word;
