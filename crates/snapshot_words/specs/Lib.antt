@@ -1,0 +1,6 @@
+pub mod Sections
+pub mod Values
+pub mod Outline
+pub mod Reading
+pub mod Taking
+pub mod Laws
