@@ -1,0 +1,4 @@
+pub mod Early
+pub mod Playing
+pub mod Reading
+pub mod Records
