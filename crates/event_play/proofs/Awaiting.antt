@@ -1,10 +1,10 @@
 -- How far playing a capture has come.
 use Rattle.std.proofs.Common.{◌≡◌, ◌≤◌, inl, inr, ℕ, suc, ◌+◌, ◌++◌, List, [], ◌∷◌, Option, Result, Ok, Err, OnOk, IfOk}
-use Rattle.std.proofs.Common.{IfErr, refl, ap, subst, ◌∙◌, append_assoc, arith}
+use Rattle.std.proofs.Common.{IfErr, Bool, cond, nat_lt, replicate, refl, ap, subst, ◌∙◌, append_assoc, arith}
 use Rattle.dev_io.specs.Device.{appended, prepended, IsAtEnd}
 use Rattle.dev_io.proofs.Appended.{appended-nil}
 use Rattle.dev_io.proofs.Parts.{taken_on}
-use Rattle.gpu_capture.specs.Capture.{Captured, ended, then_events, capture}
+use Rattle.gpu_capture.specs.Capture.{Captured, ended, then_events, records, capture}
 use Rattle.gpu_capture.proofs.Steps.{split}
 use Rattle.gpu_capture.proofs.Versions.{version_from}
 use Rattle.gpu_capture.specs.Reader.{AreNeeded, Takes, StopsAt, SaysStop, capture_from, IsStart, work_left}
@@ -15,23 +15,23 @@ use Rattle.gpu_capture.specs.declared.progress.Progress.{Progress}
 use Rattle.gpu_taps.specs.Tally.{Reading}
 use Rattle.event_play.specs.Out.{lines_of}
 use Rattle.event_play.specs.Playing.{AreAllNeeded}
-use Rattle.event_play.specs.Replay.{Tale, Played, from_state, replayed, raised, played_from, Play, next_number}
-use Rattle.event_play.specs.Replay.{ending_of}
+use Rattle.event_play.specs.Replay.{Tale, Played, from_state, replayed, raised, played_from, Play, played_behind}
+use Rattle.event_play.specs.Replay.{next_number, ending_of}
 use Rattle.event_play.specs.RigState.{RigState, StandsFor}
 use Rattle.event_play.specs.Step.{Machine}
 use Rattle.event_play.specs.Streams.{Streams, streams}
 use Rattle.event_play.specs.Told.{told_notes}
 use Rattle.event_play.specs.declared.ending.Mode.{Mode}
 use Rattle.event_play.proofs.Grows.{lines-none, cost_grows}
-use Rattle.event_play.proofs.Firsts.{IsFirst, raised_first}
+use Rattle.event_play.proofs.Firsts.{IsFirst, raised_first, from_first}
 
 -- The first bytes of the source were taken, and exactly what is due so far has been written and told. What the bytes
 -- say of this tale is left open here.
-pub record Reaches (mode : Mode) (first : Tale) (before now : Streams) (rig : RigState)
+pub record Reaches (mode : Mode) (by_bytes : List ℕ → Played) (before now : Streams) (rig : RigState)
     (Says : Tale → List ℕ → Type 0) : Type 0 where
   pub taken : List ℕ
   pub bytes : before.left ≡ prepended taken now.left
-  pub needed : AreAllNeeded first taken
+  pub needed : AreAllNeeded by_bytes taken
   pub tale : Tale
   pub says : Says tale taken
   pub stands : StandsFor rig tale
@@ -40,28 +40,29 @@ pub record Reaches (mode : Mode) (first : Tale) (before now : Streams) (rig : Ri
   pub cost : now.steps ≤ before.steps + tale.cost
 
 -- whatever follows, playing goes on from the tale at the reader's place
-abbrev pub GoesOn : Tale → Progress → Tale → List ℕ → Type 0
-GoesOn first p t taken = (rest : List ℕ) → Play first (taken ++ rest) ≡ replayed t (capture_from p rest)
+abbrev pub GoesOn : (List ℕ → Played) → Progress → Tale → List ℕ → Type 0
+GoesOn by_bytes p t taken = (rest : List ℕ) → by_bytes (taken ++ rest) ≡ replayed t (capture_from p rest)
 
 -- a replay that stays at a tale
 abbrev pub stopped : Tale → Stop → List ℕ → Played
 stopped t stop rest = record { tale = t; ending = ending_of (next_number t.played) stop; rest = rest }
 
 -- what the bytes say where the reader has answered an event that is not played yet, or a stop
-abbrev pub SaysNext : Tale → Progress → Option (List ℕ) → Result Event Stop → Tale → List ℕ → Type 0
-SaysNext first p left (Ok event) t taken = (rest : List ℕ)
-    → Play first (taken ++ rest) ≡ replayed t (then_events (event ∷ []) (capture_from p rest))
-SaysNext first p left (Err (ReadFault byte)) t taken = Play first taken ≡ stopped t (Truncated byte) []
-SaysNext first p left (Err (Truncated byte)) t taken = (Play first taken ≡ stopped t (Truncated byte) []) × IsAtEnd left
-SaysNext first p left (Err stop) t taken = (rest : List ℕ) → Play first (taken ++ rest) ≡ stopped t stop rest
+abbrev pub SaysNext : (List ℕ → Played) → Progress → Option (List ℕ) → Result Event Stop → Tale → List ℕ → Type 0
+SaysNext by_bytes p left (Ok event) t taken = (rest : List ℕ)
+    → by_bytes (taken ++ rest) ≡ replayed t (then_events (event ∷ []) (capture_from p rest))
+SaysNext by_bytes p left (Err (ReadFault byte)) t taken = by_bytes taken ≡ stopped t (Truncated byte) []
+SaysNext by_bytes p left (Err (Truncated byte)) t taken =
+    (by_bytes taken ≡ stopped t (Truncated byte) []) × IsAtEnd left
+SaysNext by_bytes p left (Err stop) t taken = (rest : List ℕ) → by_bytes (taken ++ rest) ≡ stopped t stop rest
 
-pub record Answers (first : Tale) (p : Progress) (left : Option (List ℕ)) (next : Result Event Stop) (t : Tale)
-    (taken : List ℕ) : Type 0 where
-  pub says : SaysNext first p left next t taken
-  pub costs : (rest : List ℕ) → t.cost ≤ (Play first (taken ++ rest)).tale.cost
+pub record Answers (by_bytes : List ℕ → Played) (p : Progress) (left : Option (List ℕ)) (next : Result Event Stop)
+    (t : Tale) (taken : List ℕ) : Type 0 where
+  pub says : SaysNext by_bytes p left next t taken
+  pub costs : (rest : List ℕ) → t.cost ≤ (by_bytes (taken ++ rest)).tale.cost
 
-abbrev pub Awaits : Mode → Tale → (before now : Streams) → RigState → Progress → Result Event Stop → Type 0
-Awaits mode first before now rig p next = Reaches mode first before now rig (Answers first p now.left next)
+abbrev pub Awaits : Mode → (List ℕ → Played) → (before now : Streams) → RigState → Progress → Result Event Stop → Type 0
+Awaits mode by_bytes before now rig p next = Reaches mode by_bytes before now rig (Answers by_bytes p now.left next)
 
 -- a bound on the events that are still to be played
 abbrev pub events_left : Progress → Result Event Stop → ℕ
@@ -71,47 +72,34 @@ events_left p (Err stop) = 0
 -- ---- the beginning
 
 -- none of the bytes up to the first answer is one too many
-first_needed : (first : Tale) (start : Progress) (taken : List ℕ) → IsStart start → AreNeeded start taken
-    → AreAllNeeded first taken
-first_needed first start taken is needed part more splits some =
-    let short = needed part more splits some in
-    let e : capture part ≡ ended short.version (Truncated short.byte) [] = rw is.version at short.is in
-    rw (ap (played_from first) e) tt
+first_needed : (first : Tale) (start : Progress) (taken : List ℕ) → AreNeeded start taken
+    → AreAllNeeded (played_behind first start) taken
+first_needed first start taken needed part more splits some =
+    let short = needed part more splits some in rw (ap (played_from first) short.is) tt
 
 -- what is said by the first answer of a reader, in a capture of this version
-says_first : (first : Tale) (start new : Progress) (event : Event) (taken : List ℕ) → IsStart start → 1 ≤ new.version
+says_first : (first : Tale) (start new : Progress) (event : Event) (taken : List ℕ) → 1 ≤ new.version
     → ((rest : List ℕ) → capture_from start (taken ++ rest) ≡ then_events (event ∷ []) (capture_from new rest))
-    → (rest : List ℕ) → Play first (taken ++ rest) ≡ replayed (raised first new.version)
+    → (rest : List ℕ) → played_behind first start (taken ++ rest) ≡ replayed (raised first new.version)
     (then_events (event ∷ []) (capture_from new rest))
-says_first first start new event taken is known says rest =
+says_first first start new event taken known says rest =
     let c = then_events (event ∷ []) (capture_from new rest) in
-    let e : capture (taken ++ rest) ≡ c = rw is.version at says rest in
-    ap (played_from first) e ∙ ap (λ version. replayed (raised first version) c) (version_from new rest known)
+    ap (played_from first) (says rest)
+    ∙ ap (λ version. replayed (raised first version) c) (version_from new rest known)
 
 stops_first : (first : Tale) (start new : Progress) (stop : Stop) (taken : List ℕ) (left : Option (List ℕ))
-    → IsStart start
-    → SaysStop stop start new.version taken left → SaysNext first new left (Err stop) (raised first new.version) taken
-stops_first first start new (ReadFault byte) taken left is says =
-    let e : capture taken ≡ ended new.version (Truncated byte) [] = rw is.version at says in ap (played_from first) e
-stops_first first start new (Truncated byte) taken left is says =
-    let e : capture taken ≡ ended new.version (Truncated byte) [] =
-    rw is.version at says.0 in (ap (played_from first) e, says.1)
-stops_first first start new End taken left is says =
-    λ rest. let e : capture (taken ++ rest) ≡ ended new.version End rest =
-    rw is.version at says rest in ap (played_from first) e
-stops_first first start new (NotCapture byte) taken left is says =
-    λ rest. let e : capture (taken ++ rest) ≡ ended new.version (NotCapture byte) rest =
-    rw is.version at says rest in ap (played_from first) e
-stops_first first start new (BadRecord byte word) taken left is says =
-    λ rest. let e : capture (taken ++ rest) ≡ ended new.version (BadRecord byte word) rest =
-    rw is.version at says rest in ap (played_from first) e
-stops_first first start new (TooLong byte) taken left is says =
-    λ rest. let e : capture (taken ++ rest) ≡ ended new.version (TooLong byte) rest =
-    rw is.version at says rest in ap (played_from first) e
+    → SaysStop stop start new.version taken left
+    → SaysNext (played_behind first start) new left (Err stop) (raised first new.version) taken
+stops_first first start new (ReadFault byte) taken left says = ap (played_from first) says
+stops_first first start new (Truncated byte) taken left says = (ap (played_from first) says.0, says.1)
+stops_first first start new End taken left says = λ rest. ap (played_from first) (says rest)
+stops_first first start new (NotCapture byte) taken left says = λ rest. ap (played_from first) (says rest)
+stops_first first start new (BadRecord byte word) taken left says = λ rest. ap (played_from first) (says rest)
+stops_first first start new (TooLong byte) taken left says = λ rest. ap (played_from first) (says rest)
 
 module _ (mode : Mode) (s : Machine) (played : ℕ) (left left_now held : Option (List ℕ)) (heard : List Reading)
     (steps : ℕ) (rig : RigState)
-    (start new : Progress) (is : IsStart start) (stands : StandsFor rig (raised (from_state s played) new.version))
+    (start new : Progress) (stands : StandsFor rig (raised (from_state s played) new.version))
   where
     abbrev begun : Tale
     begun = from_state s played
@@ -120,16 +108,17 @@ module _ (mode : Mode) (s : Machine) (played : ℕ) (left left_now held : Option
     profiled = raised begun new.version
 
     none : IsFirst profiled
-    none = raised_first begun new.version (record { shown = refl; notes = refl; cost = refl; box_cost = refl })
+    none = raised_first begun new.version (from_first s played)
 
     -- nothing was written, told or spent yet
     reached : (next : Result Event Stop) (taken : List ℕ) → left ≡ prepended taken left_now → AreNeeded start taken
-        → SaysNext begun new left_now next profiled taken
-        → Awaits mode begun (streams left held heard steps) (streams left_now held heard steps) rig new next
+        → SaysNext (played_behind begun start) new left_now next profiled taken
+        → Awaits mode (played_behind begun start) (streams left held heard steps) (streams left_now held heard steps)
+        rig new next
     reached next taken bytes needed says = record {
       taken = taken;
       bytes = bytes;
-      needed = first_needed begun start taken is needed;
+      needed = first_needed begun start taken needed;
       tale = profiled;
       says = record { says = says; costs = λ rest. omega (arith, none.cost) };
       stands = stands;
@@ -141,66 +130,77 @@ module _ (mode : Mode) (s : Machine) (played : ℕ) (left left_now held : Option
     pub starts : (next : Result Event Stop) → IfOk next (λ event. Takes start new left left_now (event ∷ []))
         → OnOk next (1 ≤ new.version)
         → IfErr next (λ stop. StopsAt start new left left_now stop)
-        → Awaits mode begun (streams left held heard steps) (streams left_now held heard steps) rig new next
+        → Awaits mode (played_behind begun start) (streams left held heard steps) (streams left_now held heard steps)
+        rig new next
     starts (Ok event) takes known stops =
         reached (Ok event) takes.taken takes.bytes takes.needed
-        (says_first begun start new event takes.taken is known takes.says)
+        (says_first begun start new event takes.taken known takes.says)
     starts (Err stop) takes known stops =
         reached (Err stop) stops.taken stops.bytes stops.needed
-        (stops_first begun start new stop stops.taken left_now is stops.says)
+        (stops_first begun start new stop stops.taken left_now stops.says)
+
+-- a new reader stands before a whole capture
+pub behind_start : (t : Tale) (p : Progress) → IsStart p → played_behind t p ≡ Play t
+behind_start t p start =
+    let played : Bool → List ℕ → Played = λ is bytes. played_from t
+    (cond is (then_events (replicate p.left p.repeated) (records p.version p.due p.place bytes)) (capture bytes)) in
+    ap played (ap (nat_lt 0) start.version)
 
 -- ---- the next answer
 
 -- the bytes so far, and those of one step more
-all_needed : (first t : Tale) (old : Progress) (xs ys : List ℕ) → GoesOn first old t xs
-    → AreAllNeeded first xs → AreNeeded old ys → AreAllNeeded first (xs ++ ys)
-all_needed first t old xs ys goes was next part more is some =
+all_needed : (by_bytes : List ℕ → Played) (t : Tale) (old : Progress) (xs ys : List ℕ) → GoesOn by_bytes old t xs
+    → AreAllNeeded by_bytes xs → AreNeeded old ys → AreAllNeeded by_bytes (xs ++ ys)
+all_needed by_bytes t old xs ys goes was next part more is some =
     elim (split xs ys part more is) [
       | inl behind ↦
           let short = next behind.0 more behind.2 some in
-          let e : Play first part ≡ replayed t (ended short.version (Truncated short.byte) []) =
-          ap (Play first) behind.1 ∙ goes behind.0 ∙ ap (replayed t) short.is in
+          let e : by_bytes part ≡ replayed t (ended short.version (Truncated short.byte) []) =
+          ap by_bytes behind.1 ∙ goes behind.0 ∙ ap (replayed t) short.is in
           rw e tt
       | inr inside ↦ was part inside.0 inside.1 inside.2
     ]
 
 -- what is said of the bytes so far and of those of one step more
-pub goes_past : (first t : Tale) (old : Progress) (xs ys rest : List ℕ) (c : Captured) → GoesOn first old t xs
-    → capture_from old (ys ++ rest) ≡ c → Play first ((xs ++ ys) ++ rest) ≡ replayed t c
-goes_past first t old xs ys rest c goes says = rw (append_assoc xs ys rest) (goes (ys ++ rest) ∙ ap (replayed t) says)
+pub goes_past : (by_bytes : List ℕ → Played) (t : Tale) (old : Progress) (xs ys rest : List ℕ) (c : Captured)
+    → GoesOn by_bytes old t xs
+    → capture_from old (ys ++ rest) ≡ c → by_bytes ((xs ++ ys) ++ rest) ≡ replayed t c
+goes_past by_bytes t old xs ys rest c goes says =
+    rw (append_assoc xs ys rest) (goes (ys ++ rest) ∙ ap (replayed t) says)
 
-stops_next : (first t : Tale) (old new : Progress) (xs ys : List ℕ) (left : Option (List ℕ)) (stop : Stop)
-    → GoesOn first old t xs
-    → SaysStop stop old new.version ys left → SaysNext first new left (Err stop) t (xs ++ ys)
-stops_next first t old new xs ys left (ReadFault byte) goes says = goes ys ∙ ap (replayed t) says
-stops_next first t old new xs ys left (Truncated byte) goes says = (goes ys ∙ ap (replayed t) says.0, says.1)
-stops_next first t old new xs ys left End goes says = λ rest. goes_past first t old xs ys rest
+stops_next : (by_bytes : List ℕ → Played) (t : Tale) (old new : Progress) (xs ys : List ℕ) (left : Option (List ℕ))
+    (stop : Stop) → GoesOn by_bytes old t xs
+    → SaysStop stop old new.version ys left → SaysNext by_bytes new left (Err stop) t (xs ++ ys)
+stops_next by_bytes t old new xs ys left (ReadFault byte) goes says = goes ys ∙ ap (replayed t) says
+stops_next by_bytes t old new xs ys left (Truncated byte) goes says = (goes ys ∙ ap (replayed t) says.0, says.1)
+stops_next by_bytes t old new xs ys left End goes says = λ rest. goes_past by_bytes t old xs ys rest
     (ended new.version End rest) goes (says rest)
-stops_next first t old new xs ys left (NotCapture byte) goes says =
-    λ rest. goes_past first t old xs ys rest (ended new.version (NotCapture byte) rest) goes (says rest)
-stops_next first t old new xs ys left (BadRecord byte word) goes says =
-    λ rest. goes_past first t old xs ys rest (ended new.version (BadRecord byte word) rest) goes (says rest)
-stops_next first t old new xs ys left (TooLong byte) goes says =
-    λ rest. goes_past first t old xs ys rest (ended new.version (TooLong byte) rest) goes (says rest)
+stops_next by_bytes t old new xs ys left (NotCapture byte) goes says =
+    λ rest. goes_past by_bytes t old xs ys rest (ended new.version (NotCapture byte) rest) goes (says rest)
+stops_next by_bytes t old new xs ys left (BadRecord byte word) goes says =
+    λ rest. goes_past by_bytes t old xs ys rest (ended new.version (BadRecord byte word) rest) goes (says rest)
+stops_next by_bytes t old new xs ys left (TooLong byte) goes says =
+    λ rest. goes_past by_bytes t old xs ys rest (ended new.version (TooLong byte) rest) goes (says rest)
 
-module _ (mode : Mode) (first : Tale) (before now : Streams) (rig : RigState) (old new : Progress)
+module _ (mode : Mode) (by_bytes : List ℕ → Played) (before now : Streams) (rig : RigState) (old new : Progress)
     (left : Option (List ℕ))
-    (reached : Reaches mode first before now rig (GoesOn first old)) where
+    (reached : Reaches mode by_bytes before now rig (GoesOn by_bytes old)) where
   abbrev read : Streams
   read = record now { left = left }
 
-  costs_past : (ys rest : List ℕ) → reached.tale.cost ≤ (Play first ((reached.taken ++ ys) ++ rest)).tale.cost
+  costs_past : (ys rest : List ℕ) → reached.tale.cost ≤ (by_bytes ((reached.taken ++ ys) ++ rest)).tale.cost
   costs_past ys rest =
       let c = capture_from old (ys ++ rest) in
-      rw (goes_past first reached.tale old reached.taken ys rest c reached.says refl)
+      rw (goes_past by_bytes reached.tale old reached.taken ys rest c reached.says refl)
       (cost_grows reached.tale c.events c.ending c.rest)
 
   answered : (next : Result Event Stop) (taken : List ℕ) → now.left ≡ prepended taken left → AreNeeded old taken
-      → SaysNext first new left next reached.tale (reached.taken ++ taken) → Awaits mode first before read rig new next
+      → SaysNext by_bytes new left next reached.tale (reached.taken ++ taken)
+      → Awaits mode by_bytes before read rig new next
   answered next taken bytes needed says = record {
     taken = reached.taken ++ taken;
     bytes = taken_on before.left now.left left reached.taken taken reached.bytes bytes;
-    needed = all_needed first reached.tale old reached.taken taken reached.says reached.needed needed;
+    needed = all_needed by_bytes reached.tale old reached.taken taken reached.says reached.needed needed;
     tale = reached.tale;
     says = record { says = says; costs = costs_past taken };
     stands = reached.stands;
@@ -210,18 +210,18 @@ module _ (mode : Mode) (first : Tale) (before now : Streams) (rig : RigState) (o
   }
 
   pub reads : (next : Result Event Stop) → IfOk next (λ event. Takes old new now.left left (event ∷ []))
-      → IfErr next (λ stop. StopsAt old new now.left left stop) → Awaits mode first before read rig new next
+      → IfErr next (λ stop. StopsAt old new now.left left stop) → Awaits mode by_bytes before read rig new next
   reads (Ok event) takes stops =
       answered (Ok event) takes.taken takes.bytes takes.needed
-      (λ rest. goes_past first reached.tale old reached.taken takes.taken rest
+      (λ rest. goes_past by_bytes reached.tale old reached.taken takes.taken rest
       (then_events (event ∷ []) (capture_from new rest)) reached.says (takes.says rest))
   reads (Err stop) takes stops =
       answered (Err stop) stops.taken stops.bytes stops.needed
-      (stops_next first reached.tale old new reached.taken stops.taken left stop reached.says stops.says)
+      (stops_next by_bytes reached.tale old new reached.taken stops.taken left stop reached.says stops.says)
 
 -- what is awaited, by what the reader has answered
-pub awaits_is : (mode : Mode) (first : Tale) (before now : Streams) (rig : RigState) (p : Progress)
+pub awaits_is : (mode : Mode) (by_bytes : List ℕ → Played) (before now : Streams) (rig : RigState) (p : Progress)
     (next other : Result Event Stop)
-    → next ≡ other → Awaits mode first before now rig p next → Awaits mode first before now rig p other
-awaits_is mode first before now rig p next other is awaits =
-    let P : Result Event Stop → Type 0 = λ next. Awaits mode first before now rig p next in subst P is awaits
+    → next ≡ other → Awaits mode by_bytes before now rig p next → Awaits mode by_bytes before now rig p other
+awaits_is mode by_bytes before now rig p next other is awaits =
+    let P : Result Event Stop → Type 0 = λ next. Awaits mode by_bytes before now rig p next in subst P is awaits

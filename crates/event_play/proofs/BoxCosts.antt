@@ -6,7 +6,7 @@ use Rattle.gpu_core.proofs.BoxCosts.{FeedCost-small, TakeCost-small}
 use Rattle.event_play.specs.Costs.{CostsAreSmall}
 use Rattle.event_play.specs.Fed.{fed_cost, fed_box_cost}
 use Rattle.event_play.specs.Out.{OutCost, OutBoxCost}
-use Rattle.event_play.specs.Replay.{Tale, Replay, Play, next_number, raised}
+use Rattle.event_play.specs.Replay.{Played, Replay, played_behind, next_number, raised, from_state}
 use Rattle.event_play.specs.Step.{Machine, Step, StepCost, StepBoxCost, step_cost, step_box_cost, work_cost}
 use Rattle.event_play.specs.Step.{work_box_cost, words_of}
 use Rattle.event_play.specs.Taken.{first_taken}
@@ -18,8 +18,9 @@ use Rattle.event_play.specs.declared.ending.Mode.{Mode}
 use Rattle.event_play.specs.declared.work.Work.{Work}
 use Rattle.event_play.specs.declared.work.Work.TheVariants as work
 use Rattle.event_play.proofs.Grows.{along}
-use Rattle.event_play.proofs.Firsts.{IsFirst, raised_first}
-use Rattle.gpu_capture.specs.Capture.{capture}
+use Rattle.event_play.proofs.Firsts.{raised_first, from_first}
+use Rattle.gpu_capture.specs.Reader.{capture_from}
+use Rattle.gpu_capture.specs.declared.progress.Progress.{Progress}
 
 fed_small : (s : State) (words : List ℕ) → fed_cost s words ≤ fed_box_cost s words
 fed_small s [] = omega arith
@@ -60,12 +61,18 @@ costs_small t (event ∷ events) stop rest before =
     (λ next. costs_small next events stop rest)
     (λ fault so_far. so_far) before
 
+-- what is played costs no more than it does by the boxes
+abbrev pub AreSmall : (List ℕ → Played) → Type 0
+AreSmall by_bytes = (bytes : List ℕ) → (by_bytes bytes).tale.cost ≤ (by_bytes bytes).tale.box_cost
+
+pub from_small : (s : Machine) (played : ℕ) (p : Progress) → AreSmall (played_behind (from_state s played) p)
+from_small s played p bytes =
+    let c = capture_from p bytes in
+    let first = raised (from_state s played) c.version in
+    let none = raised_first (from_state s played) c.version (from_first s played) in
+    costs_small first c.events c.ending c.rest (omega (arith, none.cost, none.box_cost))
+
 -- what playing spends, by the boxes
-pub within_boxes : (mode : Mode) (first : Tale) (bytes : List ℕ) (before now : ℕ) → IsFirst first
-    → now ≤ before + OutCost mode (Play first bytes) → now ≤ before + OutBoxCost mode (Play first bytes)
-within_boxes mode first bytes before now is within =
-    let c = capture bytes in
-    let none = raised_first first c.version is in
-    let small = costs_small (raised first c.version) c.events c.ending c.rest
-    (omega (arith, none.cost, none.box_cost)) in
-    omega (arith, within, small)
+pub within_boxes : (mode : Mode) (by_bytes : List ℕ → Played) (bytes : List ℕ) (before now : ℕ) → AreSmall by_bytes
+    → now ≤ before + OutCost mode (by_bytes bytes) → now ≤ before + OutBoxCost mode (by_bytes bytes)
+within_boxes mode by_bytes bytes before now small within = let less = small bytes in omega (arith, within, less)

@@ -22,7 +22,7 @@ use Rattle.gpu_taps.specs.Tally.{Reading}
 use Rattle.event_play.specs.Out.{lines_of}
 use Rattle.event_play.specs.PlayedWords.{after_word, after_words, IsTold, AreQuiet}
 use Rattle.event_play.specs.Playing.{AreAllNeeded, IsShort}
-use Rattle.event_play.specs.Replay.{Tale, after_event, replayed, Play, next_number}
+use Rattle.event_play.specs.Replay.{Tale, Played, after_event, replayed, next_number}
 use Rattle.event_play.specs.RigState.{RigState}
 use Rattle.event_play.specs.Step.{Step, StepCost, StepBoxCost}
 use Rattle.event_play.specs.Streams.{Outlets, Streams, streams, without_sink}
@@ -86,16 +86,19 @@ words_short : (t : Tale) (words : List ℕ) (version byte : ℕ)
     → IsShort (replayed t (then_events (word_events words) (ended version (Truncated byte) []))).ending
 words_short t words version byte = rw (words_are t words (ended version (Truncated byte) [])) tt
 
-all_needed : (first t : Tale) (old new : Progress) (before now : Option (List ℕ)) (xs words : List ℕ)
-    → GoesOn first old t xs
-    → AreAllNeeded first xs → (takes : TakesWords old new before now words) → AreAllNeeded first (xs ++ takes.taken)
-all_needed first t old new before now xs words goes was takes part more is some =
+all_needed : (by_bytes : List ℕ → Played) (t : Tale) (old new : Progress) (before now : Option (List ℕ))
+    (xs words : List ℕ)
+    → GoesOn by_bytes old t xs
+    → AreAllNeeded by_bytes xs → (takes : TakesWords old new before now words)
+    → AreAllNeeded by_bytes (xs ++ takes.taken)
+all_needed by_bytes t old new before now xs words goes was takes part more is some =
     elim (split xs takes.taken part more is) [
       | inl behind ↦
           let short = takes.needed behind.0 more behind.2 some in
           let fewer = take short.count words in
-          let e : Play first part ≡ replayed t (then_events (word_events fewer) (ended short.version (Truncated short.byte) [])) =
-          ap (Play first) behind.1 ∙ goes behind.0 ∙ ap (replayed t) short.is in
+          let e : by_bytes part
+          ≡ replayed t (then_events (word_events fewer) (ended short.version (Truncated short.byte) [])) =
+          ap by_bytes behind.1 ∙ goes behind.0 ∙ ap (replayed t) short.is in
           rw e (words_short t fewer short.version short.byte)
       | inr inside ↦ was part inside.0 inside.1 inside.2
     ]
@@ -118,15 +121,15 @@ same_running : (t : Tale) (words : List ℕ) → (after_words t words).state.run
 same_running t [] = refl
 same_running t (word ∷ words) = same_running (after_word t word) words
 
-module _ (mode : Mode) (first : Tale) (before : Streams) (left after held : Option (List ℕ))
+module _ (mode : Mode) (by_bytes : List ℕ → Played) (before : Streams) (left after held : Option (List ℕ))
     (heard heard_now : List Reading) (steps steps_now : ℕ) (was rig : RigState) (p q : Progress) (words : List ℕ)
-    (reached : Reaches mode first before (streams left held heard steps) was (GoesOn first p))
+    (reached : Reaches mode by_bytes before (streams left held heard steps) was (GoesOn by_bytes p))
     (quiet : AreQuiet mode words) (ram : rig.ram ≡ was.ram) (running : rig.running ≡ was.running)
     (tells : (t : Tale) (first : Outlets) → IsTold t first (without_sink heard steps) was.gpu was.played
     → IsTold (after_words t words) first (without_sink heard_now steps_now) rig.gpu rig.played) where
   -- words were taken and played
   pub words_play : TakesWords p q left after words
-      → Reaches mode first before (streams after held heard_now steps_now) rig (GoesOn first q)
+      → Reaches mode by_bytes before (streams after held heard_now steps_now) rig (GoesOn by_bytes q)
   words_play takes =
       let t = reached.tale in
       let told = tells t (without_sink before.heard before.steps) (record {
@@ -138,10 +141,11 @@ module _ (mode : Mode) (first : Tale) (before : Streams) (left after held : Opti
       record {
         taken = reached.taken ++ takes.taken;
         bytes = taken_on before.left left after reached.taken takes.taken reached.bytes takes.bytes;
-        needed = all_needed first t p q left after reached.taken words reached.says reached.needed takes;
+        needed = all_needed by_bytes t p q left after reached.taken words reached.says reached.needed takes;
         tale = after_words t words;
         says = λ rest.
-            goes_past first t p reached.taken takes.taken rest (then_events (word_events words) (capture_from q rest))
+            goes_past by_bytes t p reached.taken takes.taken rest
+            (then_events (word_events words) (capture_from q rest))
             reached.says (takes.says rest)
             ∙ words_are t words (capture_from q rest);
         stands = record {
@@ -158,18 +162,18 @@ module _ (mode : Mode) (first : Tale) (before : Streams) (left after held : Opti
       }
 
 -- words were taken and played, and then the reader stopped
-module _ (mode : Mode) (first : Tale) (before : Streams) (left after held : Option (List ℕ))
+module _ (mode : Mode) (by_bytes : List ℕ → Played) (before : Streams) (left after held : Option (List ℕ))
     (heard heard_now : List Reading) (steps steps_now : ℕ) (was rig : RigState) (p q : Progress) (words : List ℕ)
     (stop : Stop)
-    (reached : Reaches mode first before (streams left held heard steps) was (GoesOn first p))
+    (reached : Reaches mode by_bytes before (streams left held heard steps) was (GoesOn by_bytes p))
     (quiet : AreQuiet mode words) (ram : rig.ram ≡ was.ram) (running : rig.running ≡ was.running)
     (tells : (t : Tale) (first : Outlets) → IsTold t first (without_sink heard steps) was.gpu was.played
     → IsTold (after_words t words) first (without_sink heard_now steps_now) rig.gpu rig.played) where
   pub words_stop : StopsBehind p q left after words stop
-      → Awaits mode first before (streams after held heard_now steps_now) rig q (Err stop)
+      → Awaits mode by_bytes before (streams after held heard_now steps_now) rig q (Err stop)
   words_stop behind =
-      reads mode first before (streams behind.left held heard_now steps_now) rig behind.mid q after
-      (words_play mode first before left behind.left held heard heard_now steps steps_now was rig p behind.mid words
+      reads mode by_bytes before (streams behind.left held heard_now steps_now) rig behind.mid q after
+      (words_play mode by_bytes before left behind.left held heard heard_now steps steps_now was rig p behind.mid words
       reached quiet ram running tells behind.takes)
       (Err stop) tt behind.stops
 

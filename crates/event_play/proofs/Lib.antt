@@ -12,3 +12,5 @@ pub mod Turns
 pub mod Firsts
 pub mod InARow
 pub mod DataWords
+pub mod AlikeStates
+pub mod Splits

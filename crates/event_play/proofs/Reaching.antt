@@ -17,7 +17,7 @@ use Rattle.event_play.specs.Fed.{fed, fed_notes}
 use Rattle.event_play.specs.Lines.{lines_for, lines_of_notes}
 use Rattle.event_play.specs.Out.{lines_of, final_bytes, final_cost, ending_under, lacks_picture, Out, OutCost}
 use Rattle.event_play.specs.Playing.{SaysEnding, EndsPlay, IsLast, whole}
-use Rattle.event_play.specs.Replay.{Tale, part_fed, after_event, go_on, Replay, replayed, Play, next_number}
+use Rattle.event_play.specs.Replay.{Tale, Played, part_fed, after_event, go_on, Replay, replayed, next_number}
 use Rattle.event_play.specs.RigState.{RigState, StandsFor}
 use Rattle.event_play.specs.Step.{Machine, StepCost}
 use Rattle.event_play.specs.Streams.{Outlets, Streams, streams}
@@ -27,11 +27,10 @@ use Rattle.event_play.specs.declared.ending.Ending.TheVariants.{Done, Stopped, F
 use Rattle.event_play.specs.declared.ending.Mode.{Mode}
 use Rattle.event_play.specs.declared.fault.EventFault.{EventFault}
 use Rattle.event_play.proofs.Awaiting.{Reaches, GoesOn, Awaits, SaysNext}
-use Rattle.event_play.proofs.BoxCosts.{within_boxes}
+use Rattle.event_play.proofs.BoxCosts.{AreSmall, within_boxes}
 use Rattle.event_play.proofs.Feeds.{told-append}
 use Rattle.event_play.proofs.Grows.{lines-append, tale_on, after-event, out_grows, cost_within}
 use Rattle.event_play.proofs.Parts.{event_feeds, stops_listing, part_held, part_lines, part_cost, lines_fed_on}
-use Rattle.event_play.proofs.Firsts.{IsFirst}
 
 -- ---- one event more
 
@@ -63,11 +62,11 @@ spent_on before mid now a b was took = omega arith
 abbrev pub beside : Option (List ℕ) → Outlets → Streams
 beside left at = streams left at.held at.heard at.steps
 
-module _ (mode : Mode) (first : Tale) (before : Streams) (left : Option (List ℕ)) (mid now : Outlets)
+module _ (mode : Mode) (by_bytes : List ℕ → Played) (before : Streams) (left : Option (List ℕ)) (mid now : Outlets)
     (was rig : RigState) (p : Progress) (event : Event)
-    (reached : Awaits mode first before (beside left mid) was p (Ok event)) where
+    (reached : Awaits mode by_bytes before (beside left mid) was p (Ok event)) where
   pub plays_on : PlaysEvent mode reached.tale event mid now rig
-      → Reaches mode first before (beside left now) rig (GoesOn first p)
+      → Reaches mode by_bytes before (beside left now) rig (GoesOn by_bytes p)
   plays_on plays =
       let t = reached.tale in
       let next = tale_on t event plays.step.machine plays.shown plays.step.notes in
@@ -87,13 +86,13 @@ module _ (mode : Mode) (first : Tale) (before : Streams) (left : Option (List �
 
   -- ---- an event that ends playing
 
-  module _ (is_first : IsFirst first) where
+  module _ (is_small : AreSmall by_bytes) where
     -- an ending, by what it says, where the steps are those of a tale from which the replay goes on
-    ends_at : (t last : Tale) (ending : Ending) → SaysEnding mode first t last reached.taken before
+    ends_at : (t last : Tale) (ending : Ending) → SaysEnding mode by_bytes t last reached.taken before
         (beside left now) ending → IsLast t last ending
         → StandsFor rig last → now.heard ≡ told_notes last.notes before.heard
-        → ((rest : List ℕ) → now.steps ≤ before.steps + OutCost mode (Play first (reached.taken ++ rest)))
-        → EndsPlay mode first before (beside left now) rig ending
+        → ((rest : List ℕ) → now.steps ≤ before.steps + OutCost mode (by_bytes (reached.taken ++ rest)))
+        → EndsPlay mode by_bytes before (beside left now) rig ending
     ends_at t last ending says is_last stands heard cost = record {
       taken = reached.taken;
       bytes = reached.bytes;
@@ -105,12 +104,12 @@ module _ (mode : Mode) (first : Tale) (before : Streams) (left : Option (List �
       stands = stands;
       heard = heard;
       cost = cost;
-      box_cost = λ rest. within_boxes mode first (reached.taken ++ rest) before.steps now.steps is_first (cost rest);
+      box_cost = λ rest. within_boxes mode by_bytes (reached.taken ++ rest) before.steps now.steps is_small (cost rest);
     }
 
     fault_ends : (number : ℕ) (fault : EventFault) → number ≡ next_number reached.tale.played
         → FaultsEvent reached.tale event fault mid now was rig
-        → EndsPlay mode first before (beside left now) rig (Faulted number fault)
+        → EndsPlay mode by_bytes before (beside left now) rig (Faulted number fault)
     fault_ends number fault at faults =
         let t = reached.tale in
         let says = reached.says.says in
@@ -124,7 +123,7 @@ module _ (mode : Mode) (first : Tale) (before : Streams) (left : Option (List �
         (says rest) (omega (arith, reached.cost, steps)))
 
     shows_ends : (number : ℕ) → number ≡ next_number reached.tale.played → ShowsPart mode reached.tale event mid now rig
-        → EndsPlay mode first before (beside left now) rig (WriteFailed number)
+        → EndsPlay mode by_bytes before (beside left now) rig (WriteFailed number)
     shows_ends number at parts =
         let t = reached.tale in
         let next = tale_on t event parts.step.machine parts.shown parts.step.notes in
@@ -160,7 +159,7 @@ module _ (mode : Mode) (first : Tale) (before : Streams) (left : Option (List �
         (spent_on before.steps mid.steps now.steps t.cost (StepCost t.state event) reached.cost parts.step.cost))
 
     feeds_ends : (number : ℕ) → number ≡ next_number reached.tale.played → FeedsPart mode reached.tale event mid now rig
-        → EndsPlay mode first before (beside left now) rig (WriteFailed number)
+        → EndsPlay mode by_bytes before (beside left now) rig (WriteFailed number)
     feeds_ends number at parts =
         let t = reached.tale in
         let stop = parts.feeding in
@@ -212,7 +211,7 @@ module _ (mode : Mode) (first : Tale) (before : Streams) (left : Option (List �
         (StepCost t.state event) mid.steps now.steps feeds.cost stop.cost)))
 
     pub event_ends : (ending : Ending) → EndsEvent mode reached.tale event mid now was rig ending
-        → EndsPlay mode first before (beside left now) rig ending
+        → EndsPlay mode by_bytes before (beside left now) rig ending
     event_ends (Faulted number fault) ends = fault_ends number fault ends.0 ends.1
     event_ends (WriteFailed number) (at, inl parts) = feeds_ends number at parts
     event_ends (WriteFailed number) (at, inr parts) = shows_ends number at parts
@@ -235,16 +234,16 @@ lacking_ends : (mode : Mode) (t : Tale) → lacks_picture mode t.state.gpu.parts
     → ending_under mode (whole t []) ≡ NoPicture (next_number t.played)
 lacking_ends mode t lacks = rw lacks refl
 
-module _ (mode : Mode) (first : Tale) (before : Streams) (left : Option (List ℕ)) (mid now : Outlets) (rig : RigState)
-    (p : Progress) (stop : Stop)
-    (reached : Awaits mode first before (beside left mid) rig p (Err stop)) (is_first : IsFirst first)
+module _ (mode : Mode) (by_bytes : List ℕ → Played) (before : Streams) (left : Option (List ℕ)) (mid now : Outlets)
+    (rig : RigState) (p : Progress) (stop : Stop)
+    (reached : Awaits mode by_bytes before (beside left mid) rig p (Err stop)) (is_small : AreSmall by_bytes)
     (same : now.heard ≡ mid.heard) where
   -- an ending behind the last event, by what it says and what was spent on the output
-  ends_behind : (ending : Ending) → SaysEnding mode first reached.tale reached.tale reached.taken before
+  ends_behind : (ending : Ending) → SaysEnding mode by_bytes reached.tale reached.tale reached.taken before
       (beside left now) ending
       → IsLast reached.tale reached.tale ending
-      → ((rest : List ℕ) → now.steps ≤ before.steps + OutCost mode (Play first (reached.taken ++ rest)))
-      → EndsPlay mode first before (beside left now) rig ending
+      → ((rest : List ℕ) → now.steps ≤ before.steps + OutCost mode (by_bytes (reached.taken ++ rest)))
+      → EndsPlay mode by_bytes before (beside left now) rig ending
   ends_behind ending says is_last cost = record {
     taken = reached.taken;
     bytes = reached.bytes;
@@ -256,32 +255,32 @@ module _ (mode : Mode) (first : Tale) (before : Streams) (left : Option (List �
     stands = reached.stands;
     heard = same ∙ reached.heard;
     cost = cost;
-    box_cost = λ rest. within_boxes mode first (reached.taken ++ rest) before.steps now.steps is_first (cost rest);
+    box_cost = λ rest. within_boxes mode by_bytes (reached.taken ++ rest) before.steps now.steps is_small (cost rest);
   }
 
   -- nothing was spent since the last event
   stop_costs : now.steps ≡ mid.steps → (rest : List ℕ) → now.steps ≤ before.steps + OutCost mode
-      (Play first (reached.taken ++ rest))
+      (by_bytes (reached.taken ++ rest))
   stop_costs steps rest = let grows = reached.says.costs rest in omega (arith, reached.cost, grows, steps)
 
 -- the end of the capture
-module _ (mode : Mode) (first : Tale) (before : Streams) (left : Option (List ℕ)) (mid now : Outlets) (rig : RigState)
-    (p : Progress)
-    (reached : Awaits mode first before (beside left mid) rig p (Err End)) (is_first : IsFirst first)
+module _ (mode : Mode) (by_bytes : List ℕ → Played) (before : Streams) (left : Option (List ℕ)) (mid now : Outlets)
+    (rig : RigState) (p : Progress)
+    (reached : Awaits mode by_bytes before (beside left mid) rig p (Err End)) (is_small : AreSmall by_bytes)
     (same : now.heard ≡ mid.heard) where
   end_costs : lacks_picture mode reached.tale.state.gpu.parts.regs ≡ false
       → now.steps ≤ mid.steps + final_cost mode reached.tale.state.gpu
-      → (rest : List ℕ) → now.steps ≤ before.steps + OutCost mode (Play first (reached.taken ++ rest))
+      → (rest : List ℕ) → now.steps ≤ before.steps + OutCost mode (by_bytes (reached.taken ++ rest))
   end_costs shows spent rest =
       rw (reached.says.says rest, shows)
       (spent_on before.steps mid.steps now.steps reached.tale.cost
       (final_cost mode reached.tale.state.gpu) reached.cost spent)
 
-  done_ends : WritesEnd mode reached.tale.state.gpu mid now → EndsPlay mode first before (beside left now) rig Done
+  done_ends : WritesEnd mode reached.tale.state.gpu mid now → EndsPlay mode by_bytes before (beside left now) rig Done
   done_ends writes =
       let t = reached.tale in
       let heard : mid.heard ≡ told_notes t.notes before.heard = reached.heard in
-      ends_behind mode first before left mid now rig p End reached is_first same Done (
+      ends_behind mode by_bytes before left mid now rig p End reached is_small same Done (
         reached.says.says,
         shown_ends mode t writes.shows,
         writes.held ∙ ap (λ xs. appended xs (final_bytes mode mid.heard t.state.gpu)) reached.held
@@ -291,11 +290,11 @@ module _ (mode : Mode) (first : Tale) (before : Streams) (left : Option (List �
       refl (end_costs writes.shows writes.cost)
 
   finals_end : (number : ℕ) → number ≡ next_number rig.played → WritesEndPart mode reached.tale.state.gpu mid now
-      → EndsPlay mode first before (beside left now) rig (WriteFailed number)
+      → EndsPlay mode by_bytes before (beside left now) rig (WriteFailed number)
   finals_end number at writes =
       let t = reached.tale in
       let due = final_bytes mode mid.heard t.state.gpu in
-      ends_behind mode first before left mid now rig p End reached is_first same (WriteFailed number)
+      ends_behind mode by_bytes before left mid now rig p End reached is_small same (WriteFailed number)
       (record {
         number_is = at ∙ number_of rig t reached.stands;
         start = t;
@@ -319,24 +318,24 @@ module _ (mode : Mode) (first : Tale) (before : Streams) (left : Option (List �
 
   lacks_end : (number : ℕ) → number ≡ next_number rig.played
       → lacks_picture mode reached.tale.state.gpu.parts.regs ≡ true → now ≡ mid
-      → EndsPlay mode first before (beside left now) rig (NoPicture number)
+      → EndsPlay mode by_bytes before (beside left now) rig (NoPicture number)
   lacks_end number at lacks unchanged =
       let t = reached.tale in
       let held : now.held ≡ mid.held = ap (λ (at : Outlets). at.held) unchanged in
       let steps : now.steps ≡ mid.steps = ap (λ (at : Outlets). at.steps) unchanged in
-      ends_behind mode first before left mid now rig p End reached is_first same (NoPicture number) (
+      ends_behind mode by_bytes before left mid now rig p End reached is_small same (NoPicture number) (
         reached.says.says,
         lacking_ends mode t lacks ∙ ap NoPicture (sym (at ∙ number_of rig t reached.stands)),
         held
             ∙ reached.held,
       )
-      refl (stop_costs mode first before left mid now rig p End reached is_first same steps)
+      refl (stop_costs mode by_bytes before left mid now rig p End reached is_small same steps)
 
-module _ (mode : Mode) (first : Tale) (before : Streams) (left : Option (List ℕ)) (mid now : Outlets) (rig : RigState)
-    (p : Progress) where
-  stopped_says : (stop : Stop) (t : Tale) (taken : List ℕ) → SaysNext first p left (Err stop) t taken → IsNotEnd stop
+module _ (mode : Mode) (by_bytes : List ℕ → Played) (before : Streams) (left : Option (List ℕ)) (mid now : Outlets)
+    (rig : RigState) (p : Progress) where
+  stopped_says : (stop : Stop) (t : Tale) (taken : List ℕ) → SaysNext by_bytes p left (Err stop) t taken → IsNotEnd stop
       → now.held ≡ appended before.held (lines_of mode t)
-      → SaysEnding mode first t t taken before (beside left now) (Stopped (next_number t.played) stop)
+      → SaysEnding mode by_bytes t t taken before (beside left now) (Stopped (next_number t.played) stop)
   stopped_says End t taken says not held = absurd not
   stopped_says (ReadFault byte) t taken says not held = (says, held)
   stopped_says (Truncated byte) t taken says not held = (says.0, held, says.1)
@@ -344,36 +343,37 @@ module _ (mode : Mode) (first : Tale) (before : Streams) (left : Option (List �
   stopped_says (BadRecord byte word) t taken says not held = (says, held)
   stopped_says (TooLong byte) t taken says not held = (says, held)
 
-  pub stop_ends : (stop : Stop) (reached : Awaits mode first before (beside left mid) rig p (Err stop)) → IsFirst first
-      → now.heard ≡ mid.heard
+  pub stop_ends : (stop : Stop) (reached : Awaits mode by_bytes before (beside left mid) rig p (Err stop))
+      → AreSmall by_bytes → now.heard ≡ mid.heard
       → (ending : Ending) → EndsAt mode reached.tale.state.gpu (next_number rig.played) stop mid now ending
-      → EndsPlay mode first before (beside left now) rig ending
-  stop_ends stop reached is_first same Done (is, writes) =
-      let P : Stop → Type 0 = λ stop. (reached : Awaits mode first before (beside left mid) rig p (Err stop))
-      → WritesEnd mode reached.tale.state.gpu mid now → EndsPlay mode first before (beside left now) rig Done in
-      subst P (sym is) (λ reached writes. done_ends mode first before left mid now rig p reached is_first same writes)
-      reached writes
-  stop_ends stop reached is_first same (WriteFailed number) (is, at, writes) =
-      let P : Stop → Type 0 = λ stop. (reached : Awaits mode first before (beside left mid) rig p (Err stop))
+      → EndsPlay mode by_bytes before (beside left now) rig ending
+  stop_ends stop reached is_small same Done (is, writes) =
+      let P : Stop → Type 0 = λ stop. (reached : Awaits mode by_bytes before (beside left mid) rig p (Err stop))
+      → WritesEnd mode reached.tale.state.gpu mid now → EndsPlay mode by_bytes before (beside left now) rig Done in
+      subst P (sym is) (λ reached writes. done_ends mode by_bytes before left mid now rig p reached is_small same
+      writes) reached writes
+  stop_ends stop reached is_small same (WriteFailed number) (is, at, writes) =
+      let P : Stop → Type 0 = λ stop. (reached : Awaits mode by_bytes before (beside left mid) rig p (Err stop))
       → WritesEndPart mode reached.tale.state.gpu mid now
-      → EndsPlay mode first before (beside left now) rig (WriteFailed number) in
-      subst P (sym is) (λ reached writes. finals_end mode first before left mid now rig p reached is_first same number
-      at writes) reached writes
-  stop_ends stop reached is_first same (NoPicture number) (is, at, lacks, unchanged) =
-      let P : Stop → Type 0 = λ stop. (reached : Awaits mode first before (beside left mid) rig p (Err stop))
+      → EndsPlay mode by_bytes before (beside left now) rig (WriteFailed number) in
+      subst P (sym is) (λ reached writes. finals_end mode by_bytes before left mid now rig p reached is_small same
+      number at writes) reached writes
+  stop_ends stop reached is_small same (NoPicture number) (is, at, lacks, unchanged) =
+      let P : Stop → Type 0 = λ stop. (reached : Awaits mode by_bytes before (beside left mid) rig p (Err stop))
       → lacks_picture mode reached.tale.state.gpu.parts.regs ≡ true
-      → EndsPlay mode first before (beside left now) rig (NoPicture number) in
-      subst P (sym is) (λ reached lacks. lacks_end mode first before left mid now rig p reached is_first same number at
-      lacks unchanged) reached lacks
-  stop_ends stop reached is_first same (Stopped number told) (at, is, not, unchanged) =
+      → EndsPlay mode by_bytes before (beside left now) rig (NoPicture number) in
+      subst P (sym is) (λ reached lacks. lacks_end mode by_bytes before left mid now rig p reached is_small same
+      number at lacks unchanged) reached lacks
+  stop_ends stop reached is_small same (Stopped number told) (at, is, not, unchanged) =
       let t = reached.tale in
-      let Q : Ending → Type 0 = λ ending. EndsPlay mode first before (beside left now) rig ending in
+      let Q : Ending → Type 0 = λ ending. EndsPlay mode by_bytes before (beside left now) rig ending in
       let e : Stopped (next_number t.played) stop ≡ Stopped number told =
       ap (λ n. Stopped n stop) (sym (at ∙ number_of rig t reached.stands)) ∙ ap (Stopped number) (sym is) in
       let held : now.held ≡ mid.held = ap (λ (at : Outlets). at.held) unchanged in
       let steps : now.steps ≡ mid.steps = ap (λ (at : Outlets). at.steps) unchanged in
       subst Q e
-      (ends_behind mode first before left mid now rig p stop reached is_first same (Stopped (next_number t.played) stop)
+      (ends_behind mode by_bytes before left mid now rig p stop reached is_small same
+      (Stopped (next_number t.played) stop)
       (stopped_says stop t reached.taken reached.says.says not (held ∙ reached.held)) refl
-      (stop_costs mode first before left mid now rig p stop reached is_first same steps))
-  stop_ends stop reached is_first same (Faulted number fault) ends = absurd ends
+      (stop_costs mode by_bytes before left mid now rig p stop reached is_small same steps))
+  stop_ends stop reached is_small same (Faulted number fault) ends = absurd ends

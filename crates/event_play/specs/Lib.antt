@@ -1,4 +1,5 @@
 pub mod Alike
+pub mod AlikeStates
 pub mod Block
 pub mod Causes
 pub mod Costs
@@ -13,6 +14,7 @@ pub mod Playing
 pub mod Ports
 pub mod Replay
 pub mod RigState
+pub mod Splits
 pub mod Step
 pub mod Stepping
 pub mod Streams

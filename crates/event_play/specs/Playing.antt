@@ -1,4 +1,6 @@
--- A capture that is played as its bytes come.
+-- A capture that is played as its bytes come. Below, `by_bytes` says how bytes are played, from a tale and by what a
+-- reader makes of them from its place on: a whole capture by `Play t`, what a reader still has to take by
+-- `played_behind t progress`.
 use Rattle.std.specs.Prelude.{◌≡◌, ◌≤◌, ◌⊎◌, ℕ, List, [], ◌∷◌, ◌++◌, ◌+◌, Ok}
 use Rattle.dev_io.specs.Device.{prepended, appended, AppendsPart, IsAtEnd}
 use Rattle.gpu_capture.specs.Capture.{Captured, then_events}
@@ -6,7 +8,7 @@ use Rattle.gpu_capture.specs.declared.event.Event.{Event}
 use Rattle.gpu_capture.specs.declared.event.Stop.TheVariants.{Truncated, ReadFault}
 use Rattle.gpu_taps.specs.Tally.{Reading}
 use Rattle.event_play.specs.Out.{lines_of, final_bytes, ending_under, Out, OutCost, OutBoxCost}
-use Rattle.event_play.specs.Replay.{Tale, Played, after_event, part_fed, replayed, Play, next_number}
+use Rattle.event_play.specs.Replay.{Tale, Played, after_event, part_fed, replayed, next_number}
 use Rattle.event_play.specs.RigState.{RigState, StandsFor}
 use Rattle.event_play.specs.Step.{EventWords}
 use Rattle.event_play.specs.Streams.{Streams}
@@ -22,9 +24,9 @@ IsShort (Stopped number (Truncated byte)) = Unit {0}
 IsShort ending = ⊥
 
 -- none of these bytes is one too many: a proper part of them, played alone, ends for want of bytes
-abbrev pub AreAllNeeded : Tale → List ℕ → Type 0
-AreAllNeeded first taken =
-    (part more : List ℕ) → taken ≡ part ++ more → (more ≡ [] → ⊥) → IsShort (Play first part).ending
+abbrev pub AreAllNeeded : (List ℕ → Played) → List ℕ → Type 0
+AreAllNeeded by_bytes taken =
+    (part more : List ℕ) → taken ≡ part ++ more → (more ≡ [] → ⊥) → IsShort (by_bytes part).ending
 
 -- a whole replay
 abbrev pub whole : Tale → List ℕ → Played
@@ -49,81 +51,84 @@ DueIn Words t start last event = (start ≡ t) × (after_event t event ≡ Ok la
 DueIn mode t start last event = ⊥
 
 -- after the bytes taken the next event is this one, and these lines are due at it: those that the last tale has more
-pub record DueAtEvent (mode : Mode) (first t start last : Tale) (taken due : List ℕ) : Type 0 where
+pub record DueAtEvent (mode : Mode) (by_bytes : List ℕ → Played) (t start last : Tale) (taken due : List ℕ)
+    : Type 0 where
   pub event : Event
   pub comes : (rest : List ℕ)
-      → (more : Captured) × (Play first (taken ++ rest) ≡ replayed t (then_events (event ∷ []) more))
+      → (more : Captured) × (by_bytes (taken ++ rest) ≡ replayed t (then_events (event ∷ []) more))
   pub inside : DueIn mode t start last event
   pub lines : lines_of mode last ≡ lines_of mode start ++ due
 
 -- every event was played, and these bytes are due behind the last one: all that is written after the end
-pub record DueAtEnd (mode : Mode) (heard : List Reading) (first t start last : Tale) (taken due : List ℕ)
-    : Type 0 where
-  pub comes : (rest : List ℕ) → Play first (taken ++ rest) ≡ whole t rest
+pub record DueAtEnd (mode : Mode) (heard : List Reading) (by_bytes : List ℕ → Played) (t start last : Tale)
+    (taken due : List ℕ) : Type 0 where
+  pub comes : (rest : List ℕ) → by_bytes (taken ++ rest) ≡ whole t rest
   pub ends : ending_under mode (whole t []) ≡ Done
   pub start_is : start ≡ t
   pub last_is : last ≡ t
   pub bytes : due ≡ final_bytes mode (told_notes t.notes heard) t.state.gpu
 
--- What has been written begins all that there is to write. Of what is due at this number, and was to be written next, at
--- least one byte is lacking: all that was due before stands, and nothing that is due later.
-pub record LacksBytes (mode : Mode) (first t last : Tale) (taken : List ℕ) (number : ℕ) (before now : Streams)
-    : Type 0 where
+-- What has been written begins all that there is to write. Of what is due at this number, and was to be written next,
+-- at least one byte is lacking: all that was due before stands, and nothing that is due later.
+pub record LacksBytes (mode : Mode) (by_bytes : List ℕ → Played) (t last : Tale) (taken : List ℕ) (number : ℕ)
+    (before now : Streams) : Type 0 where
   pub number_is : number ≡ next_number t.played
   pub start : Tale
   pub due : List ℕ
-  pub place : DueAtEvent mode first t start last taken due ⊎ DueAtEnd mode before.heard first t start last taken due
+  pub place : DueAtEvent mode by_bytes t start last taken due
+      ⊎ DueAtEnd mode before.heard by_bytes t start last taken due
   pub held : AppendsPart (appended before.held (lines_of mode start)) now.held due
   pub prefix : (rest : List ℕ) → (more : List ℕ)
-      × (Out mode before.heard (Play first (taken ++ rest)) ≡ lines_of mode start ++ (due ++ more))
+      × (Out mode before.heard (by_bytes (taken ++ rest)) ≡ lines_of mode start ++ (due ++ more))
 
 -- ---- the endings
 
 -- what playing the bytes taken says where it ends
-abbrev pub SaysEnding : Mode → (first t last : Tale) → (taken : List ℕ) → (before now : Streams) → Ending → Type 0
-SaysEnding mode first t last taken before now Done =
-    ((rest : List ℕ) → Play first (taken ++ rest) ≡ whole t rest)
+abbrev pub SaysEnding : Mode → (List ℕ → Played) → (t last : Tale) → (taken : List ℕ) → (before now : Streams)
+    → Ending → Type 0
+SaysEnding mode by_bytes t last taken before now Done =
+    ((rest : List ℕ) → by_bytes (taken ++ rest) ≡ whole t rest)
     × (ending_under mode (whole t []) ≡ Done)
     × (now.held ≡ appended before.held (lines_of mode t
     ++ final_bytes mode (told_notes t.notes before.heard) t.state.gpu))
-SaysEnding mode first t last taken before now (NoPicture number) =
-    ((rest : List ℕ) → Play first (taken ++ rest) ≡ whole t rest)
+SaysEnding mode by_bytes t last taken before now (NoPicture number) =
+    ((rest : List ℕ) → by_bytes (taken ++ rest) ≡ whole t rest)
     × (ending_under mode (whole t []) ≡ NoPicture number)
     × (now.held ≡ appended before.held (lines_of mode t))
-SaysEnding mode first t last taken before now (Stopped number (ReadFault byte)) =
-    (Play first taken ≡ record { tale = t; ending = Stopped number (Truncated byte); rest = [] })
+SaysEnding mode by_bytes t last taken before now (Stopped number (ReadFault byte)) =
+    (by_bytes taken ≡ record { tale = t; ending = Stopped number (Truncated byte); rest = [] })
     × (now.held ≡ appended before.held (lines_of mode t))
-SaysEnding mode first t last taken before now (Stopped number (Truncated byte)) =
-    (Play first taken ≡ record { tale = t; ending = Stopped number (Truncated byte); rest = [] })
+SaysEnding mode by_bytes t last taken before now (Stopped number (Truncated byte)) =
+    (by_bytes taken ≡ record { tale = t; ending = Stopped number (Truncated byte); rest = [] })
     × (now.held ≡ appended before.held (lines_of mode t)) × IsAtEnd now.left
-SaysEnding mode first t last taken before now (Stopped number stop) =
-    ((rest : List ℕ) → Play first (taken ++ rest) ≡ record { tale = t; ending = Stopped number stop; rest = rest })
+SaysEnding mode by_bytes t last taken before now (Stopped number stop) =
+    ((rest : List ℕ) → by_bytes (taken ++ rest) ≡ record { tale = t; ending = Stopped number stop; rest = rest })
     × (now.held ≡ appended before.held (lines_of mode t))
-SaysEnding mode first t last taken before now (Faulted number fault) =
+SaysEnding mode by_bytes t last taken before now (Faulted number fault) =
     ((rest : List ℕ)
-    → ((Play first (taken ++ rest)).tale ≡ t) × ((Play first (taken ++ rest)).ending ≡ Faulted number fault))
+    → ((by_bytes (taken ++ rest)).tale ≡ t) × ((by_bytes (taken ++ rest)).ending ≡ Faulted number fault))
     × (now.held ≡ appended before.held (lines_of mode t))
-SaysEnding mode first t last taken before now (WriteFailed number) =
-    LacksBytes mode first t last taken number before now
+SaysEnding mode by_bytes t last taken before now (WriteFailed number) =
+    LacksBytes mode by_bytes t last taken number before now
 
 -- the rig stands for the last tale, which is the tale unless an output could not be written
 abbrev pub IsLast : Tale → Tale → Ending → Type 0
 IsLast t last (WriteFailed number) = Unit {0}
 IsLast t last ending = last ≡ t
 
--- How playing from a first tale ends: the bytes taken, none of them needless; the tale that they tell, up to the
+-- How playing ends, by how bytes are played: the bytes taken, none of them needless; the tale that they tell, up to the
 -- ending; what was written of it; the rig and the taps, as they are after the last tale; and the most store steps, by
 -- both counts.
-pub record EndsPlay (mode : Mode) (first : Tale) (before now : Streams) (rig : RigState) (ending : Ending)
-    : Type 0 where
+pub record EndsPlay (mode : Mode) (by_bytes : List ℕ → Played) (before now : Streams) (rig : RigState)
+    (ending : Ending) : Type 0 where
   pub taken : List ℕ
   pub bytes : before.left ≡ prepended taken now.left
-  pub needed : AreAllNeeded first taken
+  pub needed : AreAllNeeded by_bytes taken
   pub tale : Tale
   pub last : Tale
-  pub says : SaysEnding mode first tale last taken before now ending
+  pub says : SaysEnding mode by_bytes tale last taken before now ending
   pub is_last : IsLast tale last ending
   pub stands : StandsFor rig last
   pub heard : now.heard ≡ told_notes last.notes before.heard
-  pub cost : (rest : List ℕ) → now.steps ≤ before.steps + OutCost mode (Play first (taken ++ rest))
-  pub box_cost : (rest : List ℕ) → now.steps ≤ before.steps + OutBoxCost mode (Play first (taken ++ rest))
+  pub cost : (rest : List ℕ) → now.steps ≤ before.steps + OutCost mode (by_bytes (taken ++ rest))
+  pub box_cost : (rest : List ℕ) → now.steps ≤ before.steps + OutBoxCost mode (by_bytes (taken ++ rest))

@@ -3,9 +3,11 @@ use Rattle.std.specs.Prelude.{ℕ, ◌+◌, ◌-◌, ◌^◌, ◌==◌, min, Lis
 use Rattle.std.specs.Prelude.{if◌then◌else◌}
 use Rattle.gp0_packets.specs.declared.note.Note.{Note}
 use Rattle.gpu_capture.specs.Capture.{Captured, capture}
+use Rattle.gpu_capture.specs.Reader.{capture_from}
 use Rattle.gpu_capture.specs.declared.event.Event.{Event}
 use Rattle.gpu_capture.specs.declared.event.Stop.{Stop}
 use Rattle.gpu_capture.specs.declared.event.Stop.TheVariants.{End}
+use Rattle.gpu_capture.specs.declared.progress.Progress.{Progress}
 use Rattle.event_play.specs.Fed.{fed, fed_notes, fed_cost, fed_box_cost}
 use Rattle.event_play.specs.Step.{Machine, Stepped, Step, StepCost, StepBoxCost, tall_machine}
 use Rattle.event_play.specs.declared.ending.Ending.{Ending}
@@ -101,3 +103,7 @@ played_from first captured = replayed (raised first captured.version) captured
 -- a whole capture; it is whole where no event has a fault and it ends with End, which is the ending Done
 abbrev pub Play : Tale → List ℕ → Played
 Play first bytes = played_from first (capture bytes)
+
+-- the bytes that a reader has still to take, from its place on; with a new reader this is Play
+abbrev pub played_behind : Tale → Progress → List ℕ → Played
+played_behind first progress bytes = played_from first (capture_from progress bytes)

@@ -33,3 +33,7 @@ machine_of rig s = record { gpu = s; ram = rig.ram; running = rig.running }
 pub record StandsFor (rig : RigState) (t : Tale) : Type 0 where
   pub state : Stands rig t.state
   pub played : t.played ≡ rig.played
+
+-- a rig with this of its drawing processor
+abbrev pub with_gpu : RigState → Kept → RigState
+with_gpu rig gpu = record rig { gpu = gpu }

@@ -10,6 +10,7 @@ pub mod laws;
 mod nowhere;
 mod play;
 mod rig;
+mod state;
 mod take;
 mod work;
 

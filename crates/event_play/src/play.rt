@@ -9,7 +9,7 @@ ghost use Rattle.event_play.specs.Causes.{MayReadFault, MayWriteFault, IsEnding}
 ghost use Rattle.event_play.specs.Ends.{PlaysOrEnds, EndsAt};
 ghost use Rattle.event_play.specs.PlayedWords.{IsTold, AreQuiet, after_words};
 ghost use Rattle.event_play.specs.Playing.{EndsPlay};
-ghost use Rattle.event_play.specs.Replay.{Tale, from_state, next_number, raised};
+ghost use Rattle.event_play.specs.Replay.{Tale, Play, played_behind, from_state, next_number, raised};
 ghost use Rattle.event_play.specs.RigState.{Stands, StandsFor};
 ghost use Rattle.event_play.specs.Step.{Machine};
 ghost use Rattle.event_play.specs.Streams.{Outlets, outlets, streams, without_sink};
@@ -44,7 +44,7 @@ impl Rig {
         steps: &mut Steps<L>,
     ) -> Ending
         // For every state for which the rig stood, this is how playing the capture from it ends.
-        ensures ends { (s : Machine) → Stands self.old s → EndsPlay mode (from_state s self.old.played)
+        ensures ends { (s : Machine) → Stands self.old s → EndsPlay mode (Play (from_state s self.old.played))
             (streams (S.left source.old) (K.held out.old) (map T.heard taps.old.items) steps.old)
             (streams (S.left source.new) (K.held out.new) (map T.heard taps.new.items) steps.new) self.new result }
         ensures known { IsEnding result }
@@ -54,6 +54,32 @@ impl Rig {
         ensures write_faults { K.faults out.old ≤ K.faults out.new }
     {
         let mut reader = EventReader::new();
+        self.play_from(&mut reader, source, out, mode, taps, steps)
+    }
+
+    /// Plays what is left of a capture behind a reader's place, on any rig, as `play` does with a new reader. Where the
+    /// capture is of version 3, the rig becomes tall if it is not.
+    pub fn play_from<S: Source, K: Sink, T: Listener, L: Ledger>(
+        &mut self,
+        reader: &mut EventReader,
+        source: &mut S,
+        out: &mut K,
+        mode: Mode,
+        taps: &mut Vec<T>,
+        steps: &mut Steps<L>,
+    ) -> Ending
+        requires { reader.old.stop ≡ None }
+        // For every state for which the rig stood, this is how playing ends from it and from the reader's place.
+        ensures ends { (s : Machine) → Stands self.old s
+            → EndsPlay mode (played_behind (from_state s self.old.played) reader.old.progress)
+            (streams (S.left source.old) (K.held out.old) (map T.heard taps.old.items) steps.old)
+            (streams (S.left source.new) (K.held out.new) (map T.heard taps.new.items) steps.new) self.new result }
+        ensures known { IsEnding result }
+        ensures read_cause { MayReadFault result → Rose (S.faults source.old) (S.faults source.new) }
+        ensures write_cause { MayWriteFault result → Rose (K.faults out.old) (K.faults out.new) }
+        ensures read_faults { S.faults source.old ≤ S.faults source.new }
+        ensures write_faults { K.faults out.old ≤ K.faults out.new }
+    {
         let mut block = WordBlock::new();
         let mut next = reader.next(source);
         self.raise(reader.version());
@@ -63,7 +89,7 @@ impl Rig {
                     if let Err(ending) = self.play_event(&event, out, mode, taps, steps) {
                         return ending;
                     }
-                    let read = read_words(&mut reader, source, mode, &mut block);
+                    let read = read_words(reader, source, mode, &mut block);
                     self.play_words(block.as_slice(), taps, steps);
                     if let Err(stop) = read {
                         return self.finish(stop, out, mode, taps, steps);

@@ -1,9 +1,9 @@
 -- Data words of the open load, one after another.
-use Rattle.std.proofs.Common.{◌≡◌, ◌<◌, ◌≤◌, ◌+◌, ◌-◌, ◌*◌, ◌/◌, ℕ, suc, zero, List, [], ◌∷◌, Option, Some, None, min, length, fold}
+use Rattle.std.proofs.Common.{◌≡◌, ◌<◌, ◌≤◌, ◌+◌, ◌-◌, ◌*◌, ℕ, suc, List, [], ◌∷◌, Option, Some, None, length, fold}
 use Rattle.std.proofs.Common.{nat_lt, true, false, refl, ap, sym, ◌∙◌, inl, inr, arith}
 use Rattle.std.proofs.lemmas.Bool.{cases_Bool, ltb-true}
 use Rattle.std.proofs.lemmas.Bool.Decides.{nat_tests}
-use Rattle.gp0_words.proofs.Pushes.{pushed, wanted_is}
+use Rattle.gp0_words.proofs.Pushes.{pushed}
 use Rattle.gp0_words.specs.Next.{wanted, next_pending, IsPending}
 use Rattle.gp0_words.specs.Pushed.{IsPushed}
 use Rattle.gp0_words.specs.Skipped.{behind_pixels}
@@ -15,8 +15,8 @@ use Rattle.vram_copy.proofs.LoadLemmas.{one_more_word, pixels_more}
 use Rattle.vram_copy.specs.Words.{advanced, advanced_by, pixels_next, pixels_in, LoadWord, LoadWords}
 use Rattle.vram_copy.specs.declared.transfer.Transfer.{Transfer}
 use Rattle.gpu_core.specs.Cost.{FeedCost, pixels_of}
-use Rattle.gpu_core.specs.Kept.{Kept, kept_of, words_left, IsLinked}
-use Rattle.gpu_core.specs.Loading.{open_still, with_words, pixels_in_load, feeds_cost, AreData, FeedsData, Wants}
+use Rattle.gpu_core.specs.Kept.{Kept, kept_of, IsLinked}
+use Rattle.gpu_core.specs.Loading.{open_still, with_words, pixels_in_load, feeds_cost, AreData, FeedsData}
 use Rattle.gpu_core.specs.Machine.{Parts, State, Feed, FeedNote, with_pixels}
 use Rattle.gpu_core.proofs.Fed.{fed, data_effect, data_cost, data_note}
 use Rattle.gpu_core.proofs.Link.{fewer, one_more}

@@ -1,9 +1,15 @@
-//! What words and reads cost, by the first table and by the second: a law that stands in the contract of a function
-//! that does nothing.
-ghost use Rattle.gpu_core.specs.Laws.{CostLaw};
+//! What words and reads cost, and what decides how a machine goes on: laws that stand in the contracts of functions that
+//! do nothing.
+ghost use Rattle.gpu_core.specs.Laws.{CostLaw, KeptDecides};
 
 /// Words of GP0 and reads cost at most four steps for each cell of a clipped box, of the rectangle of a fill or copy,
 /// and for each pixel that a word of a load or a read moves.
 pub fn costs_are_small()
     ensures { CostLaw }
+{}
+
+/// What a machine keeps of a state decides all that a word of GP0 or GP1, a read or the status word does, tells, gives
+/// and costs, and what is kept then. So states of which the same is kept go on alike, whatever their words are.
+pub fn kept_decides()
+    ensures { KeptDecides }
 {}

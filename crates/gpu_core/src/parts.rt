@@ -1,14 +1,18 @@
 // What a machine has besides its splitter.
-ghost use Rattle.std.specs.Prelude.{◌≡◌, ◌*◌, length, is_some, None};
+ghost use Rattle.std.specs.Prelude.{◌≡◌, ◌<◌, ◌+◌, ◌*◌, ◌%◌, length, is_some, None};
 ghost use Rattle.px_num.specs.Height.{short_height};
 ghost use Rattle.vram_store.specs.Vram.{blank};
 ghost use Rattle.gp1_status.specs.Registers.{gp1_of, reset};
+ghost use Rattle.gpu_core.specs.Kept.{IsOpen, IsSet};
 ghost use Rattle.gpu_core.specs.Machine.{cleared, tall_parts};
 
+use crate::transfer::{job_of, resumed};
 use gp1_status::Regs;
 use std::marker::Model;
-use vram_copy::Cursor;
-use vram_store::Vram;
+use std::simd::prelude::*;
+use std::sync::ledger::Ledger;
+use vram_copy::{Cursor, Transfer};
+use vram_store::{Steps, Vram};
 
 /// What a machine has besides its splitter: video memory, the registers, and the open load and store.
 #[derive(Drop)]
@@ -67,6 +71,53 @@ impl Parts {
     {
         self.load = None;
         self.store = None;
+    }
+
+    /// Puts registers and open transfers in place of its own. Video memory stays.
+    pub(crate) fn set_state(&mut self, regs: Regs, load: Option<Transfer>, store: Option<Transfer>)
+        requires rows { length self.old.m ≡ 1024 * regs.height }
+        requires load { IsOpen regs.height load }
+        requires store { IsOpen regs.height store }
+        ensures { self.new ≡ record { m = self.old.m; regs = regs; load = load; store = store } }
+    {
+        self.regs = regs;
+        self.load = resumed(load);
+        self.store = resumed(store);
+    }
+
+    /// Sets sixteen cells of video memory, whatever the mask setting is. One store step.
+    pub(crate) fn set_cells<L: Ledger>(
+        &mut self,
+        x: u16,
+        y: u16,
+        lanes: u16x16,
+        steps: &mut Steps<L>,
+    )
+        requires lanes { length lanes ≡ 16 }
+        requires chunk { x % 16 ≡ 0 }
+        requires in_row { x < 1024 }
+        requires in_height { y < self.old.regs.height }
+        ensures cells { IsSet self.old.m (1024 * y + x) lanes self.new.m }
+        ensures rest { self.new ≡ record self.old { m = self.new.m } }
+        ensures cost { steps.new ≡ steps.old + 1 }
+    {
+        self.vram.store16(x, y, 16, lanes, 0xffff, steps);
+    }
+
+    /// The open load.
+    pub(crate) fn load_job(&self) -> Option<Transfer>
+        ensures value { result ≡ self.now.load }
+        ensures bounds { IsOpen self.now.regs.height result }
+    {
+        job_of(&self.load)
+    }
+
+    /// The open store.
+    pub(crate) fn store_job(&self) -> Option<Transfer>
+        ensures value { result ≡ self.now.store }
+        ensures bounds { IsOpen self.now.regs.height result }
+    {
+        job_of(&self.store)
     }
 
     /// Whether a store is open.

@@ -26,7 +26,7 @@ use Rattle.px_num.specs.Height.{short_height}
 use Rattle.psxgpu_tool.specs.Command.{Names, IsUsage}
 use Rattle.psxgpu_tool.specs.Demo.{Demo, demo_words}
 use Rattle.psxgpu_tool.specs.DemoOut.{demo_bytes, demo_tale, DemoOut, DemoCost, DemoBoxCost, cells_cost}
-use Rattle.psxgpu_tool.specs.First.{first, seen}
+use Rattle.psxgpu_tool.specs.First.{first, play_of, seen}
 use Rattle.psxgpu_tool.specs.FlatRun.{FlatRun}
 use Rattle.psxgpu_tool.specs.Line.{status_of, ending_line, ending_text, flat_status, flat_text, slim_status, slim_text, usage_line}
 use Rattle.psxgpu_tool.specs.Outside.{Outside, Says, HasFailed, HasFailedToRead, EndsTelling}
@@ -119,7 +119,7 @@ module _ (words : Vec (String Global) Global) (heard heard_now : List Reading) (
     (silent : status_of ending ≡ 0 → now.err ≡ before.err) where
   -- a command that reads
   pub plays_runs : (mode : Mode) (rig : RigState) → Names words (Plays mode)
-      → EndsPlay mode first (seen heard before) (seen heard_now now) rig ending
+      → EndsPlay mode play_of (seen heard before) (seen heard_now now) rig ending
       → (MayReadFault ending → HasFailedToRead before.source now.source)
       → (MayWriteFault ending → HasFailed before.out now.out)
       → Runs words heard before now (status_of ending)

@@ -13,7 +13,7 @@ use Rattle.event_play.specs.Told.{told_notes}
 use Rattle.event_play.specs.declared.ending.Ending.{Ending}
 use Rattle.event_play.specs.declared.ending.Ending.TheVariants.{Done, Stopped, Faulted, NoPicture, WriteFailed}
 use Rattle.event_play.specs.declared.ending.Mode.{Mode}
-use Rattle.psxgpu_tool.specs.First.{first, play_of, seen}
+use Rattle.psxgpu_tool.specs.First.{play_of, seen}
 use Rattle.psxgpu_tool.specs.Line.{status_of, ending_line, ending_text}
 use Rattle.psxgpu_tool.specs.Outside.{Outside, Says}
 use Rattle.psxgpu_tool.specs.Run.{WholeRun, RefusedRun, StarvedRun, CutRun}
@@ -159,7 +159,7 @@ pub record EndsCaptured (mode : Mode) (heard : List Reading) (bytes taken rest :
 module _ (mode : Mode) (heard heard_now : List Reading) (before now : Outside) (rig : RigState) (bytes : List ℕ)
     (told : before.source.left ≡ Some bytes) where
   abbrev Ends : Ending → Type 0
-  Ends ending = EndsPlay mode first (seen heard before) (seen heard_now now) rig ending
+  Ends ending = EndsPlay mode play_of (seen heard before) (seen heard_now now) rig ending
 
   taken_of : (ending : Ending) (ends : Ends ending) → IsCut bytes ends.taken now.source.left
   taken_of ending ends = cut bytes ends.taken now.source.left (sym told ∙ ends.bytes)

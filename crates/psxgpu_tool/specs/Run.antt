@@ -12,7 +12,7 @@ use Rattle.event_play.specs.declared.ending.Ending.TheVariants.{Done, Stopped, W
 use Rattle.event_play.specs.declared.ending.Mode.{Mode}
 use Rattle.psxgpu_tool.specs.Command.{Names, IsUsage}
 use Rattle.psxgpu_tool.specs.DemoOut.{demo_tale, DemoOut, DemoCost, DemoBoxCost}
-use Rattle.psxgpu_tool.specs.First.{first, play_of, seen}
+use Rattle.psxgpu_tool.specs.First.{play_of, seen}
 use Rattle.psxgpu_tool.specs.FlatRun.{FlatRun}
 use Rattle.psxgpu_tool.specs.Line.{ending_line, ending_text, status_of, usage_line, memory_line}
 use Rattle.psxgpu_tool.specs.Outside.{Outside, Says, HasFailed, HasFailedToRead}
@@ -38,7 +38,7 @@ pub record Decided (mode : Mode) (bytes : List ℕ) (now : Outside) : Type 0 whe
   pub rest : List ℕ
   pub all : bytes ≡ taken ++ rest
   pub left : now.source.left ≡ Some rest
-  pub needed : AreAllNeeded first taken
+  pub needed : AreAllNeeded play_of taken
   pub decides : ((more : List ℕ) → ending_under mode (play_of (taken ++ more)) ≡ ending_under mode (play_of bytes))
       ⊎ (rest ≡ [])
 
@@ -82,7 +82,7 @@ pub record CutRun (mode : Mode) (heard : List Reading) (bytes : List ℕ) (befor
   pub event : ℕ
   pub tale : Tale
   pub last : Tale
-  pub lacks : LacksBytes mode first tale last taken event (seen heard before) (seen heard now)
+  pub lacks : LacksBytes mode play_of tale last taken event (seen heard before) (seen heard now)
   pub says : Says before.err now.err (ending_line (WriteFailed event))
 
 abbrev pub Cut : Mode → List Reading → (before now : Outside) → Type 0

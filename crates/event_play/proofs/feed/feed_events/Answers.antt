@@ -1,7 +1,7 @@
-use Rattle.std.proofs.Common.{◌≡◌, ◌≤◌, ◌++◌, ◌+◌, ◌-◌, ℕ, List, take, drop, length, length-drop, ap, sym, ◌∙◌, subst, map, arith}
+use Rattle.std.proofs.Common.{◌≡◌, ◌≤◌, ◌+◌, ◌-◌, ℕ, List, take, drop, length, length-drop, ap, sym, ◌∙◌, subst, map, arith}
 use Rattle.std.proofs.Math.Seq.{take-add}
 use Rattle.std.proofs.lemmas.List.{take_all}
-use Rattle.event_play.specs.PlayedWords.{IsTold, after_words, number_behind}
+use Rattle.event_play.specs.PlayedWords.{IsTold, after_words}
 use Rattle.event_play.specs.Replay.{Tale}
 use Rattle.event_play.specs.Streams.{without_sink}
 use Rattle.event_play.proofs.InARow.{after_words-append}

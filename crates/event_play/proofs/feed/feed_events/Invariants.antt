@@ -1,4 +1,4 @@
-use Rattle.std.proofs.Common.{◌≡◌, ◌≤◌, ◌-◌, length, map, take}
+use Rattle.std.proofs.Common.{◌≤◌, ◌-◌, length, map, take}
 use Rattle.event_play.specs.PlayedWords.{IsTold, after_words}
 use Rattle.event_play.specs.Replay.{Tale}
 use Rattle.event_play.specs.Streams.{Outlets, without_sink}

@@ -1,4 +1,4 @@
-use Rattle.std.proofs.Common.{◌≡◌, ◌<◌, ◌∷◌, [], ℕ, List, take, get_or, length, sym, subst, map, arith}
+use Rattle.std.proofs.Common.{◌≡◌, ◌∷◌, [], ℕ, List, take, get_or, length, sym, subst, map, arith}
 use Rattle.std.proofs.lemmas.List.{take_more, length-take-le}
 use Rattle.event_play.specs.PlayedWords.{IsTold, after_words, number_behind}
 use Rattle.event_play.specs.Streams.{without_sink}

@@ -1,16 +1,17 @@
 use Rattle.std.proofs.Common.{◌≡◌, ◌≤◌, None, OnOk, IfErr, map}
 use Rattle.dev_io.specs.Device.{Rose}
 use Rattle.gpu_capture.specs.Reader.{IsReadFault}
-use Rattle.event_play.specs.Replay.{from_state}
+use Rattle.event_play.specs.Replay.{from_state, played_behind}
 use Rattle.event_play.specs.RigState.{Stands}
 use Rattle.event_play.specs.Step.{Machine}
 use Rattle.event_play.specs.Streams.{streams}
 use Rattle.event_play.proofs.Awaiting.{Awaits, events_left}
-use Rattle.event_play.proofs.rig.Rig.play.Given as goal
+use Rattle.event_play.proofs.rig.Rig.play_from.Given as goal
 
 abbrev pub invariant-events : goal.invariant-events
 invariant-events g l = record {
-  awaits : (s : Machine) → Stands l.fn.self s → Awaits l.mode (from_state s l.fn.self.played)
+  awaits : (s : Machine) → Stands l.fn.self s → Awaits l.mode
+      (played_behind (from_state s l.fn.self.played) l.fn.reader.progress)
       (streams (g.S.Source.left l.fn.source) (g.K.Sink.held l.fn.out)
       (map g.T.Listener.heard l.fn.taps.items) l.fn.steps)
       (streams (g.S.Source.left l.source) (g.K.Sink.held l.out) (map g.T.Listener.heard l.taps.items) l.steps)

@@ -1,0 +1,333 @@
+-- Machines that are alike replay alike.
+use Rattle.std.proofs.Common.{◌≡◌, ℕ, zero, suc, ◌+◌, ◌++◌, ◌==◌, List, [], ◌∷◌, Some}
+use Rattle.std.proofs.Common.{Result, Ok, Err, inl, inr, refl, ap, subst, ◌∙◌}
+use Rattle.std.proofs.lemmas.Bool.{cases_Bool}
+use Rattle.gpu_capture.specs.Capture.{Captured}
+use Rattle.gpu_capture.specs.declared.event.Event.{Event}
+use Rattle.gpu_capture.specs.declared.event.Stop.{Stop}
+use Rattle.gpu_core.specs.Kept.{Kept, kept_of}
+use Rattle.gpu_core.specs.Machine.{State, Feed, tall_parts, tall_state}
+use Rattle.gpu_core.proofs.Alike.{feed-alike, note-alike, feed_cost-alike, feed_box_cost-alike, gp1-alike}
+use Rattle.gpu_core.proofs.Alike.{take-alike, taken-alike, take_cost-alike, take_box_cost-alike, status-alike}
+use Rattle.gpu_taps.specs.Tally.{Reading}
+use Rattle.list_dma.specs.declared.run.Run.{Run}
+use Rattle.packet_text.specs.Line.{status_line}
+use Rattle.picture_out.specs.Dump.{dump, dump_cost}
+use Rattle.picture_out.specs.Picture.{picture, picture_cost}
+use Rattle.event_play.specs.AlikeStates.{StandAlike, TellAlike, PlayAlike, AlikeReplayAlike}
+use Rattle.event_play.specs.Fed.{fed, fed_notes, fed_cost, fed_box_cost}
+use Rattle.event_play.specs.Lines.{lines_for}
+use Rattle.event_play.specs.Out.{final_bytes, final_cost, finals_at, finals_cost_at, ending_under}
+use Rattle.event_play.specs.Replay.{Tale, Played, Replay, go_on, told_on, after_event, next_number, ending_of, from_state}
+use Rattle.event_play.specs.Replay.{raised, tall_version, played_from}
+use Rattle.event_play.specs.Step.{Machine, Stepped, Step, StepCost, StepBoxCost, done, stepped, step_cost, step_box_cost}
+use Rattle.event_play.specs.Step.{work_cost, work_box_cost, words_of}
+use Rattle.event_play.specs.Taken.{Taken, take_one, first_taken}
+use Rattle.event_play.specs.Told.{told_notes}
+use Rattle.event_play.specs.Work.{work_of}
+use Rattle.event_play.specs.declared.block.Block.{Block}
+use Rattle.event_play.specs.declared.ending.Ending.{Ending}
+use Rattle.event_play.specs.declared.ending.Ending.TheVariants.{Done, Stopped, Faulted, NoPicture, WriteFailed}
+use Rattle.event_play.specs.declared.ending.Mode.{Mode}
+use Rattle.event_play.specs.declared.ending.Mode.TheVariants.{Vram, Shot, Report, List as Listing, Play as Words}
+use Rattle.event_play.specs.declared.fault.EventFault.{EventFault}
+use Rattle.event_play.specs.declared.work.Work.{Work}
+use Rattle.event_play.specs.declared.work.Work.TheVariants as work
+
+-- ---- words and reads
+
+fed-alike : (a b : State) (words : List ℕ) → kept_of a ≡ kept_of b → kept_of (fed a words) ≡ kept_of (fed b words)
+fed-alike a b [] same = same
+fed-alike a b (word ∷ words) same = fed-alike (Feed a word) (Feed b word) words (feed-alike a b same word)
+
+notes-alike : (a b : State) (number : ℕ) (words : List ℕ) → kept_of a ≡ kept_of b
+    → fed_notes a number words ≡ fed_notes b number words
+notes-alike a b number [] same = refl
+notes-alike a b number (word ∷ words) same =
+    rw (
+      note-alike a b same number word,
+      notes-alike (Feed a word) (Feed b word) number words (feed-alike a b same word),
+    ) refl
+
+fed_cost-alike : (a b : State) (words : List ℕ) → kept_of a ≡ kept_of b → fed_cost a words ≡ fed_cost b words
+fed_cost-alike a b [] same = refl
+fed_cost-alike a b (word ∷ words) same =
+    rw (
+      feed_cost-alike a b same word,
+      fed_cost-alike (Feed a word) (Feed b word) words (feed-alike a b same word),
+    ) refl
+
+fed_box_cost-alike : (a b : State) (words : List ℕ) → kept_of a ≡ kept_of b
+    → fed_box_cost a words ≡ fed_box_cost b words
+fed_box_cost-alike a b [] same = refl
+fed_box_cost-alike a b (word ∷ words) same =
+    rw (
+      feed_box_cost-alike a b same word,
+      fed_box_cost-alike (Feed a word) (Feed b word) words (feed-alike a b same word),
+    ) refl
+
+record AreTakenAlike (t u : Taken) : Type 0 where
+  gpu : kept_of t.gpu ≡ kept_of u.gpu
+  ram : t.ram ≡ u.ram
+  cost : t.cost ≡ u.cost
+  box_cost : t.box_cost ≡ u.box_cost
+
+one-alike : (block : Block) (i : ℕ) (t u : Taken) → AreTakenAlike t u
+    → AreTakenAlike (take_one block i t) (take_one block i u)
+one-alike block i t u same = record {
+  gpu = take-alike t.gpu u.gpu same.gpu;
+  ram = rw (same.ram, taken-alike t.gpu u.gpu same.gpu) refl;
+  cost = rw (same.cost, take_cost-alike t.gpu u.gpu same.gpu) refl;
+  box_cost = rw (same.box_cost, take_box_cost-alike t.gpu u.gpu same.gpu) refl;
+}
+
+reads-alike : (block : Block) (n : ℕ) (a b : State) (ram : List ℕ) → kept_of a ≡ kept_of b
+    → AreTakenAlike (first_taken block n a ram) (first_taken block n b ram)
+reads-alike block zero a b ram same = record { gpu = same; ram = refl; cost = refl; box_cost = refl }
+reads-alike block (suc n) a b ram same =
+    one-alike block n (first_taken block n a ram) (first_taken block n b ram) (reads-alike block n a b ram same)
+
+-- ---- one event
+
+record StepAlike (s z : Stepped) : Type 0 where
+  machine : StandAlike s.machine z.machine
+  shown : s.shown ≡ z.shown
+  notes : s.notes ≡ z.notes
+
+abbrev machine_with : State → List ℕ → Run → Machine
+machine_with gpu ram running = record { gpu = gpu; ram = ram; running = running }
+
+module _ (a b : State) (same : kept_of a ≡ kept_of b) (ram : List ℕ) (running : Run) where
+  -- nothing but the words of the drawing processor tells them apart
+  abbrev left : Machine
+  left = machine_with a ram running
+
+  abbrev right : Machine
+  right = machine_with b ram running
+
+  done-alike : (number : ℕ) (asked : Work) → StepAlike (done left number asked) (done right number asked)
+  done-alike number work.Nothing =
+      record { machine = record { gpu = same; ram = refl; running = refl }; shown = refl; notes = refl }
+  done-alike number (work.Put address word) =
+      record { machine = record { gpu = same; ram = refl; running = refl }; shown = refl; notes = refl }
+  done-alike number (work.Feed asked next) = record {
+    machine = record { gpu = fed-alike a b (words_of ram asked) same; ram = refl; running = refl };
+    shown = refl;
+    notes = notes-alike a b number (words_of ram asked) same;
+  }
+  done-alike number (work.Take block next) =
+      let reads = reads-alike block block.n a b ram same in record {
+        machine = record { gpu = reads.gpu; ram = reads.ram; running = refl };
+        shown = refl;
+        notes = refl;
+      }
+  done-alike number (work.Control word) = record {
+    machine = record { gpu = gp1-alike a b same word; ram = refl; running = refl };
+    shown = refl;
+    notes = refl;
+  }
+  done-alike number work.Read = record {
+    machine = record { gpu = take-alike a b same; ram = refl; running = refl };
+    shown = ap Some (taken-alike a b same);
+    notes = refl;
+  }
+  done-alike number work.Skip =
+      record { machine = record { gpu = take-alike a b same; ram = refl; running = refl }; shown = refl; notes = refl }
+  done-alike number work.Stat = record {
+    machine = record { gpu = same; ram = refl; running = refl };
+    shown = ap Some (status-alike a b same);
+    notes = refl;
+  }
+  done-alike number (work.Clear madr n) =
+      record { machine = record { gpu = same; ram = refl; running = refl }; shown = refl; notes = refl }
+  done-alike number (work.Begin next) =
+      record { machine = record { gpu = same; ram = refl; running = refl }; shown = refl; notes = refl }
+
+  work_cost-alike : (asked : Work) → work_cost left asked ≡ work_cost right asked
+  work_cost-alike (work.Feed asked next) = fed_cost-alike a b (words_of ram asked) same
+  work_cost-alike (work.Take block next) = (reads-alike block block.n a b ram same).cost
+  work_cost-alike work.Read = take_cost-alike a b same
+  work_cost-alike work.Skip = take_cost-alike a b same
+  work_cost-alike other = refl
+
+  work_box_cost-alike : (asked : Work) → work_box_cost left asked ≡ work_box_cost right asked
+  work_box_cost-alike (work.Feed asked next) = fed_box_cost-alike a b (words_of ram asked) same
+  work_box_cost-alike (work.Take block next) = (reads-alike block block.n a b ram same).box_cost
+  work_box_cost-alike work.Read = take_box_cost-alike a b same
+  work_box_cost-alike work.Skip = take_box_cost-alike a b same
+  work_box_cost-alike other = refl
+
+-- what two steps answer: alike machines, or the same fault
+abbrev AnswerAlike : Result Stepped EventFault → Result Stepped EventFault → Type 0
+AnswerAlike (Ok s) (Ok z) = StepAlike s z
+AnswerAlike (Err f) (Err g) = f ≡ g
+AnswerAlike r q = ⊥
+
+record WorkAlike (a b : Machine) (number : ℕ) (asked : Result Work EventFault) : Type 0 where
+  answer : AnswerAlike (stepped a number asked) (stepped b number asked)
+  cost : step_cost a asked ≡ step_cost b asked
+  box_cost : step_box_cost a asked ≡ step_box_cost b asked
+
+asked-alike : (a b : State) (ram : List ℕ) (running : Run) (number : ℕ) (asked : Result Work EventFault)
+    → kept_of a ≡ kept_of b → WorkAlike (machine_with a ram running) (machine_with b ram running) number asked
+asked-alike a b ram running number (Ok asked) same = record {
+  answer = done-alike a b same ram running number asked;
+  cost = work_cost-alike a b same ram running asked;
+  box_cost = work_box_cost-alike a b same ram running asked;
+}
+asked-alike a b ram running number (Err fault) same = record { answer = refl; cost = refl; box_cost = refl }
+
+record EventAlike (a b : Machine) (number : ℕ) (event : Event) : Type 0 where
+  answer : AnswerAlike (Step a number event) (Step b number event)
+  cost : StepCost a event ≡ StepCost b event
+  box_cost : StepBoxCost a event ≡ StepBoxCost b event
+
+event-alike : (a b : Machine) (number : ℕ) (event : Event) → StandAlike a b → EventAlike a b number event
+unfolding Step StepCost StepBoxCost
+event-alike a b number event same =
+    let other : machine_with b.gpu a.ram a.running ≡ b = rw (same.ram, same.running) refl in
+    let asked = work_of a.ram a.running event in
+    let alike = asked-alike a.gpu b.gpu a.ram a.running number asked same.gpu in
+    subst (λ z. EventAlike a z number event) other
+    (record { answer = alike.answer; cost = alike.cost; box_cost = alike.box_cost })
+
+-- ---- events
+
+abbrev GoAlike : Result Tale EventFault → Result Tale EventFault → Type 0
+GoAlike (Ok t) (Ok u) = TellAlike t u
+GoAlike (Err f) (Err g) = f ≡ g
+GoAlike r q = ⊥
+
+told-alike : (t u : Tale) (cost other box_cost other_box : ℕ) (r q : Result Stepped EventFault) → TellAlike t u
+    → cost ≡ other → box_cost ≡ other_box → AnswerAlike r q
+    → GoAlike (told_on t cost box_cost r) (told_on u other other_box q)
+told-alike t u cost other box_cost other_box (Ok s) (Ok z) same costs boxes step = record {
+  state = step.machine;
+  played = ap next_number same.played;
+  shown = rw (same.shown, step.shown) refl;
+  notes = rw (same.notes, step.notes) refl;
+  cost = rw (same.cost, costs) refl;
+  box_cost = rw (same.box_cost, boxes) refl;
+}
+told-alike t u cost other box_cost other_box (Err f) (Err g) same costs boxes step = step
+told-alike t u cost other box_cost other_box (Ok s) (Err g) same costs boxes step = absurd step
+told-alike t u cost other box_cost other_box (Err f) (Ok z) same costs boxes step = absurd step
+
+goes-alike : (t u : Tale) (event : Event) → TellAlike t u → GoAlike (after_event t event) (after_event u event)
+goes-alike t u event same =
+    let n = next_number t.played in
+    let alike = event-alike t.state u.state n event same.state in
+    let answer : AnswerAlike (Step t.state n event) (Step u.state (next_number u.played) event) =
+    rw (← same.played) alike.answer in
+    told-alike t u (StepCost t.state event) (StepCost u.state event) (StepBoxCost t.state event)
+    (StepBoxCost u.state event) (Step t.state n event) (Step u.state (next_number u.played) event) same alike.cost
+    alike.box_cost answer
+
+-- ---- what is written
+
+final-alike : (mode : Mode) (heard : List Reading) (a b : State) → kept_of a ≡ kept_of b
+    → final_bytes mode heard a ≡ final_bytes mode heard b
+unfolding final_bytes
+final-alike Words heard a b same = ap status_line (status-alike a b same)
+final-alike Listing heard a b same = refl
+final-alike Vram heard a b same = ap (λ (k : Kept). dump k.parts.m) same
+final-alike Shot heard a b same = ap (λ (k : Kept). picture k.parts.m k.parts.regs) same
+final-alike Report heard a b same = refl
+
+final_cost-alike : (mode : Mode) (a b : State) → kept_of a ≡ kept_of b → final_cost mode a ≡ final_cost mode b
+unfolding final_cost
+final_cost-alike Words a b same = refl
+final_cost-alike Listing a b same = refl
+final_cost-alike Vram a b same = ap (λ (k : Kept). dump_cost k.parts.m) same
+final_cost-alike Shot a b same = ap (λ (k : Kept). picture_cost k.parts.regs) same
+final_cost-alike Report a b same = refl
+
+finals-alike : (ending : Ending) (mode : Mode) (heard : List Reading) (a b : State) → kept_of a ≡ kept_of b
+    → finals_at ending mode heard a ≡ finals_at ending mode heard b
+finals-alike Done mode heard a b same = final-alike mode heard a b same
+finals-alike (Stopped number stop) mode heard a b same = refl
+finals-alike (Faulted number fault) mode heard a b same = refl
+finals-alike (NoPicture number) mode heard a b same = refl
+finals-alike (WriteFailed number) mode heard a b same = refl
+
+finals_cost-alike : (ending : Ending) (mode : Mode) (a b : State) → kept_of a ≡ kept_of b
+    → finals_cost_at ending mode a ≡ finals_cost_at ending mode b
+finals_cost-alike Done mode a b same = final_cost-alike mode a b same
+finals_cost-alike (Stopped number stop) mode a b same = refl
+finals_cost-alike (Faulted number fault) mode a b same = refl
+finals_cost-alike (NoPicture number) mode a b same = refl
+finals_cost-alike (WriteFailed number) mode a b same = refl
+
+ended-alike : (t u : Tale) (ending other : Ending) (rest : List ℕ) → TellAlike t u → ending ≡ other
+    → PlayAlike (record { tale = t; ending = ending; rest = rest }) (record { tale = u; ending = other; rest = rest })
+ended-alike t u ending other rest same e =
+    let regs = ap (λ (k : Kept). k.parts.regs) same.state.gpu in
+    let r : Played = record { tale = t; ending = ending; rest = rest } in
+    let q : Played = record { tale = u; ending = other; rest = rest } in
+    let under : (mode : Mode) → ending_under mode r ≡ ending_under mode q = λ mode. rw (regs, same.played, e) refl in
+    let cost = λ (mode : Mode). ap (λ at. finals_cost_at at mode t.state.gpu) (under mode)
+    ∙ finals_cost-alike (ending_under mode q) mode t.state.gpu u.state.gpu same.state.gpu in
+    record {
+      tale = same;
+      ending = e;
+      rest = refl;
+      out = λ mode heard.
+          rw (same.shown, same.notes, under mode)
+          (ap (λ finals. lines_for mode u.shown u.notes ++ finals)
+          (finals-alike (ending_under mode q) mode (told_notes u.notes heard) t.state.gpu u.state.gpu same.state.gpu));
+      cost = λ mode. ap (λ more. t.cost + more) (cost mode) ∙ ap (λ n. n + finals_cost_at (ending_under mode q) mode u.state.gpu) same.cost;
+      box_cost = λ mode. ap (λ more. t.box_cost + more) (cost mode) ∙ ap (λ n. n + finals_cost_at (ending_under mode q) mode u.state.gpu) same.box_cost;
+    }
+
+-- ---- replays
+
+go-alike : (r q : Result Tale EventFault) (on other : Tale → Played) (faulted failed : EventFault → Played)
+    → GoAlike r q → ((t u : Tale) → TellAlike t u → PlayAlike (on t) (other u))
+    → ((f : EventFault) → PlayAlike (faulted f) (failed f)) → PlayAlike (go_on r on faulted) (go_on q other failed)
+go-alike (Ok t) (Ok u) on other faulted failed same ok err = ok t u same
+go-alike (Err f) (Err g) on other faulted failed same ok err =
+    subst (λ g. PlayAlike (faulted f) (failed g)) same (err f)
+go-alike (Ok t) (Err g) on other faulted failed same ok err = absurd same
+go-alike (Err f) (Ok u) on other faulted failed same ok err = absurd same
+
+pub replay-alike : (events : List Event) (t u : Tale) (stop : Stop) (rest : List ℕ) → TellAlike t u
+    → PlayAlike (Replay t events stop rest) (Replay u events stop rest)
+replay-alike [] t u stop rest same =
+    ended-alike t u _ _ rest same (ap (λ n. ending_of (next_number n) stop) same.played)
+replay-alike (event ∷ events) t u stop rest same =
+    go-alike (after_event t event) (after_event u event) _ _ _ _ (goes-alike t u event same)
+    (λ v w on. replay-alike events v w stop rest on)
+    (λ f. ended-alike t u (Faulted (next_number t.played) f) (Faulted (next_number u.played) f) rest same
+    (ap (λ n. Faulted (next_number n) f) same.played))
+
+tall-alike : (a b : State) → kept_of a ≡ kept_of b → kept_of (tall_state a) ≡ kept_of (tall_state b)
+unfolding tall_state
+tall-alike a b same =
+    let f : Kept → Kept = λ k. record { parts = tall_parts k.parts; pending = k.pending } in ap f same
+
+raised-alike : (t u : Tale) (version : ℕ) → TellAlike t u → TellAlike (raised t version) (raised u version)
+raised-alike t u version same = elim (cases_Bool (version == tall_version)) [
+  | inl is ↦ rw is (record {
+    state = record {
+      gpu = tall-alike t.state.gpu u.state.gpu same.state.gpu;
+      ram = same.state.ram;
+      running = same.state.running;
+    };
+    played = same.played;
+    shown = same.shown;
+    notes = same.notes;
+    cost = same.cost;
+    box_cost = same.box_cost;
+  })
+  | inr is ↦ rw is same
+]
+
+-- tales that are alike, also with a past
+pub played-alike : (t u : Tale) (c : Captured) → TellAlike t u → PlayAlike (played_from t c) (played_from u c)
+played-alike t u c same =
+    replay-alike c.events (raised t c.version) (raised u c.version) c.ending c.rest (raised-alike t u c.version same)
+
+pub states-alike : AlikeReplayAlike
+states-alike a b played c same =
+    played-alike (from_state a played) (from_state b played) c
+    (record { state = same; played = refl; shown = refl; notes = refl; cost = refl; box_cost = refl })

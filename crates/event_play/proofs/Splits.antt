@@ -1,0 +1,103 @@
+-- A replay that is cut between two events.
+use Rattle.std.proofs.Common.{◌≡◌, ℕ, ◌++◌, List, [], ◌∷◌, Result, Ok, Err, option_to_list, refl, sym, ap, ◌∙◌}
+use Rattle.std.proofs.Common.{append_assoc, append-nil, add_assoc, add-zero}
+use Rattle.gpu_capture.specs.declared.event.Event.{Event}
+use Rattle.gpu_capture.specs.declared.event.Stop.{Stop}
+use Rattle.gpu_taps.specs.Tally.{Reading}
+use Rattle.event_play.specs.Out.{lines_of, finals_at, ending_under, Out}
+use Rattle.event_play.specs.Splits.{alone, AreFaultless, behind_past, with_past, SplitLaw}
+use Rattle.event_play.specs.Replay.{Tale, Played, Replay, go_on, told_on, after_event, from_state, next_number}
+use Rattle.event_play.specs.Step.{Stepped, Step, StepCost, StepBoxCost}
+use Rattle.event_play.specs.Told.{told_notes}
+use Rattle.event_play.specs.declared.ending.Ending.TheVariants.{Done, Faulted}
+use Rattle.event_play.specs.declared.ending.Mode.{Mode}
+use Rattle.event_play.specs.declared.fault.EventFault.{EventFault}
+use Rattle.event_play.proofs.Feeds.{told-append}
+use Rattle.event_play.proofs.Grows.{lines-append}
+
+abbrev faulted : Tale → List ℕ → EventFault → Played
+faulted t rest fault = record { tale = t; ending = Faulted (next_number t.played) fault; rest = rest }
+
+-- ---- the first events
+
+split_on : (t : Tale) (events more : List Event) (stop : Stop) (rest : List ℕ) (next : Result Tale EventFault)
+    → ((u : Tale) → AreFaultless u events
+    → Replay u (events ++ more) stop rest ≡ Replay (alone u events).tale more stop rest)
+    → (go_on next (λ next. alone next events) (faulted t [])).ending ≡ Done
+    → go_on next (λ next. Replay next (events ++ more) stop rest) (faulted t rest)
+    ≡ Replay (go_on next (λ next. alone next events) (faulted t [])).tale more stop rest
+split_on t events more stop rest (Ok next) behind is = behind next is
+split_on t events more stop rest (Err fault) behind is = absurd cc
+
+-- a replay goes on from the tale behind events that have no fault
+split_at : (events more : List Event) (t : Tale) (stop : Stop) (rest : List ℕ) → AreFaultless t events
+    → Replay t (events ++ more) stop rest ≡ Replay (alone t events).tale more stop rest
+split_at [] more t stop rest is = refl
+split_at (event ∷ events) more t stop rest is =
+    split_on t events more stop rest (after_event t event) (λ u. split_at events more u stop rest) is
+
+-- ---- a tale with a past
+
+-- the past, and nothing behind it
+none_behind : (t : Tale) → behind_past t (from_state t.state t.played) ≡ t
+none_behind t = rw (append-nil t.shown, append-nil t.notes, add-zero t.cost, add-zero t.box_cost) refl
+
+module _ (past : Tale) where
+  abbrev after_past : Result Tale EventFault → Result Tale EventFault
+  after_past (Ok next) = Ok (behind_past past next)
+  after_past (Err fault) = Err fault
+
+  told_past : (now : Tale) (cost box_cost : ℕ) (step : Result Stepped EventFault)
+      → told_on (behind_past past now) cost box_cost step ≡ after_past (told_on now cost box_cost step)
+  told_past now cost box_cost (Ok step) =
+      rw (
+        append_assoc past.shown now.shown (option_to_list step.shown),
+        append_assoc past.notes now.notes step.notes,
+        add_assoc past.cost now.cost cost,
+        add_assoc past.box_cost now.box_cost box_cost,
+      ) refl
+  told_past now cost box_cost (Err fault) = refl
+
+  goes_behind : (now : Tale) (rest : List ℕ) (next : Result Tale EventFault) (on : Tale → Played)
+      → ((u : Tale) → on (behind_past past u) ≡ with_past past (on u))
+      → go_on (after_past next) on (faulted (behind_past past now) rest)
+      ≡ with_past past (go_on next on (faulted now rest))
+  goes_behind now rest (Ok next) on behind = behind next
+  goes_behind now rest (Err fault) on behind = refl
+
+  replay_behind : (events : List Event) (now : Tale) (stop : Stop) (rest : List ℕ)
+      → Replay (behind_past past now) events stop rest ≡ with_past past (Replay now events stop rest)
+  replay_behind [] now stop rest = refl
+  replay_behind (event ∷ events) now stop rest =
+      let on : Tale → Played = λ next. Replay next events stop rest in
+      ap (λ next. go_on next on (faulted (behind_past past now) rest))
+      (told_past now (StepCost now.state event) (StepBoxCost now.state event)
+      (Step now.state (next_number now.played) event))
+      ∙ goes_behind now rest (after_event now event) on (λ u. replay_behind events u stop rest)
+
+-- Events that are played on from a tale show, tell and cost what they do from its machine alone, and all this comes
+-- behind what the tale has.
+pub played_on : (t : Tale) (events : List Event) (stop : Stop) (rest : List ℕ)
+    → Replay t events stop rest ≡ with_past t (Replay (from_state t.state t.played) events stop rest)
+played_on t events stop rest =
+    ap (λ t. Replay t events stop rest) (sym (none_behind t))
+    ∙ replay_behind t events (from_state t.state t.played) stop rest
+
+-- ---- what is written
+
+pub lines_past : (mode : Mode) (past now : Tale)
+    → lines_of mode (behind_past past now) ≡ lines_of mode past ++ lines_of mode now
+lines_past mode past now = lines-append mode past.shown now.shown past.notes now.notes
+
+-- behind the lines of the past comes what is written of the rest, by taps that have heard the past
+pub out_past : (mode : Mode) (heard : List Reading) (past : Tale) (r : Played)
+    → Out mode heard (with_past past r) ≡ lines_of mode past ++ Out mode (told_notes past.notes heard) r
+out_past mode heard past r =
+    ap (λ told. lines_of mode (behind_past past r.tale)
+    ++ finals_at (ending_under mode r) mode told r.tale.state.gpu) (told-append past.notes r.tale.notes heard)
+    ∙ ap (λ lines. lines ++ finals_at (ending_under mode r) mode
+    (told_notes r.tale.notes (told_notes past.notes heard)) r.tale.state.gpu) (lines_past mode past r.tale)
+    ∙ append_assoc (lines_of mode past) (lines_of mode r.tale) _
+
+pub replays_split : SplitLaw
+replays_split = record { goes_on = λ t events more. split_at events more t; played_on = played_on; lines = lines_past; out = out_past }

@@ -1,0 +1,45 @@
+-- Replays that are cut between two events (our own rule).
+use Rattle.std.specs.Prelude.{◌≡◌, ℕ, ◌+◌, List, [], ◌++◌}
+use Rattle.gpu_capture.specs.declared.event.Event.{Event}
+use Rattle.gpu_capture.specs.declared.event.Stop.{Stop}
+use Rattle.gpu_capture.specs.declared.event.Stop.TheVariants.{End}
+use Rattle.gpu_taps.specs.Tally.{Reading}
+use Rattle.event_play.specs.Out.{lines_of, Out}
+use Rattle.event_play.specs.Replay.{Tale, Played, Replay, from_state}
+use Rattle.event_play.specs.Told.{told_notes}
+use Rattle.event_play.specs.declared.ending.Ending.TheVariants.{Done}
+use Rattle.event_play.specs.declared.ending.Mode.{Mode}
+
+-- the replay of events alone, which ends with Done where none of them has a fault
+abbrev pub alone : Tale → List Event → Played
+alone t events = Replay t events End []
+
+abbrev pub AreFaultless : Tale → List Event → Type 0
+AreFaultless t events = (alone t events).ending ≡ Done
+
+-- what was played before, and then this
+abbrev pub behind_past : (past now : Tale) → Tale
+behind_past past now = record {
+  state = now.state;
+  played = now.played;
+  shown = past.shown ++ now.shown;
+  notes = past.notes ++ now.notes;
+  cost = past.cost + now.cost;
+  box_cost = past.box_cost + now.box_cost;
+}
+
+abbrev pub with_past : Tale → Played → Played
+with_past past r = record { tale = behind_past past r.tale; ending = r.ending; rest = r.rest }
+
+-- Events behind others that have no fault go on from the tale of those. They show, tell and cost what they do from its
+-- machine alone, behind what the tale has. So what is written is the lines of that tale, and then what the later events
+-- write from its machine, by taps that have heard its notes.
+pub record SplitLaw : Type 0 where
+  pub goes_on : (t : Tale) (events more : List Event) (stop : Stop) (rest : List ℕ) → AreFaultless t events
+      → Replay t (events ++ more) stop rest ≡ Replay (alone t events).tale more stop rest
+  pub played_on : (t : Tale) (events : List Event) (stop : Stop) (rest : List ℕ)
+      → Replay t events stop rest ≡ with_past t (Replay (from_state t.state t.played) events stop rest)
+  pub lines : (mode : Mode) (past now : Tale)
+      → lines_of mode (behind_past past now) ≡ lines_of mode past ++ lines_of mode now
+  pub out : (mode : Mode) (heard : List Reading) (past : Tale) (r : Played)
+      → Out mode heard (with_past past r) ≡ lines_of mode past ++ Out mode (told_notes past.notes heard) r
