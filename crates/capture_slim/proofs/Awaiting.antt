@@ -1,12 +1,12 @@
 -- How far a capture was read, where the reader has answered an event that is not passed on yet, or a stop.
 use Rattle.std.proofs.Common.{◌≡◌, ◌≤◌, ◌<◌, ◌⊎◌, inl, inr, ◌+◌, ◌++◌, max, ℕ, List, [], ◌∷◌, Option, Result, Ok, Err, OnOk, IfOk, IfErr, length, refl, ap, sym, ◌∙◌, subst, arith, nat_lt, true, take, drop}
 use Rattle.std.proofs.lemmas.Bool.{cases_Bool}
-use Rattle.dev_io.specs.Device.{prepended, appended}
+use Rattle.dev_io.specs.Device.{prepended, appended, Rose}
 use Rattle.dev_io.proofs.Appended.{appended-nil}
 use Rattle.dev_io.proofs.Parts.{prepended-nil, taken_on}
 use Rattle.gpu_capture.specs.Capture.{Captured, capture, then_events, opened, numbered_version, heads}
 use Rattle.gpu_capture.specs.Head.{head_among}
-use Rattle.gpu_capture.specs.Reader.{Takes, StopsAt, IsStart, SaysStop as ReaderSays, capture_from, work_left, tag_due}
+use Rattle.gpu_capture.specs.Reader.{Takes, StopsAt, IsReadFault, IsStart, SaysStop as ReaderSays, capture_from, work_left, tag_due}
 use Rattle.gpu_capture.specs.declared.event.Event.{Event}
 use Rattle.gpu_capture.specs.declared.event.Stop.{Stop}
 use Rattle.gpu_capture.specs.declared.event.Stop.TheVariants.{End, NotCapture, Truncated, BadRecord}
@@ -22,7 +22,7 @@ use Rattle.capture_flat.proofs.Awaiting.{Answers}
 use Rattle.capture_flat.proofs.Needed.{none_needed, needed_on, needed_end, says_on, stop_whole, stop_part, takes_version, stops_version}
 use Rattle.capture_slim.specs.Came.{Came, EndsEvent, EndsRefused, EndsPushed, EndsStop, FailsLast, IsAll}
 use Rattle.capture_slim.specs.File.{begun}
-use Rattle.capture_slim.specs.Passing.{Streams, streams, Way, SaysFirst, SaysStop, StopsBehind, RefusesNext, SaysEnding, EndsSlim}
+use Rattle.capture_slim.specs.Passing.{Streams, streams, Way, SaysFirst, SaysStop, StopsBehind, RefusesNext, SaysEnding, EndsSlim, FailsAt, IsTooLong}
 use Rattle.capture_slim.specs.Window.{Window, first_window, waiting}
 use Rattle.capture_slim.specs.declared.ending.SlimEnding.{SlimEnding}
 use Rattle.capture_slim.specs.declared.ending.SlimEnding.TheVariants.{Done, Stopped, NotFlat, TooLong, WriteFailed}
@@ -30,6 +30,8 @@ use Rattle.capture_slim.specs.declared.file.SlimFile.{SlimFile}
 use Rattle.event_play.proofs.Awaiting.{events_left}
 use Rattle.capture_slim.proofs.Firsts.{counted}
 use Rattle.capture_slim.proofs.Files.{written_most}
+use Rattle.capture_slim.proofs.ReadAgain.{is_slim}
+use Rattle.capture_slim.proofs.TooMuch.{is_too_long}
 
 pub record Awaits (version : ℕ) (before now : Streams) (window : Window) (file : SlimFile) (count : ℕ) (new : Progress)
     (next : Result Event Stop) : Type 0 where
@@ -91,12 +93,12 @@ answers : (old new : Progress) (before now : Option (List ℕ)) (next : Result E
 answers old new before now (Ok event) takes known stops = (takes, known)
 answers old new before now (Err stop) takes known stops = stops
 
-pub starts : (left left_now held : Option (List ℕ)) (window : Window) (first new : Progress) (version known : ℕ)
+pub starts : (left left_now held : Option (List ℕ)) (faults faults_now : ℕ) (window : Window) (first new : Progress) (version known : ℕ)
     (next : Result Event Stop) → IsStart first → window ≡ first_window (height_for version) → version ≡ new.version
     → IfOk next (λ event. Takes first new left left_now (event ∷ [])) → OnOk next (1 ≤ new.version)
     → IfErr next (λ stop. StopsAt first new left left_now stop)
-    → Awaits version (streams left held) (streams left_now held) window (record { version = known; size = 0 }) 0 new next
-starts left left_now held window first new version known next is window_is same takes answered stops = record {
+    → Awaits version (streams left faults held) (streams left_now faults_now held) window (record { version = known; size = 0 }) 0 new next
+starts left left_now held faults faults_now window first new version known next is window_is same takes answered stops = record {
   left = left;
   old = first;
   taken = [];
@@ -106,6 +108,7 @@ starts left left_now held window first new version known next is window_is same 
   needed = none_needed [] refl;
   came = record {
     ports = tt;
+    words = tt;
     window_is = window_is;
     count_is = refl;
     file_is = record { stands = sym (appended-nil held); size_is = refl; fits = omega arith };
@@ -141,12 +144,12 @@ module _ (version : ℕ) (before now : Streams) (window : Window) (file : SlimFi
   next_version newer left (Ok x) answer = at.same ∙ takes_version new newer now.left left (x ∷ []) answer.0 at.answer.1 answer.1
   next_version newer left (Err stop) answer = at.same ∙ stops_version new newer.version stop answer.taken left answer.says at.answer.1
 
-  pub goes_on : (newer : Progress) (left held : Option (List ℕ)) (next_window : Window) (size : ℕ) (next : Result Event Stop)
+  pub goes_on : (newer : Progress) (left held : Option (List ℕ)) (faults : ℕ) (next_window : Window) (size : ℕ) (next : Result Event Stop)
       → Came (height_for version) (at.events ++ e ∷ []) next_window (record { version = file.version; size = size }) (count + 1) before.held held
       → IfOk next (λ event. Takes new newer now.left left (event ∷ [])) → OnOk next (1 ≤ newer.version)
       → IfErr next (λ stop. StopsAt new newer now.left left stop)
-      → Awaits version before (streams left held) next_window (record { version = file.version; size = size }) (count + 1) newer next
-  goes_on newer left held next_window size next came took answered stops =
+      → Awaits version before (streams left faults held) next_window (record { version = file.version; size = size }) (count + 1) newer next
+  goes_on newer left held faults next_window size next came took answered stops =
       let answer = answers new newer now.left left next took answered stops in
       record {
         left = now.left;
@@ -162,6 +165,12 @@ module _ (version : ℕ) (before now : Streams) (window : Window) (file : SlimFi
         answer = answer;
       }
 
+  too_long : (taken : List ℕ) (events : List Event) (base held : Option (List ℕ)) (number : ℕ)
+      → FailsAt (height_for version) version events number base held (TooLong number)
+      → IsTooLong (record { version = version; taken = taken; events = events }) number
+  too_long taken events base held number fails =
+      is_too_long (record { version = version; taken = taken; events = events }) number number base held fails
+
   refuses : (IsAtPorts e → ⊥) → RefusesNext (record { version = version; taken = at.taken ++ takes.taken; events = at.events })
   refuses refused = record { event = e; refused = refused; says = says_first at.events; needed = all_needed }
 
@@ -171,7 +180,7 @@ module _ (version : ℕ) (before now : Streams) (window : Window) (file : SlimFi
 
   refused_end : (held : Option (List ℕ)) (ending : SlimEnding) → (IsAtPorts e → ⊥)
       → EndsRefused (height_for version) version at.events before.held held ending
-      → EndsSlim before (streams now.left held) ending
+      → EndsSlim before (streams now.left now.faults held) ending
   refused_end held (NotFlat number) refused all = record {
     way = record { version = version; taken = at.taken ++ takes.taken; events = at.events };
     bytes = all_taken;
@@ -182,7 +191,10 @@ module _ (version : ℕ) (before now : Streams) (window : Window) (file : SlimFi
     way = record { version = version; taken = at.taken ++ takes.taken; events = at.events };
     bytes = all_taken;
     ports = at.came.ports;
-    says = record { due = inr (fails.last, inr (refuses refused)); fails = fails.fails };
+    says = (
+      record { due = inr (fails.last, inr (refuses refused)); fails = fails.fails },
+      too_long (at.taken ++ takes.taken) at.events before.held held number fails.fails,
+    );
   }
   refused_end held (WriteFailed number) refused fails = record {
     way = record { version = version; taken = at.taken ++ takes.taken; events = at.events };
@@ -195,12 +207,15 @@ module _ (version : ℕ) (before now : Streams) (window : Window) (file : SlimFi
 
   pushed_end : (held : Option (List ℕ)) (ending : SlimEnding) → IsAtPorts e
       → EndsPushed (height_for version) version (at.events ++ e ∷ []) before.held held ending
-      → EndsSlim before (streams now.left held) ending
+      → EndsSlim before (streams now.left now.faults held) ending
   pushed_end held (TooLong number) port fails = record {
     way = record { version = version; taken = at.taken ++ takes.taken; events = at.events ++ e ∷ [] };
     bytes = all_taken;
     ports = ports_more at.events at.came.ports port;
-    says = record { due = inl (record { number_is = fails.due; says = says_first (at.events ++ e ∷ []); needed = all_needed }); fails = fails.fails };
+    says = (
+      record { due = inl (record { number_is = fails.due; says = says_first (at.events ++ e ∷ []); needed = all_needed }); fails = fails.fails },
+      too_long (at.taken ++ takes.taken) (at.events ++ e ∷ []) before.held held number fails.fails,
+    );
   }
   pushed_end held (WriteFailed number) port fails = record {
     way = record { version = version; taken = at.taken ++ takes.taken; events = at.events ++ e ∷ [] };
@@ -214,7 +229,7 @@ module _ (version : ℕ) (before now : Streams) (window : Window) (file : SlimFi
 
   pub event_end : (known : ℕ) (held : Option (List ℕ)) (ending : SlimEnding) → known ≡ max version 1
       → EndsEvent (height_for version) known at.events e before.held held ending
-      → EndsSlim before (streams now.left held) ending
+      → EndsSlim before (streams now.left now.faults held) ending
   event_end known held ending is ends =
       let same : known ≡ version = omega (arith, is, behind_head) in
       let P : ℕ → Type 0 = λ v. EndsEvent (height_for version) v at.events e before.held held ending in
@@ -223,7 +238,8 @@ module _ (version : ℕ) (before now : Streams) (window : Window) (file : SlimFi
 -- ---- the reader stops
 
 module _ (version : ℕ) (before now : Streams) (window : Window) (file : SlimFile) (count : ℕ) (new : Progress) (stop : Stop)
-    (at : Awaits version before now window file count new (Err stop)) where
+    (at : Awaits version before now window file count new (Err stop)) (most : version ≤ 3)
+    (cause : IsReadFault stop → Rose before.faults now.faults) where
   stops : StopsAt at.old new at.left now.left stop
   stops = at.answer
 
@@ -238,14 +254,15 @@ module _ (version : ℕ) (before now : Streams) (window : Window) (file : SlimFi
   way_says (Truncated byte) says = (stop_part at.old version at.events at.taken at.answer.taken byte at.says says.0, says.1)
   way_says (ReadFault byte) says = stop_part at.old version at.events at.taken at.answer.taken byte at.says says
 
-  stops_behind : StopsBehind way stop now.left
-  stops_behind = record {
+  stops_behind : (held : Option (List ℕ)) → StopsBehind way stop before (streams now.left now.faults held)
+  stops_behind held = record {
     says = let P : ℕ → Type 0 = λ v. ReaderSays stop at.old v at.answer.taken now.left in way_says stop (subst P (sym at.same) at.answer.says);
     needed = needed_end at.old at.events at.taken at.answer.taken at.says at.needed at.answer.needed;
+    cause = cause;
   }
 
   stop_is : (held : Option (List ℕ)) (ending : SlimEnding) → EndsStop (height_for version) version at.events stop before.held held ending
-      → EndsSlim before (streams now.left held) ending
+      → EndsSlim before (streams now.left now.faults held) ending
   stop_is held ending ends = record {
     way = way;
     bytes = taken_on before.left at.left now.left at.taken at.answer.taken at.bytes at.answer.bytes;
@@ -254,20 +271,30 @@ module _ (version : ℕ) (before now : Streams) (window : Window) (file : SlimFi
   }
     where
       by_ending : (ending : SlimEnding) → EndsStop (height_for version) version at.events stop before.held held ending
-          → SaysEnding way before (streams now.left held) ending
+          → SaysEnding way before (streams now.left now.faults held) ending
       by_ending Done ends =
-          let P : Stop → Type 0 = λ s. StopsBehind way s now.left in
-          record { stops = subst P ends.0 stops_behind; held = ends.1; fits = ends.2 }
+          let P : Stop → Type 0 = λ s. StopsBehind way s before (streams now.left now.faults held) in
+          let behind = subst P ends.0 (stops_behind held) in
+          record {
+            stops = behind;
+            held = ends.1;
+            fits = ends.2;
+            is_slim = is_slim version way.taken at.events (named_by_end (way.taken ++ []) version at.events [] (behind.says []))
+                most behind.says at.came.ports at.came.words ends.2;
+          }
       by_ending (Stopped number told) ends =
-          let P : Stop → Type 0 = λ s. StopsBehind way s now.left in
+          let P : Stop → Type 0 = λ s. StopsBehind way s before (streams now.left now.faults held) in
           let Q : Stop → Type 0 = λ s. IsNotEnd s in
-          (record { number_is = ends.2.number_is; held = ends.2.stands; fits = ends.2.fits }, subst P (sym ends.0) stops_behind, subst Q (sym ends.0) ends.1)
-      by_ending (TooLong number) fails = record { due = inr (fails.last, inl (stop, stops_behind)); fails = fails.fails }
+          (record { number_is = ends.2.number_is; held = ends.2.stands; fits = ends.2.fits }, subst P (sym ends.0) (stops_behind held), subst Q (sym ends.0) ends.1)
+      by_ending (TooLong number) fails = (
+        record { due = inr (fails.last, inl (stop, stops_behind held)); fails = fails.fails },
+        is_too_long way number number before.held held fails.fails,
+      )
       by_ending (WriteFailed number) ends =
-          let P : Stop → Type 0 = λ s. StopsBehind way s now.left in
+          let P : Stop → Type 0 = λ s. StopsBehind way s before (streams now.left now.faults held) in
           elim ends [
-            | inl fails ↦ inl (record { due = inr (fails.last, inl (stop, stops_behind)); fails = fails.fails })
-            | inr u ↦ inr (record { number_is = u.1.number_is; stops = subst P u.0 stops_behind; held = u.1.stands; fits = u.1.fits })
+            | inl fails ↦ inl (record { due = inr (fails.last, inl (stop, stops_behind held)); fails = fails.fails })
+            | inr u ↦ inr (record { number_is = u.1.number_is; stops = subst P u.0 (stops_behind held); held = u.1.stands; fits = u.1.fits })
           ]
       by_ending (NotFlat number) ends = absurd ends
 
@@ -289,24 +316,24 @@ module _ (version : ℕ) (before now : Streams) (window : Window) (file : SlimFi
 
   end_named : stop ≡ End → 1 ≤ version
   end_named is =
-      let P : Stop → Type 0 = λ s. StopsBehind way s now.left in
-      let behind = subst P is stops_behind in
+      let P : Stop → Type 0 = λ s. StopsBehind way s before (streams now.left now.faults now.held) in
+      let behind = subst P is (stops_behind now.held) in
       named_by_end (way.taken ++ []) version at.events [] (behind.says [])
 
   pub stop_end : (known : ℕ) (held : Option (List ℕ)) (ending : SlimEnding) → known ≡ max version 1
       → EndsStop (height_for version) known at.events stop before.held held ending
-      → EndsSlim before (streams now.left held) ending
+      → EndsSlim before (streams now.left now.faults held) ending
   stop_end known held ending is ends = elim at.named [ inl none ↦ unnamed ending none ends | inr some ↦ named_end some ending ends ]
     where
       named_end : 1 ≤ version → (ending : SlimEnding) → EndsStop (height_for version) known at.events stop before.held held ending
-          → EndsSlim before (streams now.left held) ending
+          → EndsSlim before (streams now.left now.faults held) ending
       named_end some ending ends =
           let same : known ≡ version = omega (arith, is, some) in
           let P : ℕ → Type 0 = λ v. EndsStop (height_for version) v at.events stop before.held held ending in
           stop_is held ending (subst P same ends)
 
       unnamed : (ending : SlimEnding) → at.events ≡ [] → EndsStop (height_for version) known at.events stop before.held held ending
-          → EndsSlim before (streams now.left held) ending
+          → EndsSlim before (streams now.left now.faults held) ending
       unnamed Done none ends = named_end (end_named ends.0) Done ends
       unnamed (Stopped number told) none ends =
           let P : List Event → Type 0 = λ es. IsAll (height_for version) known es number before.held held in

@@ -3,7 +3,7 @@ use Rattle.std.proofs.Common.{◌≡◌, ◌≤◌, ◌+◌, ◌-◌, ◌++◌, 
 use Rattle.std.proofs.Math.Seq.{take-append-add}
 use Rattle.std.proofs.lemmas.Bool.{ltb-false}
 use Rattle.dev_io.specs.Device.{appended, AppendsPart}
-use Rattle.gpu_capture.specs.Written.{spelled_end}
+use Rattle.gpu_capture.specs.Written.{spelled_end, HoldsWords}
 use Rattle.gpu_capture.specs.declared.event.Event.{Event}
 use Rattle.gpu_capture.specs.declared.event.Stop.{Stop}
 use Rattle.capture_flat.proofs.Pieces.{wrote_on}
@@ -13,7 +13,7 @@ use Rattle.event_play.specs.Ports.{IsAtPorts, AreAtPorts}
 use Rattle.dead_drawing.specs.Control.{Control}
 use Rattle.dead_drawing.specs.Dead.{is_droppable}
 use Rattle.dead_drawing.specs.Slim.{Slim}
-use Rattle.capture_slim.specs.Came.{Came, ClosesFile, EndsPushed, EndsRefused, EndsStop, IsAll, FailsLast, FailsNow}
+use Rattle.capture_slim.specs.Came.{Came, ClosesFile, EndsPushed, EndsRefused, EndsStop, HoldWords, IsAll, FailsLast, FailsNow}
 use Rattle.capture_slim.specs.File.{begun, head_due, IsFile, Fails, FailsSlots}
 use Rattle.capture_slim.specs.Passing.{FailsAt}
 use Rattle.capture_slim.specs.Places.{kept_of, places, slim_first}
@@ -206,10 +206,14 @@ module _ (height : ℕ) (events : List Event) (window : Window) (file : SlimFile
 
   -- ---- an event of the ports comes
 
-  module _ (e : Event) (next : Window) (next_is : next ≡ staying (pushed window e)) (port : IsAtPorts e) where
+  module _ (e : Event) (next : Window) (next_is : next ≡ staying (pushed window e)) (port : IsAtPorts e) (holds : HoldsWords e) where
     ports_more : (es : List Event) → AreAtPorts es → AreAtPorts (es ++ e ∷ [])
     ports_more [] are = (port, tt)
     ports_more (x ∷ es) are = (are.0, ports_more es are.1)
+
+    words_more : (es : List Event) → HoldWords es → HoldWords (es ++ e ∷ [])
+    words_more [] hold = (holds, tt)
+    words_more (x ∷ es) hold = (hold.0, words_more es hold.1)
 
     now_is : next ≡ behind (events ++ e ∷ []) (first_window height)
     now_is = next_is ∙ ap (λ w. staying (pushed w e)) came.window_is ∙ sym (behind_more events e (first_window height))
@@ -228,6 +232,7 @@ module _ (height : ℕ) (events : List Event) (window : Window) (file : SlimFile
         let P : List Event → Type 0 = λ es. IsFile (record { version = file.version; size = size }) base now es in
         record {
           ports = ports_more events came.ports;
+          words = words_more events came.words;
           window_is = now_is;
           count_is = omega (arith, came.count_is, length-append events (e ∷ []));
           file_is = subst P (kept_now left is) file_is;

@@ -1,10 +1,12 @@
 pub mod Awaiting
 pub mod Files
 pub mod Firsts
+pub mod ReadAgain
 pub mod Rests
 pub mod Ports
 pub mod PushLemmas
 pub mod SettlingLemmas
 pub mod StreamLaw
+pub mod TooMuch
 pub mod WindowLaw
 pub mod WindowLemmas

@@ -2,7 +2,7 @@
 use Rattle.std.specs.Prelude.{◌≡◌, ◌≤◌, ◌⊎◌, ℕ, List, [], ◌∷◌, ◌++◌, ◌+◌, Option, length}
 use Rattle.dev_io.specs.Device.{appended, AppendsPart}
 use Rattle.gpu_capture.specs.Capture.{limit}
-use Rattle.gpu_capture.specs.Written.{spelled_end, written}
+use Rattle.gpu_capture.specs.Written.{spelled_end, written, HoldsWords}
 use Rattle.gpu_capture.specs.declared.event.Event.{Event}
 use Rattle.gpu_capture.specs.declared.event.Stop.{Stop}
 use Rattle.gpu_capture.specs.declared.event.Stop.TheVariants.{End}
@@ -19,10 +19,16 @@ use Rattle.capture_slim.specs.declared.ending.SlimEnding.{SlimEnding}
 use Rattle.capture_slim.specs.declared.ending.SlimEnding.TheVariants.{Done, Stopped, NotFlat, TooLong, WriteFailed}
 use Rattle.capture_slim.specs.declared.file.SlimFile.{SlimFile}
 
+-- the values of events are words
+abbrev pub HoldWords : List Event → Type 0
+HoldWords [] = Unit {0}
+HoldWords (e ∷ events) = HoldsWords e × HoldWords events
+
 -- these events of the ports came, and what was due of them was written
 pub record Came (height : ℕ) (events : List Event) (window : Window) (file : SlimFile) (count : ℕ)
     (base held : Option (List ℕ)) : Type 0 where
   pub ports : AreAtPorts events
+  pub words : HoldWords events
   pub window_is : window ≡ behind events (first_window height)
   pub count_is : count ≡ length events
   pub file_is : IsFile file base held (kept_of (outs events (first_window height)))

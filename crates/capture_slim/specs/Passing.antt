@@ -1,29 +1,33 @@
 -- A capture that is written without its dead drawing as the events come (our own rule).
 use Rattle.std.specs.Prelude.{◌≡◌, ◌≤◌, ◌<◌, ◌⊎◌, ℕ, List, [], ◌∷◌, ◌++◌, ◌+◌, Option, length}
-use Rattle.dev_io.specs.Device.{prepended, appended, AppendsPart, IsAtEnd}
+use Rattle.dev_io.specs.Device.{prepended, appended, AppendsPart, IsAtEnd, Rose}
 use Rattle.gpu_capture.specs.Capture.{Captured, capture, then_events, limit}
+use Rattle.gpu_capture.specs.Reader.{IsReadFault}
 use Rattle.gpu_capture.specs.Written.{spelled_end, written}
 use Rattle.gpu_capture.specs.declared.event.Event.{Event}
 use Rattle.gpu_capture.specs.declared.event.Stop.{Stop}
 use Rattle.gpu_capture.specs.declared.event.Stop.TheVariants.{End, Truncated, ReadFault}
 use Rattle.event_play.specs.Ends.{IsNotEnd}
 use Rattle.event_play.specs.Ports.{IsAtPorts, AreAtPorts}
+use Rattle.event_play.specs.Replay.{Tale, Play, from_state}
+use Rattle.event_play.specs.Step.{first_machine}
 use Rattle.dead_drawing.specs.Dead.{window_events}
 use Rattle.dead_drawing.specs.Laws.{height_for}
 use Rattle.dead_drawing.specs.Slim.{Slim}
-use Rattle.capture_flat.specs.Passing.{AreNeeded, AreNeededToEnd}
+use Rattle.capture_flat.specs.Passing.{AreNeeded, AreNeededToEnd, IsFlatCapture}
 use Rattle.capture_slim.specs.File.{begun, head_due, Fails}
 use Rattle.capture_slim.specs.Places.{slim_first}
 use Rattle.capture_slim.specs.declared.ending.SlimEnding.{SlimEnding}
 use Rattle.capture_slim.specs.declared.ending.SlimEnding.TheVariants.{Done, Stopped, NotFlat, TooLong, WriteFailed}
 
--- the bytes left of the source and those that the sink holds, None where they are not told
+-- the bytes left of the source, how often it failed, and the bytes that the sink holds; None where they are not told
 pub record Streams : Type 0 where
   pub left : Option (List ℕ)
+  pub faults : ℕ
   pub held : Option (List ℕ)
 
-abbrev pub streams : (left held : Option (List ℕ)) → Streams
-streams left held = record { left = left; held = held }
+abbrev pub streams : (left : Option (List ℕ)) → (faults : ℕ) → (held : Option (List ℕ)) → Streams
+streams left faults held = record { left = left; faults = faults; held = held }
 
 -- how far a capture was read: its version, the bytes taken, and the events of the ports that they say
 pub record Way : Type 0 where
@@ -34,6 +38,10 @@ pub record Way : Type 0 where
 -- all that is written of its events, if they are all
 abbrev pub slim_of : Way → List Event
 slim_of way = Slim (height_for way.version) way.events
+
+-- the file of what stays of events of a capture of this version
+abbrev pub slim_file : (version : ℕ) → List Event → List ℕ
+slim_file version events = written version (Slim (height_for version) events)
 
 -- the bytes taken say these events first, in a capture of the version of the way
 abbrev pub SaysFirst : Way → List Event → Type 0
@@ -53,10 +61,11 @@ SaysStop way stop left =
 
 -- ---- how the reading stands
 
--- the reader stopped behind the events of the way
-pub record StopsBehind (way : Way) (stop : Stop) (left : Option (List ℕ)) : Type 0 where
-  pub says : SaysStop way stop left
+-- the reader stopped behind the events of the way, for a fault only where the source has failed since
+pub record StopsBehind (way : Way) (stop : Stop) (before now : Streams) : Type 0 where
+  pub says : SaysStop way stop now.left
   pub needed : AreNeededToEnd way.events way.taken
+  pub cause : IsReadFault stop → Rose before.faults now.faults
 
 -- the next event is none of the ports
 pub record RefusesNext (way : Way) : Type 0 where
@@ -77,23 +86,32 @@ pub record IsAmongLast (events : List Event) (number : ℕ) : Type 0 where
   pub late : length events < number + window_events
 
 -- the record of the event of this number is due
-abbrev pub IsDue : Way → (number : ℕ) → (left : Option (List ℕ)) → Type 0
-IsDue way number left =
-    ReadsOn way number ⊎ (IsAmongLast way.events number × (((stop : Stop) × StopsBehind way stop left) ⊎ RefusesNext way))
+abbrev pub IsDue : Way → (number : ℕ) → (before now : Streams) → Type 0
+IsDue way number before now =
+    ReadsOn way number
+    ⊎ (IsAmongLast way.events number × (((stop : Stop) × StopsBehind way stop before now) ⊎ RefusesNext way))
 
 -- ---- the endings
 
--- all was read and written
+-- a capture on a new machine
+abbrev pub first : Tale
+first = from_state first_machine 0
+
+-- All was read and written. What was written is a capture of the same version, whatever stands behind it: it is read as
+-- the events that stay, with End, and playing it shows the same words as playing the bytes taken, and leads to the same
+-- status word and the same video memory.
 pub record IsWhole (way : Way) (before now : Streams) : Type 0 where
-  pub stops : StopsBehind way End now.left
-  pub held : now.held ≡ appended before.held (written way.version (slim_of way))
-  pub fits : length (written way.version (slim_of way)) ≤ limit
+  pub stops : StopsBehind way End before now
+  pub held : now.held ≡ appended before.held (slim_file way.version way.events)
+  pub fits : length (slim_file way.version way.events) ≤ limit
+  pub is_slim : (rest : List ℕ) → IsFlatCapture first (Play first (way.taken ++ rest)).tale way.version (slim_of way)
+      (slim_file way.version way.events)
 
 -- the events of the way were written as if they were all
 pub record WritesAll (way : Way) (number : ℕ) (before now : Streams) : Type 0 where
   pub number_is : number ≡ length way.events + 1
   pub held : now.held ≡ appended before.held (begun way.version (slim_of way))
-  pub fits : length (written way.version (slim_of way)) ≤ limit
+  pub fits : length (slim_file way.version way.events) ≤ limit
 
 -- An event of these stays, and all those that stay before it were written: its record would be too much, or a proper
 -- part of it was written.
@@ -107,23 +125,31 @@ pub record FailsAt (height version : ℕ) (events : List Event) (number : ℕ) (
 
 -- so it is with this event of the way, whose record is due
 pub record FailsRecord (way : Way) (number : ℕ) (before now : Streams) (ending : SlimEnding) : Type 0 where
-  pub due : IsDue way number now.left
+  pub due : IsDue way number before now
   pub fails : FailsAt (height_for way.version) way.version way.events number before.held now.held ending
+
+-- The whole file of the events that were read is too long; and where one of this number was due before the reading
+-- ended, so is that of these and any other events behind them.
+pub record IsTooLong (way : Way) (number : ℕ) : Type 0 where
+  pub long : limit < length (slim_file way.version way.events)
+  pub stays : number + window_events ≤ length way.events → (more : List Event)
+      → limit < length (slim_file way.version (way.events ++ more))
 
 -- a proper part of the End record was written
 pub record LacksEnd (way : Way) (number : ℕ) (before now : Streams) : Type 0 where
   pub number_is : number ≡ length way.events + 1
-  pub stops : StopsBehind way End now.left
+  pub stops : StopsBehind way End before now
   pub held : AppendsPart (appended before.held (begun way.version (slim_of way))) now.held
       (head_due way.version (slim_of way) ++ spelled_end)
-  pub fits : length (written way.version (slim_of way)) ≤ limit
+  pub fits : length (slim_file way.version way.events) ≤ limit
 
 abbrev pub SaysEnding : Way → (before now : Streams) → SlimEnding → Type 0
 SaysEnding way before now Done = IsWhole way before now
 SaysEnding way before now (Stopped number stop) =
-    WritesAll way number before now × StopsBehind way stop now.left × IsNotEnd stop
+    WritesAll way number before now × StopsBehind way stop before now × IsNotEnd stop
 SaysEnding way before now (NotFlat number) = WritesAll way number before now × RefusesNext way
-SaysEnding way before now (TooLong number) = FailsRecord way number before now (TooLong number)
+SaysEnding way before now (TooLong number) =
+    FailsRecord way number before now (TooLong number) × IsTooLong way number
 SaysEnding way before now (WriteFailed number) =
     FailsRecord way number before now (WriteFailed number) ⊎ LacksEnd way number before now
 

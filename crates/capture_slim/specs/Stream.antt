@@ -1,9 +1,9 @@
 -- Events that come in and go out one by one (our own rule).
-use Rattle.std.specs.Prelude.{◌≡◌, ℕ, List, [], ◌∷◌, ◌++◌, Option, None, ◌+◌, nat_lt, length, if◌then◌else◌}
+use Rattle.std.specs.Prelude.{◌≡◌, ◌≤◌, ℕ, List, [], ◌∷◌, ◌++◌, Option, None, ◌+◌, nat_lt, length, if◌then◌else◌}
 use Rattle.gpu_capture.specs.declared.event.Event.{Event}
 use Rattle.dead_drawing.specs.Dead.{window_events}
 use Rattle.capture_slim.specs.declared.slot.Slot.{Slot}
-use Rattle.capture_slim.specs.Places.{places}
+use Rattle.capture_slim.specs.Places.{places, slim_first}
 use Rattle.capture_slim.specs.Window.{Window, all_left, first_window, left_of, pushed, waiting}
 
 -- the first slot leaves where there are more events than the window has
@@ -50,3 +50,8 @@ StreamLaw = (height : ℕ) (events : List Event) → places height events
 abbrev pub LeavesLaw : Type 0
 LeavesLaw = (height : ℕ) (events more : List Event) → (rest : List (Option Event))
     × (places height (events ++ more) ≡ outs events (first_window height) ++ rest)
+
+-- Those of the first events that stay are the same whatever follows, once so many more have come as the window has.
+abbrev pub DueLaw : Type 0
+DueLaw = (height number : ℕ) (events more : List Event) → number + window_events ≤ length events
+    → slim_first height number (events ++ more) ≡ slim_first height number events

@@ -1,7 +1,7 @@
 //! Laws of the window and of what it leaves, each of them the contract of a function that does nothing.
 ghost use Rattle.dead_drawing.specs.Laws.{SlimReplaysAlike};
 ghost use Rattle.capture_slim.specs.Places.{PlacesLaw};
-ghost use Rattle.capture_slim.specs.Stream.{LeavesLaw, StreamLaw};
+ghost use Rattle.capture_slim.specs.Stream.{DueLaw, LeavesLaw, StreamLaw};
 
 /// The events that stay in their places are the list without its dead packets.
 pub fn places_are_slim()
@@ -13,6 +13,11 @@ pub fn places_are_slim()
 pub fn window_leaves_slim()
     ensures stream { StreamLaw }
     ensures leaves { LeavesLaw }
+{}
+
+/// Which of the first events stay is decided once 4096 more have come, whatever events follow.
+pub fn what_is_due_stays()
+    ensures { DueLaw }
 {}
 
 /// In every version, a list of events of the ports shows the same words without its dead packets, and leaves the same

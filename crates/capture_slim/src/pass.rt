@@ -52,8 +52,8 @@ impl Slim {
     /// past what that ending needs.
     pub fn pass<S: Source, K: Sink>(&mut self, source: &mut S, out: &mut K) -> SlimEnding
         requires { self.old ≡ first_window short_height }
-        ensures ends { EndsSlim (streams (S.left source.old) (K.held out.old))
-            (streams (S.left source.new) (K.held out.new)) result }
+        ensures ends { EndsSlim (streams (S.left source.old) (S.faults source.old) (K.held out.old))
+            (streams (S.left source.new) (S.faults source.new) (K.held out.new)) result }
         ensures known { IsEnding result }
         ensures read_cause { MayReadFault result → Rose (S.faults source.old) (S.faults source.new) }
         ensures write_cause { MayWriteFault result → Rose (K.faults out.old) (K.faults out.new) }
@@ -67,8 +67,8 @@ impl Slim {
 // The same through a window.
 fn pass_on<S: Source, K: Sink>(window: &mut Waiting, source: &mut S, out: &mut K) -> SlimEnding
     requires { window.old ≡ first_window short_height }
-    ensures ends { EndsSlim (streams (S.left source.old) (K.held out.old))
-        (streams (S.left source.new) (K.held out.new)) result }
+    ensures ends { EndsSlim (streams (S.left source.old) (S.faults source.old) (K.held out.old))
+        (streams (S.left source.new) (S.faults source.new) (K.held out.new)) result }
     ensures known { IsEnding result }
     ensures read_cause { MayReadFault result → Rose (S.faults source.old) (S.faults source.new) }
     ensures write_cause { MayWriteFault result → Rose (K.faults out.old) (K.faults out.new) }

@@ -2,6 +2,7 @@
 ghost use Rattle.std.specs.Prelude.{◌≡◌, ◌≤◌, ◌<◌, ◌+◌, ◌++◌, ◌∷◌, [], ◌^◌, ◌↔◌, IsTrue, List, ℕ, Option, length, IfOk, IfErr};
 ghost use Rattle.dev_io.specs.Device.{Rose};
 ghost use Rattle.gpu_capture.specs.Capture.{IsVersion};
+ghost use Rattle.gpu_capture.specs.Written.{HoldsWords};
 ghost use Rattle.gpu_capture.specs.declared.event.Event.{Event as SpecEvent};
 ghost use Rattle.gpu_capture.specs.Reader.{IsReadFault};
 ghost use Rattle.event_play.specs.Ports.{IsAtPorts};
@@ -25,6 +26,22 @@ fn is_at_ports(event: &Event) -> bool
         *event,
         Event::Gp0 { .. } | Event::Gp1 { .. } | Event::Read | Event::Skip | Event::Stat
     )
+}
+
+// The values of an event of the ports are words. It does nothing.
+fn holds_words(event: Event)
+    requires { IsAtPorts event }
+    ensures { HoldsWords event }
+{
+    match event {
+        Event::Gp0 { word } => {
+            let _ = word;
+        }
+        Event::Gp1 { word } => {
+            let _ = word;
+        }
+        _ => {}
+    }
 }
 
 // Takes an event of the ports behind so many, and writes the one that leaves where it stays. The answer is how many bytes
@@ -53,6 +70,7 @@ fn push_event<K: Sink>(
     ensures cause { IfErr result (λ ending. MayWriteFault ending → Rose (K.faults out.old) (K.faults out.new)) }
     ensures faults { K.faults out.old ≤ K.faults out.new }
 {
+    holds_words(event);
     match window.push(event) {
         None => Ok(file.size),
         Some(left) => {

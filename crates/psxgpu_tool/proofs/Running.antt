@@ -1,5 +1,5 @@
 -- What a run does, by its words and by how it ended.
-use Rattle.std.proofs.Common.{◌≡◌, ◌≤◌, ◌+◌, ◌⊎◌, ◌++◌, inl, inr, ℕ, List, [], map, Option, Some, None, Vec, String}
+use Rattle.std.proofs.Common.{◌≡◌, ◌≤◌, ◌+◌, ◌⊎◌, inl, inr, ℕ, List, [], map, Vec, String}
 use Rattle.std.proofs.Common.{string_bytes, refl, ap, sym, subst, ◌∙◌, append-nil, arith}
 use Rattle.std.specs.declared.alloc.Global.{Global}
 use Rattle.gpu_capture.specs.declared.event.Stop.TheVariants.{End, NotCapture, Truncated, BadRecord, TooLong, ReadFault}
@@ -268,7 +268,7 @@ module _ (words : Vec (String Global) Global) (heard heard_now : List Reading) (
 -- a capture without its dead drawing
 module _ (words : Vec (String Global) Global) (heard : List Reading) (before now : Outside) (ending : SlimEnding)
     (says : Says before.err now.err (slim_text ending heard)) (silent : slim_status ending ≡ 0 → now.err ≡ before.err) where
-  slim_run_of : EndsSlim (slim_streams before.source.left before.out.held) (slim_streams now.source.left now.out.held) ending → IsSlimEnding ending
+  slim_run_of : EndsSlim (slim_streams before.source.left before.source.faults before.out.held) (slim_streams now.source.left now.source.faults now.out.held) ending → IsSlimEnding ending
       → (MayReadSlim ending → HasFailedToRead before.source now.source) → (MayWriteSlim ending → HasFailed before.out now.out)
       → now.steps ≡ before.steps → SlimRun heard before now (slim_status ending)
   slim_run_of ends is_ending read_cause write_cause free = record {
@@ -278,8 +278,8 @@ module _ (words : Vec (String Global) Global) (heard : List Reading) (before now
       known = is_ending;
       status_is = refl;
       says = says;
-      complete = λ read write few. if_told before.source.left _ (λ bytes told. slim_complete before now bytes told ending ends
-          (λ may. read (read_cause may)) (λ may. write (write_cause may)) few);
+      complete = λ read write. if_told before.source.left _ (λ bytes told. slim_complete before now bytes told ending ends
+          read (λ may. read (read_cause may)) (λ may. write (write_cause may)));
     });
     whole = λ zero. if_told before.source.left _ (λ bytes told. slim_whole before now bytes told ending ends zero);
     starved = λ three. read_cause (slim_three ending three);
@@ -288,7 +288,7 @@ module _ (words : Vec (String Global) Global) (heard : List Reading) (before now
   }
 
   pub slim_runs : Names words Slim
-      → EndsSlim (slim_streams before.source.left before.out.held) (slim_streams now.source.left now.out.held) ending → IsSlimEnding ending
+      → EndsSlim (slim_streams before.source.left before.source.faults before.out.held) (slim_streams now.source.left now.source.faults now.out.held) ending → IsSlimEnding ending
       → (MayReadSlim ending → HasFailedToRead before.source now.source) → (MayWriteSlim ending → HasFailed before.out now.out)
       → now.steps ≡ before.steps → Runs words heard before now (slim_status ending)
   slim_runs named ends is_ending read_cause write_cause free = record {

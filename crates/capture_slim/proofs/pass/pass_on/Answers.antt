@@ -6,7 +6,7 @@ use Rattle.capture_slim.proofs.pass.pass_on.Goals as goal
 
 pub events-init : goal.events-init
 events-init g c = record {
-  awaits = starts _ _ _ _ _ _ c.version-version.result c.max-known.result c.next-next.result c.new-reader.ensures.start c.raise.ensures
+  awaits = starts _ _ _ _ _ _ _ _ c.version-version.result c.max-known.result c.next-next.result c.new-reader.ensures.start c.raise.ensures
       c.version-version.ensures.value c.next-next.ensures.takes c.next-next.ensures.version (c.next-next.ensures.stop c.new-reader.ensures.stop);
   few = omega arith;
   room = omega (arith, left_falls _ _ c.next-next.result c.next-next.ensures.forward, c.new-reader.ensures.work);
@@ -36,7 +36,7 @@ events-preserved g c =
     let at = awaits_is _ _ _ _ _ _ _ _ _ c.in-Ok.is c.events.invariant.awaits in
     let running = rw c.in-Ok.is at c.events.invariant.running in
     record {
-      awaits = goes_on _ _ _ _ _ _ _ c.in-Ok.event at c.next-next-in-Ok.new.self.progress (g.S.Source.left c.next-next-in-Ok.new.source) (g.K.Sink.held c.take_event.new.out)
+      awaits = goes_on _ _ _ _ _ _ _ c.in-Ok.event at c.next-next-in-Ok.new.self.progress (g.S.Source.left c.next-next-in-Ok.new.source) (g.K.Sink.held c.take_event.new.out) (g.S.Source.faults c.next-next-in-Ok.new.source)
           c.take_event.new.window c.in-Ok-take_event.now c.next-next-in-Ok.result
           (c.in-Ok-take_event.ensures.ok (height_for c.version-version.result) at.events (g.K.Sink.held c.args.out.now) at.came)
           c.next-next-in-Ok.ensures.takes c.next-next-in-Ok.ensures.version (c.next-next-in-Ok.ensures.stop running);
@@ -53,5 +53,5 @@ events-preserved g c =
 pub returns-in-Err-clause-ends : goal.returns-in-Err-clause-ends
 returns-in-Err-clause-ends g c =
     let at = awaits_is _ _ _ _ _ _ _ _ _ c.in-Err.is c.events.invariant.awaits in
-    stop_end _ _ _ _ _ _ _ c.in-Err.stop at c.max-known.result (g.K.Sink.held c.finish.new.out) c.finish.result c.max-known.ensures
+    stop_end _ _ _ _ _ _ _ c.in-Err.stop at c.version-version.ensures.known (rw c.in-Err.is at c.events.invariant.read_cause) c.max-known.result (g.K.Sink.held c.finish.new.out) c.finish.result c.max-known.ensures
     (c.finish.ensures.ends (height_for c.version-version.result) at.events (g.K.Sink.held c.args.out.now) at.came)

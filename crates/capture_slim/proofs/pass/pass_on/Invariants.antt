@@ -8,8 +8,8 @@ use Rattle.capture_slim.proofs.pass.pass_on.Given as goal
 
 abbrev pub invariant-events : goal.invariant-events
 invariant-events g l = record {
-  awaits : Awaits l.version (streams (g.S.Source.left l.fn.source) (g.K.Sink.held l.fn.out))
-      (streams (g.S.Source.left l.source) (g.K.Sink.held l.out)) l.window (record { version = l.known; size = l.size }) l.count
+  awaits : Awaits l.version (streams (g.S.Source.left l.fn.source) (g.S.Source.faults l.fn.source) (g.K.Sink.held l.fn.out))
+      (streams (g.S.Source.left l.source) (g.S.Source.faults l.source) (g.K.Sink.held l.out)) l.window (record { version = l.known; size = l.size }) l.count
       l.reader.progress l.next;
   few : l.size + 4 ≤ 2 ^ 30;
   room : l.count + events_left l.reader.progress l.next < 2 ^ 52;

@@ -26,7 +26,7 @@ pub returns-in-None-clause-ok : goal.returns-in-None-clause-ok
 returns-in-None-clause-ok g c = λ height events base came.
     let kept = kept_of (outs events (first_window height)) in
     let P : List Event → Type 0 = λ es. IsFile c.args.file base (g.K.Sink.held c.args.out.now) es in
-    comes height events c.args.window.now c.args.file c.args.count base (g.K.Sink.held c.args.out.now) came c.args.event c.push.new.self c.push.ensures.now c.requires.port
+    comes height events c.args.window.now c.args.file c.args.count base (g.K.Sink.held c.args.out.now) came c.args.event c.push.new.self c.push.ensures.now c.requires.port c.holds_words.ensures
     (g.K.Sink.held c.args.out.now) c.args.file.size [] (ap (λ (o : Option Event). option_to_list o) (sym c.in-None.is) ∙ c.push.ensures.left) (subst P (sym (append-nil kept)) came.file_is)
 
 pub returns-in-Some-clause-ok : goal.returns-in-Some-clause-ok
@@ -35,7 +35,7 @@ returns-in-Some-clause-ok g c = λ height events base came.
     let left = ap (λ (o : Option Event). option_to_list o) (sym c.in-Some.is) ∙ c.push.ensures.left in
     IfOk-weaker c.write_record.result _ _
     (λ size wrote.
-    comes height events c.args.window.now c.args.file c.args.count base (g.K.Sink.held c.args.out.now) came c.args.event c.push.new.self c.push.ensures.now c.requires.port
+    comes height events c.args.window.now c.args.file c.args.count base (g.K.Sink.held c.args.out.now) came c.args.event c.push.new.self c.push.ensures.now c.requires.port c.holds_words.ensures
     (g.K.Sink.held c.write_record.new.out) size (c.in-Some.left ∷ []) left
     (record_on c.args.file base (g.K.Sink.held c.args.out.now) (g.K.Sink.held c.write_record.new.out) kept c.in-Some.left size came.file_is wrote))
     c.write_record.ensures.ok
@@ -49,7 +49,7 @@ returns-in-Some-clause-ends g c = λ height events base came.
     (λ ending lacks.
     let fails = record_fails c.args.file base (g.K.Sink.held c.args.out.now) (g.K.Sink.held c.write_record.new.out) kept c.in-Some.left (c.args.count + 1 - c.len.result) ending came.file_is lacks in
     pushed_ends height c.args.file.version (events ++ c.args.event ∷ []) base (g.K.Sink.held c.write_record.new.out) kept c.in-Some.left (c.args.count + 1 - c.len.result) ending fails
-    (now_fails height events c.args.window.now c.args.file c.args.count base (g.K.Sink.held c.args.out.now) came c.args.event c.push.new.self c.push.ensures.now c.requires.port
+    (now_fails height events c.args.window.now c.args.file c.args.count base (g.K.Sink.held c.args.out.now) came c.args.event c.push.new.self c.push.ensures.now c.requires.port c.holds_words.ensures
     (g.K.Sink.held c.write_record.new.out) ending c.in-Some.left (c.args.count + 1 - c.len.result) left
     (omega (
       arith,

@@ -1,0 +1,88 @@
+-- What is too long stays too long, whatever events follow.
+use Rattle.std.proofs.Common.{◌≡◌, ◌≤◌, ◌++◌, ℕ, List, [], ◌∷◌, Option, take, drop, length, length-append, ap, sym, ◌∙◌, append-nil, arith}
+use Rattle.std.proofs.lemmas.List.{take-append-drop, take-append-le}
+use Rattle.gpu_capture.specs.Capture.{head_of}
+use Rattle.gpu_capture.specs.Written.{spelled_end, written}
+use Rattle.gpu_capture.specs.declared.event.Event.{Event}
+use Rattle.dead_drawing.specs.Laws.{height_for}
+use Rattle.dead_drawing.specs.Slim.{Slim}
+use Rattle.capture_flat.specs.Out.{spell}
+use Rattle.capture_flat.proofs.Pieces.{spell-append}
+use Rattle.capture_slim.specs.Passing.{FailsAt, IsTooLong, Way}
+use Rattle.capture_slim.specs.Places.{kept_of, places, slim_first}
+use Rattle.capture_slim.specs.Stream.{DueLaw, behind, outs, staying}
+use Rattle.capture_slim.specs.Window.{IsBegun, Window, first_window, pushed}
+use Rattle.capture_slim.specs.declared.ending.SlimEnding.TheVariants.{TooLong}
+use Rattle.capture_slim.proofs.Firsts.{counts, pushed_size, size}
+use Rattle.capture_slim.proofs.PushLemmas.{few_stay, few_words}
+use Rattle.capture_slim.proofs.Rests.{kept_append}
+use Rattle.capture_slim.proofs.StreamLaw.{leaves_law, places_law}
+use Rattle.capture_slim.proofs.WindowLaw.{pushed_begun}
+
+-- ---- no more events wait than the window has
+
+few_behind : (events : List Event) (w : Window) → IsBegun w.words w.control → size w ≤ 4096 → size (behind events w) ≤ 4096
+few_behind [] w begun few = few
+few_behind (e ∷ events) w begun few =
+    let p = pushed w e in
+    let next = pushed_begun w e begun in
+    let most = few_words p.words p.control next in
+    few_behind events (staying p) next
+    (few_stay p.slots p.words (omega (arith, few, pushed_size w e)) (omega (arith, most)))
+
+-- ---- what is due stays
+
+pub due_law : DueLaw
+due_law height number events more le =
+    let w = first_window height in
+    let gone = outs events w in
+    let long : number ≤ length gone = omega (arith, le, counts events w, few_behind events w tt (omega arith)) in
+    let first : (later : List Event) → take number (places height (events ++ later)) ≡ take number gone =
+    λ later.
+    let all = leaves_law height events later in
+    ap (take number) all.1 ∙ take-append-le number gone all.0 long in
+    ap kept_of (first more ∙ sym (first []) ∙ ap (λ es. take number (places height es)) (append-nil events))
+
+-- ---- the first of the events that stay
+
+pub first_of_slim : (height number : ℕ) (events : List Event)
+    → Slim height events ≡ slim_first height number events ++ kept_of (drop number (places height events))
+first_of_slim height number events =
+    let all = places height events in
+    sym (places_law height events) ∙ ap kept_of (sym (take-append-drop number all))
+    ∙ kept_append (take number all) (drop number all)
+
+-- more events make no shorter file
+longer : (version : ℕ) (xs ys : List Event) → length (written version xs) ≤ length (written version (xs ++ ys))
+longer version xs ys =
+    let a = length-append (head_of version ++ spell xs) spelled_end in
+    let b = length-append (head_of version ++ spell (xs ++ ys)) spelled_end in
+    let c = length-append (head_of version) (spell xs) in
+    let d = length-append (head_of version) (spell (xs ++ ys)) in
+    let e = length-append (spell xs) (spell ys) in
+    let f = ap length (spell-append xs ys) in
+    omega (arith, a, b, c, d, e, f)
+
+no_shorter : (version height number : ℕ) (events : List Event)
+    → length (written version (slim_first height number events)) ≤ length (written version (Slim height events))
+no_shorter version height number events =
+    let first = slim_first height number events in
+    let rest = kept_of (drop number (places height events)) in
+    let all = ap (λ es. length (written version es)) (first_of_slim height number events) in
+    omega (arith, all, longer version first rest)
+
+-- ---- a record that is too much
+
+pub is_too_long : (way : Way) (number at : ℕ) (base held : Option (List ℕ))
+    → FailsAt (height_for way.version) way.version way.events number base held (TooLong at) → IsTooLong way number
+is_too_long way number at base held fails =
+    let version = way.version in
+    let height = height_for version in
+    let due = ap (λ es. length (written version es)) fails.stays in
+    let long = fails.fails.1.long in
+    record {
+      long = omega (arith, due, long, no_shorter version height number way.events);
+      stays = λ le more.
+          let same = ap (λ es. length (written version es)) (due_law height number way.events more le) in
+          omega (arith, due, long, same, no_shorter version height number (way.events ++ more));
+    }
