@@ -158,8 +158,8 @@ fn draw_guarded<L: Ledger>(
     vram: &mut Vram,
     span: &Span,
     texture: &Texture,
-    plan: &Plan,
-    at: &Coordinates,
+    plan: Plan,
+    at: Coordinates,
     first: u16,
     k: u8,
     steps: &mut Steps<L>,
@@ -169,13 +169,13 @@ fn draw_guarded<L: Ledger>(
     requires chunk { IsChunk span.now first k }
     requires whole { first % 16 ≡ 0 }
     requires texture { texture_of span.now.paint ≡ Some texture.now }
-    requires plan { IsPlan span.now texture.now plan.now }
-    requires at { HasCoordinates span.now.paint (span.now.x + first) span.now.y first k at.now.us at.now.vs }
+    requires plan { IsPlan span.now texture.now plan }
+    requires at { HasCoordinates span.now.paint (span.now.x + first) span.now.y first k at.us at.vs }
     ensures cells { vram.new ≡ drawn_chunk span.now first k vram.old }
     ensures long { length vram.new ≡ length vram.old }
     ensures cost { steps.new ≤ steps.old + chunk_cost span.now first k }
 {
-    let cells = texels_at(texture, at, k);
+    let cells = texels_at(texture, &at, k);
     let to = Cell {
         x: span.x + first,
         y: span.y,
@@ -183,9 +183,9 @@ fn draw_guarded<L: Ledger>(
     if reads_itself(texture, &cells, to, k) {
         draw_cells(vram, span, first, k, steps);
     } else {
-        let read = read_texels(vram, texture, at, &cells, k, steps);
+        let read = read_texels(vram, texture, &at, &cells, k, steps);
         let texels = u16x16::from_array(read);
-        let lanes = collect_textured(vram, span, texture, plan, texels, first, k, steps);
+        let lanes = collect_textured(vram, span, texture, &plan, texels, first, k, steps);
         store_chunk(vram, span, first, k, &lanes, steps);
     }
 }
@@ -215,7 +215,7 @@ fn draw_textured<L: Ledger>(
     if plan.apart {
         draw_apart(vram, span, texture, plan, &at, first, k, steps);
     } else {
-        draw_guarded(vram, span, texture, plan, &at, first, k, steps);
+        draw_guarded(vram, span, texture, *plan, at, first, k, steps);
     }
 }
 

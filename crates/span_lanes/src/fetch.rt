@@ -39,7 +39,7 @@ fn gather<L: Ledger>(vram: &Vram, xs: u16x16, ys: u16x16, k: u8, steps: &mut Ste
 
 // The numbers of the lanes.
 #[inline(always)]
-fn ramp() -> u16x16
+pub(crate) fn ramp() -> u16x16
     ensures long { length result ≡ 16 }
     ensures value { EachLane (λ i. slice_index result i ≡ i) }
 {
