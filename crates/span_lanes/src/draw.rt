@@ -12,6 +12,7 @@ ghost use Rattle.span_lanes.specs.Hues.{AreHues};
 ghost use Rattle.span_lanes.specs.Lanes.{AreShiftsAt, HasCoordinates};
 ghost use Rattle.span_lanes.specs.Guard.{IsApart};
 ghost use Rattle.span_lanes.specs.Plan.{IsPlan};
+ghost use Rattle.span_lanes.specs.Swatches.{AreColored};
 ghost use Rattle.span_lanes.specs.Cost.{paint_steps, chunk_cost, span_cost};
 
 use crate::cells::draw_cell;
@@ -22,10 +23,10 @@ use crate::guard::{reads_itself, texels_at};
 use crate::hues::{Hues, hues_of};
 use crate::lanes::Lanes;
 use crate::plain::collect_plain;
-use crate::plan::{Plan, row_plan, tri_plan};
+use crate::plan::{Plan, TexelRow, row_plan, tri_plan};
 use crate::slopes::Slopes;
 use crate::solid::draw_solid;
-use crate::swatches::{draw_swatches, suits};
+use crate::swatches::{Swatches, draw_swatches, suits};
 use crate::textured::{collect_textured, read_texels};
 use crate::tint::Tint;
 use crate::track::track_lanes;
@@ -305,19 +306,22 @@ fn draw_planned<L: Ledger>(
     span: &Span,
     texture: &Texture,
     plan: &Plan,
+    last: &mut Swatches,
     steps: &mut Steps<L>,
 )
     requires span { IsSpan span.now }
     requires height { LiesIn (height_of vram.old) span.now }
     requires texture { texture_of span.now.paint ≡ Some texture.now }
     requires plan { IsPlan span.now texture.now plan.now }
+    requires last { AreColored last.old }
     ensures cells { vram.new ≡ drawn_span span.now span.now.n vram.old }
     ensures long { length vram.new ≡ length vram.old }
+    ensures last { AreColored last.new }
     ensures cost { steps.new ≤ steps.old + span_cost span.now }
 {
     match plan.hues {
         Hues::One { color } if suits(span, texture, plan) => {
-            draw_swatches(vram, span, texture, plan, color, steps)
+            draw_swatches(vram, span, texture, plan, color, last, steps)
         }
         _ => draw_chunks(vram, span, texture, plan, steps),
     }
@@ -328,22 +332,22 @@ fn draw_planned<L: Ledger>(
 fn draw_row<L: Ledger>(
     vram: &mut Vram,
     span: &Span,
-    color: u32,
     texture: &Texture,
-    u: u8,
-    v: u8,
-    flip: bool,
+    row: TexelRow,
+    last: &mut Swatches,
     steps: &mut Steps<L>,
 )
     requires span { IsSpan span.now }
     requires height { LiesIn (height_of vram.old) span.now }
-    requires paint { span.now.paint ≡ TexturedRow color texture.now u v flip }
+    requires paint { span.now.paint ≡ TexturedRow row.color texture.now row.u row.v row.flip }
+    requires last { AreColored last.old }
     ensures cells { vram.new ≡ drawn_span span.now span.now.n vram.old }
     ensures long { length vram.new ≡ length vram.old }
+    ensures last { AreColored last.new }
     ensures cost { steps.new ≤ steps.old + span_cost span.now }
 {
-    let plan = row_plan(span, texture, color, u, v, flip);
-    draw_planned(vram, span, texture, &plan, steps);
+    let plan = row_plan(span, texture, row);
+    draw_planned(vram, span, texture, &plan, last, steps);
 }
 
 // A row of a triangle with a texture, by its colours.
@@ -355,6 +359,7 @@ fn draw_sheet<L: Ledger>(
     texture: &Texture,
     hues: Hues,
     slopes: &Slopes,
+    last: &mut Swatches,
     steps: &mut Steps<L>,
 )
     requires span { IsSpan span.now }
@@ -362,12 +367,14 @@ fn draw_sheet<L: Ledger>(
     requires paint { span.now.paint ≡ TexturedTri tri.now texture.now }
     requires hues { AreHues span.now.paint span.now.x span.now.y span.now.n hues }
     requires slopes { AreSlopes tri.now slopes.now }
+    requires last { AreColored last.old }
     ensures cells { vram.new ≡ drawn_span span.now span.now.n vram.old }
     ensures long { length vram.new ≡ length vram.old }
+    ensures last { AreColored last.new }
     ensures cost { steps.new ≤ steps.old + span_cost span.now }
 {
     let plan = tri_plan(span, tri, texture, hues, slopes);
-    draw_planned(vram, span, texture, &plan, steps);
+    draw_planned(vram, span, texture, &plan, last, steps);
 }
 
 // The same under one colour.
@@ -379,6 +386,7 @@ fn draw_plain_sheet<L: Ledger>(
     texture: &Texture,
     color: u32,
     slopes: &Slopes,
+    last: &mut Swatches,
     steps: &mut Steps<L>,
 )
     requires span { IsSpan span.now }
@@ -386,11 +394,13 @@ fn draw_plain_sheet<L: Ledger>(
     requires paint { span.now.paint ≡ TexturedTri tri.now texture.now }
     requires hues { AreHues span.now.paint span.now.x span.now.y span.now.n (One color) }
     requires slopes { AreSlopes tri.now slopes.now }
+    requires last { AreColored last.old }
     ensures cells { vram.new ≡ drawn_span span.now span.now.n vram.old }
     ensures long { length vram.new ≡ length vram.old }
+    ensures last { AreColored last.new }
     ensures cost { steps.new ≤ steps.old + span_cost span.now }
 {
-    draw_sheet(vram, span, tri, texture, Hues::One { color }, slopes, steps);
+    draw_sheet(vram, span, tri, texture, Hues::One { color }, slopes, last, steps);
 }
 
 // The same under several.
@@ -402,6 +412,7 @@ fn draw_mixed_sheet<L: Ledger>(
     texture: &Texture,
     hues: Hues,
     slopes: &Slopes,
+    last: &mut Swatches,
     steps: &mut Steps<L>,
 )
     requires span { IsSpan span.now }
@@ -409,11 +420,13 @@ fn draw_mixed_sheet<L: Ledger>(
     requires paint { span.now.paint ≡ TexturedTri tri.now texture.now }
     requires hues { AreHues span.now.paint span.now.x span.now.y span.now.n hues }
     requires slopes { AreSlopes tri.now slopes.now }
+    requires last { AreColored last.old }
     ensures cells { vram.new ≡ drawn_span span.now span.now.n vram.old }
     ensures long { length vram.new ≡ length vram.old }
+    ensures last { AreColored last.new }
     ensures cost { steps.new ≤ steps.old + span_cost span.now }
 {
-    draw_sheet(vram, span, tri, texture, hues, slopes, steps);
+    draw_sheet(vram, span, tri, texture, hues, slopes, last, steps);
 }
 
 // A row of a triangle with a texture.
@@ -425,6 +438,7 @@ fn draw_tri<L: Ledger>(
     texture: &Texture,
     tint: &Tint,
     slopes: &Slopes,
+    last: &mut Swatches,
     steps: &mut Steps<L>,
 )
     requires span { IsSpan span.now }
@@ -432,14 +446,16 @@ fn draw_tri<L: Ledger>(
     requires paint { span.now.paint ≡ TexturedTri tri.now texture.now }
     requires tint { IsTint span.now.paint tint.now }
     requires slopes { AreSlopes tri.now slopes.now }
+    requires last { AreColored last.old }
     ensures cells { vram.new ≡ drawn_span span.now span.now.n vram.old }
     ensures long { length vram.new ≡ length vram.old }
+    ensures last { AreColored last.new }
     ensures cost { steps.new ≤ steps.old + span_cost span.now }
 {
     let hues = hues_of(span, tint);
     match hues {
-        Hues::One { color } => draw_plain_sheet(vram, span, tri, texture, color, slopes, steps),
-        Hues::Lines { .. } => draw_mixed_sheet(vram, span, tri, texture, hues, slopes, steps),
+        Hues::One { color } => draw_plain_sheet(vram, span, tri, texture, color, slopes, last, steps),
+        Hues::Lines { .. } => draw_mixed_sheet(vram, span, tri, texture, hues, slopes, last, steps),
     }
 }
 
@@ -450,21 +466,24 @@ fn draw_varied<L: Ledger>(
     span: &Span,
     tint: &Tint,
     slopes: &Option<Slopes>,
+    last: &mut Swatches,
     steps: &mut Steps<L>,
 )
     requires span { IsSpan span.now }
     requires height { LiesIn (height_of vram.old) span.now }
     requires tint { IsTint span.now.paint tint.now }
     requires slopes { HasSlopes span.now.paint slopes.now }
+    requires last { AreColored last.old }
     ensures cells { vram.new ≡ drawn_span span.now span.now.n vram.old }
     ensures long { length vram.new ≡ length vram.old }
+    ensures last { AreColored last.new }
     ensures cost { steps.new ≤ steps.old + span_cost span.now }
 {
     match &span.paint {
         Paint::Flat { .. } => draw_untextured(vram, span, tint, steps),
         Paint::Shaded { .. } => draw_untextured(vram, span, tint, steps),
         Paint::TexturedTri { tri, texture } => match slopes {
-            Some(slopes) => draw_tri(vram, span, tri, texture, tint, slopes, steps),
+            Some(slopes) => draw_tri(vram, span, tri, texture, tint, slopes, last, steps),
             None => unreachable!(),
         },
         Paint::TexturedRow {
@@ -473,7 +492,15 @@ fn draw_varied<L: Ledger>(
             u,
             v,
             flip,
-        } => draw_row(vram, span, *color, texture, *u, *v, *flip, steps),
+        } => {
+            let row = TexelRow {
+                color: *color,
+                u: *u,
+                v: *v,
+                flip: *flip,
+            };
+            draw_row(vram, span, texture, row, last, steps)
+        }
     }
 }
 
@@ -485,17 +512,20 @@ pub(crate) fn draw_ready<L: Ledger>(
     solid: Option<u16>,
     tint: &Tint,
     slopes: &Option<Slopes>,
+    last: &mut Swatches,
     steps: &mut Steps<L>,
 )
     requires span { IsSpan span.now }
     requires height { LiesIn (height_of vram.old) span.now }
     requires ready { IsReady (ink_of span.now) solid tint.now slopes.now }
+    requires last { AreColored last.old }
     ensures cells { vram.new ≡ drawn_span span.now span.now.n vram.old }
     ensures long { length vram.new ≡ length vram.old }
+    ensures last { AreColored last.new }
     ensures cost { steps.new ≤ steps.old + span_cost span.now }
 {
     match solid {
         Some(h) => draw_solid(vram, span, h, steps),
-        None => draw_varied(vram, span, tint, slopes, steps),
+        None => draw_varied(vram, span, tint, slopes, last, steps),
     }
 }

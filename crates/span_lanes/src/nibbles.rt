@@ -9,7 +9,7 @@ use std::simd::prelude::*;
 
 // The products modulo 2^16.
 #[inline(always)]
-fn product(a: u16x16, b: u16x16) -> u16x16
+pub(crate) fn product(a: u16x16, b: u16x16) -> u16x16
     requires { (length a ≡ 16) × (length b ≡ 16) }
     ensures long { length result ≡ 16 }
     ensures value { EachLane (λ i. slice_index result i ≡ slice_index a i * slice_index b i % 2 ^ 16) }
