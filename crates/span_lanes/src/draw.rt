@@ -400,7 +400,16 @@ fn draw_plain_sheet<L: Ledger>(
     ensures last { AreColored last.new }
     ensures cost { steps.new ≤ steps.old + span_cost span.now }
 {
-    draw_sheet(vram, span, tri, texture, Hues::One { color }, slopes, last, steps);
+    draw_sheet(
+        vram,
+        span,
+        tri,
+        texture,
+        Hues::One { color },
+        slopes,
+        last,
+        steps,
+    );
 }
 
 // The same under several.
@@ -454,7 +463,9 @@ fn draw_tri<L: Ledger>(
 {
     let hues = hues_of(span, tint);
     match hues {
-        Hues::One { color } => draw_plain_sheet(vram, span, tri, texture, color, slopes, last, steps),
+        Hues::One { color } => draw_plain_sheet(
+            vram, span, tri, texture, color, slopes, last, steps,
+        ),
         Hues::Lines { .. } => draw_mixed_sheet(vram, span, tri, texture, hues, slopes, last, steps),
     }
 }

@@ -1,6 +1,4 @@
-use Rattle.std.proofs.Common.{◌∙◌, ◌<◌, ap, slice_index, arith}
-use Rattle.texture_page.specs.Page.{clut_place}
-use Rattle.span_lanes.specs.Shade.{at_cell}
+use Rattle.std.proofs.Common.{◌<◌, slice_index, arith}
 use Rattle.span_lanes.proofs.TexelLemmas.{texel_eight}
 use Rattle.span_lanes.proofs.fetch.read_eights.Goals as goal
 
