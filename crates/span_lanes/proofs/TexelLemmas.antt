@@ -66,6 +66,13 @@ texel_four t u v m across h e four window read entry =
     let here : index_in 0 across h ≡ index_at t.page t.window u h = rw (window, four) refl in
     entry ∙ ap (λ (i : ℕ). at_cell m (clut_place t.clut i)) here ∙ texel_entry t u v m (texel_place t.page t.window u v) h (omega (arith, four)) refl read
 
+-- a texel of eight bits by the entry of its index
+pub texel_eight : (t : Texture) (u v : ℕ) (m : List ℕ) (across h e : ℕ) → t.page.depth ≡ 1 → across ≡ windowed t.window.mask_x t.window.off_x u
+    → h ≡ at_cell m (texel_place t.page t.window u v) → e ≡ at_cell m (clut_place t.clut (index_in 1 across h)) → e ≡ texel t u v m
+texel_eight t u v m across h e eight window read entry =
+    let here : index_in 1 across h ≡ index_at t.page t.window u h = rw (window, eight) refl in
+    entry ∙ ap (λ (i : ℕ). at_cell m (clut_place t.clut i)) here ∙ texel_entry t u v m (texel_place t.page t.window u v) h (omega (arith, eight)) refl read
+
 -- the cells of texels by their coordinates are those of the paint
 pub cells_same : (paint : Paint) (t : Texture) (x y first : ℕ) (us vs : List ℕ) (k n : ℕ) → HasCoordinates paint (x + first) y first n us vs → k ≤ n
     → paint_texels paint t x y first k ≡ texel_cells t us vs k

@@ -5,6 +5,7 @@ pub mod Guard
 pub mod Hues
 pub mod Lanes
 pub mod Laws
+pub mod Nibbles
 pub mod Paints
 pub mod Pen
 pub mod Plan

@@ -7,10 +7,12 @@ use Rattle.span_lanes.specs.declared.span.Brush.{Brush}
 use Rattle.span_lanes.specs.declared.span.Paint.{Paint}
 use Rattle.span_lanes.specs.declared.span.Paint.TheVariants.{Flat, Shaded, TexturedTri, TexturedRow}
 use Rattle.span_lanes.specs.declared.span.Span.{Span}
+use Rattle.span_lanes.specs.declared.swatches.Swatches.{Swatches}
 use Rattle.span_lanes.specs.declared.tint.Tint.{Tint}
 use Rattle.span_lanes.specs.declared.tint.Tint.TheVariants.{Plain, Planes}
 use Rattle.span_lanes.specs.Lanes.{IsSolid}
 use Rattle.span_lanes.specs.Shade.{color_in}
+use Rattle.span_lanes.specs.Swatches.{AreColored}
 
 pub record Ink : Type 0 where
   pub paint : Paint
@@ -71,3 +73,8 @@ pub record IsReady (ink : Ink) (solid : Option ℕ) (tint : Tint) (slopes : Opti
   pub halfword : HasHalfword ink.paint ink.brush solid
   pub colors : IsTint ink.paint tint
   pub coordinates : HasSlopes ink.paint slopes
+
+-- the same with a palette under a colour
+pub record IsPen (ink : Ink) (solid : Option ℕ) (tint : Tint) (slopes : Option Slopes) (swatches : Swatches) : Type 0 where
+  pub ready : IsReady ink solid tint slopes
+  pub colored : AreColored swatches

@@ -13,3 +13,10 @@ pub record AreSwatches (t : Texture) (m : List ℕ) (swatches : Swatches) : Type
   pub entry : EachLane (λ i. slice_index swatches.entries i ≡ at_cell m (clut_place t.clut i))
   pub front : EachLane (λ i. slice_index swatches.fronts i
       ≡ front_of t.raw swatches.color (pos 0) (slice_index swatches.entries i))
+
+-- what a colour makes of any sixteen entries without dither
+pub record AreColored (swatches : Swatches) : Type 0 where
+  pub long : length swatches.entries ≡ 16
+  pub fronts_long : length swatches.fronts ≡ 16
+  pub front : EachLane (λ i. slice_index swatches.fronts i
+      ≡ front_of swatches.raw swatches.color (pos 0) (slice_index swatches.entries i))

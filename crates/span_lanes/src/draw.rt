@@ -12,6 +12,7 @@ ghost use Rattle.span_lanes.specs.Hues.{AreHues};
 ghost use Rattle.span_lanes.specs.Lanes.{AreShiftsAt, HasCoordinates};
 ghost use Rattle.span_lanes.specs.Guard.{IsApart};
 ghost use Rattle.span_lanes.specs.Plan.{IsPlan};
+ghost use Rattle.span_lanes.specs.Swatches.{AreColored};
 ghost use Rattle.span_lanes.specs.Cost.{paint_steps, chunk_cost, span_cost};
 
 use crate::cells::draw_cell;
@@ -22,10 +23,10 @@ use crate::guard::{reads_itself, texels_at};
 use crate::hues::{Hues, hues_of};
 use crate::lanes::Lanes;
 use crate::plain::collect_plain;
-use crate::plan::{Plan, row_plan, tri_plan};
+use crate::plan::{Plan, TexelRow, row_plan, tri_plan};
 use crate::slopes::Slopes;
 use crate::solid::draw_solid;
-use crate::swatches::{draw_swatches, suits};
+use crate::swatches::{Swatches, draw_swatches, suits};
 use crate::textured::{collect_textured, read_texels};
 use crate::tint::Tint;
 use crate::track::track_lanes;
@@ -158,8 +159,8 @@ fn draw_guarded<L: Ledger>(
     vram: &mut Vram,
     span: &Span,
     texture: &Texture,
-    plan: &Plan,
-    at: &Coordinates,
+    plan: Plan,
+    at: Coordinates,
     first: u16,
     k: u8,
     steps: &mut Steps<L>,
@@ -169,13 +170,13 @@ fn draw_guarded<L: Ledger>(
     requires chunk { IsChunk span.now first k }
     requires whole { first % 16 ≡ 0 }
     requires texture { texture_of span.now.paint ≡ Some texture.now }
-    requires plan { IsPlan span.now texture.now plan.now }
-    requires at { HasCoordinates span.now.paint (span.now.x + first) span.now.y first k at.now.us at.now.vs }
+    requires plan { IsPlan span.now texture.now plan }
+    requires at { HasCoordinates span.now.paint (span.now.x + first) span.now.y first k at.us at.vs }
     ensures cells { vram.new ≡ drawn_chunk span.now first k vram.old }
     ensures long { length vram.new ≡ length vram.old }
     ensures cost { steps.new ≤ steps.old + chunk_cost span.now first k }
 {
-    let cells = texels_at(texture, at, k);
+    let cells = texels_at(texture, &at, k);
     let to = Cell {
         x: span.x + first,
         y: span.y,
@@ -183,9 +184,9 @@ fn draw_guarded<L: Ledger>(
     if reads_itself(texture, &cells, to, k) {
         draw_cells(vram, span, first, k, steps);
     } else {
-        let read = read_texels(vram, texture, at, &cells, k, steps);
+        let read = read_texels(vram, texture, &at, &cells, k, steps);
         let texels = u16x16::from_array(read);
-        let lanes = collect_textured(vram, span, texture, plan, texels, first, k, steps);
+        let lanes = collect_textured(vram, span, texture, &plan, texels, first, k, steps);
         store_chunk(vram, span, first, k, &lanes, steps);
     }
 }
@@ -215,7 +216,7 @@ fn draw_textured<L: Ledger>(
     if plan.apart {
         draw_apart(vram, span, texture, plan, &at, first, k, steps);
     } else {
-        draw_guarded(vram, span, texture, plan, &at, first, k, steps);
+        draw_guarded(vram, span, texture, *plan, at, first, k, steps);
     }
 }
 
@@ -305,19 +306,22 @@ fn draw_planned<L: Ledger>(
     span: &Span,
     texture: &Texture,
     plan: &Plan,
+    last: &mut Swatches,
     steps: &mut Steps<L>,
 )
     requires span { IsSpan span.now }
     requires height { LiesIn (height_of vram.old) span.now }
     requires texture { texture_of span.now.paint ≡ Some texture.now }
     requires plan { IsPlan span.now texture.now plan.now }
+    requires last { AreColored last.old }
     ensures cells { vram.new ≡ drawn_span span.now span.now.n vram.old }
     ensures long { length vram.new ≡ length vram.old }
+    ensures last { AreColored last.new }
     ensures cost { steps.new ≤ steps.old + span_cost span.now }
 {
     match plan.hues {
         Hues::One { color } if suits(span, texture, plan) => {
-            draw_swatches(vram, span, texture, plan, color, steps)
+            draw_swatches(vram, span, texture, plan, color, last, steps)
         }
         _ => draw_chunks(vram, span, texture, plan, steps),
     }
@@ -328,22 +332,22 @@ fn draw_planned<L: Ledger>(
 fn draw_row<L: Ledger>(
     vram: &mut Vram,
     span: &Span,
-    color: u32,
     texture: &Texture,
-    u: u8,
-    v: u8,
-    flip: bool,
+    row: TexelRow,
+    last: &mut Swatches,
     steps: &mut Steps<L>,
 )
     requires span { IsSpan span.now }
     requires height { LiesIn (height_of vram.old) span.now }
-    requires paint { span.now.paint ≡ TexturedRow color texture.now u v flip }
+    requires paint { span.now.paint ≡ TexturedRow row.color texture.now row.u row.v row.flip }
+    requires last { AreColored last.old }
     ensures cells { vram.new ≡ drawn_span span.now span.now.n vram.old }
     ensures long { length vram.new ≡ length vram.old }
+    ensures last { AreColored last.new }
     ensures cost { steps.new ≤ steps.old + span_cost span.now }
 {
-    let plan = row_plan(span, texture, color, u, v, flip);
-    draw_planned(vram, span, texture, &plan, steps);
+    let plan = row_plan(span, texture, row);
+    draw_planned(vram, span, texture, &plan, last, steps);
 }
 
 // A row of a triangle with a texture, by its colours.
@@ -355,6 +359,7 @@ fn draw_sheet<L: Ledger>(
     texture: &Texture,
     hues: Hues,
     slopes: &Slopes,
+    last: &mut Swatches,
     steps: &mut Steps<L>,
 )
     requires span { IsSpan span.now }
@@ -362,12 +367,14 @@ fn draw_sheet<L: Ledger>(
     requires paint { span.now.paint ≡ TexturedTri tri.now texture.now }
     requires hues { AreHues span.now.paint span.now.x span.now.y span.now.n hues }
     requires slopes { AreSlopes tri.now slopes.now }
+    requires last { AreColored last.old }
     ensures cells { vram.new ≡ drawn_span span.now span.now.n vram.old }
     ensures long { length vram.new ≡ length vram.old }
+    ensures last { AreColored last.new }
     ensures cost { steps.new ≤ steps.old + span_cost span.now }
 {
     let plan = tri_plan(span, tri, texture, hues, slopes);
-    draw_planned(vram, span, texture, &plan, steps);
+    draw_planned(vram, span, texture, &plan, last, steps);
 }
 
 // The same under one colour.
@@ -379,6 +386,7 @@ fn draw_plain_sheet<L: Ledger>(
     texture: &Texture,
     color: u32,
     slopes: &Slopes,
+    last: &mut Swatches,
     steps: &mut Steps<L>,
 )
     requires span { IsSpan span.now }
@@ -386,11 +394,22 @@ fn draw_plain_sheet<L: Ledger>(
     requires paint { span.now.paint ≡ TexturedTri tri.now texture.now }
     requires hues { AreHues span.now.paint span.now.x span.now.y span.now.n (One color) }
     requires slopes { AreSlopes tri.now slopes.now }
+    requires last { AreColored last.old }
     ensures cells { vram.new ≡ drawn_span span.now span.now.n vram.old }
     ensures long { length vram.new ≡ length vram.old }
+    ensures last { AreColored last.new }
     ensures cost { steps.new ≤ steps.old + span_cost span.now }
 {
-    draw_sheet(vram, span, tri, texture, Hues::One { color }, slopes, steps);
+    draw_sheet(
+        vram,
+        span,
+        tri,
+        texture,
+        Hues::One { color },
+        slopes,
+        last,
+        steps,
+    );
 }
 
 // The same under several.
@@ -402,6 +421,7 @@ fn draw_mixed_sheet<L: Ledger>(
     texture: &Texture,
     hues: Hues,
     slopes: &Slopes,
+    last: &mut Swatches,
     steps: &mut Steps<L>,
 )
     requires span { IsSpan span.now }
@@ -409,11 +429,13 @@ fn draw_mixed_sheet<L: Ledger>(
     requires paint { span.now.paint ≡ TexturedTri tri.now texture.now }
     requires hues { AreHues span.now.paint span.now.x span.now.y span.now.n hues }
     requires slopes { AreSlopes tri.now slopes.now }
+    requires last { AreColored last.old }
     ensures cells { vram.new ≡ drawn_span span.now span.now.n vram.old }
     ensures long { length vram.new ≡ length vram.old }
+    ensures last { AreColored last.new }
     ensures cost { steps.new ≤ steps.old + span_cost span.now }
 {
-    draw_sheet(vram, span, tri, texture, hues, slopes, steps);
+    draw_sheet(vram, span, tri, texture, hues, slopes, last, steps);
 }
 
 // A row of a triangle with a texture.
@@ -425,6 +447,7 @@ fn draw_tri<L: Ledger>(
     texture: &Texture,
     tint: &Tint,
     slopes: &Slopes,
+    last: &mut Swatches,
     steps: &mut Steps<L>,
 )
     requires span { IsSpan span.now }
@@ -432,14 +455,18 @@ fn draw_tri<L: Ledger>(
     requires paint { span.now.paint ≡ TexturedTri tri.now texture.now }
     requires tint { IsTint span.now.paint tint.now }
     requires slopes { AreSlopes tri.now slopes.now }
+    requires last { AreColored last.old }
     ensures cells { vram.new ≡ drawn_span span.now span.now.n vram.old }
     ensures long { length vram.new ≡ length vram.old }
+    ensures last { AreColored last.new }
     ensures cost { steps.new ≤ steps.old + span_cost span.now }
 {
     let hues = hues_of(span, tint);
     match hues {
-        Hues::One { color } => draw_plain_sheet(vram, span, tri, texture, color, slopes, steps),
-        Hues::Lines { .. } => draw_mixed_sheet(vram, span, tri, texture, hues, slopes, steps),
+        Hues::One { color } => draw_plain_sheet(
+            vram, span, tri, texture, color, slopes, last, steps,
+        ),
+        Hues::Lines { .. } => draw_mixed_sheet(vram, span, tri, texture, hues, slopes, last, steps),
     }
 }
 
@@ -450,21 +477,24 @@ fn draw_varied<L: Ledger>(
     span: &Span,
     tint: &Tint,
     slopes: &Option<Slopes>,
+    last: &mut Swatches,
     steps: &mut Steps<L>,
 )
     requires span { IsSpan span.now }
     requires height { LiesIn (height_of vram.old) span.now }
     requires tint { IsTint span.now.paint tint.now }
     requires slopes { HasSlopes span.now.paint slopes.now }
+    requires last { AreColored last.old }
     ensures cells { vram.new ≡ drawn_span span.now span.now.n vram.old }
     ensures long { length vram.new ≡ length vram.old }
+    ensures last { AreColored last.new }
     ensures cost { steps.new ≤ steps.old + span_cost span.now }
 {
     match &span.paint {
         Paint::Flat { .. } => draw_untextured(vram, span, tint, steps),
         Paint::Shaded { .. } => draw_untextured(vram, span, tint, steps),
         Paint::TexturedTri { tri, texture } => match slopes {
-            Some(slopes) => draw_tri(vram, span, tri, texture, tint, slopes, steps),
+            Some(slopes) => draw_tri(vram, span, tri, texture, tint, slopes, last, steps),
             None => unreachable!(),
         },
         Paint::TexturedRow {
@@ -473,7 +503,15 @@ fn draw_varied<L: Ledger>(
             u,
             v,
             flip,
-        } => draw_row(vram, span, *color, texture, *u, *v, *flip, steps),
+        } => {
+            let row = TexelRow {
+                color: *color,
+                u: *u,
+                v: *v,
+                flip: *flip,
+            };
+            draw_row(vram, span, texture, row, last, steps)
+        }
     }
 }
 
@@ -485,17 +523,20 @@ pub(crate) fn draw_ready<L: Ledger>(
     solid: Option<u16>,
     tint: &Tint,
     slopes: &Option<Slopes>,
+    last: &mut Swatches,
     steps: &mut Steps<L>,
 )
     requires span { IsSpan span.now }
     requires height { LiesIn (height_of vram.old) span.now }
     requires ready { IsReady (ink_of span.now) solid tint.now slopes.now }
+    requires last { AreColored last.old }
     ensures cells { vram.new ≡ drawn_span span.now span.now.n vram.old }
     ensures long { length vram.new ≡ length vram.old }
+    ensures last { AreColored last.new }
     ensures cost { steps.new ≤ steps.old + span_cost span.now }
 {
     match solid {
         Some(h) => draw_solid(vram, span, h, steps),
-        None => draw_varied(vram, span, tint, slopes, steps),
+        None => draw_varied(vram, span, tint, slopes, last, steps),
     }
 }

@@ -11,8 +11,8 @@ ghost use Rattle.span_lanes.specs.Texels.{AreAcross, AreHalfwords, AreTexels, St
 use crate::Texture;
 use crate::coordinates::Coordinates;
 use crate::nibbles::{entries_at, indexes};
+use crate::octets::{entry_columns, octets};
 use crate::places::places_of;
-use crate::textured::read_entries;
 use px_num::lanes::{add, shifted_down, splat, sub_or_zero};
 use std::simd::prelude::*;
 use std::sync::ledger::Ledger;
@@ -39,7 +39,7 @@ fn gather<L: Ledger>(vram: &Vram, xs: u16x16, ys: u16x16, k: u8, steps: &mut Ste
 
 // The numbers of the lanes.
 #[inline(always)]
-fn ramp() -> u16x16
+pub(crate) fn ramp() -> u16x16
     ensures long { length result ≡ 16 }
     ensures value { EachLane (λ i. slice_index result i ≡ i) }
 {
@@ -48,7 +48,7 @@ fn ramp() -> u16x16
 
 // Whether two vectors are the same.
 #[inline(always)]
-fn same(a: u16x16, b: u16x16) -> bool
+pub(crate) fn same(a: u16x16, b: u16x16) -> bool
     requires { (length a ≡ 16) × (length b ≡ 16) }
     ensures { IsTrue result → EachLane (λ i. slice_index a i ≡ slice_index b i) }
 {
@@ -196,30 +196,52 @@ fn read_fours<L: Ledger>(
     entries_at(entries, indexes(across, halfwords))
 }
 
+// The entries of a palette by their indexes, one by one.
+#[inline(always)]
+fn gather_entries<L: Ledger>(
+    vram: &Vram,
+    clut: u16,
+    indexes: u16x16,
+    k: u8,
+    steps: &mut Steps<L>,
+) -> u16x16
+    requires few { k ≤ 16 }
+    requires long { length indexes ≡ 16 }
+    requires low { EachLane (λ i. slice_index indexes i < 256) }
+    ensures long { length result ≡ 16 }
+    ensures value { (j : ℕ) → j < k
+        → slice_index result j ≡ at_cell vram.now (clut_place clut (slice_index indexes j)) }
+    ensures cost { steps.new ≤ steps.old + k }
+{
+    let _height = vram.height();
+    let columns = entry_columns(clut, indexes);
+    gather(vram, columns, splat(clut / 64 % 512), k, steps)
+}
+
 // k texels of eight bits by the halfwords of their cells.
 #[inline(always)]
 fn read_eights<L: Ledger>(
     vram: &Vram,
     texture: &Texture,
     at: &Coordinates,
+    across: u16x16,
     halfwords: u16x16,
     k: u8,
     steps: &mut Steps<L>,
 ) -> u16x16
     requires texture { IsTexture texture.now }
     requires us { AreCoordinates at.now.us }
-    requires long { length halfwords ≡ 16 }
+    requires long { (length across ≡ 16) × (length halfwords ≡ 16) }
     requires depth { texture.now.page.depth ≡ 1 }
     requires some { 1 ≤ k }
     requires few { k ≤ 16 }
+    requires across { AreAcross texture.now at.now across }
     requires halfwords { AreHalfwords texture.now at.now k vram.now halfwords }
     ensures long { length result ≡ 16 }
     ensures value { AreTexels texture.now at.now k vram.now result }
     ensures cost { steps.new ≤ steps.old + k }
 {
-    let us = at.us.to_array();
-    let entries = read_entries(vram, texture, &us, &halfwords.to_array(), k, steps);
-    u16x16::from_array(entries)
+    gather_entries(vram, texture.clut, octets(across, halfwords), k, steps)
 }
 
 // k texels of fifteen bits, which are the halfwords of their cells.
@@ -261,7 +283,7 @@ fn look_up<L: Ledger>(
 {
     match texture.page.depth {
         0 => read_fours(vram, texture, at, across, halfwords, k, steps),
-        1 => read_eights(vram, texture, at, halfwords, k, steps),
+        1 => read_eights(vram, texture, at, across, halfwords, k, steps),
         _ => read_wholes(vram, texture, at, halfwords, k),
     }
 }

@@ -21,6 +21,7 @@ mod hues;
 mod lanes;
 pub mod laws;
 mod nibbles;
+mod octets;
 mod pen;
 mod pixel;
 mod places;

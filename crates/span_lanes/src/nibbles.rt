@@ -1,24 +1,15 @@
 // Texels of four bits: their indexes, and a palette of sixteen entries.
-ghost use Rattle.std.specs.Prelude.{◌≡◌, ◌≤◌, ◌<◌, ◌+◌, ◌-◌, ◌*◌, ◌/◌, ◌%◌, ◌^◌, length, slice_index};
+ghost use Rattle.std.specs.Prelude.{◌≡◌, ◌≤◌, ◌<◌, ◌+◌, ◌-◌, ◌*◌, ◌/◌, ◌%◌, ◌^◌, ℕ, length, slice_index};
 ghost use Rattle.px_num.specs.Lanes.{EachLane};
 ghost use Rattle.texture_page.specs.Page.{index_in};
+ghost use Rattle.span_lanes.specs.Nibbles.{raise};
 
-use px_num::lanes::{add, mul, shifted_down, splat, sub_or_zero};
+use px_num::lanes::{add, mul, shifted_down, splat};
 use std::simd::prelude::*;
-
-// Each number modulo 2.
-#[inline(always)]
-fn low1(a: u16x16) -> u16x16
-    requires { length a ≡ 16 }
-    ensures long { length result ≡ 16 }
-    ensures value { EachLane (λ i. slice_index result i ≡ slice_index a i % 2) }
-{
-    a & u16x16::splat(1)
-}
 
 // The products modulo 2^16.
 #[inline(always)]
-fn product(a: u16x16, b: u16x16) -> u16x16
+pub(crate) fn product(a: u16x16, b: u16x16) -> u16x16
     requires { (length a ≡ 16) × (length b ≡ 16) }
     ensures long { length result ≡ 16 }
     ensures value { EachLane (λ i. slice_index result i ≡ slice_index a i * slice_index b i % 2 ^ 16) }
@@ -26,17 +17,34 @@ fn product(a: u16x16, b: u16x16) -> u16x16
     a * b
 }
 
+// Each number modulo 4.
+#[inline(always)]
+fn low2(a: u16x16) -> u16x16
+    requires { length a ≡ 16 }
+    ensures long { length result ≡ 16 }
+    ensures value { EachLane (λ i. slice_index result i ≡ slice_index a i % 4) }
+{
+    a & u16x16::splat(3)
+}
+
+// What brings the four bits of a column into the top of its halfword, for the columns 0 to 3.
+#[inline(always)]
+fn raise_table() -> u16x16
+    ensures long { length result ≡ 16 }
+    ensures value { (i : ℕ) → i < 4 → slice_index result i ≡ raise i }
+{
+    u16x16::from_array([4096, 256, 16, 1, 0, 0, 0, 0, 0, 0, 0, 0, 0, 0, 0, 0])
+}
+
 // What brings the four bits of a column into the top of its halfword.
 #[inline(always)]
+#[tactic(auto, using(crate::proofs::NibbleLemmas::raise_low))]
 fn raises(across: u16x16) -> u16x16
     requires { length across ≡ 16 }
     ensures long { length result ≡ 16 }
-    ensures value { EachLane (λ i. slice_index result i
-        ≡ (16 - slice_index across i % 2 * 15) * (256 - slice_index across i / 2 % 2 * 255)) }
+    ensures value { EachLane (λ i. slice_index result i ≡ raise (slice_index across i)) }
 {
-    let odd = mul(low1(across), splat(15));
-    let upper = mul(low1(shifted_down(across, 1)), splat(255));
-    mul(sub_or_zero(splat(16), odd), sub_or_zero(splat(256), upper))
+    entries_at(raise_table(), low2(across))
 }
 
 // The indexes of sixteen texels, by their columns under the window and the halfwords of their cells.
@@ -54,7 +62,7 @@ pub(crate) fn indexes(across: u16x16, halfwords: u16x16) -> u16x16
 
 // Each number modulo 256.
 #[inline(always)]
-fn low8(a: u16x16) -> u16x16
+pub(crate) fn low8(a: u16x16) -> u16x16
     requires { length a ≡ 16 }
     ensures long { length result ≡ 16 }
     ensures value { EachLane (λ i. slice_index result i ≡ slice_index a i % 256) }

@@ -8,6 +8,7 @@ ghost use Rattle.span_lanes.specs.Shade.{IsSpan, LiesIn, shade_at};
 use crate::draw::draw_ready;
 use crate::slopes::{Slopes, slopes_of};
 use crate::solid::solid_of;
+use crate::swatches::{Swatches, no_swatches};
 use crate::tint::{Tint, tint_of};
 use crate::{Brush, Paint, Span};
 use std::marker::Model;
@@ -23,16 +24,18 @@ pub struct Pen {
     solid: Option<u16>,
     tint: Tint,
     slopes: Option<Slopes>,
+    // the palette that was seen last, and what a colour makes of it
+    swatches: Swatches,
 }
 
 impl Model for Pen {
-    ghost use Rattle.span_lanes.specs.Pen.{Ink, ink_of, IsReady};
+    ghost use Rattle.span_lanes.specs.Pen.{Ink, ink_of, IsPen};
 
     ghost Value = { Ink };
 
     ghost view = { λ pen. ink_of pen.span };
 
-    ghost invariant = { λ pen. IsReady (ink_of pen.span) pen.solid pen.tint pen.slopes };
+    ghost invariant = { λ pen. IsPen (ink_of pen.span) pen.solid pen.tint pen.slopes pen.swatches };
 }
 
 impl Pen {
@@ -58,6 +61,7 @@ impl Pen {
             solid: solid_of(paint, brush),
             tint: tint_of(paint),
             slopes: slopes_of(paint),
+            swatches: no_swatches(),
         }
     }
 
@@ -90,6 +94,7 @@ impl Pen {
             self.solid,
             &self.tint,
             &self.slopes,
+            &mut self.swatches,
             steps,
         );
     }

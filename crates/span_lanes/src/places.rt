@@ -35,7 +35,7 @@ fn or(a: u16x16, b: u16) -> u16x16
 
 // Each number modulo 1024.
 #[inline(always)]
-fn low10(a: u16x16) -> u16x16
+pub(crate) fn low10(a: u16x16) -> u16x16
     requires { length a ≡ 16 }
     ensures long { length result ≡ 16 }
     ensures value { EachLane (λ i. slice_index result i ≡ slice_index a i % 1024) }

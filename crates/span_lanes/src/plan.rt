@@ -24,6 +24,15 @@ pub(crate) struct Plan {
     pub(crate) apart: bool,
 }
 
+// A row of texels under one colour, from a column of the page on.
+#[derive(Clone, Copy)]
+pub(crate) struct TexelRow {
+    pub(crate) color: u32,
+    pub(crate) u: u8,
+    pub(crate) v: u8,
+    pub(crate) flip: bool,
+}
+
 pub(crate) fn is_dithered(dither: bool, raw: bool) -> bool
     ensures { result ≡ (dither && not raw) }
 {
@@ -49,16 +58,19 @@ fn plan_with(span: &Span, texture: &Texture, hues: Hues, track: Track) -> Plan
 
 // The plan of a row of texels.
 #[inline(always)]
-pub(crate) fn row_plan(span: &Span, texture: &Texture, color: u32, u: u8, v: u8, flip: bool) -> Plan
+pub(crate) fn row_plan(span: &Span, texture: &Texture, row: TexelRow) -> Plan
     requires span { IsSpan span.now }
-    requires paint { span.now.paint ≡ TexturedRow color texture.now u v flip }
+    requires paint { span.now.paint ≡ TexturedRow row.color texture.now row.u row.v row.flip }
     ensures { IsPlan span.now texture.now result }
 {
     let track = Track {
-        u: Along::Row { u, flip },
-        v: Along::Same { v },
+        u: Along::Row {
+            u: row.u,
+            flip: row.flip,
+        },
+        v: Along::Same { v: row.v },
     };
-    plan_with(span, texture, Hues::One { color }, track)
+    plan_with(span, texture, Hues::One { color: row.color }, track)
 }
 
 // The plan of a row of a triangle.

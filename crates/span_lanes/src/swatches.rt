@@ -9,13 +9,14 @@ ghost use Rattle.span_lanes.specs.Guard.{IsApart};
 ghost use Rattle.span_lanes.specs.Lanes.{AreCoordinates};
 ghost use Rattle.span_lanes.specs.Plan.{IsPlan};
 ghost use Rattle.span_lanes.specs.Shade.{IsTexture, IsSpan, LiesIn, texture_of, front_of, drawn_span};
-ghost use Rattle.span_lanes.specs.Swatches.{AreSwatches};
+ghost use Rattle.span_lanes.specs.Swatches.{AreColored, AreSwatches};
+ghost use Rattle.px_num.specs.Lanes.{EachLane};
 ghost use Rattle.span_lanes.specs.Texels.{AreTexels};
 
 use crate::colors::no_shifts;
 use crate::coordinates::Coordinates;
 use crate::draw::store_chunk;
-use crate::fetch::{halfwords_of, sixteen_entries};
+use crate::fetch::{halfwords_of, same, sixteen_entries};
 use crate::hues::Hues;
 use crate::nibbles::{entries_at, indexes};
 use crate::places::places_of;
@@ -23,6 +24,7 @@ use crate::plan::{Plan, is_dithered};
 use crate::textured::{collect_fronts, fronts};
 use crate::track::track_lanes;
 use crate::{Span, Texture};
+use px_num::lanes::splat;
 use std::simd::prelude::*;
 use std::sync::ledger::Ledger;
 use vram_store::{Steps, Vram};
@@ -30,6 +32,7 @@ use vram_store::{Steps, Vram};
 // The sixteen entries of a palette, and what a colour makes of them.
 #[derive(Clone, Copy)]
 pub(crate) struct Swatches {
+    pub(crate) raw: bool,
     pub(crate) color: u32,
     pub(crate) entries: u16x16,
     pub(crate) fronts: u16x16,
@@ -42,23 +45,70 @@ struct Drawn {
     fronts: u16x16,
 }
 
+// Sixteen entries of no palette.
+#[tactic(auto, unfolding(crate::specs::Shade::front_of))]
+pub(crate) fn no_swatches() -> Swatches
+    ensures { AreColored result }
+{
+    Swatches {
+        raw: true,
+        color: 0,
+        entries: splat(0),
+        fronts: splat(0),
+    }
+}
+
+// What a colour makes of sixteen entries.
+#[inline(always)]
+fn colored(raw: bool, color: u32, entries: u16x16) -> Swatches
+    requires { length entries ≡ 16 }
+    ensures colored { AreColored result }
+    ensures raw { result.raw ≡ raw }
+    ensures color { result.color ≡ color }
+    ensures entries { result.entries ≡ entries }
+{
+    let hues = Hues::One { color };
+    Swatches {
+        raw,
+        color,
+        entries,
+        fronts: fronts(raw, &hues, no_shifts(), 0, entries),
+    }
+}
+
+// Whether these are the entries, under the same colour.
+#[inline(always)]
+fn is_of(swatches: &Swatches, raw: bool, color: u32, entries: u16x16) -> bool
+    requires long { (length swatches.now.entries ≡ 16) × (length entries ≡ 16) }
+    ensures raw { IsTrue result → swatches.now.raw ≡ raw }
+    ensures color { IsTrue result → swatches.now.color ≡ color }
+    ensures entries { IsTrue result
+        → EachLane (λ i. slice_index swatches.now.entries i ≡ slice_index entries i) }
+{
+    let known = same(swatches.entries, entries);
+    swatches.raw == raw && swatches.color == color && known
+}
+
+// The palette of a texture as it is now, under a colour; it is coloured anew where it is not what was seen last.
 #[inline(always)]
 fn swatches_of<L: Ledger>(
     vram: &Vram,
     texture: &Texture,
     color: u32,
+    last: &Swatches,
     steps: &mut Steps<L>,
 ) -> Swatches
+    requires last { AreColored last.now }
     ensures swatches { AreSwatches texture.now vram.now result }
     ensures color { result.color ≡ color }
+    ensures colored { AreColored result }
     ensures cost { steps.new ≤ steps.old + 1 }
 {
     let entries = sixteen_entries(vram, texture.clut, steps);
-    let hues = Hues::One { color };
-    Swatches {
-        color,
-        entries,
-        fronts: fronts(texture.raw, &hues, no_shifts(), 0, entries),
+    if is_of(last, texture.raw, color, entries) {
+        *last
+    } else {
+        colored(texture.raw, color, entries)
     }
 }
 
@@ -147,6 +197,7 @@ pub(crate) fn draw_swatches<L: Ledger>(
     texture: &Texture,
     plan: &Plan,
     color: u32,
+    last: &mut Swatches,
     steps: &mut Steps<L>,
 )
     requires span { IsSpan span.now }
@@ -158,11 +209,14 @@ pub(crate) fn draw_swatches<L: Ledger>(
     requires row { texture.now.clut / 64 % 512 ≢ span.now.y }
     requires even { (span.now.brush.dither && not texture.now.raw) ≡ false }
     requires hue { plan.now.hues ≡ One color }
+    requires last { AreColored last.old }
     ensures cells { vram.new ≡ drawn_span span.now span.now.n vram.old }
     ensures long { length vram.new ≡ length vram.old }
+    ensures last { AreColored last.new }
     ensures cost { steps.new ≤ steps.old + span_cost span.now }
 {
-    let swatches = swatches_of(vram, texture, color, steps);
+    let swatches = swatches_of(vram, texture, color, last, steps);
+    *last = swatches;
     let whole = span.n / 16;
     for c in 0..whole {
         swatch_chunk(vram, span, texture, plan, &swatches, 16 * c, 16, steps);

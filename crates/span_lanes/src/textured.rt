@@ -64,7 +64,7 @@ fn entry_of(texture: &Texture, u: u16, h: u16) -> Cell
 }
 
 // The entries of the palette for k halfwords of texels, one by one.
-pub(crate) fn read_entries<L: Ledger>(
+fn read_entries<L: Ledger>(
     vram: &Vram,
     texture: &Texture,
     us: &[u16; 16],

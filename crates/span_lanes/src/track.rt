@@ -1,5 +1,5 @@
 // The texel coordinates of a span.
-ghost use Rattle.std.specs.Prelude.{◌≡◌, ◌≤◌, ◌<◌, ◌+◌, ℕ, pos, IsTrue, slice_index};
+ghost use Rattle.std.specs.Prelude.{◌≡◌, ◌≤◌, ◌<◌, ◌+◌, ℕ, pos, IsTrue, true, false, slice_index};
 ghost use Rattle.edge_walk.specs.Triangle.{Corners, is_inside};
 ghost use Rattle.span_lanes.specs.Shade.{row_u};
 ghost use Rattle.span_lanes.specs.Pen.{AreSlopes};
@@ -7,11 +7,12 @@ ghost use Rattle.span_lanes.specs.Lanes.{AreCoordinates};
 ghost use Rattle.span_lanes.specs.Track.{along_at, IsAlong};
 
 use crate::coordinates::Coordinates;
+use crate::fetch::ramp;
 use crate::hues::line_of;
-use crate::pixel::u_of;
+use crate::nibbles::low8;
 use crate::slopes::Slopes;
 use edge_walk::RowLine;
-use px_num::lanes::splat;
+use px_num::lanes::{add, splat, sub_or_zero};
 use std::simd::prelude::*;
 
 // One coordinate of the texels of a span.
@@ -47,6 +48,28 @@ pub(crate) fn tri_track(slopes: &Slopes, x: u16, y: u16) -> Track
     }
 }
 
+// The columns of sixteen texels that rise from u on, so many cells further.
+#[inline(always)]
+#[tactic(auto, unfolding(crate::specs::Shade::row_u))]
+fn rising_columns(u: u8, first: u16) -> u16x16
+    requires within { first + 16 ≤ 1024 }
+    ensures columns { AreCoordinates result }
+    ensures value { (j : ℕ) → j < 16 → slice_index result j ≡ row_u u false (first + j) }
+{
+    low8(add(splat(u as u16 + first), ramp()))
+}
+
+// The columns of sixteen texels that fall from u on, so many cells further.
+#[inline(always)]
+#[tactic(auto, unfolding(crate::specs::Shade::row_u))]
+fn falling_columns(u: u8, first: u16) -> u16x16
+    requires within { first + 16 ≤ 1024 }
+    ensures columns { AreCoordinates result }
+    ensures value { (j : ℕ) → j < 16 → slice_index result j ≡ row_u u true (first + j) }
+{
+    low8(sub_or_zero(splat(u as u16 + 1024 - first), ramp()))
+}
+
 // The columns of sixteen texels of a row, from that of its cell `first` on.
 #[inline(always)]
 fn row_columns(u: u8, flip: bool, first: u16) -> u16x16
@@ -54,11 +77,11 @@ fn row_columns(u: u8, flip: bool, first: u16) -> u16x16
     ensures columns { AreCoordinates result }
     ensures value { (j : ℕ) → j < 16 → slice_index result j ≡ row_u u flip (first + j) }
 {
-    let mut us = [0; 16];
-    for j in 0..16u16 {
-        us[j as usize] = u_of(u, flip, first + j) as u16;
+    if flip {
+        falling_columns(u, first)
+    } else {
+        rising_columns(u, first)
     }
-    u16x16::from_array(us)
 }
 
 fn same_rows(v: u8) -> u16x16

@@ -68,6 +68,7 @@ fn copy_row<L: Ledger>(
 }
 
 // How many cells the next piece has: to the row's end or to where a side wraps.
+#[inline(always)]
 fn piece_len(source_x: u16, target_x: u16, left: u16) -> u16
     requires source_in { source_x < 1024 }
     requires target_in { target_x < 1024 }
@@ -82,6 +83,7 @@ fn piece_len(source_x: u16, target_x: u16, left: u16) -> u16
 }
 
 // Cells that leave no row. The guard is asked once: both sides go on by as much, so they stay as far apart.
+#[inline(always)]
 fn copy_piece<L: Ledger>(
     vram: &mut Vram,
     mask: u8,
@@ -105,6 +107,7 @@ fn copy_piece<L: Ledger>(
 }
 
 // A piece that does not meet itself, in whole chunks and a last one.
+#[inline(always)]
 fn copy_apart<L: Ledger>(
     vram: &mut Vram,
     mask: u8,
@@ -169,6 +172,7 @@ fn copy_guarded<L: Ledger>(
 }
 
 // The cell so many columns to the right, in a row that is not left.
+#[inline(always)]
 fn beside(cell: Cell, i: u16) -> Cell
     requires { cell.x + i < 1024 }
     ensures { result ≡ beside cell i }
@@ -224,6 +228,7 @@ fn copy_in_turn<L: Ledger>(
 }
 
 // All cells together, where none is read after it was written.
+#[inline(always)]
 fn copy_at_once<L: Ledger>(
     vram: &mut Vram,
     mask: u8,

@@ -47,6 +47,7 @@ pub fn load_run<L: Ledger>(
 }
 
 // Sixteen pixels of words together, the first of them the low half of its word.
+#[inline(always)]
 fn load_sixteen<L: Ledger>(
     vram: &mut Vram,
     mask: u8,
@@ -77,6 +78,7 @@ fn pixel_at(words: &[u32], i: usize) -> u16
 }
 
 // The sixteen pixels of eight words.
+#[inline(always)]
 fn pixels_at(words: &[u32], first: usize) -> u16x16
     requires whole { first % 2 ≡ 0 }
     requires in_words { first + 16 ≤ 2 * length words.now }

@@ -54,6 +54,7 @@ pub fn copy_cell<L: Ledger>(vram: &mut Vram, mask: u8, from: Cell, to: Cell, ste
 }
 
 /// A bit for each of n cells of a row, 0 where the cell stays as it is and 1 where a plot writes it.
+#[inline(always)]
 pub fn open_cells<L: Ledger>(vram: &Vram, mask: u8, to: Cell, n: u8, steps: &mut Steps<L>) -> u16
     requires count { (1 ≤ n) × (n ≤ 16) }
     requires target_in { LieInRow (height_of vram.now) to n }

@@ -4,6 +4,9 @@ use Rattle.span_lanes.proofs.pen.Pen.set_row.Goals as goal
 
 pub invariant_of-self : goal.invariant_of-self
 invariant_of-self c = elim c.match-self.branch [
-  | in-TexturedRow w ↦ rw w.self-inside-is (row_ready _ _ _ _ _ _ _ _ _ _ _ c.self.invariant w.in-TexturedRow.is)
+  | in-TexturedRow w ↦ rw w.self-inside-is (record {
+    ready = row_ready _ _ _ _ _ _ _ _ _ _ _ c.self.invariant.ready w.in-TexturedRow.is;
+    colored = c.self.invariant.colored;
+  })
   | in_default w ↦ rw w.self-inside-is c.self.invariant
 ]

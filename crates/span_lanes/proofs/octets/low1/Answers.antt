@@ -2,7 +2,7 @@ use Rattle.std.proofs.Common.{◌∙◌, get_or}
 use lib.Bits.{bit_and}
 use Rattle.std.proofs.lemmas.Nat.{and_mask}
 use Rattle.px_num.proofs.LaneOps.{long_splat, at_splat}
-use Rattle.span_lanes.proofs.nibbles.low1.Goals as goal
+use Rattle.span_lanes.proofs.octets.low1.Goals as goal
 
 pub returns-clause-long : goal.returns-clause-long
 returns-clause-long c = long_splat bit_and c.args.a 1 c.requires
