@@ -1,6 +1,6 @@
 use Rattle.std.proofs.Common.{◌≡◌, ◌*◌, ◌%◌, ◌^◌, arith}
 use Rattle.std.proofs.lemmas.Nat.{or_shifted}
-use Rattle.gp1_status.proofs.bits.join.Goals as goal
+use Rattle.gp1_status.proofs.fields.join.Goals as goal
 
 pub returns : goal.returns
 returns c =
