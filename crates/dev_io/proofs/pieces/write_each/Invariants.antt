@@ -1,6 +1,6 @@
 use Rattle.std.proofs.Common.{◌≡◌, ◌≤◌, take, flat_map}
 use Rattle.dev_io.specs.Device.{appended}
-use Rattle.dev_io.proofs.device.write_each.Given as goal
+use Rattle.dev_io.proofs.pieces.write_each.Given as goal
 
 abbrev pub invariant-loop-piece : goal.invariant-loop-piece
 invariant-loop-piece g l = record {

@@ -1,65 +1,13 @@
-// A source and a sink in memory, which tell their bytes.
-ghost use Rattle.std.specs.Prelude.{◌≡◌, ◌≤◌, ◌<◌, ◌-◌, ◌↔◌, List, ℕ, [], Some, drop, min, length, IfOk, IsOk, IsErr};
-ghost use Rattle.std.specs.Prelude.{OnErr, MatchResult};
+// A sink in memory, which tells its bytes.
+ghost use Rattle.std.specs.Prelude.{◌≡◌, ◌≤◌, ◌<◌, ◌↔◌, List, ℕ, [], Some, length, IfOk, IsErr, OnErr, MatchResult};
 ghost use Rattle.std.specs.Vec.{vec_len, vec_capacity};
-ghost use Rattle.dev_io.specs.Device.{Rose, Gives, IsAtEnd, Accepts};
+ghost use Rattle.dev_io.specs.Device.{Rose, Accepts};
 ghost use Rattle.dev_io.specs.Memory.{SinkState, takes_now, after_taking, after_refusing};
 
-use crate::device::{Failed, Sink, Source};
+use crate::device::{Failed, Sink};
 use px_num::OutOfMemory;
 use std::alloc::Global;
 use std::marker::Model;
-
-/// A source in memory. It gives all that is asked for, as long as there are bytes, and never fails.
-#[derive(Drop)]
-pub struct MemSource {
-    bytes: Vec<u8>,
-    at: usize,
-}
-
-impl Model for MemSource {
-    ghost Value = { List ℕ };
-
-    ghost view = { λ s. drop s.at s.bytes.items };
-
-    ghost invariant = { λ s. s.at ≤ vec_len s.bytes };
-}
-
-impl MemSource {
-    /// A source that has these bytes left.
-    pub fn new(bytes: Vec<u8>) -> Self
-        ensures { result ≡ bytes.items }
-    {
-        MemSource { bytes, at: 0 }
-    }
-
-    /// The bytes left.
-    pub fn left(&self) -> &[u8]
-        ensures { result.now ≡ self.now }
-    {
-        &self.bytes[self.at..]
-    }
-}
-
-impl Source for MemSource {
-    ghost left = { λ s. Some s };
-
-    ghost faults = { λ _. 0 };
-
-    fn read(&mut self, buf: &mut [u8]) -> Result<usize, Failed>
-        ensures ok { IfOk result (λ n. Gives (Some self.old) (Some self.new) buf.new n) }
-        ensures end { IfOk result (λ n. n ≡ 0 → 0 < length buf.new → IsAtEnd (Some self.new)) }
-        ensures failed { OnErr result (self.new ≡ self.old) }
-        ensures cause { OnErr result (Rose 0 0) }
-        ensures never { IsOk result }
-        ensures count { IfOk result (λ n. n ≡ min (length buf.old) (length self.old)) }
-    {
-        let n = buf.len().min(self.bytes.len() - self.at);
-        buf[..n].copy_from_slice(&self.bytes[self.at..self.at + n]);
-        self.at += n;
-        Ok(n)
-    }
-}
 
 /// A sink in memory that holds at most `room` bytes. A write takes as many bytes as there is room, and where there is
 /// none, a piece that is not empty is refused and counted as a fault.
@@ -83,14 +31,11 @@ impl MemSink {
     pub fn new(alloc: Global, room: usize) -> Result<Self, OutOfMemory>
         ensures { IfOk result (λ sink. sink ≡ record { held = []; room = room; faults = 0 }) }
     {
-        match Vec::with_capacity(alloc, room) {
-            Ok(bytes) => Ok(MemSink {
-                bytes,
-                room,
-                faults: 0,
-            }),
-            Err(_) => Err(OutOfMemory),
-        }
+        Ok(MemSink {
+            bytes: Vec::with_capacity(alloc, room)?,
+            room,
+            faults: 0,
+        })
     }
 
     /// The bytes held.

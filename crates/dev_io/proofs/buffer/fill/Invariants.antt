@@ -1,6 +1,6 @@
 use Rattle.std.proofs.Common.{length, ◌-◌, ◌≤◌}
 use Rattle.dev_io.specs.Device.{Gives}
-use Rattle.dev_io.proofs.device.fill.Given as goal
+use Rattle.dev_io.proofs.buffer.fill.Given as goal
 
 abbrev pub invariant-loop-n : goal.invariant-loop-n
 invariant-loop-n g l = record {

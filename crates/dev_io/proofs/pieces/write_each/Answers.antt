@@ -1,7 +1,7 @@
 use Rattle.std.proofs.Common.{rules, arith}
 use Rattle.std.proofs.lemmas.Result.{err_from_is_err_and}
 use Rattle.dev_io.proofs.Parts.{piece_part}
-use Rattle.dev_io.proofs.device.write_each.Goals as goal
+use Rattle.dev_io.proofs.pieces.write_each.Goals as goal
 
 pub returns-in_err-write_all : goal.returns-in_err-write_all
 returns-in_err-write_all g c =

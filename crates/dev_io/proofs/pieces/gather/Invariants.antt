@@ -1,5 +1,5 @@
 use Rattle.std.proofs.Common.{◌≡◌, take, flat_map}
-use Rattle.dev_io.proofs.device.gather.Given as goal
+use Rattle.dev_io.proofs.pieces.gather.Given as goal
 
 abbrev pub invariant-loop-piece : goal.invariant-loop-piece
 invariant-loop-piece l = record {

@@ -5,7 +5,7 @@ ghost use Rattle.dev_io.specs.Device.{Rose, Accepts};
 ghost use Rattle.dev_io.specs.Memory.{FailState, takes_next, after_part, after_fault};
 
 use crate::device::{Failed, Sink};
-use crate::memory::MemSink;
+use crate::mem_sink::MemSink;
 use px_num::OutOfMemory;
 use std::alloc::Global;
 use std::marker::Model;

@@ -1,6 +1,6 @@
 use Rattle.std.proofs.Common.{arith}
 use Rattle.dev_io.proofs.Parts.{gives_on}
-use Rattle.dev_io.proofs.device.fill.Goals as goal
+use Rattle.dev_io.proofs.buffer.fill.Goals as goal
 
 pub loop-n-preserved : goal.loop-n-preserved
 loop-n-preserved g c = record {
