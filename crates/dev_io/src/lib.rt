@@ -5,58 +5,23 @@
 //! the edges over std's readers and writers tell none, and are what the proofs trust.
 #![tactic(auto)]
 
-mod cut;
+mod buffer;
+mod cut_source;
 mod device;
 mod edge;
-mod fail;
-mod memory;
+mod fail_sink;
+mod mem_sink;
+mod mem_source;
+mod pieces;
 
-pub use cut::CutSource;
-pub use device::{Failed, Sink, Source, fill, write_all, write_pieces};
+pub use buffer::fill;
+pub use cut_source::CutSource;
+pub use device::{Failed, Sink, Source};
 pub use edge::{ReadEdge, WriteEdge};
-pub use fail::FailSink;
-pub use memory::{MemSink, MemSource};
+pub use fail_sink::FailSink;
+pub use mem_sink::MemSink;
+pub use mem_source::MemSource;
+pub use pieces::{write_all, write_pieces};
 
 #[cfg(test)]
-mod tests {
-    use super::*;
-    use std::test::Fail;
-
-    #[test]
-    fn pieces_and_failures_in_memory(rt: HostRuntime) -> Result<(), Fail> {
-        let alloc = rt.alloc();
-        let mut source = CutSource::new(
-            b"abcd".to_vec(alloc)?,
-            [1, 0].to_vec(alloc)?,
-            [1].to_vec(alloc)?,
-        );
-        let mut buf = [0u8; 3];
-        assert_eq!(rt; fill(&mut source, &mut buf), Err(1));
-        assert_eq!(rt; source.left(), b"bcd".as_slice());
-        assert_eq!(rt; fill(&mut source, &mut buf), Ok(3));
-        assert_eq!(rt; buf, [b'b', b'c', b'd']);
-        let mut sink = FailSink::new(alloc, 3, 2, [1].to_vec(alloc)?)?;
-        assert_eq!(rt; write_all(&mut sink, b"abcd"), Err(Failed));
-        assert_eq!(rt; sink.bytes(), b"ab".as_slice());
-        assert_eq!(rt; write_all(&mut sink, b"cd"), Err(Failed));
-        assert_eq!(rt; sink.bytes(), b"abc".as_slice());
-        let mut memory = MemSink::new(alloc, 4)?;
-        assert_eq!(rt; write_pieces(&mut memory, &[b"ab", b"", b"cd"]), Ok(()));
-        assert_eq!(rt; memory.bytes(), b"abcd".as_slice());
-        let mut whole = MemSource::new(b"ab".to_vec(alloc)?);
-        assert_eq!(rt; whole.read(&mut buf), Ok(2));
-        assert_eq!(rt; whole.left().len(), 0);
-        Ok(())
-    }
-
-    #[test]
-    fn the_edges_pass_bytes_on(rt: HostRuntime) -> Result<(), Fail> {
-        let mut source = ReadEdge::new(b"hello".as_slice());
-        let mut buf = [0u8; 8];
-        assert_eq!(rt; fill(&mut source, &mut buf), Ok(5));
-        assert_eq!(rt; buf, *b"hello\0\0\0");
-        let mut out = WriteEdge::new(Vec::new(rt.alloc()));
-        assert_eq!(rt; write_all(&mut out, b"hello"), Ok(()));
-        Ok(())
-    }
-}
+mod tests;

@@ -1,5 +1,5 @@
 -- Fields of words (psx-spx, "GPU Render Commands" on vertices and texcoords, "GPU Memory Transfer Commands" on
--- corners and sizes).
+-- corners).
 use Rattle.std.specs.Prelude.{ℕ, ◌+◌, ◌*◌, ◌/◌, ◌%◌, ◌^◌}
 use Rattle.px_num.specs.Number.{signed_11}
 use Rattle.px_num.specs.declared.shape.Cell.{Cell}
@@ -26,13 +26,6 @@ vertex_of place color texcoord = record {
 -- a corner of a copy, load or store, whose Y wraps at the height of video memory
 abbrev pub cell_of : (height corner : ℕ) → Cell
 cell_of height corner = record { x = corner % 1024; y = high_half corner % height }
-
--- ((SW - 1) and 3FFh) + 1 and ((SH - 1) and 1FFh) + 1: a copy, load or store is never empty
-abbrev pub width_of : ℕ → ℕ
-width_of size = (size % 2 ^ 16 + 1023) % 1024 + 1
-
-abbrev pub height_of : ℕ → ℕ
-height_of size = (high_half size + 511) % 512 + 1
 
 -- a fill's colour, each channel divided by 8
 abbrev pub fill_color_of : ℕ → ℕ

@@ -1,9 +1,9 @@
 -- Which packets open a load or go on with one (psx-spx, "GPU Memory Transfer Commands").
 use Rattle.std.specs.Prelude.{◌≡◌, ℕ, ◌+◌, ◌*◌, ◌/◌, List, slice_index}
-use Rattle.gp0_words.specs.Kinds.{kind_of, data_words_of}
+use Rattle.gp0_words.specs.Kinds.{kind_of}
+use Rattle.gp0_words.specs.Sizes.{width_of, height_of, data_words_of}
 use Rattle.gp0_words.specs.declared.kind.Kind.{Kind}
 use Rattle.gp0_words.specs.declared.kind.Kind.TheVariants.{Plain, Load, Polyline}
-use Rattle.gp0_packets.specs.Fields.{width_of, height_of}
 use Rattle.gp0_packets.specs.Packets.{load_of, whole_of}
 use Rattle.gp0_packets.specs.declared.packet.Packet.{Packet}
 use Rattle.gp0_packets.specs.declared.packet.Packet.TheVariants as packet
@@ -26,7 +26,8 @@ IsOfNoLoad (packet.Env index value) = Unit {0}
 -- a load, for as many data words as follow these words
 pub record IsLoadOf (height : ℕ) (words : List ℕ) (found : Packet) : Type 0 where
   pub is : found ≡ load_of height words
-  pub count : data_words_of (slice_index words 2) ≡ (width_of (slice_index words 2) * height_of (slice_index words 2) + 1) / 2
+  pub count : data_words_of (slice_index words 2)
+      ≡ (width_of (slice_index words 2) * height_of (slice_index words 2) + 1) / 2
 
 -- a packet fits the kind of its first word
 abbrev pub OpensLoad : (height : ℕ) → Kind → (words : List ℕ) → Packet → Type 0
@@ -35,4 +36,5 @@ OpensLoad height Load words found = IsLoadOf height words found
 OpensLoad height (Polyline shaded) words found = IsOfNoLoad found
 
 abbrev pub LoadsAreOpened : Type 0
-LoadsAreOpened = (height : ℕ) (words : List ℕ) → OpensLoad height (kind_of (slice_index words 0)) words (whole_of height words)
+LoadsAreOpened =
+    (height : ℕ) (words : List ℕ) → OpensLoad height (kind_of (slice_index words 0)) words (whole_of height words)

@@ -1,12 +1,14 @@
 -- The packet that an item is (psx-spx, "GPU Render Polygon Commands", "GPU Render Line Commands", "GPU Render
 -- Rectangle Commands", "GPU Rendering Attributes", "GPU Memory Transfer Commands").
-use Rattle.std.specs.Prelude.{ℕ, ◌+◌, ◌-◌, ◌*◌, ◌/◌, ◌%◌, ◌^◌, List, if◌then◌else◌, nat_le, ◌==◌, ◌&&◌, length, slice_index}
+use Rattle.std.specs.Prelude.{ℕ, ◌+◌, ◌-◌, ◌*◌, ◌/◌, ◌%◌, ◌^◌, nat_le, ◌==◌, ◌&&◌}
+use Rattle.std.specs.Prelude.{List, if◌then◌else◌, length, slice_index}
 use Rattle.std.specs.Int.{bit_at}
 use Rattle.gp0_words.specs.Kinds.{is_set, class_of, opcode_of, first_len_of}
 use Rattle.gp0_words.specs.declared.item.Item.{Item}
 use Rattle.gp0_words.specs.declared.item.Item.TheVariants as item
 use Rattle.px_num.specs.declared.shape.Vertex.{Vertex}
-use Rattle.gp0_packets.specs.Fields.{low_24, high_half, vertex_of, cell_of, width_of, height_of, fill_color_of}
+use Rattle.gp0_words.specs.Sizes.{width_of, height_of}
+use Rattle.gp0_packets.specs.Fields.{low_24, high_half, vertex_of, cell_of, fill_color_of}
 use Rattle.gp0_packets.specs.declared.packet.Packet.{Packet}
 use Rattle.gp0_packets.specs.declared.packet.Packet.TheVariants as packet
 
@@ -41,7 +43,8 @@ polygon_of words =
     let four = is_set command 27 in
     let textured = is_set command 26 in
     packet.Poly four (corner_of words 0) (corner_of words 1) (corner_of words 2) (corner_of words (if four then 3 else 2))
-    (is_set command 28) textured (is_set command 25) (is_set command 24 && textured) (attribute_of words 0) (attribute_of words 1)
+    (is_set command 28) textured (is_set command 25) (is_set command 24 && textured)
+    (attribute_of words 0) (attribute_of words 1)
 
 -- ---- lines: bits 28 shaded, 25 semi-transparent
 
@@ -53,8 +56,9 @@ segment_of command from_color from_vertex to_color to_vertex =
 unfoldable pub line_of : List ℕ → Packet
 line_of words =
     let command = slice_index words 0 in
-    if is_set command 28 then segment_of command command (slice_index words 1) (slice_index words 2) (slice_index words 3) else
-    segment_of command command (slice_index words 1) command (slice_index words 2)
+    if is_set command 28
+    then segment_of command command (slice_index words 1) (slice_index words 2) (slice_index words 3)
+    else segment_of command command (slice_index words 1) command (slice_index words 2)
 
 -- ---- rectangles: bits 28-27 size, 26 textured, 25 semi-transparent, 24 raw texture
 
@@ -77,7 +81,8 @@ rectangle_of words =
     let texcoord = if textured then slice_index words 2 else 0 in
     let first = vertex_of (slice_index words 1) command texcoord in
     packet.Rect first.x first.y
-    (side_of (size_code_of words) (size_word_of words % 2 ^ 10)) (side_of (size_code_of words) (high_half (size_word_of words) % 2 ^ 9))
+    (side_of (size_code_of words) (size_word_of words % 2 ^ 10))
+    (side_of (size_code_of words) (high_half (size_word_of words) % 2 ^ 9))
     first.color textured (is_set command 25) (is_set command 24 && textured) first.u first.v (high_half texcoord)
 
 -- ---- transfers
@@ -110,7 +115,9 @@ store_of height words =
 -- E1h to E6h set a register; the others of class 7 do nothing (our own rule)
 unfoldable pub environment_of : ℕ → Packet
 environment_of word =
-    if nat_le 0xe1 (opcode_of word) && nat_le (opcode_of word) 0xe6 then packet.Env (opcode_of word - 0xe0) (low_24 word) else packet.Nop
+    if nat_le 0xe1 (opcode_of word) && nat_le (opcode_of word) 0xe6
+    then packet.Env (opcode_of word - 0xe0) (low_24 word)
+    else packet.Nop
 
 -- 02h is a fill and 1Fh an interrupt; the others of class 0 do nothing
 unfoldable pub other_of : (height : ℕ) → List ℕ → Packet
@@ -130,8 +137,8 @@ whole_of height words =
     (if class == 6 then store_of height words else
     (if class == 7 then environment_of (slice_index words 0) else other_of height words))))))
 
--- The packet of an item at a height of video memory. A whole item without words, or whose number of words isn't the one that its first
--- word asks for, is none.
+-- The packet of an item at a height of video memory. A whole item without words, or whose number of words isn't the
+-- one that its first word asks for, is none.
 abbrev pub packet_of : (height : ℕ) → Item → Packet
 packet_of height (item.Whole words) =
     if length words == 0 then packet.Nop else

@@ -12,12 +12,7 @@ use crate::polygon::polygon;
 use crate::rectangle::rectangle;
 use crate::transfer::{copy, fill, load, store};
 use gp0_words::{Item, first_len};
-
-/// How many rows the console's video memory has.
-const SHORT_HEIGHT: u16 = 512;
-
-/// How many rows video memory has in the tall profile.
-const TALL_HEIGHT: u16 = 1024;
+use px_num::height_of_profile;
 
 /// A word of class 7: a register is set, or nothing happens.
 #[tactic(auto, unfolding(crate::specs::Packets::environment_of))]
@@ -74,9 +69,9 @@ fn whole(words: &[u32], height: u16) -> Packet
     }
 }
 
-/// The packet that an item is, where video memory has 1024 rows if it is tall and else 512: by them the Y of a fill, copy,
-/// load and store wraps. It is total: a `Whole` whose number of words is not the one that its first word asks for, which
-/// no splitter gives, is `Nop`.
+/// The packet that an item is, where video memory has 1024 rows if it is tall and else 512: by them the Y of a fill,
+/// copy, load and store wraps. It is total: a `Whole` whose number of words is not the one that its first word asks
+/// for, which no splitter gives, is `Nop`.
 pub fn decode(item: &Item, tall: bool) -> Packet
     ensures value { result ≡ packet_of (height_of_profile tall) item.now }
     ensures ranges { IsInRange (height_of_profile tall) result }
@@ -87,7 +82,7 @@ pub fn decode(item: &Item, tall: bool) -> Packet
             if words.is_empty() {
                 Packet::Nop
             } else if words.len() == first_len(words[0]) {
-                whole(words, if tall { TALL_HEIGHT } else { SHORT_HEIGHT })
+                whole(words, height_of_profile(tall))
             } else {
                 Packet::Nop
             }

@@ -1,25 +1,16 @@
 // Fields that several packets have.
 ghost use Rattle.std.specs.Prelude.{◌≡◌, ◌<◌, ◌^◌, if◌then◌else◌, IsTrue, length, slice_index};
-ghost use Rattle.gp0_words.specs.Kinds.{is_set};
 ghost use Rattle.gp0_packets.specs.Fields.{vertex_of, low_24, high_half};
 ghost use Rattle.gp0_packets.specs.Ranges.{IsVertexInRange};
 
-use px_num::{Vertex, sign11};
-
-/// Whether bit `k` of a word is 1.
-pub fn bit(word: u32, k: u32) -> bool
-    requires { k < 32 }
-    ensures { result ≡ is_set word k }
-{
-    word >> k & 1 == 1
-}
+use px_num::{Vertex, bits, sign11};
 
 /// The low 24 bits of a word, which are a colour or a register's value.
 pub fn low24(word: u32) -> u32
     ensures value { result ≡ low_24 word }
     ensures fits { result < 2 ^ 24 }
 {
-    word & 0xff_ffff
+    bits(word, 0, 24)
 }
 
 /// The attribute of a texcoord word.
@@ -38,8 +29,8 @@ pub fn vertex_at(place: u32, color: u32, texcoord: u32) -> Vertex
         x: sign11(place),
         y: sign11(place >> 16),
         color: low24(color),
-        u: (texcoord & 0xff) as u8,
-        v: (texcoord >> 8 & 0xff) as u8,
+        u: bits(texcoord, 0, 8) as u8,
+        v: bits(texcoord, 8, 8) as u8,
     }
 }
 

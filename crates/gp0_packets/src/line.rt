@@ -4,8 +4,9 @@ ghost use Rattle.std.specs.Int.{bit_at};
 ghost use Rattle.gp0_packets.specs.Packets.{line_of, segment_of};
 ghost use Rattle.gp0_packets.specs.Ranges.{IsInRange};
 
-use crate::field::{bit, vertex_at};
+use crate::field::vertex_at;
 use crate::packet::Packet;
+use px_num::bit;
 
 /// The segment from a vertex to another, each with its colour word.
 pub fn segment(

@@ -5,15 +5,15 @@ ghost use Rattle.gp0_words.specs.Kinds.{is_set, polygon_len_of};
 ghost use Rattle.gp0_packets.specs.Packets.{stride_of, corner_of, attribute_of, polygon_of};
 ghost use Rattle.gp0_packets.specs.Ranges.{IsVertexInRange, IsInRange};
 
-use crate::field::{attribute, bit, vertex_at, word_where};
+use crate::field::{attribute, vertex_at, word_where};
 use crate::packet::Packet;
-use px_num::Vertex;
+use px_num::{Vertex, bit};
 
 /// How many words a vertex has: a colour where shaded, the vertex, and a texcoord where textured.
 fn stride(command: u32) -> usize
     ensures { result ≡ stride_of command }
 {
-    (1 + (command >> 28 & 1) + (command >> 26 & 1)) as usize
+    1 + usize::from(bit(command, 28)) + usize::from(bit(command, 26))
 }
 
 /// Vertex `i`, from 0 on.

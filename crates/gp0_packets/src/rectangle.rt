@@ -4,8 +4,9 @@ ghost use Rattle.gp0_words.specs.Kinds.{rectangle_len_of};
 ghost use Rattle.gp0_packets.specs.Packets.{size_code_of, side_of, size_word_of, rectangle_of};
 ghost use Rattle.gp0_packets.specs.Ranges.{IsInRange};
 
-use crate::field::{attribute, bit, vertex_at, word_where};
+use crate::field::{attribute, vertex_at, word_where};
 use crate::packet::Packet;
+use px_num::{bit, bits};
 
 /// The width and height by the size code; those of code 0 stand in the size word.
 fn sides(code: u32, size: u32) -> (u16, u16)
@@ -15,7 +16,7 @@ fn sides(code: u32, size: u32) -> (u16, u16)
     ensures height_range { result.1 < 512 }
 {
     match code {
-        0 => ((size & 0x3ff) as u16, (size >> 16 & 0x1ff) as u16),
+        0 => (bits(size, 0, 10) as u16, bits(size, 16, 9) as u16),
         1 => (1, 1),
         2 => (8, 8),
         _ => (16, 16),
@@ -31,8 +32,9 @@ fn rectangle_sides(words: &[u32]) -> (u16, u16)
     ensures height_range { result.1 < 512 }
 {
     let command = words[0];
-    let code = command >> 27 & 3;
-    let size = word_where(words, code == 0, 2 + (command >> 26 & 1) as usize, 0);
+    let code = bits(command, 27, 2);
+    let place = 2 + usize::from(bit(command, 26));
+    let size = word_where(words, code == 0, place, 0);
     sides(code, size)
 }
 

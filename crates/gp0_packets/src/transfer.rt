@@ -1,11 +1,12 @@
 // Fills, copies, loads and stores.
 ghost use Rattle.std.specs.Prelude.{◌≡◌, ◌<◌, ◌≤◌, length};
-ghost use Rattle.gp0_packets.specs.Fields.{cell_of, width_of, height_of};
+ghost use Rattle.gp0_packets.specs.Fields.{cell_of};
 ghost use Rattle.gp0_packets.specs.Packets.{fill_of, copy_of, load_of, store_of};
 ghost use Rattle.gp0_packets.specs.Ranges.{IsInRange};
 
 use crate::packet::Packet;
-use px_num::{Cell, wrap_at, wrap_x};
+use gp0_words::{height_of, width_of};
+use px_num::{Cell, bits, wrap_at, wrap_x};
 
 /// The cell that a corner word names, with its Y wrapped at a height.
 fn cell_at(corner: u32, height: u16) -> Cell
@@ -20,24 +21,6 @@ fn cell_at(corner: u32, height: u16) -> Cell
     }
 }
 
-/// The width of a size word, where 0 stands for 1024.
-fn width(size: u32) -> u16
-    ensures value { result ≡ width_of size }
-    ensures some { 1 ≤ result }
-    ensures most { result ≤ 1024 }
-{
-    (((size & 0xffff) + 0x3ff & 0x3ff) + 1) as u16
-}
-
-/// The height of a size word, where 0 stands for 512.
-fn rows(size: u32) -> u16
-    ensures value { result ≡ height_of size }
-    ensures some { 1 ≤ result }
-    ensures most { result ≤ 512 }
-{
-    (((size >> 16) + 0x1ff & 0x1ff) + 1) as u16
-}
-
 /// A fill by its words.
 #[tactic(auto, unfolding(crate::specs::Packets::fill_of))]
 pub fn fill(words: &[u32], height: u16) -> Packet
@@ -50,11 +33,13 @@ pub fn fill(words: &[u32], height: u16) -> Packet
     let corner = words[1];
     let size = words[2];
     Packet::Fill {
-        color: (command >> 3 & 31 | (command >> 11 & 31) << 5 | (command >> 19 & 31) << 10) as u16,
-        x: (corner & 0x3ff & !0xf) as u16,
+        color: (bits(command, 3, 5)
+            | bits(command, 11, 5) << 5
+            | bits(command, 19, 5) << 10) as u16,
+        x: (bits(corner, 0, 10) & !0xf) as u16,
         y: wrap_at(corner >> 16, height),
-        w: ((size & 0x3ff) + 0xf & !0xf) as u16,
-        h: (size >> 16 & 0x1ff) as u16,
+        w: (bits(size, 0, 10) + 0xf & !0xf) as u16,
+        h: bits(size, 16, 9) as u16,
     }
 }
 
@@ -70,8 +55,8 @@ pub fn copy(words: &[u32], height: u16) -> Packet
     Packet::Copy {
         from: cell_at(words[1], height),
         to: cell_at(words[2], height),
-        w: width(size),
-        h: rows(size),
+        w: width_of(size),
+        h: height_of(size),
     }
 }
 
@@ -88,8 +73,8 @@ pub fn load(words: &[u32], height: u16) -> Packet
     Packet::Load {
         x,
         y,
-        w: width(size),
-        h: rows(size),
+        w: width_of(size),
+        h: height_of(size),
     }
 }
 
@@ -106,7 +91,7 @@ pub fn store(words: &[u32], height: u16) -> Packet
     Packet::Store {
         x,
         y,
-        w: width(size),
-        h: rows(size),
+        w: width_of(size),
+        h: height_of(size),
     }
 }

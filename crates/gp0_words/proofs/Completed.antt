@@ -3,7 +3,8 @@ use Rattle.std.proofs.Common.{◌≡◌, inl, inr, ℕ, zero, suc, ◌-◌, ◌<
 use Rattle.std.proofs.lemmas.Bool.{cases_lt, cond_both}
 use Rattle.std.proofs.lemmas.Bool.Decides.{nat_tests}
 use Rattle.std.proofs.lemmas.List.{take-append-drop, length-take-le, length-append, length-replicate, length-drop, get_or_append_left}
-use Rattle.gp0_words.specs.Kinds.{kind_of, start_len, data_words_of, is_end}
+use Rattle.gp0_words.specs.Kinds.{kind_of, start_len, is_end}
+use Rattle.gp0_words.specs.Sizes.{data_words_of}
 use Rattle.gp0_words.specs.Items.{flat_need, shaded_need, tail_need, packet_need}
 use Rattle.gp0_words.specs.Cutting.{IsFlatTail, IsShadedTail, IsTail, IsPacket, BeginsPacket, IsCutUp}
 use Rattle.gp0_words.specs.declared.kind.Kind.{Kind}

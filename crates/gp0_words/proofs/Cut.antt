@@ -6,7 +6,8 @@ use Rattle.std.proofs.lemmas.Bool.{cases_lt, cond_both, le-ltb, lt-ltb, ltb-true
 use Rattle.std.proofs.lemmas.List.{take-append-le, take_all, drop_all, length_push, map_push, drop-append-le, length-drop, get_or_append_left}
 use Rattle.std.proofs.lemmas.Bool.Decides.{nat_tests}
 use Rattle.std.proofs.lemmas.Nat.{mul-le}
-use Rattle.gp0_words.specs.Kinds.{opcode_of, polygon_len_of, line_kind_of, kind_of, start_len, data_words_of, is_end, is_set}
+use Rattle.gp0_words.specs.Kinds.{opcode_of, polygon_len_of, line_kind_of, kind_of, start_len, is_end, is_set}
+use Rattle.gp0_words.specs.Sizes.{data_words_of}
 use Rattle.gp0_words.specs.Items.{flat_joints, flat_need, flat_rest, shaded_joints, shaded_need, shaded_rest, tail_items, tail_need, tail_rest, packet_items, packet_need, packet_rest, items_from, rest_from, Items, Rest}
 use Rattle.gp0_words.specs.Next.{next_pending, next_item, pending_behind, collected_pending, collected_item, IsPending}
 use Rattle.gp0_words.specs.declared.kind.Kind.{Kind}

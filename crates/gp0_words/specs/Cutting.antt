@@ -1,6 +1,7 @@
 -- What a packet is, and what the items of packets are.
 use Rattle.std.specs.Prelude.{◌≡◌, ◌<◌, ◌⊎◌, ℕ, true, false, List, [], ◌∷◌, ◌++◌, length, flat_map, map, slice_index}
-use Rattle.gp0_words.specs.Kinds.{kind_of, start_len, data_words_of, is_end}
+use Rattle.gp0_words.specs.Kinds.{kind_of, start_len, is_end}
+use Rattle.gp0_words.specs.Sizes.{data_words_of}
 use Rattle.gp0_words.specs.Items.{Items, Rest}
 use Rattle.gp0_words.specs.declared.kind.Kind.{Kind}
 use Rattle.gp0_words.specs.declared.kind.Kind.TheVariants.{Plain, Load, Polyline}
@@ -39,7 +40,8 @@ pub record IsPacket (packet : List ℕ) : Type 0 where
 abbrev pub PacketsAreCut : Type 0
 PacketsAreCut =
     (packet words : List ℕ) → IsPacket packet →
-    (Items (packet ++ words) ≡ Items packet ++ Items words) × (Rest (packet ++ words) ≡ Rest words) × (Rest packet ≡ pending.Idle)
+    (Items (packet ++ words) ≡ Items packet ++ Items words)
+    × (Rest (packet ++ words) ≡ Rest words) × (Rest packet ≡ pending.Idle)
 
 -- No packet is a proper prefix of another.
 abbrev pub IsPrefixFree : Type 0
@@ -51,25 +53,29 @@ IsPrefixFree = (p q a b : List ℕ) → IsPacket p → IsPacket q → p ++ a ≡
 abbrev pub flat_tail_items : (command vertex : ℕ) → List ℕ → List Item
 flat_tail_items command vertex [] = []
 flat_tail_items command vertex (w ∷ []) = Finish w ∷ []
-flat_tail_items command vertex (w ∷ v ∷ ws) = Joint command command vertex command w ∷ flat_tail_items command w (v ∷ ws)
+flat_tail_items command vertex (w ∷ v ∷ ws) =
+    Joint command command vertex command w ∷ flat_tail_items command w (v ∷ ws)
 
 -- a joint from each colour and vertex to the next, and the end
 abbrev pub shaded_tail_items : (command color vertex : ℕ) → List ℕ → List Item
 shaded_tail_items command color vertex [] = []
 shaded_tail_items command color vertex (c ∷ []) = Finish c ∷ []
-shaded_tail_items command color vertex (c ∷ v ∷ ws) = Joint command color vertex c v ∷ shaded_tail_items command c v ws
+shaded_tail_items command color vertex (c ∷ v ∷ ws) =
+    Joint command color vertex c v ∷ shaded_tail_items command c v ws
 
 -- a plain packet has no item behind its first, a load one for each data word, a polyline its joints and its end
 abbrev pub items_behind : Kind → (start more : List ℕ) → List Item
 items_behind (Plain n) start more = []
 items_behind Load start more = map Pixels more
-items_behind (Polyline true) start more = shaded_tail_items (slice_index start 0) (slice_index start 2) (slice_index start 3) more
+items_behind (Polyline true) start more =
+    shaded_tail_items (slice_index start 0) (slice_index start 2) (slice_index start 3) more
 items_behind (Polyline false) start more = flat_tail_items (slice_index start 0) (slice_index start 2) more
 
 -- The items of a packet are those of its form.
 abbrev pub PacketsHaveTheirItems : Type 0
 PacketsHaveTheirItems =
-    (packet : List ℕ) (p : IsPacket packet) → Items packet ≡ Whole p.start ∷ items_behind (kind_of (slice_index packet 0)) p.start p.more
+    (packet : List ℕ) (p : IsPacket packet) →
+    Items packet ≡ Whole p.start ∷ items_behind (kind_of (slice_index packet 0)) p.start p.more
 
 -- ---- every list of words
 

@@ -1,7 +1,9 @@
 -- A list of words, cut into packets, as items (psx-spx, "GPU Render Line Commands" on polylines, "GPU Memory
 -- Transfer Commands" on loads). A packet is cut by all words that follow it.
-use Rattle.std.specs.Prelude.{ℕ, zero, suc, ◌+◌, ◌-◌, true, false, List, [], ◌∷◌, ◌++◌, Some, None, if◌then◌else◌, nat_lt, length, take, drop, map, slice_index}
-use Rattle.gp0_words.specs.Kinds.{kind_of, start_len, data_words_of, is_end}
+use Rattle.std.specs.Prelude.{ℕ, zero, suc, ◌+◌, ◌-◌, true, false, Some, None, if◌then◌else◌, nat_lt}
+use Rattle.std.specs.Prelude.{List, [], ◌∷◌, ◌++◌, length, take, drop, map, slice_index}
+use Rattle.gp0_words.specs.Kinds.{kind_of, start_len, is_end}
+use Rattle.gp0_words.specs.Sizes.{data_words_of}
 use Rattle.gp0_words.specs.declared.kind.Kind.{Kind}
 use Rattle.gp0_words.specs.declared.kind.Kind.TheVariants.{Plain, Load, Polyline}
 use Rattle.gp0_words.specs.declared.item.Item.{Item}
@@ -49,7 +51,8 @@ shaded_rest command color vertex (c ∷ v ∷ ws) = shaded_rest command c v ws
 abbrev pub tail_items : Kind → (start more : List ℕ) → List Item
 tail_items (Plain n) start more = []
 tail_items Load start more = map Pixels (take (data_words_of (slice_index start 2)) more)
-tail_items (Polyline true) start more = shaded_joints (slice_index start 0) (slice_index start 2) (slice_index start 3) more
+tail_items (Polyline true) start more =
+    shaded_joints (slice_index start 0) (slice_index start 2) (slice_index start 3) more
 tail_items (Polyline false) start more = flat_joints (slice_index start 0) (slice_index start 2) more
 
 -- how many words these are at least
@@ -63,7 +66,8 @@ tail_need (Polyline false) start more = flat_need more
 abbrev pub tail_rest : Kind → (start more : List ℕ) → Pending
 tail_rest (Plain n) start more = pending.Idle
 tail_rest Load start more = pending.Pixels (data_words_of (slice_index start 2) - length more)
-tail_rest (Polyline true) start more = shaded_rest (slice_index start 0) (slice_index start 2) (slice_index start 3) more
+tail_rest (Polyline true) start more =
+    shaded_rest (slice_index start 0) (slice_index start 2) (slice_index start 3) more
 tail_rest (Polyline false) start more = flat_rest (slice_index start 0) (slice_index start 2) more
 
 -- ---- a packet at the front of a list, of the kind that its first word has

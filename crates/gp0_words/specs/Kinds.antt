@@ -49,10 +49,6 @@ start_len (Polyline shaded) = if shaded then 4 else 3
 abbrev pub first_len_of : ℕ → ℕ
 first_len_of word = start_len (kind_of word)
 
--- the data words of a load with this size word: w and h of 0 are 1024 and 512, two pixels in each word
-abbrev pub data_words_of : ℕ → ℕ
-data_words_of size = (((size % 2 ^ 16 + 1023) % 1024 + 1) * ((size / 2 ^ 16 + 511) % 512 + 1) + 1) / 2
-
 -- the word that ends a polyline
 abbrev pub is_end : ℕ → Bool
 is_end word = bit_and word 0xf000f000 == 0x50005000

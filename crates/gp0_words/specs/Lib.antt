@@ -4,4 +4,5 @@ pub mod Kinds
 pub mod Next
 pub mod Pushed
 pub mod Resuming
+pub mod Sizes
 pub mod Skipped

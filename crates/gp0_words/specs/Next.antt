@@ -1,6 +1,8 @@
 -- One word more, on what is pending.
-use Rattle.std.specs.Prelude.{◌≡◌, ℕ, ◌-◌, ◌<◌, ◌≤◌, true, false, List, [], ◌∷◌, ◌++◌, Option, Some, None, if◌then◌else◌, nat_lt, length, slice_index}
-use Rattle.gp0_words.specs.Kinds.{kind_of, start_len, first_len_of, data_words_of, is_end, is_set}
+use Rattle.std.specs.Prelude.{◌≡◌, ℕ, ◌-◌, ◌<◌, ◌≤◌, true, false, Option, Some, None, if◌then◌else◌, nat_lt}
+use Rattle.std.specs.Prelude.{List, [], ◌∷◌, ◌++◌, length, slice_index}
+use Rattle.gp0_words.specs.Kinds.{kind_of, start_len, first_len_of, is_end, is_set}
+use Rattle.gp0_words.specs.Sizes.{data_words_of, most_data_words}
 use Rattle.gp0_words.specs.declared.kind.Kind.{Kind}
 use Rattle.gp0_words.specs.declared.kind.Kind.TheVariants.{Plain, Load, Polyline}
 use Rattle.gp0_words.specs.declared.item.Item.{Item}
@@ -12,12 +14,15 @@ use Rattle.gp0_words.specs.declared.pending.Pending.TheVariants as pending
 abbrev pub pending_behind : Kind → List ℕ → Pending
 pending_behind (Plain n) words = pending.Idle
 pending_behind Load words = pending.Pixels (data_words_of (slice_index words 2))
-pending_behind (Polyline true) words = pending.Poly (slice_index words 0) (slice_index words 2) (slice_index words 3) None
-pending_behind (Polyline false) words = pending.Poly (slice_index words 0) (slice_index words 0) (slice_index words 2) None
+pending_behind (Polyline true) words =
+    pending.Poly (slice_index words 0) (slice_index words 2) (slice_index words 3) None
+pending_behind (Polyline false) words =
+    pending.Poly (slice_index words 0) (slice_index words 0) (slice_index words 2) None
 
 -- the first words of a packet, which may be its whole first item
 abbrev pub collected_pending : Kind → List ℕ → Pending
-collected_pending kind words = if nat_lt (length words) (start_len kind) then pending.Packet words else pending_behind kind words
+collected_pending kind words =
+    if nat_lt (length words) (start_len kind) then pending.Packet words else pending_behind kind words
 
 abbrev pub collected_item : Kind → List ℕ → Option Item
 collected_item kind words = if nat_lt (length words) (start_len kind) then None else Some (Whole words)
@@ -29,7 +34,8 @@ next_pending (pending.Packet words) word = collected_pending (kind_of (slice_ind
 next_pending (pending.Pixels left) word = if nat_lt 1 left then pending.Pixels (left - 1) else pending.Idle
 next_pending (pending.Poly command color vertex None) word =
     if is_end word then pending.Idle else
-    (if is_set command 28 then pending.Poly command color vertex (Some word) else pending.Poly command command word None)
+    (if is_set command 28 then pending.Poly command color vertex (Some word)
+    else pending.Poly command command word None)
 next_pending (pending.Poly command color vertex (Some half)) word = pending.Poly command half word None
 
 -- the item that the word completes
@@ -52,7 +58,7 @@ IsPolyline command = kind_of command ≡ Polyline (is_set command 28)
 abbrev pub IsPending : Pending → Type 0
 IsPending pending.Idle = Unit {0}
 IsPending (pending.Packet words) = (0 < length words) × (length words < first_len_of (slice_index words 0))
-IsPending (pending.Pixels left) = (0 < left) × (left ≤ 262144)
+IsPending (pending.Pixels left) = (0 < left) × (left ≤ most_data_words)
 IsPending (pending.Poly command color vertex None) =
     IsPolyline command × (is_set command 28 ≡ false → color ≡ command)
 IsPending (pending.Poly command color vertex (Some half)) =

@@ -1,14 +1,11 @@
 -- What may be pending, and one list of words that leaves it (our own rule).
 use Rattle.std.specs.Prelude.{◌≡◌, ◌↔◌, ℕ, ◌-◌, List, [], ◌∷◌, ◌++◌, if◌then◌else◌, option_to_list, replicate}
 use Rattle.gp0_words.specs.Kinds.{is_set}
+use Rattle.gp0_words.specs.Sizes.{most_data_words}
 use Rattle.gp0_words.specs.Items.{Items, Rest}
 use Rattle.gp0_words.specs.Next.{next_item, next_pending, IsPending}
 use Rattle.gp0_words.specs.declared.pending.Pending.{Pending}
 use Rattle.gp0_words.specs.declared.pending.Pending.TheVariants as pending
-
--- the data words of the largest load
-abbrev pub most_data_words : ℕ
-most_data_words = 262144
 
 -- A list of words that leaves this pending: the words so far; the largest load, of which as many data words have come
 -- as are not wanted any more; a polyline's command, an empty first vertex, and its last vertex, with the colour of a

@@ -1,6 +1,9 @@
 // How a packet goes on, by its first word.
-ghost use Rattle.std.specs.Prelude.{◌≡◌, ◌<◌};
-ghost use Rattle.gp0_words.specs.Kinds.{kind_of, start_len, first_len_of, polygon_len_of, rectangle_len_of, line_kind_of, data_words_of, is_end, is_set};
+ghost use Rattle.std.specs.Prelude.{◌≡◌};
+ghost use Rattle.gp0_words.specs.Kinds.{kind_of, start_len, first_len_of};
+ghost use Rattle.gp0_words.specs.Kinds.{polygon_len_of, rectangle_len_of, line_kind_of, is_end};
+
+use px_num::{bit, bits};
 
 /// How a packet goes on, by its first word.
 #[derive(Clone, Copy)]
@@ -11,14 +14,6 @@ pub enum Kind {
     Load,
     /// The first two vertices of a polyline, and then joints up to an end word.
     Polyline { shaded: bool },
-}
-
-/// Whether bit `k` of a word is 1.
-pub fn bit(word: u32, k: u32) -> bool
-    requires { k < 32 }
-    ensures { result ≡ is_set word k }
-{
-    word >> k & 1 == 1
 }
 
 fn polygon_len(word: u32) -> usize
@@ -37,7 +32,7 @@ fn rectangle_len(word: u32) -> usize
     ensures { result ≡ rectangle_len_of word }
 {
     let textured = usize::from(bit(word, 26));
-    let sized = usize::from(word >> 27 & 3 == 0);
+    let sized = usize::from(bits(word, 27, 2) == 0);
     2 + textured + sized
 }
 
@@ -92,15 +87,6 @@ pub fn first_len(word: u32) -> usize
     ensures { result ≡ first_len_of word }
 {
     start_count(read_kind(word))
-}
-
-/// How many data words the load with this size word has, two pixels in each.
-pub fn data_count(size: u32) -> u32
-    ensures { result ≡ data_words_of size }
-{
-    let width = ((size & 0xffff) + 1023) % 1024 + 1;
-    let height = ((size >> 16) + 511) % 512 + 1;
-    (width * height + 1) / 2
 }
 
 /// Whether a word ends a polyline, where it stands in place of a vertex's first word.

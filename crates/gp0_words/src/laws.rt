@@ -10,8 +10,8 @@ pub fn packets_are_cut()
     ensures prefix { IsPrefixFree }
 {}
 
-/// Every list of words is packets, one after another, and a proper prefix of one or nothing. The items of a packet are those of
-/// its form: its first words, and then its data words, or its joints and its end.
+/// Every list of words is packets, one after another, and a proper prefix of one or nothing. The items of a packet
+/// are those of its form: its first words, and then its data words, or its joints and its end.
 pub fn words_are_packets()
     ensures all { AllIsCutUp }
     ensures items { PacketsHaveTheirItems }

@@ -2,11 +2,14 @@
 ghost use Rattle.std.specs.Prelude.{◌≡◌, ◌<◌, ◌≤◌, ◌+◌, ℕ, IsTrue, false, nat_lt, None, Some, length, slice_index};
 ghost use Rattle.gp0_words.specs.Kinds.{kind_of, start_len, first_len_of};
 ghost use Rattle.gp0_words.specs.Skipped.{behind_pixels};
-ghost use Rattle.gp0_words.specs.Next.{wanted, next_pending, next_item, pending_behind, collected_pending, collected_item, IsPending};
+ghost use Rattle.gp0_words.specs.Next.{wanted, next_pending, next_item, IsPending};
+ghost use Rattle.gp0_words.specs.Next.{pending_behind, collected_pending, collected_item};
 
 use crate::item::Item;
-use crate::kind::{Kind, bit, data_count, ends_polyline, first_len, read_kind, start_count};
+use crate::kind::{Kind, ends_polyline, first_len, read_kind, start_count};
+use crate::size::data_count;
 use crate::words::Words;
+use px_num::bit;
 use std::mem;
 
 /// What a stream of words leaves behind its last whole packet.
@@ -175,8 +178,8 @@ fn want_more(words: &Words) -> bool
     slice.len() + 1 < first_len(slice[0])
 }
 
-/// Takes a word in place where it is one more of a begun packet and not its last, and says whether it is; else nothing
-/// changes.
+/// Takes a word in place where it is one more of a begun packet and not its last, and says whether it is; else
+/// nothing changes.
 pub fn extend(pending: &mut Pending, word: u32) -> bool
     requires { IsPending pending.old }
     ensures taken { IsTrue result → (pending.new ≡ next_pending pending.old word) × (next_item pending.old word ≡ None) }
@@ -196,7 +199,7 @@ pub fn extend(pending: &mut Pending, word: u32) -> bool
 }
 
 /// One word more: what is pending after it, and the item that it completes.
-pub fn take_word(pending: Pending, word: u32) -> (Pending, Option<Item>)
+pub fn after_word(pending: Pending, word: u32) -> (Pending, Option<Item>)
     requires { IsPending pending }
     ensures pending { result.0 ≡ next_pending pending word }
     ensures item { result.1 ≡ next_item pending word }
@@ -234,7 +237,7 @@ pub fn take(pending: &mut Pending, word: u32) -> Option<Item>
         return None;
     }
     let before = mem::replace(pending, Pending::Idle);
-    let (after, item) = take_word(before, word);
+    let (after, item) = after_word(before, word);
     *pending = after;
     item
 }

@@ -3,11 +3,10 @@ ghost use Rattle.std.specs.Prelude.{◌≡◌, ◌↔◌, ◌<◌, IsTrue, lengt
 ghost use Rattle.gp0_words.specs.Kinds.{first_len_of};
 ghost use Rattle.gp0_words.specs.Next.{IsPending, IsPolyline};
 
-use crate::kind::{bit, ends_polyline, first_len};
+use crate::kind::{ends_polyline, first_len};
 use crate::pending::Pending;
-
-/// The most data words that a load wants.
-const MOST_DATA_WORDS: u32 = 262_144;
+use crate::size::MOST_DATA_WORDS;
+use px_num::bit;
 
 impl Pending {
     /// The same once more.

@@ -65,8 +65,8 @@ impl Splitter {
         take(&mut self.pending, word)
     }
 
-    /// Takes the next word where it is two pixels of a load, and says whether it is; else nothing changes. It does what `push` does
-    /// then, and sooner.
+    /// Takes the next word where it is two pixels of a load, and says whether it is; else nothing changes. It does
+    /// what `push` does then, and sooner.
     pub fn push_pixels(&mut self, word: u32) -> bool
         ensures pixels { IsTrue result → IsPushed self.old self.new word (Some (Pixels word)) }
         ensures others { result ≡ false → self.new ≡ self.old }
@@ -98,8 +98,8 @@ impl Splitter {
         self.pending = pixels_behind(left, count as u32);
     }
 
-    /// Whether the next word is a register's, at an idle splitter: `push` answers it as a packet of one word, and the splitter
-    /// stays as it is.
+    /// Whether the next word is a register's, at an idle splitter: `push` answers it as a packet of one word, and the
+    /// splitter stays as it is.
     pub fn passes(&self, word: u32) -> bool
         ensures packet { IsTrue result → IsPushed self.now self.now word (Some (Whole (word ∷ []))) }
         ensures class { IsTrue result → class_of word ≡ 7 }
@@ -107,8 +107,8 @@ impl Splitter {
         word >> 29 == 7 && self.is_idle()
     }
 
-    /// Takes the next word where it is one more of a begun packet and not its last, and says whether it is; else nothing
-    /// changes. It does what `push` does then, and sooner.
+    /// Takes the next word where it is one more of a begun packet and not its last, and says whether it is; else
+    /// nothing changes. It does what `push` does then, and sooner.
     pub fn push_inside(&mut self, word: u32) -> bool
         ensures inside { IsTrue result → IsPushed self.old self.new word None }
         ensures others { result ≡ false → self.new ≡ self.old }

@@ -1,6 +1,8 @@
 -- The registers of the GPU, the words that write them, and the status word
 -- (psx-spx, "GPU Rendering Attributes", "GPU Display Control Commands (GP1)", "GPU Status Register").
-use Rattle.std.specs.Prelude.{ℕ, ◌+◌, ◌-◌, ◌*◌, ◌/◌, ◌%◌, ◌^◌, ◌<◌, ◌≤◌, Bool, true, false, Option, Some, None, if◌then◌else◌, nat_le, ◌==◌, ◌&&◌, unwrap_or}
+use Rattle.std.specs.Prelude.{ℕ, ◌+◌, ◌-◌, ◌*◌, ◌/◌, ◌%◌, ◌^◌, ◌<◌, ◌≤◌, nat_le, ◌==◌, ◌&&◌}
+use Rattle.std.specs.Prelude.{Bool, true, false, Option, Some, None, if◌then◌else◌, unwrap_or}
+use Rattle.std.specs.Int.{bit_at}
 use Rattle.px_num.specs.Height.{IsHeight}
 
 -- the values of the registers, and how many rows video memory has
@@ -23,7 +25,7 @@ pub record Registers : Type 0 where
 
 -- bit j of a number
 abbrev pub bit : ℕ → ℕ → ℕ
-bit number j = number / 2 ^ j % 2
+bit number j = bit_at number j
 
 -- 1 for true
 abbrev pub bit_of : Bool → ℕ
@@ -127,7 +129,8 @@ gp1_of r word =
     (if opcode == 0x06 then record r { hrange = word % 2 ^ 24 } else
     (if opcode == 0x07 then record r { vrange = word % 2 ^ 20 } else
     (if opcode == 0x08 then record r { mode = word % 2 ^ 8 } else
-    (if nat_le 0x10 opcode && nat_le opcode 0x1f then record r { held = unwrap_or (info_of r word) r.held } else r))))))))
+    (if nat_le 0x10 opcode && nat_le opcode 0x1f
+    then record r { held = unwrap_or (info_of r word) r.held } else r))))))))
 
 -- ---- the status word
 

@@ -1,4 +1,5 @@
--- The shape of the shown picture (psx-spx, "GPU Display Control Commands (GP1)": horizontal and vertical display range, display mode).
+-- The shape of the shown picture (psx-spx, "GPU Display Control Commands (GP1)": horizontal and vertical display
+-- range, display mode).
 use Rattle.std.specs.Prelude.{ℕ, ◌+◌, ◌-◌, ◌*◌, ◌/◌, ◌%◌, ◌^◌, ◌==◌, ◌&&◌, ◌||◌, Option, Some, None, if◌then◌else◌}
 use Rattle.gp1_status.specs.Registers.{Registers, bit}
 

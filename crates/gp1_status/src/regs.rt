@@ -1,18 +1,12 @@
-// The registers: their values, what writes them, and the status word.
+// The registers: their values, and what writes them.
 ghost use Rattle.std.specs.Prelude.{◌≡◌, MatchOption, IfSome, ℕ, ◌+◌, ◌-◌, ◌*◌, ◌/◌, ◌%◌, ◌^◌, ◌<◌, ◌≤◌, true};
 ghost use Rattle.px_num.specs.Height.{IsHeight, short_height, tall_height, height_of_profile};
-ghost use Rattle.gp1_status.specs.Registers.{bit, reset, status_of, request_of, info_of, env_of, page_of, gp1_of, is_clearing};
+ghost use Rattle.gp1_status.specs.Registers.{bit, opcode_of, reset, info_of, env_of, page_of, gp1_of, is_clearing};
 ghost use Rattle.gp1_status.specs.Words.{AreAllowed, words_of, registers_in};
 
-use crate::bits::join;
-use crate::words::{allows_all, flag, height_of_profile};
+use crate::words::allows_all;
+use px_num::{SHORT_HEIGHT, TALL_HEIGHT, bit, bits, height_of_profile};
 use std::marker::Model;
-
-/// How many rows the console's video memory has.
-pub(crate) const SHORT_HEIGHT: u16 = 512;
-
-/// How many rows video memory has in the tall profile.
-pub(crate) const TALL_HEIGHT: u16 = 1024;
 
 /// The registers that GP0(E1h) to GP0(E6h) and GP1 write, the interrupt, the latch of the read port, and
 /// the height of video memory, by which the registers that hold a Y are as wide as they are.
@@ -111,8 +105,8 @@ impl Regs {
             bottom_right: words[3],
             offset: words[4],
             mask: words[5] as u8,
-            irq: flag(words[6], 0),
-            display_off: flag(words[6], 1),
+            irq: bit(words[6], 0),
+            display_off: bit(words[6], 1),
             direction: words[7] as u8,
             start: words[8],
             hrange: words[9],
@@ -278,13 +272,15 @@ impl Regs {
     {
         match index {
             1 => {
-                self.e1 = value & 0x7ff | self.high_page_bit(value) << 11 | (value >> 12 & 3) << 12;
+                self.e1 = bits(value, 0, 11)
+                    | self.high_page_bit(value) << 11
+                    | bits(value, 12, 2) << 12;
             }
-            2 => self.window = value & 0xf_ffff,
+            2 => self.window = bits(value, 0, 20),
             3 => self.top_left = self.place(value),
             4 => self.bottom_right = self.place(value),
-            5 => self.offset = value & 0x3f_ffff,
-            _ => self.mask = (value & 3) as u8,
+            5 => self.offset = bits(value, 0, 22),
+            _ => self.mask = bits(value, 0, 2) as u8,
         }
     }
 
@@ -293,9 +289,10 @@ impl Regs {
     pub fn page(&mut self, attribute: u16)
         ensures { self.new ≡ record self.old { e1 = page_of self.old.height attribute self.old.e1 } }
     {
-        self.e1 = u32::from(attribute) & 0x1ff
-            | (self.e1 >> 9 & 3) << 9
-            | self.high_page_bit(u32::from(attribute)) << 11
+        let attribute = u32::from(attribute);
+        self.e1 = bits(attribute, 0, 9)
+            | bits(self.e1, 9, 2) << 9
+            | self.high_page_bit(attribute) << 11
             | (self.e1 >> 12) << 12;
     }
 
@@ -304,7 +301,7 @@ impl Regs {
     pub fn info(&self, index: u32) -> Option<u32>
         ensures { result ≡ info_of self.now index }
     {
-        match index & 0xf {
+        match bits(index, 0, 4) {
             2 => Some(self.window),
             3 => Some(self.top_left),
             4 => Some(self.bottom_right),
@@ -320,15 +317,15 @@ impl Regs {
     pub fn gp1(&mut self, word: u32)
         ensures { self.new ≡ gp1_of self.old word }
     {
-        match word >> 24 & 0x3f {
+        match opcode(word) {
             0x00 => self.reset(),
             0x02 => self.irq = false,
-            0x03 => self.display_off = word & 1 == 1,
-            0x04 => self.direction = (word & 3) as u8,
+            0x03 => self.display_off = bit(word, 0),
+            0x04 => self.direction = bits(word, 0, 2) as u8,
             0x05 => self.start = self.place(word),
-            0x06 => self.hrange = word & 0xff_ffff,
-            0x07 => self.vrange = word & 0xf_ffff,
-            0x08 => self.mode = (word & 0xff) as u8,
+            0x06 => self.hrange = bits(word, 0, 24),
+            0x07 => self.vrange = bits(word, 0, 20),
+            0x08 => self.mode = bits(word, 0, 8) as u8,
             0x10..=0x1f => {
                 if let Some(answer) = self.info(word) {
                     self.held = answer;
@@ -356,7 +353,7 @@ impl Regs {
         if self.height == SHORT_HEIGHT {
             0
         } else if self.height == TALL_HEIGHT {
-            word >> 11 & 1
+            bits(word, 11, 1)
         } else {
             (word >> 11) % u32::from(self.height / 512)
         }
@@ -367,53 +364,9 @@ impl Regs {
         ensures { result ≡ word % (1024 * self.now.height) }
     {
         if self.height == SHORT_HEIGHT {
-            word % 0x8_0000
+            bits(word, 0, 19)
         } else {
             word % (1024 * u32::from(self.height))
-        }
-    }
-
-    /// The status word. `idle` says whether the splitter of GP0's words is idle, and `sending` whether
-    /// video memory is being sent to the CPU.
-    pub fn status(&self, idle: bool, sending: bool) -> u32
-        ensures { result ≡ status_of self.now idle sending }
-    {
-        let word = self.low_half();
-        let word = join(word, u32::from(self.mode >> 6 & 1), 16);
-        let word = join(word, u32::from(self.mode & 3), 17);
-        let word = join(word, u32::from(self.mode >> 2 & 15), 19);
-        let word = join(word, u32::from(self.display_off), 23);
-        let word = join(word, u32::from(self.irq), 24);
-        let word = join(word, self.request(sending), 25);
-        let word = join(word, u32::from(idle), 26);
-        let word = join(word, u32::from(sending), 27);
-        let word = join(word, u32::from(!sending), 28);
-        join(word, u32::from(self.direction), 29)
-    }
-
-    // Bits 0 to 15.
-    fn low_half(&self) -> u32
-        ensures value { result ≡
-            self.now.e1 % 2 ^ 11 + self.now.mask * 2 ^ 11 + 1 * 2 ^ 13
-            + bit self.now.mode 7 * 2 ^ 14 + bit self.now.e1 11 * 2 ^ 15 }
-        ensures fits { result < 2 ^ 16 }
-    {
-        let word = self.e1 & 0x7ff;
-        let word = join(word, u32::from(self.mask), 11);
-        let word = join(word, 1, 13);
-        let word = join(word, u32::from(self.mode >> 7 & 1), 14);
-        join(word, self.e1 >> 11 & 1, 15)
-    }
-
-    // Bit 25.
-    fn request(&self, sending: bool) -> u32
-        ensures { result ≡ request_of self.now sending }
-    {
-        match self.direction {
-            0 => 0,
-            1 => 1,
-            2 => u32::from(!sending),
-            _ => u32::from(sending),
         }
     }
 }
@@ -422,5 +375,12 @@ impl Regs {
 pub fn clears(word: u32) -> bool
     ensures { result ≡ is_clearing word }
 {
-    word >> 24 & 0x3f <= 1
+    opcode(word) <= 1
+}
+
+// Bits 24 to 29 of a word of GP1.
+fn opcode(word: u32) -> u32
+    ensures { result ≡ opcode_of word }
+{
+    bits(word, 24, 6)
 }

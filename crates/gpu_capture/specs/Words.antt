@@ -3,7 +3,7 @@ use Rattle.std.specs.Prelude.{◌≡◌, ◌<◌, ◌≤◌, ℕ, List, [], ◌+
 use Rattle.std.specs.Prelude.{if◌then◌else◌}
 use Rattle.dev_io.specs.Device.{prepended}
 use Rattle.gpu_capture.specs.Capture.{ended, then_events, limit}
-use Rattle.gpu_capture.specs.Reader.{StopsAt, capture_from}
+use Rattle.gpu_capture.specs.Reader.{IsProgress, StopsAt, capture_from, work_left}
 use Rattle.gpu_capture.specs.declared.event.Event.{Event}
 use Rattle.gpu_capture.specs.declared.event.Event.TheVariants.{Gp0}
 use Rattle.gpu_capture.specs.declared.event.Stop.{Stop}
@@ -22,7 +22,8 @@ pub record IsCutWithin (old : Progress) (words bytes : List ℕ) : Type 0 where
   pub fewer : count < length words
   pub version : ℕ
   pub byte : ℕ
-  pub is : capture_from old bytes ≡ then_events (word_events (take count words)) (ended version (Truncated byte) [])
+  pub is : capture_from old bytes
+      ≡ then_events (word_events (take count words)) (ended version (Truncated byte) [])
 
 -- Words were taken, each of them an event: what the format says of their bytes and any rest is these events, and then
 -- what it says of the rest from the new place on. No byte is one too many: a proper part of them gives fewer words.
@@ -30,7 +31,8 @@ pub record TakesWords (old new : Progress) (before now : Option (List ℕ)) (wor
   pub taken : List ℕ
   pub bytes : before ≡ prepended taken now
   pub needed : (part more : List ℕ) → taken ≡ part ++ more → (more ≡ [] → ⊥) → IsCutWithin old words part
-  pub says : (rest : List ℕ) → capture_from old (taken ++ rest) ≡ then_events (word_events words) (capture_from new rest)
+  pub says : (rest : List ℕ) →
+      capture_from old (taken ++ rest) ≡ then_events (word_events words) (capture_from new rest)
 
 -- words were taken, and then the reader stopped
 pub record StopsBehind (old new : Progress) (before now : Option (List ℕ)) (words : List ℕ) (stop : Stop) : Type 0 where
@@ -38,6 +40,12 @@ pub record StopsBehind (old new : Progress) (before now : Option (List ℕ)) (wo
   pub left : Option (List ℕ)
   pub takes : TakesWords old mid before left words
   pub stops : StopsAt mid new left now stop
+
+-- a reader goes on within its capture: it keeps its bounds, and has no more to do than before
+pub record GoesOn (old new : Progress) : Type 0 where
+  pub bounds : IsProgress new
+  pub version : new.version ≡ old.version
+  pub forward : work_left new ≤ work_left old
 
 -- how many words are left of an open Gp0 record
 abbrev pub gp0_left : Due → ℕ

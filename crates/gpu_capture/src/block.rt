@@ -1,9 +1,10 @@
 // Words of a Gp0 record that are taken at once.
-ghost use Rattle.std.specs.Prelude.{◌≡◌, ◌≤◌, ◌<◌, ◌+◌, ◌*◌, ◌/◌, ◌%◌, ◌^◌, List, ℕ, Option, [], length, drop, IfErr, OnOk, OnErr};
+ghost use Rattle.std.specs.Prelude.{◌≡◌, ◌≤◌, ◌<◌, ◌*◌, ◌/◌, ◌%◌, ◌^◌, List, ℕ, Option, []};
+ghost use Rattle.std.specs.Prelude.{length, drop, IfErr, OnOk};
 ghost use Rattle.dev_io.specs.Device.{Rose, prepended};
-ghost use Rattle.gpu_capture.specs.Reader.{IsProgress, IsReadFault, work_left};
+ghost use Rattle.gpu_capture.specs.Reader.{IsProgress, IsReadFault};
 ghost use Rattle.gpu_capture.specs.Record.{IsDue};
-ghost use Rattle.gpu_capture.specs.Words.{TakesWords, StopsBehind, MayTake, gp0_left, words_due, behind_words};
+ghost use Rattle.gpu_capture.specs.Words.{TakesWords, StopsBehind, MayTake, GoesOn, gp0_left, words_due, behind_words};
 
 use crate::event::Stop;
 use crate::progress::{LIMIT, Progress};
@@ -55,7 +56,8 @@ impl WordBlock {
         self.words.clear();
     }
 
-    /// Takes the next words of an open Gp0 record, as many as are left and find room. None where no such record is open.
+    /// Takes the next words of an open Gp0 record, as many as are left and find room. None where no such record is
+    /// open.
     pub(crate) fn take<S: Source>(
         &mut self,
         progress: &mut Progress,
@@ -64,9 +66,7 @@ impl WordBlock {
         requires { IsProgress progress.old }
         ensures takes { OnOk result
             (TakesWords progress.old progress.new (S.left source.old) (S.left source.new) self.new) }
-        ensures bounds { IsProgress progress.new }
-        ensures version { progress.new.version ≡ progress.old.version }
-        ensures forward { work_left progress.new ≤ work_left progress.old }
+        ensures goes_on { GoesOn progress.old progress.new }
         ensures stop { IfErr result (λ stop.
             StopsBehind progress.old progress.new (S.left source.old) (S.left source.new) self.new stop) }
         ensures cause { IfErr result (λ stop. IsReadFault stop → Rose (S.faults source.old) (S.faults source.new)) }
@@ -118,9 +118,7 @@ fn take_words<S: Source>(
     requires empty { words.old.items ≡ [] }
     ensures takes { OnOk result
         (TakesWords progress.old progress.new (S.left source.old) (S.left source.new) words.new.items) }
-    ensures bounds { IsProgress progress.new }
-    ensures version { progress.new.version ≡ progress.old.version }
-    ensures forward { work_left progress.new ≤ work_left progress.old }
+    ensures goes_on { GoesOn progress.old progress.new }
     ensures stop { IfErr result (λ stop.
         StopsBehind progress.old progress.new (S.left source.old) (S.left source.new) words.new.items stop) }
     ensures cause { IfErr result (λ stop. IsReadFault stop → Rose (S.faults source.old) (S.faults source.new)) }
@@ -143,9 +141,7 @@ fn fill_words<S: Source>(
     requires empty { words.old.items ≡ [] }
     ensures takes { OnOk result
         (TakesWords progress.old progress.new (S.left source.old) (S.left source.new) words.new.items) }
-    ensures bounds { IsProgress progress.new }
-    ensures version { progress.new.version ≡ progress.old.version }
-    ensures forward { work_left progress.new ≤ work_left progress.old }
+    ensures goes_on { GoesOn progress.old progress.new }
     ensures stop { IfErr result (λ stop.
         StopsBehind progress.old progress.new (S.left source.old) (S.left source.new) words.new.items stop) }
     ensures cause { IfErr result (λ stop. IsReadFault stop → Rose (S.faults source.old) (S.faults source.new)) }
@@ -181,8 +177,7 @@ fn read_words(progress: &mut Progress, bytes: &[u8], words: &mut ArrayVec<u32, 5
     ensures takes { (now : Option (List ℕ)) → TakesWords progress.old progress.new (prepended bytes.now now)
         (prepended (drop (4 * (length bytes.now / 4)) bytes.now) now) words.new.items }
     ensures place { progress.new ≡ behind_words progress.old (length bytes.now / 4) }
-    ensures bounds { IsProgress progress.new }
-    ensures forward { work_left progress.new ≤ work_left progress.old }
+    ensures goes_on { GoesOn progress.old progress.new }
 {
     let count = bytes.len() / 4;
     for i in 0..count {
@@ -197,8 +192,7 @@ fn behind_words(progress: &Progress, count: u32) -> Progress
     requires bounds { IsProgress progress.now }
     requires may { MayTake progress.now count }
     ensures value { result ≡ behind_words progress.now count }
-    ensures bounds { IsProgress result }
-    ensures forward { work_left result ≤ work_left progress.now }
+    ensures goes_on { GoesOn progress.now result }
 {
     let left = gp0_left(progress.due);
     Progress {

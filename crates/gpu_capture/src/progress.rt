@@ -58,10 +58,8 @@ fn version_of(bytes: &[u8; 8]) -> Result<u8, usize>
     ensures within { IfErr result (λ place. place < 8) }
     ensures known { IfOk result IsVersion }
 {
-    match head_among(&HEADS, bytes) {
-        Ok(number) => Ok(number as u8 + 1),
-        Err(place) => Err(place),
-    }
+    let number = head_among(&HEADS, bytes)?;
+    Ok(number as u8 + 1)
 }
 
 /// Takes the head, if it is still due.
@@ -132,11 +130,11 @@ fn take_word<S: Source>(progress: &mut Progress, source: &mut S) -> Result<Optio
     let word = read_word(source, place)?;
     match read_step(progress.version, progress.due, place, word) {
         Step::Opens { next } => {
-            *progress = behind(*progress, next, progress.repeated, 0);
+            *progress = behind_word(*progress, next, progress.repeated, 0);
             Ok(None)
         }
         Step::Gives { event, count, next } => {
-            *progress = behind(*progress, next, event, count - 1);
+            *progress = behind_word(*progress, next, event, count - 1);
             Ok(Some(event))
         }
         Step::Closes { stop } => Err(stop),
@@ -144,7 +142,7 @@ fn take_word<S: Source>(progress: &mut Progress, source: &mut S) -> Result<Optio
 }
 
 /// Where a reader stands behind a word.
-fn behind(progress: Progress, due: Due, repeated: Event, left: u32) -> Progress
+fn behind_word(progress: Progress, due: Due, repeated: Event, left: u32) -> Progress
     requires { progress.place < 2 ^ 30 }
     ensures { result ≡ behind_word progress due repeated left }
 {

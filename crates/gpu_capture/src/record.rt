@@ -4,12 +4,13 @@ ghost use Rattle.gpu_capture.specs.Record.{IsDue, IsStep, word_step, tag_step, a
 ghost use Rattle.gpu_capture.specs.Record.{started_by, IsBy, IsEvent};
 
 use crate::event::{Event, Stop};
+use px_num::bits;
 
 /// How many bytes main memory has.
 const MEMORY_BYTES: u32 = 0x20_0000;
 
 /// How many words main memory has.
-const MEMORY_WORDS: u32 = 524_288;
+const MEMORY_WORDS: u32 = MEMORY_BYTES / 4;
 
 /// The most events that a record without payload gives.
 const MOST_REPEATS: u32 = 262_144;
@@ -114,7 +115,7 @@ fn tag(version: u8, place: u32, word: u32) -> Step
     ensures value { result ≡ tag_step version place word }
     ensures bounds { IsStep result }
 {
-    let count = word & 0xff_ffff;
+    let count = bits(word, 0, 24);
     match word >> 24 {
         0 if count == 0 => Step::Closes { stop: Stop::End },
         1 if 1 <= count && count <= MEMORY_WORDS => Step::Opens {

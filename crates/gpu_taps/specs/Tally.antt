@@ -1,5 +1,7 @@
 -- The numbers of a tap after one note more (our own rule).
-use Rattle.std.specs.Prelude.{ℕ, ◌+◌, ◌-◌, ◌*◌, ◌%◌, ◌^◌, ℤ, pos, ◌+ℤ◌, ◌-ℤ◌, nat_abs, int_lt, List, [], ◌∷◌, ◌++◌, Option, Some, None, if◌then◌else◌, nat_lt, nat_le, ◌==◌, ◌&&◌, length, slice_index, slice_set, drop, min, max}
+use Rattle.std.specs.Prelude.{ℕ, ◌+◌, ◌-◌, ◌*◌, ◌%◌, ◌^◌, ℤ, pos, ◌+ℤ◌, ◌-ℤ◌, nat_abs, int_lt, min, max}
+use Rattle.std.specs.Prelude.{nat_lt, nat_le, ◌==◌, ◌&&◌, if◌then◌else◌, Option, Some, None}
+use Rattle.std.specs.Prelude.{List, [], ◌∷◌, ◌++◌, length, slice_index, slice_set, drop}
 use Rattle.px_num.specs.declared.shape.Box2.{Box2}
 use Rattle.gp0_packets.specs.declared.note.Note.{Note}
 
@@ -10,7 +12,9 @@ capped n = min n (2 ^ 64 - 1)
 -- Kind 0: the number at the note's class grows by 1. Another length than ten, and a class above 9, change nothing.
 abbrev pub counts_after : List ℕ → (class : ℕ) → List ℕ
 counts_after numbers class =
-    if length numbers == 10 && nat_lt class 10 then slice_set numbers class (capped (slice_index numbers class + 1)) else numbers
+    if length numbers == 10 && nat_lt class 10
+    then slice_set numbers class (capped (slice_index numbers class + 1))
+    else numbers
 
 -- Kind 1: event, class and head of the last 64 notes, the oldest first. A length that isn't a multiple of 3 up to 192
 -- changes nothing.
@@ -34,7 +38,9 @@ abbrev pub cover_after : List ℕ → Option Box2 → List ℕ
 cover_after numbers None = numbers
 cover_after numbers (Some area) =
     if length numbers == 3 then
-    capped (slice_index numbers 0 + 1) ∷ capped (slice_index numbers 1 + cells_of area) ∷ max (slice_index numbers 2) (capped (cells_of area)) ∷ []
+    capped (slice_index numbers 0 + 1)
+    ∷ capped (slice_index numbers 1 + cells_of area)
+    ∷ max (slice_index numbers 2) (capped (cells_of area)) ∷ []
     else numbers
 
 -- the numbers by the kind; every other kind changes nothing

@@ -8,6 +8,9 @@ use gp0_packets::Note;
 use px_num::OutOfMemory;
 use std::alloc::Global;
 
+/// How many notes are kept.
+const KEPT: usize = 64;
+
 /// The last 64 notes, the oldest first: three numbers of each, its event, its class and its head.
 #[derive(Drop)]
 pub struct Trace {
@@ -21,10 +24,8 @@ impl Trace {
     pub fn new(alloc: Global) -> Result<Trace, OutOfMemory>
         ensures { IfOk result (λ t. ⟦<Trace as Tap>⟧.reading t ≡ record { kind = 1; numbers = [] }) }
     {
-        match HeapCircularBuffer::with_capacity(alloc, 64) {
-            Ok(notes) => Ok(Trace { notes }),
-            Err(_) => Err(OutOfMemory),
-        }
+        let notes = HeapCircularBuffer::with_capacity(alloc, KEPT)?;
+        Ok(Trace { notes })
     }
 }
 
@@ -52,8 +53,8 @@ impl Tap for Trace {
     }
 }
 
-/// A note without its area, which no number of a trace shows. It is built from its members: to copy the whole would wait for
-/// the writes of its parts.
+/// A note without its area, which no number of a trace shows. It is built from its members: to copy the whole would
+/// wait for the writes of its parts.
 fn without_area(note: &Note) -> Note
     ensures { result ≡ record { event = note.now.event; class = note.now.class; head = note.now.head; area = None } }
 {

@@ -1,11 +1,13 @@
 -- A node of a linked list in main memory: a header, and the words behind it
 -- (psx-spx, "DMA Channels", on SyncMode 2 and its linked lists).
-use Rattle.std.specs.Prelude.{ℕ, zero, suc, List, [], ◌∷◌, Bool, Option, Some, None, ◌+◌, ◌/◌, ◌%◌, ◌^◌, ◌==◌, if◌then◌else◌}
+use Rattle.std.specs.Prelude.{ℕ, zero, suc, ◌+◌, ◌/◌, ◌%◌, ◌^◌, ◌==◌}
+use Rattle.std.specs.Prelude.{List, [], ◌∷◌, Bool, Option, Some, None, if◌then◌else◌}
+use Rattle.std.specs.Int.{bit_at}
 use Rattle.ot_clear_dma.specs.Ram.{word_at, cut}
 
 -- an address with bit 23 ends a list
 abbrev pub is_end : ℕ → Bool
-is_end address = address / 2 ^ 23 % 2 == 1
+is_end address = bit_at address 23 == 1
 
 -- bits 0 to 23 of a node's header: the next address
 abbrev pub next_of : List ℕ → (node : ℕ) → ℕ

@@ -1,5 +1,6 @@
 -- What a start of DMA channel 2 is to move (psx-spx, "DMA Channels": MADR, BCR and CHCR).
-use Rattle.std.specs.Prelude.{◌≡◌, ◌≤◌, ℕ, Bool, not, Option, Some, None, Result, Ok, Err, ◌*◌, ◌/◌, ◌%◌, ◌^◌, ◌==◌, ◌&&◌, nat_lt, if◌then◌else◌}
+use Rattle.std.specs.Prelude.{◌≡◌, ◌≤◌, ℕ, ◌*◌, ◌/◌, ◌%◌, ◌^◌, ◌==◌, ◌&&◌, nat_lt}
+use Rattle.std.specs.Prelude.{Bool, not, Option, Some, None, Result, Ok, Err, if◌then◌else◌}
 use Rattle.std.specs.Int.{bit_at}
 use Rattle.ot_clear_dma.specs.Ram.{cut, memory_words}
 use Rattle.list_dma.specs.Node.{is_end}
@@ -40,7 +41,8 @@ is_to_ram chcr = bit_at chcr 0 == 0
 
 -- a plan of so many words, if they are no more than memory has (our own rule)
 abbrev pub words_of : (n chcr : ℕ) → Result Plan DmaFault
-words_of n chcr = if nat_lt memory_words n then Err (fault.TooLong n) else Ok (plan.Words n (is_back chcr) (is_to_ram chcr))
+words_of n chcr =
+    if nat_lt memory_words n then Err (fault.TooLong n) else Ok (plan.Words n (is_back chcr) (is_to_ram chcr))
 
 -- the plan of a start: without bit 24 nothing; mode 0 one block; mode 1 blocks; mode 2 a list, from RAM alone; no other
 abbrev pub plan_of : (bcr chcr : ℕ) → Result Plan DmaFault

@@ -1,10 +1,10 @@
 // The nodes of a linked list.
-ghost use Rattle.std.specs.Prelude.{◌≡◌, ◌<◌, ◌/◌, ◌^◌, IfSome};
-ghost use Rattle.ot_clear_dma.specs.Ram.{cut, place_of};
+ghost use Rattle.std.specs.Prelude.{◌≡◌, ◌<◌, ◌^◌, IfSome};
 ghost use Rattle.list_dma.specs.Node.{is_end, next_of, node_of};
 ghost use Rattle.list_dma.specs.Plans.{IsWordAddress};
 
-use ot_clear_dma::Ram;
+use ot_clear_dma::{Ram, cut};
+use px_num::{bit, bits};
 
 /// The node that follows a node, or none where the address in its header has bit 23. The address of the
 /// node counts bytes, and only its bits of 1FFFFCh matter.
@@ -33,21 +33,12 @@ pub fn node_at(address: u32) -> Option<u32>
 pub(crate) fn ends(address: u32) -> bool
     ensures { result ≡ is_end address }
 {
-    address >> 23 & 1 == 1
-}
-
-// The address of the word that an address names.
-pub(crate) fn cut(address: u32) -> u32
-    ensures value { result ≡ cut address }
-    ensures place { result / 4 ≡ place_of address }
-    ensures in_memory { result < 2 ^ 21 }
-{
-    address & 0x1f_ffff & !3
+    bit(address, 23)
 }
 
 // The address in the header of a node.
 pub(crate) fn next_address(ram: &Ram, node: u32) -> u32
     ensures { result ≡ next_of ram.now node }
 {
-    ram.get(node) & 0xff_ffff
+    bits(ram.get(node), 0, 24)
 }

@@ -1,8 +1,9 @@
 // What a start of the channel is to move.
 ghost use Rattle.std.specs.Prelude.{◌≡◌, ◌<◌, ◌≤◌, ◌^◌, IfOk};
-ghost use Rattle.list_dma.specs.Plans.{plan_of, words_of, count_of, IsPlan};
+ghost use Rattle.list_dma.specs.Plans.{plan_of, words_of, mode_of, block_of, blocks_of, count_of, IsPlan};
 
 use ot_clear_dma::MEMORY_WORDS;
+use px_num::{bit, bits};
 
 /// What a start of the channel is to move.
 #[derive(Clone, Copy, Debug, PartialEq, Eq)]
@@ -40,22 +41,45 @@ pub fn block_plan(bcr: u32, chcr: u32) -> Result<Plan, DmaFault>
     ensures value { result ≡ plan_of bcr chcr }
     ensures bounds { IfOk result IsPlan }
 {
-    if chcr >> 24 & 1 == 0 {
+    if !bit(chcr, 24) {
         return Ok(Plan::Idle);
     }
-    match chcr >> 9 & 3 {
-        0 => plan_words(u64::from(count(bcr & 0xffff)), chcr),
-        1 => plan_words(
-            u64::from(count(bcr & 0xffff)) * u64::from(count(bcr >> 16)),
-            chcr,
-        ),
-        2 if chcr & 1 == 1 => Ok(Plan::List),
+    let block = u64::from(block_words(bcr));
+    match mode(chcr) {
+        0 => plan_words(block, chcr),
+        1 => plan_words(block * u64::from(block_count(bcr)), chcr),
+        2 if bit(chcr, 0) => Ok(Plan::List),
         _ => Err(DmaFault::Bad),
     }
 }
 
+// The mode of a transfer.
+pub(crate) fn mode(chcr: u32) -> u32
+    ensures { result ≡ mode_of chcr }
+{
+    bits(chcr, 9, 2)
+}
+
+// How many words a block has.
+pub(crate) fn block_words(bcr: u32) -> u32
+    ensures value { result ≡ block_of bcr }
+    ensures some { 1 ≤ result }
+    ensures most { result ≤ 2 ^ 16 }
+{
+    count(bits(bcr, 0, 16))
+}
+
+// How many blocks there are.
+fn block_count(bcr: u32) -> u32
+    ensures value { result ≡ blocks_of bcr }
+    ensures some { 1 ≤ result }
+    ensures most { result ≤ 2 ^ 16 }
+{
+    count(bits(bcr, 16, 16))
+}
+
 // A count of 16 bits, where 0 stands for 10000h.
-pub(crate) fn count(field: u32) -> u32
+fn count(field: u32) -> u32
     requires { field < 2 ^ 16 }
     ensures value { result ≡ count_of field }
     ensures some { 1 ≤ result }
@@ -75,7 +99,7 @@ fn plan_words(n: u64, chcr: u32) -> Result<Plan, DmaFault>
     }
     Ok(Plan::Words {
         n: n as u32,
-        back: chcr >> 1 & 1 == 1,
-        to_ram: chcr & 1 == 0,
+        back: bit(chcr, 1),
+        to_ram: !bit(chcr, 0),
     })
 }

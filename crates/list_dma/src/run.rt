@@ -2,8 +2,9 @@
 ghost use Rattle.std.specs.Prelude.{◌≡◌, ◌≤◌, IfOk, IfSome};
 ghost use Rattle.list_dma.specs.Plans.{plan_of, turn_of, list_run_of, begun, IsRun};
 
-use crate::node::{cut, ends};
-use crate::plan::{DmaFault, Plan, block_plan, count};
+use crate::node::ends;
+use crate::plan::{DmaFault, Plan, block_plan, block_words, mode};
+use ot_clear_dma::cut;
 
 /// What is left of a transfer that goes on turn by turn.
 #[derive(Clone, Copy, Debug, PartialEq, Eq)]
@@ -36,11 +37,10 @@ pub fn start_run(madr: u32, bcr: u32, chcr: u32) -> Result<Option<Run>, DmaFault
     ensures value { result ≡ begun madr bcr chcr (plan_of bcr chcr) }
     ensures bounds { IfOk result (λ run. IfSome run IsRun) }
 {
-    match block_plan(bcr, chcr) {
-        Err(fault) => Err(fault),
-        Ok(Plan::Idle) => Ok(None),
-        Ok(Plan::List) => Ok(Some(list_run(madr))),
-        Ok(Plan::Words { n, back, to_ram }) => Ok(Some(Run::Words {
+    match block_plan(bcr, chcr)? {
+        Plan::Idle => Ok(None),
+        Plan::List => Ok(Some(list_run(madr))),
+        Plan::Words { n, back, to_ram } => Ok(Some(Run::Words {
             at: cut(madr),
             left: n,
             block: turn(bcr, chcr, n),
@@ -68,9 +68,5 @@ fn turn(bcr: u32, chcr: u32, n: u32) -> u32
     ensures value { result ≡ turn_of bcr chcr n }
     ensures some { 1 ≤ result }
 {
-    if chcr >> 9 & 3 == 0 {
-        n
-    } else {
-        count(bcr & 0xffff)
-    }
+    if mode(chcr) == 0 { n } else { block_words(bcr) }
 }

@@ -4,8 +4,8 @@ ghost use Rattle.list_dma.specs.Walk.{chain, repeat_after, walk_of, loop_of};
 ghost use Rattle.list_dma.specs.Marks.{is_marked};
 
 use crate::marks::Marks;
-use crate::node::{cut, ends, next_address};
-use ot_clear_dma::{MEMORY_WORDS, Ram};
+use crate::node::{ends, next_address};
+use ot_clear_dma::{MEMORY_WORDS, Ram, cut};
 use px_num::OutOfMemory;
 use std::alloc::Global;
 use std::marker::Model;

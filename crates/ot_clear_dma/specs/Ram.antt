@@ -1,9 +1,6 @@
 -- Main memory as the list of its words (psx-spx, "DMA Channels", and "Memory Map" on its 2 MB).
-use Rattle.std.specs.Prelude.{ℕ, List, ◌*◌, ◌/◌, ◌%◌, ◌^◌, slice_index, slice_set, replicate}
-
--- so many words, each of them 0; no proof computes it
-unfoldable pub zeros : ℕ → List ℕ
-zeros n = replicate n 0
+use Rattle.std.specs.Prelude.{ℕ, List, ◌*◌, ◌/◌, ◌%◌, ◌^◌, slice_index, slice_set}
+use Rattle.px_num.specs.Zeros.{zeros}
 
 -- how many words memory has: 2 MB
 abbrev pub memory_words : ℕ

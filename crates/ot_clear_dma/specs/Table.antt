@@ -25,4 +25,5 @@ cleared_table ram first n = set (each_below (linked first) (n - 1) ram) (below f
 pub record IsOrderingTable (old new : List ℕ) (first n : ℕ) : Type 0 where
   pub links : (k : ℕ) → k + 1 < n → word_at new (below first k) ≡ below first (k + 1)
   pub last : word_at new (below first (n - 1)) ≡ end_mark
-  pub others : (address : ℕ) → ((k : ℕ) → k < n → cut address ≢ below first k) → word_at new address ≡ word_at old address
+  pub others : (address : ℕ) → ((k : ℕ) → k < n → cut address ≢ below first k)
+      → word_at new address ≡ word_at old address

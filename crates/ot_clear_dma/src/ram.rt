@@ -1,9 +1,10 @@
 // The words of main memory.
 ghost use Rattle.std.specs.Prelude.{◌≡◌, ◌≤◌, ◌<◌, ◌+◌, ◌*◌, ◌/◌, ◌%◌, ◌^◌, ℕ, List, length, vec_len, slice_index, IfOk};
-ghost use Rattle.ot_clear_dma.specs.Ram.{word_at, set, place_of, memory_words, zeros, blank};
+ghost use Rattle.ot_clear_dma.specs.Ram.{word_at, set, place_of, memory_words, blank, cut};
+ghost use Rattle.px_num.specs.Zeros.{zeros};
 ghost use Rattle.ot_clear_dma.specs.Table.{below, cleared_table, IsOrderingTable};
 
-use px_num::OutOfMemory;
+use px_num::{OutOfMemory, bits};
 use std::alloc::{AllocError, Global};
 use std::marker::Model;
 
@@ -28,7 +29,7 @@ impl Model for Ram {
 }
 
 // The length is a variable here, so that no proof computes the list.
-#[tactic(auto, unfolding(crate::specs::Ram::zeros))]
+#[tactic(auto, unfolding(px_num::specs::Zeros::zeros))]
 fn zeroed(alloc: Global, n: usize) -> Result<Vec<u32>, AllocError>
     ensures items { IfOk result (λ v. v.items ≡ zeros n) }
     ensures len { IfOk result (λ v. vec_len v ≡ n) }
@@ -41,7 +42,16 @@ fn place(address: u32) -> usize
     ensures value { result ≡ place_of address }
     ensures in_memory { result < memory_words }
 {
-    (address >> 2 & 0x7_ffff) as usize
+    bits(address, 2, 19) as usize
+}
+
+/// The address of the word that an address names: a multiple of 4 below 200000h.
+pub fn cut(address: u32) -> u32
+    ensures value { result ≡ cut address }
+    ensures place { result / 4 ≡ place_of address }
+    ensures in_memory { result < 2 ^ 21 }
+{
+    bits(address, 2, 19) * 4
 }
 
 // The address of the word that lies k words below.
@@ -50,7 +60,7 @@ fn below(address: u32, k: u32) -> u32
     requires { k ≤ 65536 }
     ensures { result ≡ below address k }
 {
-    address.wrapping_sub(4 * k) & 0x1f_ffff & !3
+    cut(address.wrapping_sub(4 * k))
 }
 
 // Each number of a slice has 32 bits.
@@ -67,10 +77,8 @@ impl Ram {
         ensures words { IfOk result (λ ram. ram ≡ blank) }
         ensures long { IfOk result (λ ram. length ram ≡ memory_words) }
     {
-        match zeroed(alloc, MEMORY_WORDS as usize) {
-            Ok(words) => Ok(Ram { words }),
-            Err(_) => Err(OutOfMemory),
-        }
+        let words = zeroed(alloc, MEMORY_WORDS as usize)?;
+        Ok(Ram { words })
     }
 
     /// The word at an address.

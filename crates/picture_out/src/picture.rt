@@ -11,7 +11,7 @@ ghost use Rattle.picture_out.specs.Picture.{cells_of_pixel, picture_cost};
 use dev_io::{Failed, Sink, write_all, write_pieces};
 use gp1_status::Regs;
 use itoa::Buffer;
-use px_num::{wrap_at, wrap_x};
+use px_num::{bit, wrap_at, wrap_x};
 use std::sync::ledger::Ledger;
 use vram_store::{Steps, Vram};
 
@@ -63,11 +63,11 @@ fn display_area(regs: &Regs, width: u16, lines: u16) -> DisplayArea
 {
     let start = regs.start();
     DisplayArea {
-        x: (start % 1024) as u16,
+        x: wrap_x(start),
         y: wrap_at(start / 1024, regs.height()),
         width,
         lines,
-        is_deep: regs.mode() >> 4 & 1 == 1,
+        is_deep: bit(u32::from(regs.mode()), 4),
     }
 }
 

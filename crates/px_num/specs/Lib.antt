@@ -3,3 +3,4 @@ pub mod Fold
 pub mod Height
 pub mod Lanes
 pub mod Number
+pub mod Zeros

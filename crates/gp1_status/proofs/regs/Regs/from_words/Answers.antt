@@ -3,6 +3,6 @@ use Rattle.gp1_status.proofs.regs.Regs.from_words.Goals as goal
 
 pub returns-clause-again : goal.returns-clause-again
 returns-clause-again c =
-    rw (c.flag.ensures, c.flag-2.ensures)
+    rw (c.bit.ensures, c.bit-2.ensures)
     (words_again c.height_of_profile-height.result c.args.words.now c.told-words
     (c.allows_all.ensures.yes c.if-not-allows_all.false))

@@ -1,0 +1,58 @@
+// A source in memory, which tells its bytes.
+ghost use Rattle.std.specs.Prelude.{◌≡◌, ◌≤◌, ◌<◌, List, ℕ, Some, drop, min, length, IfOk, IsOk, OnErr};
+ghost use Rattle.std.specs.Vec.{vec_len};
+ghost use Rattle.dev_io.specs.Device.{Rose, Gives, IsAtEnd};
+
+use crate::device::{Failed, Source};
+use std::marker::Model;
+
+/// A source in memory. It gives all that is asked for, as long as there are bytes, and never fails.
+#[derive(Drop)]
+pub struct MemSource {
+    bytes: Vec<u8>,
+    at: usize,
+}
+
+impl Model for MemSource {
+    ghost Value = { List ℕ };
+
+    ghost view = { λ s. drop s.at s.bytes.items };
+
+    ghost invariant = { λ s. s.at ≤ vec_len s.bytes };
+}
+
+impl MemSource {
+    /// A source that has these bytes left.
+    pub fn new(bytes: Vec<u8>) -> Self
+        ensures { result ≡ bytes.items }
+    {
+        MemSource { bytes, at: 0 }
+    }
+
+    /// The bytes left.
+    pub fn left(&self) -> &[u8]
+        ensures { result.now ≡ self.now }
+    {
+        &self.bytes[self.at..]
+    }
+}
+
+impl Source for MemSource {
+    ghost left = { λ s. Some s };
+
+    ghost faults = { λ _. 0 };
+
+    fn read(&mut self, buf: &mut [u8]) -> Result<usize, Failed>
+        ensures ok { IfOk result (λ n. Gives (Some self.old) (Some self.new) buf.new n) }
+        ensures end { IfOk result (λ n. n ≡ 0 → 0 < length buf.new → IsAtEnd (Some self.new)) }
+        ensures failed { OnErr result (self.new ≡ self.old) }
+        ensures cause { OnErr result (Rose 0 0) }
+        ensures never { IsOk result }
+        ensures count { IfOk result (λ n. n ≡ min (length buf.old) (length self.old)) }
+    {
+        let n = buf.len().min(self.bytes.len() - self.at);
+        buf[..n].copy_from_slice(&self.bytes[self.at..self.at + n]);
+        self.at += n;
+        Ok(n)
+    }
+}

@@ -1,0 +1,52 @@
+// Pieces that are written whole, one after another.
+ghost use Rattle.std.specs.Prelude.{◌≡◌, flat_map, IfSome};
+ghost use Rattle.dev_io.specs.Device.{Writes};
+
+use crate::device::{Failed, Sink};
+use arrayvec::ArrayVec;
+
+/// The bytes that are gathered before they are written: more than the longest line has.
+const GATHERED: usize = 128;
+
+/// Writes the whole piece. After a failure a proper prefix of it was appended, so an empty piece never fails.
+#[tactic(auto, using(crate::proofs::Appended::write_steps))]
+pub fn write_all<K: Sink>(sink: &mut K, piece: &[u8]) -> Result<(), Failed>
+    ensures { Writes K.held K.faults sink.old sink.new piece.now result }
+{
+    let mut at = 0;
+    while at < piece.len() {
+        at += sink.write(&piece[at..])?;
+    }
+    Ok(())
+}
+
+/// Writes the pieces, one after another. Where they are few bytes together, the sink is called for all of them at once.
+pub fn write_pieces<K: Sink>(sink: &mut K, pieces: &[&[u8]]) -> Result<(), Failed>
+    ensures { Writes K.held K.faults sink.old sink.new (flat_map (λ piece. piece.now) pieces.now) result }
+{
+    match gather(pieces) {
+        Some(gathered) => write_all(sink, gathered.as_slice()),
+        None => write_each(sink, pieces),
+    }
+}
+
+/// The bytes of the pieces, where they are few together.
+fn gather(pieces: &[&[u8]]) -> Option<ArrayVec<u8, GATHERED>>
+    ensures { IfSome result (λ gathered. gathered.items ≡ flat_map (λ piece. piece.now) pieces.now) }
+{
+    let mut gathered = ArrayVec::new();
+    for piece in pieces {
+        gathered.try_extend_from_slice(piece).ok()?;
+    }
+    Some(gathered)
+}
+
+/// Writes the pieces, one after another, each by itself.
+fn write_each<K: Sink>(sink: &mut K, pieces: &[&[u8]]) -> Result<(), Failed>
+    ensures { Writes K.held K.faults sink.old sink.new (flat_map (λ piece. piece.now) pieces.now) result }
+{
+    for piece in pieces {
+        write_all(sink, piece)?;
+    }
+    Ok(())
+}
