@@ -36,6 +36,20 @@ split_at [] more t stop rest is = refl
 split_at (event ∷ events) more t stop rest is =
     split_on t events more stop rest (after_event t event) (λ u. split_at events more u stop rest) is
 
+first_on : (t : Tale) (events more : List Event) (stop : Stop) (rest : List ℕ) (next : Result Tale EventFault)
+    → ((u : Tale) → (Replay u (events ++ more) stop rest).ending ≡ Done → AreFaultless u events)
+    → (go_on next (λ next. Replay next (events ++ more) stop rest) (faulted t rest)).ending ≡ Done
+    → (go_on next (λ next. alone next events) (faulted t [])).ending ≡ Done
+first_on t events more stop rest (Ok next) behind is = behind next is
+first_on t events more stop rest (Err fault) behind is = absurd cc
+
+-- where a whole replay has no fault, its first events have none
+first_faultless : (events more : List Event) (t : Tale) (stop : Stop) (rest : List ℕ)
+    → (Replay t (events ++ more) stop rest).ending ≡ Done → AreFaultless t events
+first_faultless [] more t stop rest is = refl
+first_faultless (event ∷ events) more t stop rest is =
+    first_on t events more stop rest (after_event t event) (λ u. first_faultless events more u stop rest) is
+
 -- ---- a tale with a past
 
 -- the past, and nothing behind it
@@ -100,4 +114,10 @@ out_past mode heard past r =
     ∙ append_assoc (lines_of mode past) (lines_of mode r.tale) _
 
 pub replays_split : SplitLaw
-replays_split = record { goes_on = λ t events more. split_at events more t; played_on = played_on; lines = lines_past; out = out_past }
+replays_split = record {
+  first = λ t events more. first_faultless events more t;
+  goes_on = λ t events more. split_at events more t;
+  played_on = played_on;
+  lines = lines_past;
+  out = out_past;
+}
