@@ -5,3 +5,5 @@ pub mod Packets
 pub mod Pendings
 pub mod Back
 pub mod Chain
+pub mod Wholes
+pub mod Spelling
