@@ -29,7 +29,7 @@ whole_stays s got place (a ∷ b ∷ c ∷ d ∷ rest) full = rw full refl
 plus_none : (n : ℕ) → n ≡ n + 0
 plus_none n = omega arith
 
-breaks_off : (s : Section) (got : List ℕ) (place : ℕ) (bytes : List ℕ) → wants s got ≡ true → length bytes < 4
+pub breaks_off : (s : Section) (got : List ℕ) (place : ℕ) (bytes : List ℕ) → wants s got ≡ true → length bytes < 4
     → section_from s got place bytes ≡ Short (place + length bytes)
 breaks_off s got place [] due few = rw due (ap Short (plus_none place))
 breaks_off s got place (a ∷ []) due few = rw due refl
@@ -68,7 +68,7 @@ pub next_word : (s : Section) (got : List ℕ) (place word : ℕ) (rest : List �
     → word < 2 ^ 32 → section_from s got place (word_bytes word ++ rest) ≡ section_from s (got ++ word ∷ []) (place + 4) rest
 next_word s got place word rest due may fits = word_split s got place word rest due fits ∙ (rw may refl)
 
-bad_word : (s : Section) (got : List ℕ) (place word : ℕ) (rest : List ℕ) → wants s got ≡ true → allows s got word ≡ false
+pub bad_word : (s : Section) (got : List ℕ) (place word : ℕ) (rest : List ℕ) → wants s got ≡ true → allows s got word ≡ false
     → word < 2 ^ 32 → section_from s got place (word_bytes word ++ rest) ≡ Bad place word
 bad_word s got place word rest due may fits = word_split s got place word rest due fits ∙ (rw may refl)
 

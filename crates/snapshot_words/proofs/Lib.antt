@@ -7,3 +7,4 @@ pub mod Back
 pub mod Chain
 pub mod Wholes
 pub mod Spelling
+pub mod Unique
