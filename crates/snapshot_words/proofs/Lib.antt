@@ -8,3 +8,4 @@ pub mod Chain
 pub mod Wholes
 pub mod Spelling
 pub mod Unique
+pub mod States
