@@ -1,5 +1,6 @@
 -- With its memories too, every state is read from its spelling.
-use Rattle.std.proofs.Common.{◌≡◌, ◌≤◌, ◌<◌, ◌+◌, ◌*◌, ◌/◌, ◌%◌, ◌^◌, ◌++◌, List, [], ◌∷◌, ℕ, false, length, take, drop, nat_lt}
+use Rattle.std.proofs.Common.{◌≡◌, ◌≤◌, ◌<◌, ◌+◌, ◌*◌, ◌/◌, ◌%◌, ◌^◌, ◌++◌, List, [], ◌∷◌, ℕ, false, length, take}
+use Rattle.std.proofs.Common.{drop, nat_lt}
 use Rattle.std.proofs.Common.{refl, ap, sym, subst, ◌∙◌, append_assoc, length-append, arith}
 use Rattle.std.proofs.lemmas.Bool.{le-ltb}
 use Rattle.std.proofs.lemmas.List.{take-append-le, take_all, drop-append-le, drop_all}
@@ -9,7 +10,8 @@ use Rattle.gpu_capture.specs.Whole.{AreWords}
 use Rattle.gpu_capture.specs.Written.{word_bytes}
 use Rattle.gpu_capture.proofs.Written.{words_length}
 use Rattle.snapshot_words.specs.Outline.{IsOutline, AreCells, AreMemories, outline_words, bytes_of, snap_bytes}
-use Rattle.snapshot_words.specs.Reading.{Found, Whole, Snapshot, found_then, words_in, memory_from, memories_from, ram_words}
+use Rattle.snapshot_words.specs.Reading.{Found, Whole, Snapshot, found_then, words_in, memory_from, memories_from}
+use Rattle.snapshot_words.specs.Reading.{ram_words}
 use Rattle.snapshot_words.specs.Reading.{outline_from, state_from}
 use Rattle.snapshot_words.specs.Values.{cell_words, cells_in}
 use Rattle.snapshot_words.specs.declared.outline.Outline.{Outline}
@@ -29,7 +31,8 @@ pub memory_read : (count place : ℕ) (words rest : List ℕ) → AreWords words
 memory_read count place words rest are is =
     let long = words_length words in
     let all = length-append (bytes_of words) rest in
-    let enough : nat_lt (length (bytes_of words ++ rest)) (4 * count) ≡ false = le-ltb _ _ (omega (arith, long, all, is)) in
+    let enough : nat_lt (length (bytes_of words ++ rest)) (4 * count) ≡ false =
+    le-ltb _ _ (omega (arith, long, all, is)) in
     let front : take (4 * count) (bytes_of words ++ rest) ≡ bytes_of words =
     take-append-le (4 * count) (bytes_of words) rest (omega (arith, long, is))
     ∙ take_all (4 * count) (bytes_of words) (omega (arith, long, is)) in
@@ -68,7 +71,8 @@ ram_count : ram_words ≡ 524288
 unfolding ram_words
 ram_count = refl
 
-snap_is : (o : Outline) (m ram : List ℕ) → snap_bytes o m ram ≡ (bytes_of (outline_words o) ++ bytes_of (cell_words m)) ++ bytes_of ram
+snap_is : (o : Outline) (m ram : List ℕ)
+    → snap_bytes o m ram ≡ (bytes_of (outline_words o) ++ bytes_of (cell_words m)) ++ bytes_of ram
 unfolding snap_bytes
 snap_is o m ram = refl
 
@@ -94,7 +98,8 @@ memories_read o m ram place rest are =
     (memory_read (512 * o.regs.height) place (cell_words m) (bytes_of ram ++ rest) (cells_fit m are.each) count)
     ∙ ap (λ found. found_then found (λ ram. Whole (record { outline = o; m = cells_in (cell_words m); ram = ram })))
     (memory_read ram_words (place + 4 * (512 * o.regs.height)) ram rest are.words (are.long ∙ sym ram_count))
-    ∙ ap (λ (cells : List ℕ). Whole (record { outline = o; m = cells; ram = ram }) (place + 4 * (512 * o.regs.height) + 4 * ram_words) rest)
+    ∙ ap (λ (cells : List ℕ). Whole (record { outline = o; m = cells; ram = ram }) (place + 4 *
+    (512 * o.regs.height) + 4 * ram_words) rest)
     (cells_back m are.each even)
 
 pub state_read : (o : Outline) (m ram : List ℕ) (place : ℕ) (rest : List ℕ) → IsOutline o → AreWords (outline_words o)
@@ -115,7 +120,8 @@ state_read o m ram place rest is fit are =
     let inner = length-append head cells in
     let outer = length-append (head ++ cells) (bytes_of ram) in
     let whole = ap length (snap_is o m ram) in
-    let end : place + 4 * length (outline_words o) + 4 * (512 * o.regs.height) + 4 * ram_words ≡ place + length (snap_bytes o m ram) =
+    let end : place + 4 * length (outline_words o) + 4 * (512 * o.regs.height) + 4 * ram_words ≡ place + length
+    (snap_bytes o m ram) =
     omega (arith, half, count_m, ram_long, a, b, c, inner, outer, whole) in
     ap (state_from place) grouped ∙ state_is place (head ++ (cells ++ (bytes_of ram ++ rest)))
     ∙ ap (λ found. found_then found memories_from) (outline_read o place (cells ++ (bytes_of ram ++ rest)) is fit)

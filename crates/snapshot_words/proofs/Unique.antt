@@ -1,5 +1,6 @@
 -- What is read as a state is its spelling, and no other bytes are.
-use Rattle.std.proofs.Common.{◌≡◌, ◌<◌, ◌+◌, ◌*◌, ◌^◌, ◌++◌, inl, inr, List, [], ◌∷◌, ℕ, zero, suc, true, false, Option, Some, None, length}
+use Rattle.std.proofs.Common.{◌≡◌, ◌<◌, ◌+◌, ◌*◌, ◌^◌, ◌++◌, inl, inr, List, [], ◌∷◌, ℕ, zero, suc, true, false}
+use Rattle.std.proofs.Common.{Option, Some, None, length}
 use Rattle.std.proofs.Common.{slice_index, refl, sym, ap, subst, ◌∙◌, append_assoc, append-nil, length-append, arith}
 use Rattle.std.proofs.lemmas.Bool.{cases_Bool}
 use Rattle.std.proofs.lemmas.Grind.{flat_map-append}
@@ -9,13 +10,16 @@ use Rattle.gpu_capture.specs.Whole.{AreWords}
 use Rattle.gpu_capture.specs.Written.{word_bytes}
 use Rattle.snapshot_words.specs.Laws.{AreBytes, IsSpelled}
 use Rattle.snapshot_words.specs.Outline.{IsOutline, outline_words, bytes_of}
-use Rattle.snapshot_words.specs.Reading.{Found, Whole, Short, Bad, found_then, section_from, outline_from, registers_from, pending_from, store_from, run_from}
+use Rattle.snapshot_words.specs.Reading.{Found, Whole, Short, Bad, found_then, section_from, outline_from}
+use Rattle.snapshot_words.specs.Reading.{registers_from, pending_from, store_from, run_from}
 use Rattle.snapshot_words.specs.Sections.{wants, allows, AreAllowed, IsWhole}
-use Rattle.snapshot_words.specs.Values.{front_words, height_in, played_in, pending_words, pending_in, load_in, store_words, store_in, run_words, run_in}
+use Rattle.snapshot_words.specs.Values.{front_words, height_in, played_in, pending_words, pending_in, load_in}
+use Rattle.snapshot_words.specs.Values.{store_words, store_in, run_words, run_in}
 use Rattle.snapshot_words.specs.declared.outline.Outline.{Outline}
 use Rattle.snapshot_words.specs.declared.section.Section.{Section}
 use Rattle.snapshot_words.specs.declared.section.Section.TheVariants as section
-use Rattle.snapshot_words.proofs.Gathering.{whole_stays, breaks_off, number_of_bytes, next_word, bad_word, none_allowed, allowed_on}
+use Rattle.snapshot_words.proofs.Gathering.{whole_stays, breaks_off, number_of_bytes, next_word, bad_word}
+use Rattle.snapshot_words.proofs.Gathering.{none_allowed, allowed_on}
 use Rattle.snapshot_words.proofs.Pendings.{pending_is, run_is}
 use Rattle.snapshot_words.proofs.Shapes.{front_is, registers_are, store_is}
 
@@ -60,7 +64,8 @@ record ReadFrom (s : Section) (got words : List ℕ) (first place : ℕ) (bytes 
   moved : place ≡ first + 4 * length more
   whole : IsWhole s words
 
-full_from : (s : Section) (got words : List ℕ) (first place : ℕ) (bytes rest : List ℕ) → AreAllowed s got → wants s got ≡ false
+full_from : (s : Section) (got words : List ℕ) (first place : ℕ) (bytes rest : List ℕ) → AreAllowed s got
+    → wants s got ≡ false
     → section_from s got first bytes ≡ Whole words place rest → ReadFrom s got words first place bytes rest
 full_from s got words first place bytes rest allowed full e =
     let same : Whole got first bytes ≡ Whole words place rest = sym (whole_stays s got first bytes full) ∙ e in
@@ -92,7 +97,8 @@ module _ (s : Section) (words : List ℕ) (place : ℕ) (rest : List ℕ) where
       record {
         more = word ∷ from.more;
         joined = from.joined ∙ append_assoc got (word ∷ []) from.more;
-        spelled = is ∙ ap (λ b. word_bytes word ++ b) from.spelled ∙ sym (append_assoc (word_bytes word) (bytes_of from.more) rest);
+        spelled = is ∙ ap (λ b. word_bytes word ++ b) from.spelled
+            ∙ sym (append_assoc (word_bytes word) (bytes_of from.more) rest);
         moved = omega (arith, moved);
         whole = from.whole;
       }
@@ -117,8 +123,9 @@ module _ (s : Section) (words : List ℕ) (place : ℕ) (rest : List ℕ) where
               | inr bad ↦ absurd (let f = sym (bad_word s got first word left due bad fits) ∙ read in cc)
               | inl may ↦
                   on_from got word first (a ∷ b ∷ c ∷ d ∷ left) left bytes
-                      (part_from (got ++ word ∷ []) (first + 4) left are.1.1.1.1 (allowed_on s got word allowed due may fits)
-                          (sym (next_word s got first word left due may fits) ∙ read))
+                  (part_from (got ++ word ∷ []) (first + 4) left are.1.1.1.1
+                  (allowed_on s got word allowed due may fits)
+                  (sym (next_word s got first word left due may fits) ∙ read))
             ]
       ]
 
@@ -177,7 +184,8 @@ outline_in a b c d e = record {
   run = run_in e;
 }
 
-module _ (a b c d e : List ℕ) (whole_a : IsWhole section.Front a) (whole_b : IsWhole (section.Registers (height_in a)) b)
+module _ (a b c d e : List ℕ) (whole_a : IsWhole section.Front a) (whole_b : IsWhole (section.Registers
+    (height_in a)) b)
     (whole_c : IsWhole (section.Pending (height_in a)) c) (whole_d : IsWhole (section.Store (height_in a)) d)
     (whole_e : IsWhole section.Run e) where
   all_spelled : outline_words (outline_in a b c d e) ≡ (((a ++ b) ++ c) ++ d) ++ e
@@ -188,9 +196,11 @@ module _ (a b c d e : List ℕ) (whole_a : IsWhole section.Front a) (whole_b : I
       let pendings = pending_is (height_in a) c whole_c in
       let stores = store_is (height_in a) d whole_d in
       let runs = run_is e whole_e in
-      ap (λ x. (((x ++ words_of (registers_in (height_in a) b)) ++ pending_words (pending_in c) (load_in c)) ++ store_words (store_in d))
-          ++ run_words (run_in e)) front.spelled
-      ∙ ap (λ x. (((a ++ x) ++ pending_words (pending_in c) (load_in c)) ++ store_words (store_in d)) ++ run_words (run_in e)) registers.spelled
+      ap (λ x. (((x ++ words_of (registers_in (height_in a) b)) ++ pending_words (pending_in c)
+      (load_in c)) ++ store_words (store_in d))
+      ++ run_words (run_in e)) front.spelled
+      ∙ ap (λ x. (((a ++ x) ++ pending_words (pending_in c) (load_in c)) ++ store_words (store_in d)) ++ run_words
+      (run_in e)) registers.spelled
       ∙ ap (λ x. (((a ++ b) ++ x) ++ store_words (store_in d)) ++ run_words (run_in e)) pendings.spelled
       ∙ ap (λ x. (((a ++ b) ++ c) ++ x) ++ run_words (run_in e)) stores.spelled
       ∙ ap (λ x. (((a ++ b) ++ c) ++ d) ++ x) runs.spelled
@@ -238,21 +248,31 @@ pub one_spelling : (o : Outline) (first place : ℕ) (bytes rest : List ℕ) →
     → outline_from first bytes ≡ Whole o place rest → IsSpelled o first place bytes rest
 unfolding outline_from
 one_spelling o first place bytes rest are found =
-    let f1 = then_from (section_from section.Front [] first bytes) (λ words. registers_from (height_in words) (played_in words)) o place rest found in
+    let f1 =
+    then_from (section_from section.Front [] first bytes) (λ words. registers_from (height_in words)
+    (played_in words)) o place rest found in
     let a = f1.value in
     let h = height_in a in
     let r1 = read_part section.Front a first f1.place bytes f1.rest are f1.was in
-    let f2 = then_from (section_from (section.Registers h) [] f1.place f1.rest) (λ words. pending_from (played_in a) (registers_in h words)) o place rest f1.behind in
+    let f2 =
+    then_from (section_from (section.Registers h) [] f1.place f1.rest) (λ words. pending_from (played_in a)
+    (registers_in h words)) o place rest f1.behind in
     let b = f2.value in
     let r2 = read_part (section.Registers h) b f1.place f2.place f1.rest f2.rest r1.bytes_left f2.was in
     let regs = registers_in h b in
-    let f3 = then_from (section_from (section.Pending h) [] f2.place f2.rest) (λ words. store_from (played_in a) regs (pending_in words) (load_in words)) o place rest f2.behind in
+    let f3 =
+    then_from (section_from (section.Pending h) [] f2.place f2.rest) (λ words. store_from (played_in a) regs
+    (pending_in words) (load_in words)) o place rest f2.behind in
     let c = f3.value in
     let r3 = read_part (section.Pending h) c f2.place f3.place f2.rest f3.rest r2.bytes_left f3.was in
-    let f4 = then_from (section_from (section.Store h) [] f3.place f3.rest) (λ words. run_from (played_in a) regs (pending_in c) (load_in c) (store_in words)) o place rest f3.behind in
+    let f4 =
+    then_from (section_from (section.Store h) [] f3.place f3.rest) (λ words. run_from (played_in a) regs
+    (pending_in c) (load_in c) (store_in words)) o place rest f3.behind in
     let d = f4.value in
     let r4 = read_part (section.Store h) d f3.place f4.place f3.rest f4.rest r3.bytes_left f4.was in
-    let f5 = then_from (section_from section.Run [] f4.place f4.rest) (λ words. Whole (outline_in a b c d words)) o place rest f4.behind in
+    let f5 =
+    then_from (section_from section.Run [] f4.place f4.rest) (λ words. Whole
+    (outline_in a b c d words)) o place rest f4.behind in
     let e = f5.value in
     let r5 = read_part section.Run e f4.place f5.place f4.rest f5.rest r4.bytes_left f5.was in
     let made : outline_in a b c d e ≡ o = ap (value_or o) f5.behind in
@@ -263,13 +283,13 @@ one_spelling o first place bytes rest are found =
     let n4 = length-append ((a ++ b) ++ c) d in let n5 = length-append (((a ++ b) ++ c) ++ d) e in
     let spelled : bytes ≡ bytes_of ((((a ++ b) ++ c) ++ d) ++ e) ++ f5.rest =
     joined (((a ++ b) ++ c) ++ d) e bytes f4.rest f5.rest
-        (joined ((a ++ b) ++ c) d bytes f3.rest f4.rest
-        (joined (a ++ b) c bytes f2.rest f3.rest
-        (joined a b bytes f1.rest f2.rest r1.spelled r2.spelled) r3.spelled) r4.spelled) r5.spelled in
+    (joined ((a ++ b) ++ c) d bytes f3.rest f4.rest
+    (joined (a ++ b) c bytes f2.rest f3.rest
+    (joined a b bytes f1.rest f2.rest r1.spelled r2.spelled) r3.spelled) r4.spelled) r5.spelled in
     subst (λ o. IsSpelled o first place bytes rest) made
     (spelled_as (outline_in a b c d e) ((((a ++ b) ++ c) ++ d) ++ e) first place bytes rest
-        (sym (all_spelled a b c d e r1.whole r2.whole r3.whole r4.whole r5.whole))
-        (subst (λ r. bytes ≡ bytes_of ((((a ++ b) ++ c) ++ d) ++ e) ++ r) left spelled)
-        (omega (arith, m1, m2, m3, m4, m5, n2, n3, n4, n5, at))
-        (all_bounds a b c d e r1.whole r2.whole r3.whole r4.whole r5.whole)
-        (all_fit a b c d e r1.whole r2.whole r3.whole r4.whole r5.whole))
+    (sym (all_spelled a b c d e r1.whole r2.whole r3.whole r4.whole r5.whole))
+    (subst (λ r. bytes ≡ bytes_of ((((a ++ b) ++ c) ++ d) ++ e) ++ r) left spelled)
+    (omega (arith, m1, m2, m3, m4, m5, n2, n3, n4, n5, at))
+    (all_bounds a b c d e r1.whole r2.whole r3.whole r4.whole r5.whole)
+    (all_fit a b c d e r1.whole r2.whole r3.whole r4.whole r5.whole))

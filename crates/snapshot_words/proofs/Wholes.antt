@@ -1,6 +1,8 @@
 -- The words that values within the bounds are spelled by are those of whole parts.
-use Rattle.std.proofs.Common.{◌≡◌, ◌≤◌, ◌<◌, ◌+◌, ◌-◌, ◌*◌, ◌/◌, ◌%◌, ◌^◌, ◌++◌, min, inl, inr, List, [], ◌∷◌, ℕ, zero, suc, Bool, true, false}
-use Rattle.std.proofs.Common.{not, Option, None, Some, length, take, slice_index, nat_lt, nat_le, ◌==◌, ◌&&◌, ◌||◌, refl, sym, ap, subst}
+use Rattle.std.proofs.Common.{◌≡◌, ◌≤◌, ◌<◌, ◌+◌, ◌-◌, ◌*◌, ◌/◌, ◌%◌, ◌^◌, ◌++◌, min, inl, inr, List, [], ◌∷◌, ℕ}
+use Rattle.std.proofs.Common.{zero, suc, Bool, true, false}
+use Rattle.std.proofs.Common.{not, Option, None, Some, length, take, slice_index, nat_lt, nat_le, ◌==◌, ◌&&◌, ◌||◌}
+use Rattle.std.proofs.Common.{refl, sym, ap, subst}
 use Rattle.std.proofs.Common.{◌∙◌, append_assoc, append-nil, length-append, if◌then◌else◌, arith}
 use Rattle.std.proofs.lemmas.Bool.{le-ltb, eq-eqb, ne_eqb, lt-ltb, le-leb, and_from, cases_Bool}
 use Rattle.std.proofs.lemmas.Bool.Decides.{nat_tests}
@@ -52,7 +54,8 @@ pub height_few : (height : ℕ) → IsHeight height → height ≤ 1024
 height_few height (inl e) = omega (arith, e)
 height_few height (inr e) = omega (arith, e)
 
-pub front_whole : (height played : ℕ) → IsHeight height → played < 2 ^ 63 → IsWhole section.Front (front_words height played)
+pub front_whole : (height played : ℕ) → IsHeight height → played < 2 ^ 63
+    → IsWhole section.Front (front_words height played)
 front_whole height played known few =
     let tall = height_few height known in
     let low : played % 2 ^ 32 < 2 ^ 32 = omega arith in
@@ -60,7 +63,8 @@ front_whole height played known few =
     record {
       allowed = allowed_on section.Front (height ∷ played % 2 ^ 32 ∷ []) (played / 2 ^ 32)
           (allowed_on section.Front (height ∷ []) (played % 2 ^ 32)
-          (allowed_on section.Front [] height (none_allowed section.Front) refl (height_allowed height known) (omega (arith, tall)))
+          (allowed_on section.Front [] height (none_allowed section.Front) refl (height_allowed height known) (omega
+          (arith, tall)))
           refl refl low)
           refl (lt-ltb _ _ high) (omega (arith, high));
       whole = refl;
@@ -153,13 +157,16 @@ line_command command is =
                         | inl fourth ↦ absurd (let e = rw (not_polygon, not_line, not_third, fourth) at is in cc)
                         | inr not_fourth ↦
                             elim (cases_Bool (class_of command == 5)) [
-                              | inl fifth ↦ absurd (let e = rw (not_polygon, not_line, not_third, not_fourth, fifth) at is in cc)
+                              | inl fifth ↦ absurd (let e = rw
+                                  (not_polygon, not_line, not_third, not_fourth, fifth) at is in cc)
                               | inr not_fifth ↦
                                   elim (cases_Bool (class_of command == 6)) [
                                     | inl sixth ↦
-                                        absurd (let e = rw (not_polygon, not_line, not_third, not_fourth, not_fifth, sixth) at is in cc)
+                                        absurd (let e = rw
+                                        (not_polygon, not_line, not_third, not_fourth, not_fifth, sixth) at is in cc)
                                     | inr not_sixth ↦
-                                        absurd (let e = rw (not_polygon, not_line, not_third, not_fourth, not_fifth, not_sixth) at is in cc)
+                                        absurd (let e = rw
+                                        (not_polygon, not_line, not_third, not_fourth, not_fifth, not_sixth) at is in cc)
                                   ]
                             ]
                       ]
@@ -167,7 +174,8 @@ line_command command is =
           ]
     ]
 
-color_allowed : (command color : ℕ) → (is_set command 28 ≡ false → color ≡ command) → (is_set command 28 || (color == command)) ≡ true
+color_allowed : (command color : ℕ) → (is_set command 28 ≡ false → color ≡ command)
+    → (is_set command 28 || (color == command)) ≡ true
 color_allowed command color same =
     elim (cases_Bool (is_set command 28)) [
       | inl shaded ↦ rw shaded refl
@@ -194,9 +202,12 @@ module _ (height n f : ℕ) (few : n < first_len_of f) where
       let some : 1 < first_len_of f = omega (arith, few, short) in
       rw head (allows_behind height 1 n [] f refl ∙ lt-ltb 1 (first_len_of f) some)
   packet_may (g ∷ gs) w head short =
-      let one : (length (1 ∷ n ∷ g ∷ gs) == 1) ≡ false = ne_eqb (length (1 ∷ n ∷ g ∷ gs)) 1 (λ e. absurd (omega (arith, e))) in
-      let two : (length (1 ∷ n ∷ g ∷ gs) == 2) ≡ false = ne_eqb (length (1 ∷ n ∷ g ∷ gs)) 2 (λ e. absurd (omega (arith, e))) in
-      let part : nat_lt (length (1 ∷ n ∷ f ∷ gs) - 1) (first_len_of f) ≡ true = lt-ltb _ _ (omega (arith, few, short)) in
+      let one : (length (1 ∷ n ∷ g ∷ gs) == 1) ≡ false =
+      ne_eqb (length (1 ∷ n ∷ g ∷ gs)) 1 (λ e. absurd (omega (arith, e))) in
+      let two : (length (1 ∷ n ∷ g ∷ gs) == 2) ≡ false =
+      ne_eqb (length (1 ∷ n ∷ g ∷ gs)) 2 (λ e. absurd (omega (arith, e))) in
+      let part : nat_lt (length (1 ∷ n ∷ f ∷ gs) - 1) (first_len_of f) ≡ true =
+      lt-ltb _ _ (omega (arith, few, short)) in
       allows_behind height 1 n (g ∷ gs) w refl ∙ (rw (one, two) (rw head part))
 
   packet_allowed : (most : n ≤ 11) (got more : List ℕ) → AreWords more → slice_index (got ++ more) 0 ≡ f
@@ -208,7 +219,8 @@ module _ (height n f : ℕ) (few : n < first_len_of f) where
       let may = packet_may got w (same_head got more w f head) (omega (arith, count)) in
       let longer = length-append got (w ∷ []) in
       subst (λ words. AreAllowed (section.Pending height) (1 ∷ n ∷ words)) (append_assoc got (w ∷ []) more)
-      (packet_allowed most (got ++ w ∷ []) more are.1 (ap (λ l. slice_index l 0) (append_assoc got (w ∷ []) more) ∙ head)
+      (packet_allowed most (got ++ w ∷ []) more are.1 (ap (λ l. slice_index l 0) (append_assoc got (w ∷ []) more)
+      ∙ head)
       (omega (arith, count, longer))
       (allowed_on (section.Pending height) (1 ∷ n ∷ got) w allowed due may are.0))
 
@@ -222,8 +234,10 @@ packet_whole height words some few are =
     allowed_on s (1 ∷ []) (length words) (allowed_on s [] 1 (none_allowed s) refl refl (omega arith)) refl
     (and_from _ _ (le-leb _ _ some) (le-leb _ _ most)) (omega (arith, most)) in
     record {
-      allowed = packet_allowed height (length words) (slice_index words 0) few most [] words are refl (omega arith) counted;
-      whole = let full : nat_lt (length (1 ∷ length words ∷ words)) (2 + min (length words) 11) ≡ false = le-ltb _ _ (omega (arith, most)) in full;
+      allowed = packet_allowed height (length words) (slice_index words 0) few most [] words are refl
+          (omega arith) counted;
+      whole = let full : nat_lt (length (1 ∷ length words ∷ words)) (2 + min (length words) 11)
+          ≡ false = le-ltb _ _ (omega (arith, most)) in full;
     }
 
 line_whole : (height command color vertex : ℕ) (half : Option ℕ) → IsPending (pending.Poly command color vertex half)
@@ -261,7 +275,8 @@ line_whole height command color vertex (Some half) is are =
       whole = refl;
     }
 
-pub pending_whole : (height : ℕ) → height ≤ 1024 → (p : Pending) (load : Option Transfer) → IsPending p → IsLinked p load
+pub pending_whole : (height : ℕ) → height ≤ 1024 → (p : Pending) (load : Option Transfer) → IsPending p
+    → IsLinked p load
     → IsOpen height load → AreWords (pending_words p load) → IsWhole (section.Pending height) (pending_words p load)
 pending_whole height tall pending.Idle load is link job_is are = record {
   allowed = allowed_on (section.Pending height) [] 0 (none_allowed (section.Pending height)) refl refl (omega arith);

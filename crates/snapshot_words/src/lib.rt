@@ -4,9 +4,9 @@
 mod fault;
 pub mod laws;
 mod outline;
-mod section;
 mod parts;
 mod read;
+mod section;
 mod taking;
 mod values;
 mod write;
