@@ -4,6 +4,14 @@
 mod fault;
 mod outline;
 mod section;
+mod parts;
+mod read;
+mod taking;
+mod values;
+mod write;
 
 pub use fault::SnapFault;
 pub use outline::Outline;
+pub use read::read_outline;
+pub use taking::take_word;
+pub use write::{SNAPSHOT_HEAD, write_head, write_outline};
