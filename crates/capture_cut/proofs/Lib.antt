@@ -1,4 +1,6 @@
+pub mod Cutting
 pub mod Early
 pub mod Playing
 pub mod Reading
 pub mod Records
+pub mod Words

@@ -6,11 +6,24 @@ use Rattle.gpu_capture.specs.declared.event.Event.{Event}
 use Rattle.gpu_core.specs.Kept.{kept_of}
 use Rattle.event_play.specs.Replay.{Tale}
 use Rattle.event_play.specs.RigState.{RigState}
+use Rattle.snapshot_words.specs.Outline.{snap_bytes, snapshot_head}
+use Rattle.snapshot_words.specs.declared.outline.Outline.{Outline}
 use Rattle.capture_flat.specs.Out.{spell}
+
+-- a rig but for its memories
+abbrev pub outline_of : RigState → Outline
+outline_of rig = record {
+  played = rig.played;
+  regs = rig.gpu.parts.regs;
+  pending = rig.gpu.pending;
+  load = rig.gpu.parts.load;
+  store = rig.gpu.parts.store;
+  run = rig.running;
+}
 
 -- the head of a snapshot and the state of a rig; no proof computes them
 unfoldable pub rig_bytes : RigState → List ℕ
-rig_bytes rig = rig.ram
+rig_bytes rig = snapshot_head ++ snap_bytes (outline_of rig) rig.gpu.parts.m rig.ram
 
 -- what a rig keeps that played a tale
 abbrev pub rig_of : Tale → RigState

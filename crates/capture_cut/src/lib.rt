@@ -5,6 +5,10 @@ ghost use Rattle.std.specs.Prelude.{◌≡◌, ◌<◌, ◌≤◌};
 
 mod ending;
 mod first;
+mod memory;
 mod rest;
+mod state;
+mod whole;
 
 pub use ending::CutEnding;
+pub use whole::cut;
