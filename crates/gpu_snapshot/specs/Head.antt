@@ -1,17 +1,14 @@
 -- What a file is by its first 8 bytes (our own rule): a capture of one of the versions, or a snapshot.
-use Rattle.std.specs.Prelude.{◌≡◌, ◌<◌, ℕ, ◌+◌, List, [], ◌∷◌, ◌++◌, ◌==◌, Option, Result, Ok, Err, length, codes}
+use Rattle.std.specs.Prelude.{◌≡◌, ◌<◌, ℕ, ◌+◌, List, [], ◌∷◌, ◌++◌, ◌==◌, Option, Result, Ok, Err, length}
 use Rattle.std.specs.Prelude.{if◌then◌else◌}
 use Rattle.dev_io.specs.Device.{prepended, IsAtEnd}
 use Rattle.gpu_capture.specs.Capture.{heads, IsVersion}
 use Rattle.gpu_capture.specs.Head.{head_among}
 use Rattle.gpu_capture.specs.declared.event.Stop.{Stop}
 use Rattle.gpu_capture.specs.declared.event.Stop.TheVariants.{NotCapture, Truncated, ReadFault}
+use Rattle.snapshot_words.specs.Outline.{snapshot_head}
 use Rattle.gpu_snapshot.specs.declared.head.FileHead.{FileHead}
 use Rattle.gpu_snapshot.specs.declared.head.FileHead.TheVariants.{Capture, Snapshot}
-
--- the head of a snapshot
-abbrev pub snapshot_head : List ℕ
-snapshot_head = codes "PSXGPUS1"
 
 -- the known heads: those of captures in the order of their versions, and that of a snapshot
 abbrev pub known_heads : List (List ℕ)

@@ -1,1 +1,6 @@
 pub mod Head
+pub mod Opened
+pub mod Memories
+pub mod Intake
+pub mod Restored
+pub mod Opening
