@@ -1,5 +1,5 @@
 -- Slots that are settled by what an event says.
-use Rattle.std.proofs.Common.{◌≡◌, ◌<◌, ◌≤◌, ◌+◌, ◌-◌, not, ltb, ℕ, suc, List, [], ◌∷◌, ◌++◌, Option, None, Some, Bool, true, false, cond, length, take, drop, slice_get, get_or, option_to_list, refl, sym, ap, ◌∙◌, arith, append_assoc}
+use Rattle.std.proofs.Common.{◌≡◌, ◌<◌, ◌≤◌, ◌+◌, ◌-◌, not, ltb, ℕ, suc, List, [], ◌∷◌, ◌++◌, Option, None, Some, Bool, true, false, cond, length, take, drop, slice_get, get_or, option_to_list, refl, sym, ap, subst, ◌∙◌, arith, append_assoc}
 use Rattle.std.proofs.lemmas.Bool.{lt-ltb, le-ltb}
 use Rattle.std.proofs.lemmas.List.{length-append, drop_more, take_more}
 use Rattle.circular_buffer.specs.Buffer.{keep_last}
@@ -257,3 +257,19 @@ first_leaves (s ∷ slots) words slot many is =
 pub one_kept : (out : Option Event) → option_to_list out ≡ kept_of (out ∷ [])
 one_kept None = refl
 one_kept (Some e) = refl
+
+-- ---- a settled slot goes behind those that are settled
+
+settled_more : (old : List Slot) (s : Slot) → AreSettled old → IsSettled s.mark → AreSettled (old ++ s ∷ [])
+settled_more [] s are is = (is, tt)
+settled_more (x ∷ old) s are is = (are.0, settled_more old s are.1 is)
+
+pub passed : (old items : List Slot) (s : Slot) (n : ℕ) → Some s ≡ slice_get items 0 → length old + length items ≤ n
+    → AreSettled old → AreSettled (take 1 items) → AreSettled (keep_last n (old ++ s ∷ []))
+passed old [] s n is fits are first = absurd cc
+passed old (x ∷ items) s n is fits are first =
+    let same : s ≡ x = cc in
+    let P : List Slot → Type 0 = λ l. AreSettled l in
+    let all : keep_last n (old ++ s ∷ []) ≡ old ++ x ∷ [] =
+    keep_all n (old ++ s ∷ []) (omega (arith, fits, length-append old (s ∷ []))) ∙ ap (λ (y : Slot). old ++ y ∷ []) same in
+    subst P (sym all) (settled_more old x are first.0)

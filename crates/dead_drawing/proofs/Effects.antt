@@ -23,7 +23,7 @@ use Rattle.vram_copy.specs.Rect.{right, down}
 use Rattle.vram_copy.specs.Words.{LoadWord, pixel_cell, pixels_next, half_of}
 use Rattle.vram_copy.specs.declared.transfer.Transfer.{Transfer}
 use Rattle.dead_drawing.specs.Calm.{IsCalm}
-use Rattle.dead_drawing.proofs.States.{PartsAlike}
+use Rattle.dead_drawing.specs.States.{PartsAlike}
 use Rattle.dead_drawing.proofs.Moves.{keeps_all, fill_same, fill_makes, load_same}
 
 -- ---- two states alike

@@ -15,7 +15,7 @@ use Rattle.gpu_core.specs.Machine.{cleared, is_idle, new_item, taken_from}
 use Rattle.gpu_core.proofs.States.{new_item-is}
 use Rattle.vram_copy.specs.declared.transfer.Transfer.{Transfer}
 use Rattle.dead_drawing.specs.Calm.{IsCalmItem, IsCalmAt, AreCalm}
-use Rattle.dead_drawing.proofs.States.{PartsAlike, Alike, Same}
+use Rattle.dead_drawing.specs.States.{PartsAlike, Alike, Same}
 use Rattle.dead_drawing.specs.Run.{after, shown_at, run, told}
 use Rattle.dead_drawing.proofs.Effects.{effect_alike, effect_long}
 
@@ -107,7 +107,7 @@ event_alike among s t (event.Dma channel madr bcr chcr) calm h = absurd calm
 event_alike among s t (event.Begin madr bcr chcr) calm h = absurd calm
 event_alike among s t event.Turn calm h = absurd calm
 
-shown_alike : (among : ℕ → Type 0) (s t : State) (e : Event) → IsCalmAt s e → Alike among s t
+pub shown_alike : (among : ℕ → Type 0) (s t : State) (e : Event) → IsCalmAt s e → Alike among s t
     → shown_at t e ≡ shown_at s e
 unfolding shown_at
 shown_alike among s t (event.Gp0 word) calm h = refl

@@ -2,11 +2,11 @@ pub mod Droppable
 pub mod Effects
 pub mod Events
 pub mod Fronts
+pub mod KeptAlike
 pub mod Moves
 pub mod PacketLaw
 pub mod PacketWords
 pub mod Replays
 pub mod SlimLaw
-pub mod States
 pub mod Tracks
 pub mod WholeLists

@@ -18,7 +18,7 @@ use Rattle.prim_draw.specs.Apart.{IsIn, AgreeBut}
 use Rattle.prim_draw.specs.Areas.{area_of, moved_box}
 use Rattle.prim_draw.specs.Draw.{Draw}
 use Rattle.prim_draw.proofs.StayLemmas.{drawing_stays}
-use Rattle.dead_drawing.proofs.States.{PartsAlike, Alike, Same}
+use Rattle.dead_drawing.specs.States.{PartsAlike, Alike, Same}
 use Rattle.event_play.specs.Ports.{AreAtPorts}
 use Rattle.dead_drawing.specs.OnePacket.{PacketsAreUnseen, IsDroppable, Holds, Covers, IsCovered, IsUnseen}
 use Rattle.dead_drawing.specs.Run.{after, shown_at, run, told}

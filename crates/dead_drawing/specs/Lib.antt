@@ -3,6 +3,8 @@ pub mod Control
 pub mod Dead
 pub mod Examples
 pub mod Laws
+pub mod OneEvent
 pub mod OnePacket
 pub mod Run
 pub mod Slim
+pub mod States

@@ -31,6 +31,5 @@ returns-in-Loud-clause-settled c =
 
 pub returns-in-Cover-clause-slots : goal.returns-in-Cover-clause-slots
 returns-in-Cover-clause-slots c =
-    let old = c.args.settled.now.items in
-    ap (λ (b : Buffer Slot). old ++ b.items) c.settle_all.ensures
-    ∙ sym (settled_first old c.args.recent.now.items c.args.behind c.args.saying.now c.requires.settled)
+    c.cover.ensures.slots
+    ∙ sym (settled_first c.args.settled.now.items c.args.recent.now.items c.args.behind c.args.saying.now c.requires.settled)

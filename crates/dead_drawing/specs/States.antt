@@ -1,5 +1,5 @@
 -- Two states that agree but for some cells, and whose words leave the same.
-use Rattle.std.proofs.Common.{◌≡◌, ℕ}
+use Rattle.std.specs.Prelude.{◌≡◌, ℕ}
 use Rattle.gp0_words.specs.Items.{Rest}
 use Rattle.gpu_core.specs.Machine.{Parts, State}
 use Rattle.prim_draw.specs.Apart.{AgreeBut}
@@ -14,7 +14,7 @@ pub record Alike (among : ℕ → Type 0) (s t : State) : Type 0 where
   pub parts : PartsAlike among s.parts t.parts
   pub rest : Rest t.words ≡ Rest s.words
 
--- nobody sees the difference
+-- nothing tells them apart
 pub record Same (s t : State) : Type 0 where
   pub parts : t.parts ≡ s.parts
   pub rest : Rest t.words ≡ Rest s.words
