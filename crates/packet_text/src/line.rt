@@ -7,7 +7,7 @@ use crate::number::{decimal_text, hex_digits, signed_text};
 use dev_io::{Failed, Sink, write_pieces};
 use gp0_packets::Note;
 use itoa::Buffer;
-use px_num::Box2;
+use px_num::{Box2, bits};
 
 /// Writes the line of a word that was read: its eight hexadecimal digits.
 #[tactic(auto, unfolding(crate::specs::Line::word_line))]
@@ -41,7 +41,7 @@ pub fn write_note<K: Sink>(out: &mut K, note: &Note) -> Result<(), Failed>
 fn name_of(class: u8, head: u32) -> &'static [u8]
     ensures { result.now ≡ note_name class head }
 {
-    let opcode = head >> 24;
+    let opcode = bits(head, 24, 8);
     match class {
         0 => match opcode {
             0x02 => b"fill",

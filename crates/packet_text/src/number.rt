@@ -37,7 +37,11 @@ fn digit(n: u32) -> u8
     requires { n < 16 }
     ensures { result ≡ hex_digit n }
 {
-    if n < 10 { 48 + n as u8 } else { 87 + n as u8 }
+    if n < 10 {
+        b'0' + n as u8
+    } else {
+        b'a' + (n as u8 - 10)
+    }
 }
 
 /// A number in decimal digits, in a buffer of the caller's.

@@ -64,12 +64,15 @@ fn write_item<K: Sink>(out: &mut K, event: u64, class: u64, head: u64) -> Result
     ensures { Writes K.held K.faults out.old out.new (item_line event class head) result }
 {
     let mut of_event = Buffer::new();
-    let e = decimal_text(&mut of_event, event);
+    let event = decimal_text(&mut of_event, event);
     let mut of_class = Buffer::new();
-    let c = decimal_text(&mut of_class, class);
+    let class = decimal_text(&mut of_class, class);
     let mut of_head = Buffer::new();
-    let h = decimal_text(&mut of_head, head);
-    write_pieces(out, &[b"psxgpu: last", b" ", e, b" ", c, b" ", h, b"\n"])
+    let head = decimal_text(&mut of_head, head);
+    write_pieces(
+        out,
+        &[b"psxgpu: last", b" ", event, b" ", class, b" ", head, b"\n"],
+    )
 }
 
 // The kind of a tap.
