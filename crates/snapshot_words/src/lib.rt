@@ -2,14 +2,17 @@
 #![tactic(auto)]
 
 mod fault;
+pub mod laws;
 mod outline;
-mod section;
 mod parts;
 mod read;
+mod section;
 mod taking;
 mod values;
+mod write;
 
 pub use fault::SnapFault;
 pub use outline::Outline;
 pub use read::read_outline;
 pub use taking::take_word;
+pub use write::{SNAPSHOT_HEAD, write_head, write_outline};
