@@ -79,3 +79,7 @@ capture_is bytes version is =
         ]
       ]
     ]
+
+pub head_of_snapshot : file_head snapshot_head ≡ Ok Snapshot
+unfolding file_head
+head_of_snapshot = refl

@@ -8,3 +8,5 @@ pub mod MemoriesBack
 pub mod Restoring
 pub mod Heads
 pub mod Openings
+pub mod Moving
+pub mod Played

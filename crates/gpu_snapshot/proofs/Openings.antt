@@ -161,6 +161,10 @@ opens_state before mid now steps steps_now rig reader takes state =
       rig_is = state.rig_is;
       stands = state.stands;
       cost = state.cost;
+      cost_is = λ rest. rw (
+        append_assoc takes.taken spelled rest,
+        cost_of_state takes.taken (spelled ++ rest) takes.long takes.is,
+      ) (state.cost_is rest);
     }
 
 refused_state : (why : SnapFault) (first taken : List ℕ) (now : Option (List ℕ)) → length first ≡ 8

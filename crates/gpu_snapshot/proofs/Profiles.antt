@@ -1,5 +1,5 @@
 -- The sizes of the memories of a new rig, in either profile.
-use Rattle.std.proofs.Common.{◌≡◌, ◌*◌, ◌+◌, ◌-◌, ◌≤◌, ◌++◌, ℕ, List, [], length, refl, ap, sym, ◌∙◌, arith}
+use Rattle.std.proofs.Common.{◌≡◌, ◌*◌, ◌+◌, ◌-◌, ◌≤◌, ◌++◌, ℕ, List, [], length, refl, ap, sym, ◌∙◌, arith, append-nil}
 use Rattle.std.proofs.lemmas.List.{length-append, length-replicate}
 use Rattle.px_num.specs.Height.{tall_height, short_height}
 use Rattle.gpu_core.specs.Kept.{Kept}
@@ -58,3 +58,25 @@ rows_of_tall rig stands =
 
 pub words_of_tall : (rig : RigState) → Stands rig (tall_machine first_machine) → length rig.ram ≡ 524288
 words_of_tall rig stands = ap length (sym stands.ram ∙ same_words) ∙ first_words
+
+no_zeros : (m : List ℕ) → m ++ zeros 0 ≡ m
+unfolding zeros
+no_zeros m = append-nil m
+
+-- the tall profile is taken on once
+tall_again : (m : List ℕ) → tall (tall m) ≡ tall m
+unfolding tall
+tall_again m =
+    let behind = zeros_long (1024 * tall_height - length m) in
+    let both = length-append m (rows_behind tall_height m) in
+    let none : 1024 * tall_height - length (m ++ rows_behind tall_height m) ≡ 0 = omega (arith, behind, both) in
+    ap (λ n. (m ++ rows_behind tall_height m) ++ zeros n) none
+    ∙ no_zeros (m ++ rows_behind tall_height m)
+
+pub tall_twice : (s : Machine) → tall_machine (tall_machine s) ≡ tall_machine s
+unfolding tall_state
+tall_twice s =
+    let with_cells : List ℕ → Machine = λ m. record (tall_machine s) {
+      gpu = record (tall_machine s).gpu { parts = record (tall_machine s).gpu.parts { m = m } };
+    } in
+    ap with_cells (tall_again s.gpu.parts.m)

@@ -200,4 +200,8 @@ module _ (before mid now : Option (List ℕ)) (steps steps_now place behind : �
     stands = stands_for rig whole (whole_rig first rig o rig.gpu.parts.m rig.ram holds is) (leaves first o holds);
     reader_is = reader_is;
     cost = few;
+    cost_is = λ rest.
+        let more = bytes_of (cell_words rig.gpu.parts.m) ++ (bytes_of rig.ram ++ rest) in
+        rw (snap_split o rig.gpu.parts.m rig.ram rest)
+        (cost_is (bytes_of (outline_words o) ++ more) more o place (takes.says more));
   }

@@ -4,3 +4,5 @@ pub mod Memories
 pub mod Intake
 pub mod Restored
 pub mod Opening
+pub mod PlayAny
+pub mod Laws

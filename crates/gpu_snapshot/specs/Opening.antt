@@ -65,6 +65,7 @@ pub record OpensState (before now : Intake) (rig : RigState) (reader : ReaderSta
   pub rig_is : rig ≡ rig_in snapshot
   pub stands : Stands rig (machine_in snapshot)
   pub cost : now.steps ≤ before.steps + 64 * snapshot.outline.regs.height
+  pub cost_is : (rest : List ℕ) → opening_cost (taken ++ rest) ≡ 64 * snapshot.outline.regs.height
 
 -- why a file is not opened, by what the bytes taken are
 abbrev pub SaysRefusal : SnapFault → (taken : List ℕ) → (now : Option (List ℕ)) → Type 0

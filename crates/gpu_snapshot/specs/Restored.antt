@@ -85,6 +85,8 @@ pub record Restores (before now : Intake) (rig : RigState) (reader : ReaderState
   pub stands : Stands rig (machine_in snapshot)
   pub reader_is : reader ≡ reader_behind snapshot.outline.regs.height place
   pub cost : now.steps ≤ before.steps + 64 * snapshot.outline.regs.height
+  pub cost_is : (rest : List ℕ) → state_cost (snap_bytes snapshot.outline snapshot.m snapshot.ram ++ rest)
+      ≡ 64 * snapshot.outline.regs.height
 
 -- where a state breaks off, or the source fails, none of the bytes is one too many
 abbrev pub AreNeededFor : SnapFault → List ℕ → Type 0
