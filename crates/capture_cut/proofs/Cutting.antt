@@ -1,5 +1,5 @@
 -- The state behind the first events.
-use Rattle.std.proofs.Common.{◌≡◌, ◌≤◌, ◌<◌, inl, ◌+◌, ◌++◌, ℕ, List, [], Option, length, refl, ap, sym, subst, ◌∙◌}
+use Rattle.std.proofs.Common.{◌≡◌, ◌≤◌, inl, ◌+◌, ◌++◌, ℕ, List, [], Option, length, refl, ap, sym, subst, ◌∙◌}
 use Rattle.std.proofs.Common.{append-nil, arith}
 use Rattle.dev_io.specs.Device.{appended, AppendsPart}
 use Rattle.gpu_capture.specs.Capture.{limit}
@@ -12,7 +12,7 @@ use Rattle.event_play.specs.Streams.{Streams, streams}
 use Rattle.gpu_core.specs.Kept.{Kept}
 use Rattle.list_dma.specs.declared.run.Run.{Run}
 use Rattle.capture_cut.specs.Came.{Came, HasRead, PlaysFirst}
-use Rattle.capture_cut.specs.Cut.{Way, EndsCut, events_of}
+use Rattle.capture_cut.specs.Cut.{Way, EndsCut}
 use Rattle.capture_cut.specs.File.{begun, rig_bytes, rig_of, snapshot}
 use Rattle.capture_cut.specs.declared.ending.CutEnding.TheVariants.{WriteFailed}
 use Rattle.capture_cut.proofs.Reading.{reads_to}

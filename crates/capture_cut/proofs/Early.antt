@@ -1,22 +1,19 @@
 -- How it ends among the first events.
-use Rattle.std.proofs.Common.{◌≡◌, ◌≤◌, ◌<◌, inl, inr, ◌+◌, ◌^◌, ◌++◌, ◌==◌, ℕ, List, [], ◌∷◌, Option, Result, Ok, Err}
-use Rattle.std.proofs.Common.{length, length-append, refl, ap, sym, subst, ◌∙◌, append-nil, arith, false}
-use Rattle.dev_io.specs.Device.{appended, prepended}
+use Rattle.std.proofs.Common.{◌≡◌, ◌≤◌, ◌<◌, ◌+◌, ◌^◌, ◌++◌, ◌==◌, ℕ, List, [], ◌∷◌, Result, Ok, Err}
+use Rattle.std.proofs.Common.{length, refl, ap, sym, subst, ◌∙◌, append-nil, arith, false}
+use Rattle.dev_io.specs.Device.{prepended}
 use Rattle.dev_io.proofs.Appended.{appended-nil}
-use Rattle.gpu_capture.specs.Reader.{StopsAt}
 use Rattle.gpu_capture.specs.declared.event.Event.{Event}
 use Rattle.gpu_capture.specs.declared.event.Stop.{Stop}
-use Rattle.gpu_capture.specs.declared.event.Stop.TheVariants.{End}
 use Rattle.gpu_capture.specs.declared.progress.Progress.{Progress}
 use Rattle.gpu_taps.specs.Tally.{Reading}
-use Rattle.picture_out.specs.Dump.{dump_cost}
-use Rattle.event_play.specs.Ends.{FaultsEvent, IsNotEnd}
-use Rattle.event_play.specs.Replay.{Tale, raised, next_number}
-use Rattle.event_play.specs.RigState.{RigState, StandsFor}
+use Rattle.event_play.specs.Ends.{FaultsEvent}
+use Rattle.event_play.specs.Replay.{Tale, next_number}
+use Rattle.event_play.specs.RigState.{RigState}
 use Rattle.event_play.specs.Streams.{Outlets, Streams, streams, without_sink}
 use Rattle.event_play.specs.declared.fault.EventFault.{EventFault}
 use Rattle.capture_cut.specs.Came.{EndsAnswer, EndsEarly, IsIdle, HasRead}
-use Rattle.capture_cut.specs.Cut.{Way, Plays, EndsCut, IsInOrder, SaysEnding, StopsBehind}
+use Rattle.capture_cut.specs.Cut.{Way, EndsCut, SaysEnding, StopsBehind}
 use Rattle.capture_cut.specs.declared.ending.CutEnding.{CutEnding}
 use Rattle.capture_cut.specs.declared.ending.CutEnding.TheVariants.{Done, PastEnd, Stopped, Faulted, TooLong, WriteFailed}
 use Rattle.capture_cut.proofs.Playing.{Awaits}

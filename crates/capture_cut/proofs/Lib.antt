@@ -3,4 +3,5 @@ pub mod Early
 pub mod Playing
 pub mod Reading
 pub mod Records
+pub mod Spelling
 pub mod Words

@@ -2,31 +2,25 @@
 use Rattle.std.proofs.Common.{◌≡◌, ◌≤◌, ◌<◌, inl, inr, ◌+◌, ◌^◌, ◌++◌, ◌==◌, ℕ, List, [], ◌∷◌, Option, Result, Ok, Err}
 use Rattle.std.proofs.Common.{OnOk, IfOk, IfErr, length, length-append, refl, ap, sym, subst, ◌∙◌, append_assoc, arith}
 use Rattle.std.proofs.lemmas.Bool.{cases_Bool}
-use Rattle.dev_io.proofs.Appended.{appended-nil}
 use Rattle.gpu_capture.specs.Reader.{Takes, StopsAt, IsStart}
 use Rattle.gpu_capture.specs.declared.event.Event.{Event}
 use Rattle.gpu_capture.specs.declared.event.Stop.{Stop}
-use Rattle.gpu_capture.specs.declared.event.Stop.TheVariants.{End}
 use Rattle.gpu_capture.specs.declared.progress.Progress.{Progress}
 use Rattle.gpu_taps.specs.Tally.{Reading}
-use Rattle.event_play.specs.Ends.{FaultsEvent, IsNotEnd}
 use Rattle.event_play.specs.Replay.{Tale, Replay, from_state, raised, tall_version, after_event, go_on, next_number}
 use Rattle.event_play.specs.RigState.{RigState, StandsFor}
-use Rattle.event_play.specs.Step.{Machine, Step, StepCost, StepBoxCost}
+use Rattle.event_play.specs.Step.{Machine, StepCost, StepBoxCost}
 use Rattle.event_play.specs.Streams.{Outlets, Streams, streams, without_sink}
 use Rattle.event_play.specs.Told.{told_notes}
 use Rattle.event_play.specs.declared.ending.Ending.TheVariants.{Faulted as FaultedPlay}
-use Rattle.event_play.specs.declared.fault.EventFault.{EventFault}
 use Rattle.event_play.proofs.BoxCosts.{StepCost-small}
 use Rattle.event_play.proofs.Feeds.{told-append}
 use Rattle.event_play.proofs.Firsts.{IsFirst, from_first, raised_first}
 use Rattle.event_play.proofs.Grows.{tale_on, after-event}
 use Rattle.capture_flat.proofs.Awaiting.{Answers}
-use Rattle.capture_cut.specs.Came.{PlaysNext, PlaysAnswer, EndsAnswer, IsIdle, HasRead, PlaysFirst}
-use Rattle.capture_cut.specs.Cut.{Way, Plays, EndsCut, IsInOrder}
-use Rattle.capture_cut.specs.declared.ending.CutEnding.{CutEnding}
-use Rattle.capture_cut.specs.declared.ending.CutEnding.TheVariants.{Done, PastEnd, Stopped, Faulted, TooLong, WriteFailed}
-use Rattle.capture_cut.proofs.Reading.{read_none, read_on, reads_to, stops_bytes, stops_behind, answers, version_on}
+use Rattle.capture_cut.specs.Came.{PlaysNext, PlaysAnswer, HasRead, PlaysFirst}
+use Rattle.capture_cut.specs.Cut.{Plays}
+use Rattle.capture_cut.proofs.Reading.{read_none, read_on, answers, version_on}
 
 -- ---- playing
 

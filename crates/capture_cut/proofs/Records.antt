@@ -1,24 +1,20 @@
 -- The records of the events that are not played, one after another.
-use Rattle.std.proofs.Common.{◌≡◌, ◌≤◌, ◌<◌, inl, inr, ◌+◌, ◌++◌, ◌==◌, true, ℕ, List, [], ◌∷◌, Option, Result, Ok, Err}
+use Rattle.std.proofs.Common.{◌≡◌, ◌≤◌, inl, inr, ◌+◌, ◌++◌, ◌==◌, true, ℕ, List, [], ◌∷◌, Option, Ok, Err}
 use Rattle.std.proofs.Common.{length, length-append, refl, ap, sym, subst, ◌∙◌, append_assoc, append-nil, arith}
 use Rattle.dev_io.specs.Device.{appended, prepended, AppendsPart}
-use Rattle.gpu_capture.specs.Capture.{limit}
 use Rattle.gpu_capture.specs.Reader.{Takes, StopsAt}
 use Rattle.gpu_capture.specs.Written.{spelled, spelled_end, tag_of}
 use Rattle.gpu_capture.specs.declared.event.Event.{Event}
 use Rattle.gpu_capture.specs.declared.event.Stop.{Stop}
-use Rattle.gpu_capture.specs.declared.event.Stop.TheVariants.{End}
 use Rattle.gpu_capture.specs.declared.progress.Progress.{Progress}
 use Rattle.gpu_capture.proofs.Written.{word_length}
-use Rattle.gpu_taps.specs.Tally.{Reading}
-use Rattle.event_play.specs.Ends.{IsNotEnd}
 use Rattle.event_play.specs.Replay.{Tale}
 use Rattle.event_play.specs.RigState.{RigState}
 use Rattle.event_play.specs.Streams.{Streams, streams}
 use Rattle.capture_flat.specs.Out.{spell}
 use Rattle.capture_flat.proofs.Pieces.{spell-append, wrote_on}
 use Rattle.capture_cut.specs.Came.{Came, HasRead, WritesRecord, EndsRecord, EndsAt}
-use Rattle.capture_cut.specs.Cut.{Way, EndsCut, IsInOrder, IsLast, ReadsTo, SaysEnding, StopsBehind, due_behind, events_of}
+use Rattle.capture_cut.specs.Cut.{Way, EndsCut, IsLast, SaysEnding, StopsBehind, events_of}
 use Rattle.capture_cut.specs.File.{snapshot, begun, cut_file}
 use Rattle.capture_cut.specs.declared.ending.CutEnding.{CutEnding}
 use Rattle.capture_cut.specs.declared.ending.CutEnding.TheVariants.{Done, PastEnd, Stopped, Faulted, TooLong, WriteFailed}

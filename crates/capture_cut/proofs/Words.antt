@@ -1,5 +1,5 @@
 -- Words and cells, part by part.
-use Rattle.std.proofs.Common.{◌≡◌, ◌≤◌, ◌<◌, ◌+◌, ◌*◌, ◌-◌, ◌/◌, ◌%◌, ◌^◌, ◌++◌, ℕ, zero, suc, List, [], ◌∷◌, length, take, drop}
+use Rattle.std.proofs.Common.{◌≡◌, ◌≤◌, ◌<◌, ◌+◌, ◌*◌, ◌/◌, ◌%◌, ◌^◌, ◌++◌, ℕ, zero, suc, List, [], ◌∷◌, length, take, drop}
 use Rattle.std.proofs.Common.{get_or, arith, refl, ap, sym, subst, ◌∙◌, append-nil, append_assoc, length-drop, set}
 use Rattle.std.proofs.lemmas.Grind.{flat_map-append}
 use Rattle.std.proofs.lemmas.List.{drop-drop, drop_all, take-append-drop, take_all, take_more, take_more_set, get_or-drop, length-take-le}

@@ -1,5 +1,5 @@
 -- How far cutting a capture has come, between its steps.
-use Rattle.std.specs.Prelude.{◌≡◌, ◌≤◌, ◌<◌, ℕ, List, [], ◌∷◌, ◌++◌, ◌+◌, Option, Result, Ok, Err, length}
+use Rattle.std.specs.Prelude.{◌≡◌, ◌≤◌, ◌<◌, ℕ, List, ◌++◌, ◌+◌, Option, Result, Ok, Err, length}
 use Rattle.dev_io.specs.Device.{prepended, appended, AppendsPart}
 use Rattle.gpu_capture.specs.Capture.{capture, then_events, limit}
 use Rattle.gpu_capture.specs.Reader.{IsReadFault, capture_from}

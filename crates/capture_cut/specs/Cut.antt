@@ -55,11 +55,11 @@ pub record ReadsTo (way : Way) (events : List Event) : Type 0 where
 -- Events lead from a tale to a tale, whatever events follow. The rig and the taps are as they are after them.
 pub record Plays (first : Tale) (events : List Event) (t : Tale) (before now : List Reading) (rig : RigState) : Type 0
   where
-  pub replays : (more : List Event) (stop : Stop) (rest : List ℕ)
-      → Replay first (events ++ more) stop rest ≡ Replay t more stop rest
-  pub counts : t.played ≡ length events
-  pub stands : StandsFor rig t
-  pub heard : now ≡ told_notes t.notes before
+    pub replays : (more : List Event) (stop : Stop) (rest : List ℕ)
+        → Replay first (events ++ more) stop rest ≡ Replay t more stop rest
+    pub counts : t.played ≡ length events
+    pub stands : StandsFor rig t
+    pub heard : now ≡ told_notes t.notes before
 
 -- at most n events were played, and none is read behind fewer
 pub record IsInOrder (n : ℕ) (way : Way) : Type 0 where

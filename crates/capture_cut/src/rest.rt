@@ -73,7 +73,12 @@ fn record_size(event: &Event) -> u32
 }
 
 // Writes the record of the event of this number behind so many bytes. The answer is how many stand then.
-fn write_record<K: Sink>(out: &mut K, size: u32, number: u64, event: &Event) -> Result<u32, CutEnding>
+fn write_record<K: Sink>(
+    out: &mut K,
+    size: u32,
+    number: u64,
+    event: &Event,
+) -> Result<u32, CutEnding>
     requires event { IsEvent event.now }
     requires room { size + 4 ≤ 2 ^ 30 }
     ensures ok { IfOk result (WritesRecord size event.now (K.held out.old) (K.held out.new)) }

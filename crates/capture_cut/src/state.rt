@@ -33,7 +33,6 @@ pub(crate) fn write_state<K: Sink, L: Ledger>(
 }
 
 /// How many bytes the head and the state have.
-#[tactic(auto, unfolding(crate::specs::File::rig_bytes, snapshot_words::specs::Outline::snap_bytes))]
 pub(crate) fn state_size(rig: &Rig) -> u32
     ensures value { result ≡ length (rig_bytes rig.now) }
     ensures few { result ≤ 2 ^ 23 }
@@ -119,7 +118,8 @@ fn outline_len(outline: &Outline) -> u32
     ensures value { result ≡ length (outline_words outline.now) }
     ensures few { result ≤ 48 }
 {
-    16 + pending_len(&outline.pending, &outline.load) + store_len(&outline.store)
+    16 + pending_len(&outline.pending, &outline.load)
+        + store_len(&outline.store)
         + run_len(&outline.run)
 }
 
@@ -130,7 +130,7 @@ fn pending_len(pending: &Pending, load: &Option<Transfer>) -> u32
 {
     match pending {
         Pending::Idle => 1,
-        Pending::Packet { words } => 2 + words.len() as u32,
+        Pending::Packet { words } => 2 + words.as_slice().len() as u32,
         Pending::Pixels { .. } => 1 + job_len(load),
         Pending::Poly { half, .. } => match half {
             None => 5,

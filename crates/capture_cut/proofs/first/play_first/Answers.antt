@@ -1,5 +1,5 @@
-use Rattle.std.proofs.Common.{◌≡◌, ◌≤◌, ◌<◌, ◌^◌, ℕ, sym, subst, refl, arith, map}
-use Rattle.std.proofs.lemmas.Result.{err_from_is_err_and, IfErr-weaker}
+use Rattle.std.proofs.Common.{◌≡◌, ℕ, sym, subst, refl, arith, map}
+use Rattle.std.proofs.lemmas.Result.{err_from_is_err_and}
 use Rattle.event_play.specs.Replay.{from_state}
 use Rattle.event_play.specs.Streams.{streams}
 use Rattle.capture_cut.specs.Came.{PlaysFirst}

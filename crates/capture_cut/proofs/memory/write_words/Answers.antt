@@ -1,4 +1,4 @@
-use Rattle.std.proofs.Common.{◌+◌, ◌*◌, ◌-◌, ◌∙◌, arith, sym}
+use Rattle.std.proofs.Common.{◌+◌, ◌*◌, ◌-◌, ◌∙◌, arith}
 use Rattle.picture_out.proofs.DumpLemmas.{length_put_mid}
 use Rattle.capture_cut.proofs.Words.{word_on, words_whole}
 use Rattle.capture_cut.proofs.memory.write_words.Goals as goal
