@@ -4,7 +4,7 @@ ghost use Rattle.px_num.specs.Height.{IsHeight, tall_height};
 ghost use Rattle.vram_store.specs.Vram.{at, height_of, set, zeros, blank, tall, IsLoaded, IsStored};
 
 use crate::steps::Steps;
-use crate::whole::{first_lanes, kept_lanes, load_whole, store_whole};
+use crate::whole::{first_lanes, load_whole, masked_lanes, store_whole};
 use px_num::OutOfMemory;
 use px_num::lanes::splat;
 use std::alloc::{AllocError, Global};
@@ -90,7 +90,6 @@ impl Vram {
     }
 
     /// How many rows of 1024 cells there are: 512 or 1024.
-    #[inline(always)]
     pub fn height(&self) -> u16
         ensures rows { result ≡ height_of self.now }
         ensures cells { length self.now ≡ 1024 * result }
@@ -100,7 +99,6 @@ impl Vram {
     }
 
     /// A cell. One step.
-    #[inline(always)]
     pub fn get<L: Ledger>(&self, x: u16, y: u16, steps: &mut Steps<L>) -> u16
         requires in_row { x < 1024 }
         requires in_height { y < height_of self.now }
@@ -112,7 +110,6 @@ impl Vram {
     }
 
     /// Writes a cell. One step.
-    #[inline(always)]
     pub fn put<L: Ledger>(&mut self, x: u16, y: u16, h: u16, steps: &mut Steps<L>)
         requires in_row { x < 1024 }
         requires in_height { y < height_of self.old }
@@ -125,7 +122,6 @@ impl Vram {
     }
 
     /// The first `n` lanes are the cells of row `y` from column `x` on, and the others 0. One step.
-    #[inline(always)]
     pub fn load16<L: Ledger>(&self, x: u16, y: u16, n: u8, steps: &mut Steps<L>) -> u16x16
         requires some { 1 ≤ n }
         requires lanes { n ≤ 16 }
@@ -145,7 +141,6 @@ impl Vram {
 
     /// Writes those of the first `n` lanes whose bit of the mask is 1 to row `y` from column `x` on. All
     /// other cells stay. One step.
-    #[inline(always)]
     pub fn store16<L: Ledger>(
         &mut self,
         x: u16,
@@ -188,7 +183,7 @@ fn store_first(cells: &mut [u16], start: usize, n: u8, lanes: u16x16, mask: u16)
         store_whole(
             cells,
             start,
-            first_lanes(n, kept_lanes(mask, lanes, old), old),
+            first_lanes(n, masked_lanes(mask, lanes, old), old),
         );
     }
 }
