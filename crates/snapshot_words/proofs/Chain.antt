@@ -1,9 +1,9 @@
 -- The parts of a state, one after another.
-use Rattle.std.proofs.Common.{◌≡◌, ◌+◌, ◌*◌, ◌++◌, List, [], ℕ, Option, length, flat_map, refl, sym, ap, subst, ◌∙◌}
+use Rattle.std.proofs.Common.{◌≡◌, ◌+◌, ◌*◌, ◌++◌, List, [], ℕ, Option, length, refl, ap, subst, ◌∙◌}
 use Rattle.std.proofs.Common.{append_assoc}
 use Rattle.std.proofs.Common.{length-append, arith}
 use Rattle.std.proofs.lemmas.Grind.{flat_map-append}
-use Rattle.dev_io.specs.Device.{prepended, IsAtEnd}
+use Rattle.dev_io.specs.Device.{prepended}
 use Rattle.dev_io.proofs.Parts.{taken_on}
 use Rattle.gp0_words.specs.declared.pending.Pending.{Pending}
 use Rattle.gp1_status.specs.Registers.{Registers}
@@ -15,7 +15,7 @@ use Rattle.gpu_core.specs.Kept.{IsLinked}
 use Rattle.list_dma.specs.declared.run.Run.{Run}
 use Rattle.vram_copy.specs.declared.transfer.Transfer.{Transfer}
 use Rattle.snapshot_words.specs.Outline.{outline_words, bytes_of}
-use Rattle.snapshot_words.specs.Reading.{Found, Whole, Short, Bad, found_then, section_from, outline_from}
+use Rattle.snapshot_words.specs.Reading.{Found, Whole, found_then, section_from, outline_from}
 use Rattle.snapshot_words.specs.Reading.{registers_from, pending_from, store_from, run_from}
 use Rattle.snapshot_words.specs.Taking.{Takes, SaysFault, Stops, TakesOutline}
 use Rattle.snapshot_words.specs.Values.{front_words, height_in, played_in, pending_words, pending_in, load_in}

@@ -1,7 +1,5 @@
 -- Every state is read from its spelling.
-use Rattle.std.proofs.Common.{◌≡◌, ◌+◌, ◌*◌, ◌++◌, List, [], ℕ, Option, None, length, refl, ap, sym, subst, ◌∙◌}
-use Rattle.gp0_words.specs.declared.pending.Pending.{Pending}
-use Rattle.gp1_status.specs.Registers.{Registers}
+use Rattle.std.proofs.Common.{◌≡◌, ◌+◌, ◌*◌, ◌++◌, List, ℕ, None, length, refl, ap, ◌∙◌}
 use Rattle.gp1_status.specs.Words.{words_of}
 use Rattle.gpu_capture.specs.Whole.{AreWords}
 use Rattle.snapshot_words.specs.Outline.{IsOutline, outline_words, bytes_of}
