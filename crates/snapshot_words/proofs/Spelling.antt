@@ -25,7 +25,7 @@ outline_front o = front_words o.regs.height o.played
 
 parts_fit : (o : Outline) → AreWords (outline_words o)
     → AreWords
-    ((((outline_front o ++ words_of o.regs) ++ pending_words o.pending o.load) ++ store_words o.store) ++ run_words o.run)
+    (outline_front o ++ words_of o.regs ++ pending_words o.pending o.load ++ store_words o.store ++ run_words o.run)
 unfolding outline_words
 parts_fit o are = are
 
@@ -35,9 +35,9 @@ outline_taken o place is are =
     let tall = height_few o.regs.height is.height in
     let fit = parts_fit o are in
     let upto_store = words_left_part
-    (((outline_front o ++ words_of o.regs) ++ pending_words o.pending o.load) ++ store_words o.store)
+    (outline_front o ++ words_of o.regs ++ pending_words o.pending o.load ++ store_words o.store)
     (run_words o.run) fit in
-    let upto_pending = words_left_part ((outline_front o ++ words_of o.regs) ++ pending_words o.pending o.load)
+    let upto_pending = words_left_part (outline_front o ++ words_of o.regs ++ pending_words o.pending o.load)
     (store_words o.store) upto_store in
     let upto_registers =
     words_left_part (outline_front o ++ words_of o.regs) (pending_words o.pending o.load) upto_pending in

@@ -164,7 +164,8 @@ line_command command is =
                                         (not_polygon, not_line, not_third, not_fourth, not_fifth, sixth) at is in cc)
                                     | inr not_sixth ↦
                                         absurd (let e = rw
-                                        (not_polygon, not_line, not_third, not_fourth, not_fifth, not_sixth) at is in cc)
+                                        (not_polygon, not_line, not_third, not_fourth, not_fifth, not_sixth)
+                                        at is in cc)
                                   ]
                             ]
                       ]
