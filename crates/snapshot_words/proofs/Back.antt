@@ -1,5 +1,5 @@
 -- Values that are spelled are read back from their words.
-use Rattle.std.proofs.Common.{◌≡◌, ◌+◌, ◌*◌, ◌/◌, ◌%◌, ◌^◌, ℕ, true, false, Option, None, Some, refl, sym, ap, arith}
+use Rattle.std.proofs.Common.{◌≡◌, ℕ, true, false, Option, None, Some, refl, sym, ap, arith}
 use Rattle.gp0_words.specs.declared.pending.Pending.{Pending}
 use Rattle.gp0_words.specs.declared.pending.Pending.TheVariants as pending
 use Rattle.gpu_core.specs.Kept.{IsLinked}

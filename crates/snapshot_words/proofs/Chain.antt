@@ -1,9 +1,9 @@
 -- The parts of a state, one after another.
-use Rattle.std.proofs.Common.{◌≡◌, ◌+◌, ◌*◌, ◌++◌, List, [], ℕ, Option, length, flat_map, refl, sym, ap, subst, ◌∙◌}
+use Rattle.std.proofs.Common.{◌≡◌, ◌+◌, ◌*◌, ◌++◌, List, [], ℕ, Option, length, refl, ap, subst, ◌∙◌}
 use Rattle.std.proofs.Common.{append_assoc}
 use Rattle.std.proofs.Common.{length-append, arith}
 use Rattle.std.proofs.lemmas.Grind.{flat_map-append}
-use Rattle.dev_io.specs.Device.{prepended, IsAtEnd}
+use Rattle.dev_io.specs.Device.{prepended}
 use Rattle.dev_io.proofs.Parts.{taken_on}
 use Rattle.gp0_words.specs.declared.pending.Pending.{Pending}
 use Rattle.gp1_status.specs.Registers.{Registers}
@@ -15,7 +15,7 @@ use Rattle.gpu_core.specs.Kept.{IsLinked}
 use Rattle.list_dma.specs.declared.run.Run.{Run}
 use Rattle.vram_copy.specs.declared.transfer.Transfer.{Transfer}
 use Rattle.snapshot_words.specs.Outline.{outline_words, bytes_of}
-use Rattle.snapshot_words.specs.Reading.{Found, Whole, Short, Bad, found_then, section_from, outline_from}
+use Rattle.snapshot_words.specs.Reading.{Found, Whole, found_then, section_from, outline_from}
 use Rattle.snapshot_words.specs.Reading.{registers_from, pending_from, store_from, run_from}
 use Rattle.snapshot_words.specs.Taking.{Takes, SaysFault, Stops, TakesOutline}
 use Rattle.snapshot_words.specs.Values.{front_words, height_in, played_in, pending_words, pending_in, load_in}
@@ -28,8 +28,8 @@ use Rattle.snapshot_words.specs.declared.section.Section.TheVariants as section
 use Rattle.snapshot_words.proofs.Back.{played_back, pending_back, load_back, store_back, run_back}
 
 -- The words so far of a state were taken. Whatever follows them, it goes on like this from the place behind them.
-pub record Came (first : ℕ) (before now : Option (List ℕ)) (place : ℕ) (got : List ℕ) (next : ℕ → List ℕ
-    → Found Outline) : Type 0 where
+pub record Came (first : ℕ) (before now : Option (List ℕ)) (place : ℕ) (got : List ℕ)
+    (next : ℕ → List ℕ → Found Outline) : Type 0 where
   pub bytes : before ≡ prepended (bytes_of got) now
   pub moved : place ≡ first + 4 * length got
   pub says : (rest : List ℕ) → outline_from first (bytes_of got ++ rest) ≡ next place rest
@@ -113,7 +113,8 @@ module _ (first : ℕ) (before now : Option (List ℕ)) where
 
   pub front_stops : (why : SnapFault) → Stops (section_from section.Front [] first) before now why
       → Stops (outline_from first) before now why
-  front_stops why stops = record { taken = stops.taken; bytes = stops.bytes; says = front_says why stops.taken stops.says }
+  front_stops why stops =
+      record { taken = stops.taken; bytes = stops.bytes; says = front_says why stops.taken stops.says }
 
 -- behind the front
 abbrev pub with_registers : (height played : ℕ) → List ℕ → ℕ → List ℕ → Found Outline
@@ -178,7 +179,8 @@ module _ (first : ℕ) (before mid now : Option (List ℕ)) (place behind : ℕ)
       (run_words r) takes)
 
 words_joined : (o : Outline)
-    → (((front_words o.regs.height o.played ++ words_of o.regs) ++ pending_words o.pending o.load) ++ store_words o.store) ++ run_words o.run
+    → front_words o.regs.height o.played ++ words_of o.regs ++ pending_words o.pending o.load ++ store_words o.store
+    ++ run_words o.run
     ≡ outline_words o
 unfolding outline_words
 words_joined o = refl
@@ -226,7 +228,7 @@ module _ (first : ℕ) (before after_front : Option (List ℕ)) (place1 height p
         (link : IsLinked p load)
         (pendings : Takes (section.Pending height) after_regs after_pending place2 place3 (pending_words p load)) where
       pending_came : Came first before after_pending place3
-          ((front_words height played ++ words_of regs) ++ pending_words p load) (store_from played regs p load)
+          (front_words height played ++ words_of regs ++ pending_words p load) (store_from played regs p load)
       pending_came =
           came_pending first before after_regs after_pending place2 place3
           (front_words height played ++ words_of regs) played regs
@@ -237,23 +239,24 @@ module _ (first : ℕ) (before after_front : Option (List ℕ)) (place1 height p
           → Stops (outline_from first) before now why
       store_stop now why stops =
           came_stops (section.Store regs.height) (with_store played regs p load) first before after_pending now place3
-          ((front_words height played ++ words_of regs) ++ pending_words p load) pending_came why (rw same stops)
+          (front_words height played ++ words_of regs ++ pending_words p load) pending_came why (rw same stops)
 
       module _ (after_store : Option (List ℕ)) (place4 : ℕ) (store : Option Transfer)
           (stores : Takes (section.Store height) after_pending after_store place3 place4 (store_words store)) where
         store_came : Came first before after_store place4
-            (((front_words height played ++ words_of regs) ++ pending_words p load) ++ store_words store)
+            (front_words height played ++ words_of regs ++ pending_words p load ++ store_words store)
             (run_from played regs p load store)
         store_came =
             came_store first before after_pending after_store place3 place4
-            ((front_words height played ++ words_of regs) ++ pending_words p load) played regs p load store pending_came
+            (front_words height played ++ words_of regs ++ pending_words p load) played regs p load store pending_came
             (rw same stores)
 
         pub run_stop : (now : Option (List ℕ)) (why : SnapFault)
             → Stops (section_from section.Run [] place4) after_store now why → Stops (outline_from first) before now why
         run_stop now why stops =
             came_stops section.Run (with_run played regs p load store) first before after_store now place4
-            (((front_words height played ++ words_of regs) ++ pending_words p load) ++ store_words store) store_came why stops
+            (front_words height played ++ words_of regs ++ pending_words p load ++ store_words store)
+            store_came why stops
 
         pub all_came : (now : Option (List ℕ)) (place : ℕ) (r : Run)
             → Takes section.Run after_store now place4 place (run_words r)
@@ -263,10 +266,10 @@ module _ (first : ℕ) (before after_front : Option (List ℕ)) (place1 height p
             let o : Outline =
             record { played = played; regs = regs; pending = p; load = load; store = store; run = r } in
             outline_came first before now place
-            ((((front_words height played ++ words_of regs) ++ pending_words p load) ++ store_words store) ++ run_words r) o
+            (front_words height played ++ words_of regs ++ pending_words p load ++ store_words store ++ run_words r) o
             (subst (λ h.
-            ((((front_words h played ++ words_of regs) ++ pending_words p load) ++ store_words store) ++ run_words r)
+            (front_words h played ++ words_of regs ++ pending_words p load ++ store_words store ++ run_words r)
             ≡ outline_words o) same (words_joined o))
             (came_run first before after_store now place4 place
-            (((front_words height played ++ words_of regs) ++ pending_words p load) ++ store_words store) played regs
+            (front_words height played ++ words_of regs ++ pending_words p load ++ store_words store) played regs
             p load store r store_came takes)

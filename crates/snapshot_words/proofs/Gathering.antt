@@ -11,7 +11,6 @@ use Rattle.gpu_capture.specs.declared.event.Stop.TheVariants.{End, NotCapture, B
 use Rattle.snapshot_words.specs.Sections.{allows, wants, AreAllowed}
 use Rattle.byteorder.specs.Numbers.{little_number-reads_back}
 use Rattle.gpu_capture.specs.Written.{word_bytes}
-use Rattle.gpu_capture.proofs.Written.{word_length}
 use Rattle.snapshot_words.specs.Outline.{bytes_of}
 use Rattle.snapshot_words.specs.Reading.{Whole, Short, Bad, section_from}
 use Rattle.snapshot_words.specs.Taking.{IsWord, EndsWord, SaysNoWord, Goes, Takes, SaysFault, Stops}

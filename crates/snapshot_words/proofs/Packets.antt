@@ -5,7 +5,7 @@ use Rattle.std.proofs.Common.{nat_lt, nat_le, ◌==◌, refl, sym, ◌∙◌, ar
 use Rattle.std.proofs.lemmas.Bool.{ltb-true, leb-true, eq-eqb, ne_eqb, and_parts}
 use Rattle.std.proofs.lemmas.List.{length-take-le}
 use Rattle.gp0_words.specs.Kinds.{first_len_of}
-use Rattle.snapshot_words.specs.Sections.{need, allows, allows_packet, IsWhole}
+use Rattle.snapshot_words.specs.Sections.{allows, allows_packet, IsWhole}
 use Rattle.snapshot_words.specs.declared.section.Section.TheVariants as section
 use Rattle.snapshot_words.proofs.Shapes.{length_is, taken_word}
 

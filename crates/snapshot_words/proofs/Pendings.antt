@@ -1,21 +1,16 @@
 -- What the words of what is pending are, and those of a run.
-use Rattle.std.proofs.Common.{◌≡◌, ◌≤◌, ◌<◌, ◌+◌, ◌*◌, ◌/◌, ◌-◌, ◌⊎◌, inl, inr, List, [], ◌∷◌, ℕ, zero, suc, Bool}
+use Rattle.std.proofs.Common.{◌≡◌, ◌≤◌, ◌*◌, ◌⊎◌, inl, inr, List, [], ◌∷◌, ℕ, zero, suc, Bool}
 use Rattle.std.proofs.Common.{true, false}
-use Rattle.std.proofs.Common.{not, Some, None, length, take, slice_index, nat_le, ◌==◌, ◌&&◌, ◌||◌, refl, sym, subst}
+use Rattle.std.proofs.Common.{length, take, slice_index, nat_le, ◌==◌, ◌||◌, refl, sym, subst}
 use Rattle.std.proofs.Common.{◌∙◌, arith}
 use Rattle.std.proofs.Common.{if◌then◌else◌}
-use Rattle.std.proofs.lemmas.Bool.{ltb-true, leb-true, eqb-true, and_parts, cases_Bool}
+use Rattle.std.proofs.lemmas.Bool.{leb-true, eqb-true, and_parts, cases_Bool}
 use Rattle.std.proofs.lemmas.Nat.{mul-le}
-use Rattle.gp0_words.specs.Kinds.{first_len_of, class_of, is_end, is_set}
+use Rattle.gp0_words.specs.Kinds.{class_of, is_end, is_set}
 use Rattle.gp0_words.specs.Next.{IsPolyline}
 use Rattle.gp1_status.proofs.WordsBack.{flags-again}
-use Rattle.gpu_core.specs.Kept.{IsJob}
-use Rattle.list_dma.specs.Plans.{IsWordAddress}
-use Rattle.vram_copy.specs.declared.transfer.Transfer.{Transfer}
-use Rattle.snapshot_words.specs.Sections.{need, allows, is_address, is_line, IsWhole}
-use Rattle.snapshot_words.specs.Values.{job_in}
+use Rattle.snapshot_words.specs.Sections.{is_line, IsWhole}
 use Rattle.snapshot_words.specs.Shapes.{IsPendingPart, IsRunPart}
-use Rattle.snapshot_words.specs.declared.section.Section.{Section}
 use Rattle.snapshot_words.specs.declared.section.Section.TheVariants as section
 use Rattle.snapshot_words.proofs.Packets.{IsPacketPart, packet_is}
 use Rattle.snapshot_words.proofs.Shapes.{shape1, shape2, shape5, shape6, length_is, taken_word, job_tests, either}

@@ -1,27 +1,18 @@
 -- What the words of whole parts are.
-use Rattle.std.proofs.Common.{◌≡◌, ◌≤◌, ◌<◌, ◌+◌, ◌*◌, ◌%◌, ◌/◌, ◌-◌, ◌^◌, ◌⊎◌, inl, inr, min, List, [], ◌∷◌, ℕ, Bool}
+use Rattle.std.proofs.Common.{◌≡◌, ◌<◌, ◌+◌, ◌*◌, ◌%◌, ◌/◌, ◌^◌, ◌⊎◌, inl, inr, List, [], ◌∷◌, ℕ, Bool}
 use Rattle.std.proofs.Common.{true, false}
-use Rattle.std.proofs.Common.{not, Option, Some, None, length, take, slice_index, nat_lt, nat_le, ◌==◌, ◌&&◌, ◌||◌}
-use Rattle.std.proofs.Common.{refl, sym, ap}
-use Rattle.std.proofs.Common.{subst, ◌∙◌, arith, if◌then◌else◌}
-use Rattle.std.proofs.lemmas.Bool.{ltb-true, ltb-false, leb-true, eqb-true, eq-eqb, ne_eqb, and_parts, cases_lt}
+use Rattle.std.proofs.Common.{not, length, take, slice_index, nat_lt, nat_le, ◌==◌, ◌&&◌, ◌||◌}
+use Rattle.std.proofs.Common.{refl}
+use Rattle.std.proofs.Common.{subst, arith}
+use Rattle.std.proofs.lemmas.Bool.{ltb-true, ltb-false, leb-true, eqb-true, eq-eqb, and_parts, cases_lt}
 use Rattle.std.proofs.lemmas.Bool.{cases_Bool}
 use Rattle.std.proofs.lemmas.List.{length-take-le, get_or-take}
-use Rattle.gp0_words.specs.Kinds.{class_of, is_end, is_set}
-use Rattle.gp0_words.specs.Next.{IsPending, IsPolyline}
-use Rattle.gp0_words.specs.declared.pending.Pending.TheVariants as pending
-use Rattle.gp1_status.specs.Registers.{bit}
-use Rattle.gp1_status.specs.Words.{is_allowed, words_of, registers_in, AreAllowed as RegisterBits}
-use Rattle.gp1_status.proofs.WordsBack.{words_again, flags-again}
-use Rattle.gpu_core.specs.Kept.{IsJob, IsLinked, IsOpen}
-use Rattle.list_dma.specs.Plans.{IsRun, IsWordAddress}
-use Rattle.px_num.specs.Height.{IsHeight}
-use Rattle.vram_copy.specs.declared.transfer.Transfer.{Transfer}
-use Rattle.snapshot_words.specs.Sections.{need, wants, allows, is_address, is_within, is_line, IsWhole}
-use Rattle.snapshot_words.specs.Values.{front_words, height_in, played_in, job_in, store_words, store_in, run_words}
-use Rattle.snapshot_words.specs.Values.{run_in}
-use Rattle.snapshot_words.specs.Values.{pending_words, pending_in, load_in, half_in, half_words}
-use Rattle.snapshot_words.specs.Shapes.{IsFront, IsRegisters, IsStore, IsPendingPart, IsRunPart}
+use Rattle.gp1_status.specs.Words.{is_allowed, AreAllowed as RegisterBits}
+use Rattle.gp1_status.proofs.WordsBack.{words_again}
+use Rattle.gpu_core.specs.Kept.{IsJob}
+use Rattle.list_dma.specs.Plans.{IsWordAddress}
+use Rattle.snapshot_words.specs.Sections.{need, is_address, is_within, IsWhole}
+use Rattle.snapshot_words.specs.Shapes.{IsFront, IsRegisters, IsStore}
 use Rattle.snapshot_words.specs.declared.section.Section.{Section}
 use Rattle.snapshot_words.specs.declared.section.Section.TheVariants as section
 

@@ -1,7 +1,5 @@
 -- Every state is read from its spelling.
-use Rattle.std.proofs.Common.{◌≡◌, ◌+◌, ◌*◌, ◌++◌, List, [], ℕ, Option, None, length, refl, ap, sym, subst, ◌∙◌}
-use Rattle.gp0_words.specs.declared.pending.Pending.{Pending}
-use Rattle.gp1_status.specs.Registers.{Registers}
+use Rattle.std.proofs.Common.{◌≡◌, ◌+◌, ◌*◌, ◌++◌, List, ℕ, None, length, refl, ap, ◌∙◌}
 use Rattle.gp1_status.specs.Words.{words_of}
 use Rattle.gpu_capture.specs.Whole.{AreWords}
 use Rattle.snapshot_words.specs.Outline.{IsOutline, outline_words, bytes_of}
@@ -27,7 +25,7 @@ outline_front o = front_words o.regs.height o.played
 
 parts_fit : (o : Outline) → AreWords (outline_words o)
     → AreWords
-    ((((outline_front o ++ words_of o.regs) ++ pending_words o.pending o.load) ++ store_words o.store) ++ run_words o.run)
+    (outline_front o ++ words_of o.regs ++ pending_words o.pending o.load ++ store_words o.store ++ run_words o.run)
 unfolding outline_words
 parts_fit o are = are
 
@@ -37,9 +35,9 @@ outline_taken o place is are =
     let tall = height_few o.regs.height is.height in
     let fit = parts_fit o are in
     let upto_store = words_left_part
-    (((outline_front o ++ words_of o.regs) ++ pending_words o.pending o.load) ++ store_words o.store)
+    (outline_front o ++ words_of o.regs ++ pending_words o.pending o.load ++ store_words o.store)
     (run_words o.run) fit in
-    let upto_pending = words_left_part ((outline_front o ++ words_of o.regs) ++ pending_words o.pending o.load)
+    let upto_pending = words_left_part (outline_front o ++ words_of o.regs ++ pending_words o.pending o.load)
     (store_words o.store) upto_store in
     let upto_registers =
     words_left_part (outline_front o ++ words_of o.regs) (pending_words o.pending o.load) upto_pending in

@@ -1,6 +1,6 @@
 -- What is read as a state is its spelling, and no other bytes are.
-use Rattle.std.proofs.Common.{◌≡◌, ◌<◌, ◌+◌, ◌*◌, ◌^◌, ◌++◌, inl, inr, List, [], ◌∷◌, ℕ, zero, suc, true, false}
-use Rattle.std.proofs.Common.{Option, Some, None, length}
+use Rattle.std.proofs.Common.{◌≡◌, ◌<◌, ◌+◌, ◌*◌, ◌^◌, ◌++◌, inl, inr, List, [], ◌∷◌, ℕ, suc, false}
+use Rattle.std.proofs.Common.{length}
 use Rattle.std.proofs.Common.{slice_index, refl, sym, ap, subst, ◌∙◌, append_assoc, append-nil, length-append, arith}
 use Rattle.std.proofs.lemmas.Bool.{cases_Bool}
 use Rattle.std.proofs.lemmas.Grind.{flat_map-append}
@@ -13,7 +13,7 @@ use Rattle.snapshot_words.specs.Outline.{IsOutline, outline_words, bytes_of}
 use Rattle.snapshot_words.specs.Reading.{Found, Whole, Short, Bad, found_then, section_from, outline_from}
 use Rattle.snapshot_words.specs.Reading.{registers_from, pending_from, store_from, run_from}
 use Rattle.snapshot_words.specs.Sections.{wants, allows, AreAllowed, IsWhole}
-use Rattle.snapshot_words.specs.Values.{front_words, height_in, played_in, pending_words, pending_in, load_in}
+use Rattle.snapshot_words.specs.Values.{height_in, played_in, pending_words, pending_in, load_in}
 use Rattle.snapshot_words.specs.Values.{store_words, store_in, run_words, run_in}
 use Rattle.snapshot_words.specs.declared.outline.Outline.{Outline}
 use Rattle.snapshot_words.specs.declared.section.Section.{Section}

@@ -1,16 +1,15 @@
 -- The words that values within the bounds are spelled by are those of whole parts.
 use Rattle.std.proofs.Common.{◌≡◌, ◌≤◌, ◌<◌, ◌+◌, ◌-◌, ◌*◌, ◌/◌, ◌%◌, ◌^◌, ◌++◌, min, inl, inr, List, [], ◌∷◌, ℕ}
 use Rattle.std.proofs.Common.{zero, suc, Bool, true, false}
-use Rattle.std.proofs.Common.{not, Option, None, Some, length, take, slice_index, nat_lt, nat_le, ◌==◌, ◌&&◌, ◌||◌}
+use Rattle.std.proofs.Common.{Option, None, Some, length, take, slice_index, nat_lt, nat_le, ◌==◌, ◌||◌}
 use Rattle.std.proofs.Common.{refl, sym, ap, subst}
 use Rattle.std.proofs.Common.{◌∙◌, append_assoc, append-nil, length-append, if◌then◌else◌, arith}
 use Rattle.std.proofs.lemmas.Bool.{le-ltb, eq-eqb, ne_eqb, lt-ltb, le-leb, and_from, cases_Bool}
 use Rattle.std.proofs.lemmas.Bool.Decides.{nat_tests}
 use Rattle.std.proofs.lemmas.List.{length-take-le}
 use Rattle.std.proofs.lemmas.Nat.{mul-le}
-use Rattle.gp0_words.specs.Kinds.{first_len_of, kind_of, class_of, is_end, is_set}
+use Rattle.gp0_words.specs.Kinds.{first_len_of, class_of, is_set}
 use Rattle.gp0_words.specs.Next.{IsPending, IsPolyline}
-use Rattle.gp0_words.specs.declared.kind.Kind.TheVariants.{Polyline}
 use Rattle.gp0_words.specs.declared.pending.Pending.{Pending}
 use Rattle.gp0_words.specs.declared.pending.Pending.TheVariants as pending
 use Rattle.gp1_status.specs.Registers.{Registers, bit_of}
@@ -22,9 +21,8 @@ use Rattle.list_dma.specs.declared.run.Run.{Run}
 use Rattle.list_dma.specs.declared.run.Run.TheVariants as run
 use Rattle.px_num.specs.Height.{IsHeight}
 use Rattle.vram_copy.specs.declared.transfer.Transfer.{Transfer}
-use Rattle.snapshot_words.specs.Sections.{wants, allows, allows_packet, is_address, is_line, AreAllowed, IsWhole}
+use Rattle.snapshot_words.specs.Sections.{wants, allows, is_address, is_line, AreAllowed, IsWhole}
 use Rattle.snapshot_words.specs.Values.{front_words, job_words, store_words, pending_words, run_words}
-use Rattle.snapshot_words.specs.declared.section.Section.{Section}
 use Rattle.snapshot_words.specs.declared.section.Section.TheVariants as section
 use Rattle.snapshot_words.proofs.Gathering.{none_allowed, allowed_on}
 use Rattle.snapshot_words.proofs.Packets.{allows_behind}
@@ -166,7 +164,8 @@ line_command command is =
                                         (not_polygon, not_line, not_third, not_fourth, not_fifth, sixth) at is in cc)
                                     | inr not_sixth ↦
                                         absurd (let e = rw
-                                        (not_polygon, not_line, not_third, not_fourth, not_fifth, not_sixth) at is in cc)
+                                        (not_polygon, not_line, not_third, not_fourth, not_fifth, not_sixth)
+                                        at is in cc)
                                   ]
                             ]
                       ]

@@ -1,5 +1,5 @@
 -- A state but for its two memories, its bounds, and its spelling (our own rule). A state has one spelling.
-use Rattle.std.specs.Prelude.{◌≡◌, ◌<◌, ◌≤◌, ℕ, ◌*◌, ◌^◌, List, [], ◌∷◌, ◌++◌, codes, flat_map, length}
+use Rattle.std.specs.Prelude.{◌≡◌, ◌<◌, ℕ, ◌*◌, ◌^◌, List, [], ◌∷◌, ◌++◌, codes, flat_map, length}
 use Rattle.gp0_words.specs.Next.{IsPending}
 use Rattle.gp1_status.specs.Words.{words_of, AreAllowed as RegisterBits}
 use Rattle.gpu_capture.specs.Whole.{AreWords}

@@ -1,5 +1,5 @@
 -- The table of a state: its parts, how many words each has, and which words may stand there (our own rule).
-use Rattle.std.specs.Prelude.{◌≡◌, ◌<◌, ◌≤◌, ℕ, ◌+◌, ◌-◌, ◌*◌, ◌%◌, min, Bool, true, false, not, List}
+use Rattle.std.specs.Prelude.{◌≡◌, ◌<◌, ℕ, ◌+◌, ◌-◌, ◌*◌, ◌%◌, min, Bool, true, false, not, List}
 use Rattle.std.specs.Prelude.{if◌then◌else◌, nat_lt, nat_le, ◌==◌, ◌&&◌, ◌||◌, ◌^◌, length, slice_index, take}
 use Rattle.gp0_words.specs.Kinds.{first_len_of, class_of, is_end, is_set}
 use Rattle.px_num.specs.Height.{IsHeight}
