@@ -1,5 +1,5 @@
 -- Words of a memory and their bytes.
-use Rattle.std.proofs.Common.{◌≡◌, ◌≤◌, ◌<◌, ◌+◌, ◌*◌, ◌^◌, ◌++◌, List, [], ◌∷◌, ℕ, Option, length, ap, refl, ◌∙◌, length-append}
+use Rattle.std.proofs.Common.{◌≡◌, ◌≤◌, ◌<◌, ◌+◌, ◌*◌, ◌++◌, List, [], ◌∷◌, ℕ, Option, length, ap, refl, ◌∙◌, length-append}
 use Rattle.std.proofs.Common.{arith, append_assoc, append-nil, sym}
 use Rattle.dev_io.specs.Device.{prepended}
 use Rattle.dev_io.proofs.Parts.{taken_on}

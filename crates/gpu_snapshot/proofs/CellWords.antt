@@ -1,14 +1,13 @@
 -- Cells, two in each word.
-use Rattle.std.proofs.Common.{◌≡◌, ◌≤◌, ◌<◌, ◌+◌, ◌-◌, ◌*◌, ◌/◌, ◌%◌, ◌^◌, ◌++◌, List, [], ◌∷◌, ℕ, zero, suc, Option}
+use Rattle.std.proofs.Common.{◌≡◌, ◌<◌, ◌+◌, ◌-◌, ◌*◌, ◌/◌, ◌%◌, ◌^◌, ◌++◌, List, [], ◌∷◌, ℕ, zero, suc, Option}
 use Rattle.std.proofs.Common.{length, take, slice_set, get_or, get_or-take, length-append, inl, inr, refl, ap, sym, ◌∙◌}
 use Rattle.std.proofs.Common.{arith}
 use Rattle.std.proofs.lemmas.List.{length-take-le, take_all, get_or_append_left, get_or-append_right}
 use Rattle.std.proofs.lemmas.Bool.{cases_lt}
 use Rattle.std.proofs.lemmas.Grind.{same_number_lists}
-use Rattle.dev_io.specs.Device.{prepended}
 use Rattle.dev_io.proofs.Parts.{taken_on, prepended-nil}
 use Rattle.event_play.specs.RigState.{RigState}
-use Rattle.snapshot_words.specs.Outline.{bytes_of, AreCells}
+use Rattle.snapshot_words.specs.Outline.{bytes_of}
 use Rattle.snapshot_words.specs.Taking.{IsWord, EndsWord}
 use Rattle.snapshot_words.specs.Values.{cell_words}
 use Rattle.snapshot_words.specs.declared.fault.SnapFault.{SnapFault}

@@ -1,6 +1,6 @@
 -- The first 8 bytes of a file.
-use Rattle.std.proofs.Common.{◌≡◌, ◌≤◌, ◌<◌, ◌+◌, ◌==◌, ◌++◌, ◌≢◌, List, [], ◌∷◌, ℕ, suc, zero, true, false, Bool, Option}
-use Rattle.std.proofs.Common.{Some, None, Ok, Err, length, not, zip, unwrap_or, refl, ap, sym, ◌∙◌, arith, inl, inr}
+use Rattle.std.proofs.Common.{◌≡◌, ◌+◌, ◌==◌, List, [], ◌∷◌, ℕ, suc, true}
+use Rattle.std.proofs.Common.{Ok, Err, length, not, zip, unwrap_or, refl, ap, sym, ◌∙◌, arith, inl, inr}
 use Rattle.std.proofs.lemmas.Bool.{cases_Bool}
 use Rattle.std.specs.List.{position_from}
 use Rattle.std.specs.Prelude.{position}

@@ -1,14 +1,14 @@
 -- What bytes are found to be stays so where more bytes follow them, unless they break off.
-use Rattle.std.proofs.Common.{◌≡◌, ◌≤◌, ◌<◌, ◌+◌, ◌*◌, ◌++◌, List, [], ◌∷◌, ℕ, suc, true, false, Option, length, take, drop, nat_lt}
-use Rattle.std.proofs.Common.{refl, ap, sym, subst, ◌∙◌, arith, inl, inr, length-append, append_assoc, append-nil}
-use Rattle.std.proofs.lemmas.Bool.{cases_Bool, cases_lt}
+use Rattle.std.proofs.Common.{◌≡◌, ◌≤◌, ◌+◌, ◌*◌, ◌++◌, List, [], ◌∷◌, ℕ, false, Option, length, nat_lt}
+use Rattle.std.proofs.Common.{refl, arith, inl, inr, length-append}
+use Rattle.std.proofs.lemmas.Bool.{cases_Bool}
 use Rattle.std.proofs.lemmas.List.{take-append-le, drop-append-le}
 use Rattle.byteorder.specs.Endian.{little_number}
-use Rattle.snapshot_words.specs.Reading.{Found, Whole, Short, Bad, Snapshot, found_then, section_from, outline_from}
-use Rattle.snapshot_words.specs.Reading.{run_from, store_from, pending_from, registers_from, words_in}
+use Rattle.snapshot_words.specs.Reading.{Found, Whole, Short, Bad, found_then, section_from, outline_from}
+use Rattle.snapshot_words.specs.Reading.{run_from, store_from, pending_from, registers_from}
 use Rattle.snapshot_words.specs.Reading.{memory_from, memories_from, state_from, ram_words}
 use Rattle.snapshot_words.specs.Sections.{allows, wants}
-use Rattle.snapshot_words.specs.Values.{height_in, played_in, pending_in, load_in, store_in, run_in, cells_in}
+use Rattle.snapshot_words.specs.Values.{height_in, played_in, pending_in, load_in, store_in}
 use Rattle.snapshot_words.specs.declared.outline.Outline.{Outline}
 use Rattle.snapshot_words.specs.declared.section.Section.{Section}
 use Rattle.snapshot_words.specs.declared.section.Section.TheVariants as section

@@ -1,13 +1,13 @@
 -- How playing ends, where bytes were taken before it that lead to it.
-use Rattle.std.proofs.Common.{◌≡◌, ◌≤◌, ◌<◌, ◌+◌, ◌++◌, List, [], ◌∷◌, ℕ, Option, refl, ap, sym, ◌∙◌, arith, inl, inr}
+use Rattle.std.proofs.Common.{◌≡◌, ◌≤◌, ◌++◌, List, ℕ, Option, refl, ap, ◌∙◌, arith, inl, inr}
 use Rattle.std.proofs.Common.{append_assoc}
-use Rattle.dev_io.specs.Device.{prepended, appended}
+use Rattle.dev_io.specs.Device.{prepended}
 use Rattle.dev_io.proofs.Parts.{taken_on}
 use Rattle.gpu_capture.specs.declared.event.Stop.TheVariants.{End, NotCapture, BadRecord, TooLong, Truncated, ReadFault}
 use Rattle.gpu_capture.proofs.Steps.{split}
 use Rattle.gpu_taps.specs.Tally.{Reading}
-use Rattle.event_play.specs.Out.{Out, OutCost, OutBoxCost}
-use Rattle.event_play.specs.Playing.{IsShort, AreAllNeeded, DueAtEvent, DueAtEnd, LacksBytes, SaysEnding, EndsPlay}
+use Rattle.event_play.specs.Out.{Out}
+use Rattle.event_play.specs.Playing.{AreAllNeeded, DueAtEvent, DueAtEnd, LacksBytes, SaysEnding, EndsPlay}
 use Rattle.event_play.specs.Replay.{Tale, Played}
 use Rattle.event_play.specs.RigState.{RigState}
 use Rattle.event_play.specs.Streams.{Streams, streams}

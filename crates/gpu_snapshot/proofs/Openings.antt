@@ -1,9 +1,8 @@
 -- A file that is opened.
-use Rattle.std.proofs.Common.{◌≡◌, ◌≤◌, ◌<◌, ◌+◌, ◌*◌, ◌==◌, ◌++◌, List, [], ◌∷◌, ℕ, suc, Bool, true, false, Option, None}
-use Rattle.std.proofs.Common.{Ok, Err, cond, length, take, drop, nat_lt, refl, ap, sym, ◌∙◌, arith, inl, inr, length-append}
-use Rattle.std.proofs.Common.{append_assoc, append-nil}
+use Rattle.std.proofs.Common.{◌≡◌, ◌≤◌, ◌<◌, ◌+◌, ◌++◌, List, [], ◌∷◌, ℕ, suc, true, false, Option, None}
+use Rattle.std.proofs.Common.{Ok, length, take, drop, nat_lt, refl, ap, sym, ◌∙◌, arith, inl, inr, length-append}
+use Rattle.std.proofs.Common.{append_assoc}
 use Rattle.std.proofs.Math.Seq.{take-append_seam, drop-append_seam}
-use Rattle.dev_io.specs.Device.{prepended}
 use Rattle.dev_io.proofs.Parts.{taken_on}
 use Rattle.gpu_capture.specs.Capture.{IsVersion}
 use Rattle.gpu_capture.specs.Reader.{tag_due}
@@ -13,16 +12,16 @@ use Rattle.gpu_capture.specs.declared.event.Stop.TheVariants.{End, NotCapture, B
 use Rattle.gpu_capture.proofs.Steps.{split}
 use Rattle.event_play.specs.Replay.{Tale, raised}
 use Rattle.event_play.specs.RigState.{RigState, first_rig, StandsFor}
-use Rattle.snapshot_words.specs.Outline.{snapshot_head, snap_bytes}
+use Rattle.snapshot_words.specs.Outline.{snap_bytes}
 use Rattle.snapshot_words.specs.Reading.{Found, Whole, Short, Bad, Snapshot, state_from}
 use Rattle.snapshot_words.specs.Taking.{SaysFault}
 use Rattle.snapshot_words.specs.declared.fault.SnapFault.{SnapFault}
 use Rattle.snapshot_words.specs.declared.fault.SnapFault.TheVariants as fault
 use Rattle.gpu_snapshot.specs.Head.{file_head, TakesHead, StopsInHead, SaysNoHead}
-use Rattle.gpu_snapshot.specs.Intake.{Intake, intake}
-use Rattle.gpu_snapshot.specs.Opened.{Opened, Captured, Restored, Unknown, BreaksOff, BadWord, opened, behind_head, opened_state}
+use Rattle.gpu_snapshot.specs.Intake.{intake}
+use Rattle.gpu_snapshot.specs.Opened.{BreaksOff, opened, behind_head, opened_state}
 use Rattle.gpu_snapshot.specs.Opening.{OpensCapture, OpensState, Refuses, SaysRefusal, AreNeeded, AreNeededFor, IsTooShort}
-use Rattle.gpu_snapshot.specs.Opening.{opening_cost, cost_behind}
+use Rattle.gpu_snapshot.specs.Opening.{opening_cost}
 use Rattle.gpu_snapshot.specs.Restored.{Restores, StopsInState, IsShort, first_place, state_cost}
 use Rattle.gpu_snapshot.specs.Restored.{AreNeeded as AreNeededInState, AreNeededFor as AreNeededForState}
 use Rattle.gpu_snapshot.specs.declared.head.FileHead.TheVariants as head

@@ -1,14 +1,11 @@
 -- A capture or a snapshot that is opened, and then played.
-use Rattle.std.proofs.Common.{◌≡◌, ◌≤◌, ◌<◌, ◌+◌, ◌-◌, ◌*◌, ◌==◌, ◌++◌, List, [], ◌∷◌, ℕ, suc, Bool, true, false, Option, None}
+use Rattle.std.proofs.Common.{◌≡◌, ◌≤◌, ◌+◌, ◌-◌, ◌*◌, ◌==◌, ◌++◌, List, [], ℕ, Option}
 use Rattle.std.proofs.Common.{Result, Ok, Err, length, take, drop, nat_lt, refl, ap, sym, subst, ◌∙◌, arith, inl, inr}
 use Rattle.std.proofs.Common.{append_assoc, append-nil}
 use Rattle.std.proofs.lemmas.Bool.{cases_Bool}
-use Rattle.std.proofs.lemmas.List.{length-append}
-use Rattle.dev_io.specs.Device.{prepended, appended}
+use Rattle.dev_io.specs.Device.{appended}
 use Rattle.dev_io.proofs.Appended.{appended-nil}
-use Rattle.px_num.specs.Height.{tall_height}
-use Rattle.vram_store.specs.Vram.{zeros, tall, rows_behind}
-use Rattle.gpu_capture.specs.Capture.{Captured, IsVersion, capture, records, head_version}
+use Rattle.gpu_capture.specs.Capture.{capture, records}
 use Rattle.gpu_capture.specs.Reader.{tag_due, capture_from}
 use Rattle.gpu_capture.specs.State.{ReaderState}
 use Rattle.gpu_capture.specs.declared.progress.Progress.{Progress}
@@ -17,14 +14,13 @@ use Rattle.gpu_capture.specs.declared.event.Stop.TheVariants.{End, NotCapture, B
 use Rattle.gpu_capture.specs.declared.record.Due.TheVariants.{Tag}
 use Rattle.gpu_capture.proofs.Steps.{at_word}
 use Rattle.gpu_capture.proofs.Versions.{version_from}
-use Rattle.gpu_core.specs.Machine.{State, tall_state}
 use Rattle.gpu_taps.specs.Tally.{Reading}
 use Rattle.event_play.specs.Out.{lines_of}
 use Rattle.event_play.specs.Playing.{IsShort, AreAllNeeded, SaysEnding, EndsPlay}
-use Rattle.event_play.specs.Replay.{Tale, Played, Play, played_behind, played_from, replayed, raised, from_state, tall_tale}
-use Rattle.event_play.specs.Replay.{tall_version, next_number}
-use Rattle.event_play.specs.RigState.{RigState, first_rig, Stands, StandsFor}
-use Rattle.event_play.specs.Step.{Machine, tall_machine}
+use Rattle.event_play.specs.Replay.{Tale, played_behind, played_from, replayed, raised, from_state}
+use Rattle.event_play.specs.Replay.{tall_version}
+use Rattle.event_play.specs.RigState.{RigState, first_rig, Stands}
+use Rattle.event_play.specs.Step.{Machine}
 use Rattle.event_play.specs.Streams.{Streams, streams}
 use Rattle.event_play.specs.declared.ending.Ending.{Ending}
 use Rattle.event_play.specs.declared.ending.Ending.TheVariants.{Done, Stopped, Faulted, NoPicture, WriteFailed}
@@ -34,13 +30,13 @@ use Rattle.snapshot_words.specs.Reading.{Found, Whole, Short, Bad, Snapshot, sta
 use Rattle.snapshot_words.specs.declared.fault.SnapFault.{SnapFault}
 use Rattle.snapshot_words.specs.declared.fault.SnapFault.TheVariants as fault
 use Rattle.gpu_snapshot.specs.Head.{file_head}
-use Rattle.gpu_snapshot.specs.Intake.{Intake, intake}
+use Rattle.gpu_snapshot.specs.Intake.{intake}
 use Rattle.gpu_snapshot.specs.Opened.{Opened, Captured as IsCapture, Restored, Unknown, BreaksOff, BadWord, opened, behind_head}
 use Rattle.gpu_snapshot.specs.Opened.{opened_state}
-use Rattle.gpu_snapshot.specs.Opening.{OpensCapture, OpensState, Refuses, SaysRefusal, AreNeeded, IsTooShort, opening_cost}
-use Rattle.gpu_snapshot.specs.PlayAny.{PlayAny, played_opened, EndsAny, PlaysAny, FindsBadWord, IsGood, HasNoBadWord}
-use Rattle.gpu_snapshot.specs.PlayAny.{any_ending_of, unplayed}
-use Rattle.gpu_snapshot.specs.Restored.{machine_in, version_behind, first_place}
+use Rattle.gpu_snapshot.specs.Opening.{OpensCapture, OpensState, Refuses, AreNeeded, IsTooShort, opening_cost}
+use Rattle.gpu_snapshot.specs.PlayAny.{PlayAny, played_opened, EndsAny, PlaysAny, IsGood, HasNoBadWord}
+use Rattle.gpu_snapshot.specs.PlayAny.{any_ending_of}
+use Rattle.gpu_snapshot.specs.Restored.{machine_in, version_behind}
 use Rattle.gpu_snapshot.specs.declared.head.FileHead.{FileHead}
 use Rattle.gpu_snapshot.specs.declared.head.FileHead.TheVariants as head
 use Rattle.gpu_snapshot.proofs.Heads.{capture_is}

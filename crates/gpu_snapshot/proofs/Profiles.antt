@@ -1,12 +1,11 @@
 -- The sizes of the memories of a new rig, in either profile.
-use Rattle.std.proofs.Common.{◌≡◌, ◌*◌, ◌+◌, ◌-◌, ◌≤◌, ◌++◌, ℕ, List, [], length, refl, ap, sym, ◌∙◌, arith, append-nil}
+use Rattle.std.proofs.Common.{◌≡◌, ◌*◌, ◌-◌, ◌≤◌, ◌++◌, ℕ, List, length, refl, ap, sym, ◌∙◌, arith, append-nil}
 use Rattle.std.proofs.lemmas.List.{length-append, length-replicate}
 use Rattle.px_num.specs.Height.{tall_height, short_height}
 use Rattle.gpu_core.specs.Kept.{Kept}
 use Rattle.gpu_core.specs.Machine.{first_state, tall_state}
 use Rattle.ot_clear_dma.specs.Ram as ram
 use Rattle.vram_store.specs.Vram.{blank, zeros, tall, rows_behind}
-use Rattle.event_play.specs.Replay.{Tale}
 use Rattle.event_play.specs.RigState.{RigState, first_rig, Stands}
 use Rattle.event_play.specs.Step.{Machine, first_machine, tall_machine}
 

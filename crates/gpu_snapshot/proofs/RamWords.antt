@@ -2,7 +2,6 @@
 use Rattle.std.proofs.Common.{◌≡◌, ◌≤◌, ◌<◌, ◌+◌, ◌*◌, ◌++◌, List, [], ◌∷◌, ℕ, zero, suc, Option, length, take}
 use Rattle.std.proofs.Common.{slice_set, refl, ap, sym, ◌∙◌, arith}
 use Rattle.std.proofs.lemmas.List.{length-take-le, take_all}
-use Rattle.dev_io.specs.Device.{prepended}
 use Rattle.dev_io.proofs.Parts.{taken_on, prepended-nil}
 use Rattle.event_play.specs.RigState.{RigState}
 use Rattle.ot_clear_dma.specs.Ram.{set, place_of}

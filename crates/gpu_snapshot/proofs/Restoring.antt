@@ -1,7 +1,6 @@
 -- A state that is read into a rig.
-use Rattle.std.proofs.Common.{◌≡◌, ◌≤◌, ◌<◌, ◌+◌, ◌*◌, ◌/◌, ◌++◌, List, [], ◌∷◌, ℕ, Option, None, length, refl, ap, sym, ◌∙◌}
-use Rattle.std.proofs.Common.{arith, length-append, append_assoc, append-nil}
-use Rattle.dev_io.specs.Device.{prepended}
+use Rattle.std.proofs.Common.{◌≡◌, ◌≤◌, ◌+◌, ◌*◌, ◌++◌, List, [], ℕ, Option, None, length, refl, ap, sym, ◌∙◌}
+use Rattle.std.proofs.Common.{arith, append_assoc, append-nil}
 use Rattle.dev_io.proofs.Parts.{taken_on}
 use Rattle.gp0_words.specs.Items.{Rest}
 use Rattle.gp0_words.specs.Resuming.{list_of}
@@ -11,18 +10,18 @@ use Rattle.gpu_capture.specs.State.{ReaderState}
 use Rattle.gpu_capture.specs.declared.progress.Progress.{Progress}
 use Rattle.gpu_capture.specs.declared.event.Stop.{Stop}
 use Rattle.gpu_capture.specs.declared.event.Stop.TheVariants.{End, NotCapture, BadRecord, TooLong, Truncated, ReadFault}
-use Rattle.gpu_core.specs.Kept.{Kept, kept_of, kept_with, state_with}
+use Rattle.gpu_core.specs.Kept.{Kept, kept_with}
 use Rattle.list_dma.specs.declared.run.Run.{Run}
 use Rattle.event_play.specs.RigState.{RigState, Stands}
 use Rattle.snapshot_words.specs.Outline.{outline_words, snap_bytes, bytes_of}
-use Rattle.snapshot_words.specs.Reading.{Found, Whole, Short, Bad, Snapshot, found_then, memories_from, outline_from}
+use Rattle.snapshot_words.specs.Reading.{Whole, Short, Bad, Snapshot, memories_from, outline_from}
 use Rattle.snapshot_words.specs.Reading.{state_from}
 use Rattle.snapshot_words.specs.Taking.{TakesOutline, Stops, SaysFault}
 use Rattle.snapshot_words.specs.Values.{cell_words}
 use Rattle.snapshot_words.specs.declared.fault.SnapFault.{SnapFault}
 use Rattle.snapshot_words.specs.declared.fault.SnapFault.TheVariants as fault
 use Rattle.snapshot_words.specs.declared.outline.Outline.{Outline}
-use Rattle.gpu_snapshot.specs.Intake.{Intake, intake}
+use Rattle.gpu_snapshot.specs.Intake.{intake}
 use Rattle.gpu_snapshot.specs.Memories.{TakesMemories, LacksWords, SaysShort, with_memories}
 use Rattle.gpu_snapshot.specs.Restored.{Restores, StopsInState, HoldsOutline, AreNeededFor, rig_in, machine_in, first_place}
 use Rattle.gpu_snapshot.specs.Restored.{reader_behind, version_behind, state_cost}

@@ -1,13 +1,13 @@
 -- Bytes of a state that break off, and those that are whole.
-use Rattle.std.proofs.Common.{◌≡◌, ◌≤◌, ◌<◌, ◌+◌, ◌-◌, ◌*◌, ◌++◌, List, [], ◌∷◌, ℕ, suc, true, false, length, take, drop}
-use Rattle.std.proofs.Common.{nat_lt, refl, ap, sym, ◌∙◌, arith, inl, inr, length-append, append_assoc, append-nil}
+use Rattle.std.proofs.Common.{◌≡◌, ◌≤◌, ◌<◌, ◌+◌, ◌-◌, ◌*◌, ◌++◌, List, [], ◌∷◌, ℕ, true, false, length, take, drop}
+use Rattle.std.proofs.Common.{nat_lt, refl, ap, sym, ◌∙◌, arith, inl, inr}
 use Rattle.std.proofs.Common.{length-drop}
 use Rattle.std.proofs.lemmas.Bool.{cases_Bool}
-use Rattle.snapshot_words.specs.Reading.{Found, Whole, Short, Bad, Snapshot, found_then, outline_from, words_in}
+use Rattle.snapshot_words.specs.Reading.{Found, Whole, Short, Bad, Snapshot, outline_from, words_in}
 use Rattle.snapshot_words.specs.Reading.{memory_from, memories_from, state_from, ram_words}
 use Rattle.snapshot_words.specs.declared.outline.Outline.{Outline}
 use Rattle.gpu_snapshot.specs.Restored.{IsShort, AreNeeded, first_place}
-use Rattle.gpu_snapshot.proofs.Keeping.{Keeps, state_keeps, outline_keeps}
+use Rattle.gpu_snapshot.proofs.Keeping.{Keeps, state_keeps}
 
 -- ---- none too many
 

@@ -1,7 +1,5 @@
 -- What the bytes of a file are: a capture, or a snapshot and what is recorded behind it (our own rule).
-use Rattle.std.specs.Prelude.{ℕ, List, ◌+◌, ◌==◌, if◌then◌else◌, Result, Ok, Err, length, take, drop, nat_lt}
-use Rattle.gpu_capture.specs.declared.event.Stop.{Stop}
-use Rattle.gpu_capture.specs.declared.event.Stop.TheVariants.{NotCapture, Truncated, BadRecord}
+use Rattle.std.specs.Prelude.{ℕ, List, if◌then◌else◌, Result, Ok, Err, length, take, drop, nat_lt}
 use Rattle.snapshot_words.specs.Reading.{Found, Whole, Short, Bad, Snapshot, state_from}
 use Rattle.gpu_snapshot.specs.Head.{file_head}
 use Rattle.gpu_snapshot.specs.declared.head.FileHead.{FileHead}

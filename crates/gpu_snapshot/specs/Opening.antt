@@ -1,5 +1,5 @@
 -- A file that is opened: what is taken of its bytes, and what they say.
-use Rattle.std.specs.Prelude.{◌≡◌, ◌≤◌, ℕ, ◌+◌, ◌*◌, List, [], ◌++◌, None, Result, Ok, Err, if◌then◌else◌, length, take}
+use Rattle.std.specs.Prelude.{◌≡◌, ◌≤◌, ℕ, ◌+◌, ◌*◌, List, [], ◌++◌, None, Result, Ok, if◌then◌else◌, length, take}
 use Rattle.std.specs.Prelude.{drop, nat_lt, Option}
 use Rattle.dev_io.specs.Device.{prepended, IsAtEnd}
 use Rattle.gpu_capture.specs.Capture.{IsVersion}

@@ -6,7 +6,7 @@ use Rattle.gpu_capture.specs.declared.event.Stop.{Stop}
 use Rattle.gpu_capture.specs.declared.event.Stop.TheVariants.{NotCapture, Truncated, BadRecord, ReadFault}
 use Rattle.event_play.specs.Causes.{MayReadFault, MayWriteFault, IsEnding}
 use Rattle.event_play.specs.Out.{ending_under}
-use Rattle.event_play.specs.Playing.{AreAllNeeded, EndsPlay}
+use Rattle.event_play.specs.Playing.{EndsPlay}
 use Rattle.event_play.specs.Replay.{Tale, Played, Play, played_behind, from_state, next_number}
 use Rattle.event_play.specs.RigState.{RigState}
 use Rattle.event_play.specs.Streams.{Streams}

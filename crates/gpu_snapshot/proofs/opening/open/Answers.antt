@@ -1,6 +1,4 @@
-use Rattle.std.proofs.Common.{inl, inr, sym, ◌∙◌, ap, subst, rules}
-use Rattle.event_play.specs.Replay.{Tale, raised}
-use Rattle.event_play.specs.RigState.{RigState, StandsFor, first_rig}
+use Rattle.std.proofs.Common.{inl, inr}
 use Rattle.gpu_snapshot.proofs.Openings.{refuses_head, refuses_state, opens_capture, opens_state}
 use Rattle.gpu_snapshot.proofs.opening.open.Goals as goal
 

@@ -1,6 +1,6 @@
-use Rattle.std.proofs.Common.{◌≡◌, ◌∙◌, ap, length, rules}
-use Rattle.event_play.specs.RigState.{RigState, first_rig, Stands}
-use Rattle.event_play.specs.Step.{first_machine, tall_machine}
+use Rattle.std.proofs.Common.{◌∙◌, ap, length}
+use Rattle.event_play.specs.RigState.{RigState, Stands}
+use Rattle.event_play.specs.Step.{first_machine}
 use Rattle.gpu_snapshot.proofs.Profiles.{first_stands, first_rows, first_words, rows_of_tall, words_of_tall}
 use Rattle.gpu_snapshot.proofs.profile.set_profile.Goals as goal
 

@@ -1,7 +1,5 @@
-use Rattle.std.proofs.Common.{rules, arith, ◌≡◌, ◌≤◌, ◌*◌, ◌+◌, ◌∙◌, ap, sym, length}
+use Rattle.std.proofs.Common.{◌≡◌, ◌∙◌, ap}
 use Rattle.gpu_core.specs.Kept.{Kept}
-use Rattle.event_play.specs.RigState.{RigState}
-use Rattle.gpu_capture.specs.State.{ReaderState}
 use Rattle.gpu_snapshot.specs.Restored.{version_behind}
 use Rattle.gpu_snapshot.proofs.Restoring.{stops_outline, stops_memories, restores, reader_of}
 use Rattle.gpu_snapshot.proofs.restore.restore.Goals as goal
