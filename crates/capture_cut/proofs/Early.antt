@@ -1,0 +1,128 @@
+-- How it ends among the first events.
+use Rattle.std.proofs.Common.{◌≡◌, ◌≤◌, ◌<◌, ◌+◌, ◌^◌, ◌++◌, ◌==◌, ℕ, List, [], ◌∷◌, Result, Ok, Err}
+use Rattle.std.proofs.Common.{length, refl, ap, sym, subst, ◌∙◌, append-nil, arith, false}
+use Rattle.dev_io.specs.Device.{prepended}
+use Rattle.dev_io.proofs.Appended.{appended-nil}
+use Rattle.gpu_capture.specs.declared.event.Event.{Event}
+use Rattle.gpu_capture.specs.declared.event.Stop.{Stop}
+use Rattle.gpu_capture.specs.declared.progress.Progress.{Progress}
+use Rattle.gpu_taps.specs.Tally.{Reading}
+use Rattle.event_play.specs.Ends.{FaultsEvent}
+use Rattle.event_play.specs.Replay.{Tale, next_number}
+use Rattle.event_play.specs.RigState.{RigState}
+use Rattle.event_play.specs.Streams.{Outlets, Streams, streams, without_sink}
+use Rattle.event_play.specs.declared.fault.EventFault.{EventFault}
+use Rattle.capture_cut.specs.Came.{EndsAnswer, EndsEarly, IsIdle, HasRead}
+use Rattle.capture_cut.specs.Cut.{Way, EndsCut, SaysEnding, StopsBehind}
+use Rattle.capture_cut.specs.declared.ending.CutEnding.{CutEnding}
+use Rattle.capture_cut.specs.declared.ending.CutEnding.TheVariants.{Done, PastEnd, Stopped, Faulted, TooLong, WriteFailed}
+use Rattle.capture_cut.proofs.Playing.{Awaits}
+use Rattle.capture_cut.proofs.Reading.{read_on, reads_to, stops_bytes, stops_behind}
+
+not_whole : (k n : ℕ) → k < n → (k == n) ≡ false
+not_whole k n lt = grind arith
+
+spent_within : (before now a b more : ℕ) → now ≤ before + a → a ≤ b → now ≤ before + b + more
+spent_within before now a b more within small = omega arith
+
+module _ (k n : ℕ) (start : Tale) (version : ℕ) (before now : Streams) (was rig : RigState) (new : Progress)
+    (heard : List Reading) (steps : ℕ) (lt : k < n) (few : n < 2 ^ 32) where
+  abbrev mid : Outlets
+  mid = without_sink now.heard now.steps
+
+  abbrev behind : Outlets
+  behind = without_sink heard steps
+
+  abbrev after : Streams
+  after = streams now.left now.held heard steps
+
+  abbrev way : (answer : Result Event Stop) → Awaits k start version before now was new answer → List ℕ → Way
+  way answer at taken =
+      record { version = version; taken = taken; played = at.events; tale = at.tale; later = [] }
+
+  -- nothing was played of the answer
+  ends : (answer : Result Event Stop) (at : Awaits k start version before now was new answer) (taken : List ℕ)
+      (ending : CutEnding) → rig ≡ was → heard ≡ now.heard → steps ≡ now.steps → before.left ≡ prepended taken now.left
+      → SaysEnding n (way answer at taken) before after ending → EndsCut n start before after rig ending
+  ends answer at taken ending rig_is same_heard same_steps bytes says =
+      let within : steps ≤ before.steps + at.tale.cost = omega (arith, at.cost, same_steps) in
+      record {
+        way = way answer at taken;
+        bytes = bytes;
+        order = record { most = omega (arith, at.many, lt); first = λ some. refl };
+        plays = rw (rig_is, same_heard) at.plays;
+        says = says;
+        cost = omega (arith, within);
+        box_cost = spent_within before.steps steps at.tale.cost at.tale.box_cost _ within at.small;
+      }
+
+  fault_ends : (event : Event) (at : Awaits k start version before now was new (Ok event)) (number : ℕ) (fault : EventFault)
+      → now.held ≡ before.held → number ≡ next_number at.tale.played
+      → FaultsEvent at.tale event fault mid behind was rig
+      → EndsCut n start before after rig (Faulted number fault)
+  fault_ends event at number fault unwritten is faults =
+      let has = read_on before.left at.left now.left at.old new at.taken at.events event at.reads at.answers.0 in
+      let taken = at.taken ++ at.answers.0.taken in
+      ends (Ok event) at taken (Faulted number fault) faults.stands (ap (λ (o : Outlets). o.heard) faults.unchanged)
+      (ap (λ (o : Outlets). o.steps) faults.unchanged) has.bytes
+      (record {
+        number_is = omega (arith, is, at.plays.counts, at.many, lt, few);
+        few = omega (arith, at.many, lt);
+        event = event;
+        reads = reads_to before.left now.left new (at.events ++ event ∷ []) (way (Ok event) at taken) has at.answers.1
+            at.same;
+        fault_is = rw is faults.is;
+        held = unwritten;
+      })
+
+  -- the same of a stop of the reader
+  stops_way : (stop : Stop) (at : Awaits k start version before now was new (Err stop))
+      → StopsBehind (way (Err stop) at (at.taken ++ at.answers.taken)) stop now.left
+  stops_way stop at =
+      let P : List Event → Type 0 = λ events. HasRead before.left at.left at.old at.taken events in
+      stops_behind before.left at.left now.left at.old new at.taken stop
+      (way (Err stop) at (at.taken ++ at.answers.taken)) (subst P (sym (append-nil at.events)) at.reads) at.answers at.same
+      refl
+
+  stop_ends : (stop : Stop) (at : Awaits k start version before now was new (Err stop)) (ending : CutEnding)
+      → now.held ≡ before.held → EndsEarly (next_number at.tale.played) stop ending → IsIdle mid behind was rig
+      → EndsCut n start before after rig ending
+  stop_ends stop at (PastEnd number) unwritten end idle =
+      let P : Stop → Type 0 = λ s. StopsBehind (way (Err stop) at (at.taken ++ at.answers.taken)) s now.left in
+      ends (Err stop) at (at.taken ++ at.answers.taken) (PastEnd number) idle.rig_is
+      (ap (λ (o : Outlets). o.heard) idle.unchanged) (ap (λ (o : Outlets). o.steps) idle.unchanged)
+      (stops_bytes before.left at.left now.left at.old new at.taken at.events stop at.reads at.answers)
+      (record {
+        number_is = omega (arith, end.0, at.plays.counts, at.many, lt, few);
+        few = omega (arith, at.many, lt);
+        stops = subst P end.1 (stops_way stop at);
+        held = unwritten;
+      })
+  stop_ends stop at (Stopped number told) unwritten end idle =
+      let Q : Stop → Type 0 = λ stop. EndsCut n start before after rig (Stopped number stop) in
+      let none : (length at.events == n) ≡ false = not_whole (length at.events) n (omega (arith, at.many, lt)) in
+      subst Q (sym end.1)
+      (ends (Err stop) at (at.taken ++ at.answers.taken) (Stopped number stop) idle.rig_is
+      (ap (λ (o : Outlets). o.heard) idle.unchanged) (ap (λ (o : Outlets). o.steps) idle.unchanged)
+      (stops_bytes before.left at.left now.left at.old new at.taken at.events stop at.reads at.answers)
+      (record {
+        number_is = rw append-nil (omega (arith, end.0, at.plays.counts, at.many, lt, few));
+        stops = stops_way stop at;
+        other = end.2;
+        held = rw none (unwritten ∙ sym (appended-nil before.held));
+      }))
+  stop_ends stop at Done unwritten end idle = absurd end
+  stop_ends stop at (Faulted number fault) unwritten end idle = absurd end
+  stop_ends stop at (TooLong number) unwritten end idle = absurd end
+  stop_ends stop at (WriteFailed number) unwritten end idle = absurd end
+
+  pub early_ends : (answer : Result Event Stop) (at : Awaits k start version before now was new answer)
+      (ending : CutEnding) → now.held ≡ before.held → EndsAnswer at.tale answer mid behind was rig ending
+      → EndsCut n start before after rig ending
+  early_ends (Ok event) at (Faulted number fault) unwritten end = fault_ends event at number fault unwritten end.0 end.1
+  early_ends (Ok event) at Done unwritten end = absurd end
+  early_ends (Ok event) at (PastEnd number) unwritten end = absurd end
+  early_ends (Ok event) at (Stopped number stop) unwritten end = absurd end
+  early_ends (Ok event) at (TooLong number) unwritten end = absurd end
+  early_ends (Ok event) at (WriteFailed number) unwritten end = absurd end
+  early_ends (Err stop) at ending unwritten end = stop_ends stop at ending unwritten end.0 end.1

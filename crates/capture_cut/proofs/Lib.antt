@@ -1,0 +1,7 @@
+pub mod Cutting
+pub mod Early
+pub mod Playing
+pub mod Reading
+pub mod Records
+pub mod Spelling
+pub mod Words

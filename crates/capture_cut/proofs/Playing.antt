@@ -1,0 +1,162 @@
+-- The first events, one after another.
+use Rattle.std.proofs.Common.{◌≡◌, ◌≤◌, ◌<◌, inl, inr, ◌+◌, ◌^◌, ◌++◌, ◌==◌, ℕ, List, [], ◌∷◌, Option, Result, Ok, Err}
+use Rattle.std.proofs.Common.{OnOk, IfOk, IfErr, length, length-append, refl, ap, sym, subst, ◌∙◌, append_assoc, arith}
+use Rattle.std.proofs.lemmas.Bool.{cases_Bool}
+use Rattle.gpu_capture.specs.Reader.{Takes, StopsAt, IsStart}
+use Rattle.gpu_capture.specs.declared.event.Event.{Event}
+use Rattle.gpu_capture.specs.declared.event.Stop.{Stop}
+use Rattle.gpu_capture.specs.declared.progress.Progress.{Progress}
+use Rattle.gpu_taps.specs.Tally.{Reading}
+use Rattle.event_play.specs.Replay.{Tale, Replay, from_state, raised, tall_version, after_event, go_on, next_number}
+use Rattle.event_play.specs.RigState.{RigState, StandsFor}
+use Rattle.event_play.specs.Step.{Machine, StepCost, StepBoxCost}
+use Rattle.event_play.specs.Streams.{Outlets, Streams, streams, without_sink}
+use Rattle.event_play.specs.Told.{told_notes}
+use Rattle.event_play.specs.declared.ending.Ending.TheVariants.{Faulted as FaultedPlay}
+use Rattle.event_play.proofs.BoxCosts.{StepCost-small}
+use Rattle.event_play.proofs.Feeds.{told-append}
+use Rattle.event_play.proofs.Firsts.{IsFirst, from_first, raised_first}
+use Rattle.event_play.proofs.Grows.{tale_on, after-event}
+use Rattle.capture_flat.proofs.Awaiting.{Answers}
+use Rattle.capture_cut.specs.Came.{PlaysNext, PlaysAnswer, HasRead, PlaysFirst}
+use Rattle.capture_cut.specs.Cut.{Plays}
+use Rattle.capture_cut.proofs.Reading.{read_none, read_on, answers, version_on}
+
+-- ---- playing
+
+raised_played : (t : Tale) (version : ℕ) → (raised t version).played ≡ t.played
+raised_played t version = elim (cases_Bool (version == tall_version)) [ inl is ↦ rw is refl | inr is ↦ rw is refl ]
+
+-- nothing was played yet
+plays_none : (s : Machine) (version : ℕ) (heard : List Reading) (rig : RigState)
+    → StandsFor rig (raised (from_state s 0) version)
+    → Plays (raised (from_state s 0) version) [] (raised (from_state s 0) version) heard heard rig
+plays_none s version heard rig stands =
+    let first : IsFirst (raised (from_state s 0) version) = raised_first (from_state s 0) version (from_first s 0) in
+    record {
+      replays = λ more stop rest. refl;
+      counts = raised_played (from_state s 0) version;
+      stands = stands;
+      heard = rw first.notes refl;
+    }
+
+-- the tale with one event more
+abbrev next_tale : (t : Tale) (event : Event) (before now : Outlets) (rig : RigState) → PlaysNext t event before now rig → Tale
+next_tale t event before now rig plays = tale_on t event plays.step.machine plays.shown plays.step.notes
+
+plays_on : (first t : Tale) (events : List Event) (event : Event) (heard : List Reading) (mid now : Outlets)
+    (was rig : RigState) → Plays first events t heard mid.heard was → (next : PlaysNext t event mid now rig)
+    → length events < 2 ^ 32
+    → Plays first (events ++ event ∷ []) (next_tale t event mid now rig next) heard now.heard rig
+plays_on first t events event heard mid now was rig plays next few =
+    let after : Tale = next_tale t event mid now rig next in
+    let is : after_event t event ≡ Ok after = after-event t event next.step.machine next.shown next.step.notes next.step.is in
+    let long = length-append events (event ∷ []) in
+    record {
+      replays = λ more stop rest.
+          ap (λ all. Replay first all stop rest) (append_assoc events (event ∷ []) more)
+          ∙ plays.replays (event ∷ more) stop rest
+          ∙ ap (λ r. go_on r (λ next. Replay next more stop rest)
+          (λ fault. record { tale = t; ending = FaultedPlay (next_number t.played) fault; rest = rest })) is;
+      counts = omega (arith, plays.counts, long, few);
+      stands = record { state = next.step.stands; played = sym next.played };
+      heard = next.step.heard ∙ ap (told_notes next.step.notes) plays.heard
+          ∙ sym (told-append t.notes next.step.notes heard);
+    }
+
+-- ---- a reader that has answered
+
+pub record Awaits (n : ℕ) (start : Tale) (version : ℕ) (before now : Streams) (rig : RigState) (new : Progress)
+    (answer : Result Event Stop) : Type 0 where
+  pub left : Option (List ℕ)
+  pub old : Progress
+  pub taken : List ℕ
+  pub events : List Event
+  pub tale : Tale
+  pub many : length events ≡ n
+  pub reads : HasRead before.left left old taken events
+  pub same : version ≡ new.version
+  pub answers : Answers old new left now.left answer
+  pub plays : Plays (raised start version) events tale before.heard now.heard rig
+  pub cost : now.steps ≤ before.steps + tale.cost
+  pub small : tale.cost ≤ tale.box_cost
+
+pub awaits_first : (s : Machine) (left left_now held : Option (List ℕ)) (heard : List Reading) (steps : ℕ) (rig : RigState)
+    (first new : Progress) (version : ℕ) (next : Result Event Stop) → IsStart first
+    → StandsFor rig (raised (from_state s 0) version) → version ≡ new.version
+    → IfOk next (λ event. Takes first new left left_now (event ∷ [])) → OnOk next (1 ≤ new.version)
+    → IfErr next (λ stop. StopsAt first new left left_now stop)
+    → Awaits 0 (from_state s 0) version (streams left held heard steps) (streams left_now held heard steps) rig new next
+awaits_first s left left_now held heard steps rig first new version next is stands same takes known stops =
+    let none : IsFirst (raised (from_state s 0) version) = raised_first (from_state s 0) version (from_first s 0) in
+    record {
+      left = left;
+      old = first;
+      taken = [];
+      events = [];
+      tale = raised (from_state s 0) version;
+      many = refl;
+      reads = read_none left first is;
+      same = same;
+      answers = answers first new left left_now next takes known stops;
+      plays = plays_none s version heard rig stands;
+      cost = omega arith;
+      small = omega (arith, none.cost);
+    }
+
+pub awaits_next : (n : ℕ) (start : Tale) (before now : Streams) (rig : RigState) (old new : Progress)
+    (left : Option (List ℕ)) (next : Result Event Stop) → PlaysFirst n start before now rig old
+    → IfOk next (λ event. Takes old new now.left left (event ∷ [])) → OnOk next (1 ≤ new.version)
+    → IfErr next (λ stop. StopsAt old new now.left left stop)
+    → Awaits n start old.version before (streams left now.held now.heard now.steps) rig new next
+awaits_next n start before now rig old new left next was takes known stops =
+    let answer = answers old new now.left left next takes known stops in
+    record {
+      left = now.left;
+      old = old;
+      taken = was.taken;
+      events = was.events;
+      tale = was.tale;
+      many = was.many;
+      reads = was.reads;
+      same = version_on old new now.left left next answer was.known;
+      answers = answer;
+      plays = was.plays;
+      cost = was.cost;
+      small = was.small;
+    }
+
+-- ---- it is played
+
+spent_on : (before mid now a b : ℕ) → mid ≤ before + a → now ≤ mid + b → now ≤ before + (a + b)
+spent_on before mid now a b was took = omega arith
+
+both_small : (a b c d : ℕ) → a ≤ c → b ≤ d → a + b ≤ c + d
+both_small a b c d first next = omega arith
+
+pub played_on : (n : ℕ) (start : Tale) (version : ℕ) (before now : Streams) (was rig : RigState) (new : Progress)
+    (answer : Result Event Stop) (heard : List Reading) (steps : ℕ)
+    → (at : Awaits n start version before now was new answer)
+    → PlaysAnswer at.tale answer (without_sink now.heard now.steps) (without_sink heard steps) rig → n < 2 ^ 32
+    → PlaysFirst (n + 1) start before (streams now.left now.held heard steps) rig new
+played_on n start version before now was rig new (Ok event) heard steps at next few =
+    let mid = without_sink now.heard now.steps in
+    let behind = without_sink heard steps in
+    let after : Tale = next_tale at.tale event mid behind rig next in
+    let long = length-append at.events (event ∷ []) in
+    let P : ℕ → Type 0 = λ v. Plays (raised start v) (at.events ++ event ∷ []) after before.heard heard rig in
+    record {
+      taken = at.taken ++ at.answers.0.taken;
+      events = at.events ++ event ∷ [];
+      tale = after;
+      many = omega (arith, long, at.many);
+      known = at.answers.1;
+      reads = read_on before.left at.left now.left at.old new at.taken at.events event at.reads at.answers.0;
+      plays = subst P at.same
+          (plays_on (raised start version) at.tale at.events event before.heard mid behind was rig at.plays next
+          (omega (arith, at.many, few)));
+      cost = spent_on before.steps now.steps steps at.tale.cost (StepCost at.tale.state event) at.cost next.step.cost;
+      small = both_small at.tale.cost (StepCost at.tale.state event) at.tale.box_cost (StepBoxCost at.tale.state event)
+          at.small (StepCost-small at.tale.state event);
+    }
+played_on n start version before now was rig new (Err stop) heard steps at next few = absurd next

@@ -1,0 +1,179 @@
+-- A capture that is cut behind its first n events (our own rule).
+use Rattle.std.specs.Prelude.{◌≡◌, ◌≤◌, ◌<◌, ◌⊎◌, ◌==◌, ℕ, List, [], ◌∷◌, ◌++◌, ◌+◌, Option, Err, length}
+use Rattle.std.specs.Prelude.{if◌then◌else◌}
+use Rattle.dev_io.specs.Device.{prepended, appended, AppendsPart}
+use Rattle.gpu_capture.specs.Capture.{limit}
+use Rattle.gpu_capture.specs.Written.{spelled, spelled_end}
+use Rattle.gpu_capture.specs.declared.event.Event.{Event}
+use Rattle.gpu_capture.specs.declared.event.Stop.{Stop}
+use Rattle.gpu_capture.specs.declared.event.Stop.TheVariants.{End, ReadFault}
+use Rattle.gpu_taps.specs.Tally.{Reading}
+use Rattle.picture_out.specs.Dump.{dump_cost}
+use Rattle.event_play.specs.Ends.{IsNotEnd}
+use Rattle.event_play.specs.Replay.{Tale, Replay, raised}
+use Rattle.event_play.specs.RigState.{RigState, StandsFor}
+use Rattle.event_play.specs.Step.{Step}
+use Rattle.event_play.specs.Streams.{Streams}
+use Rattle.event_play.specs.Told.{told_notes}
+use Rattle.event_play.specs.declared.fault.EventFault.{EventFault}
+use Rattle.capture_flat.specs.Passing.{Way as Read, AreNeeded, AreNeededToEnd, SaysFirst, SaysStop}
+use Rattle.capture_cut.specs.File.{snapshot, begun, cut_file}
+use Rattle.capture_cut.specs.declared.ending.CutEnding.{CutEnding}
+use Rattle.capture_cut.specs.declared.ending.CutEnding.TheVariants.{Done, PastEnd, Stopped, Faulted, TooLong, WriteFailed}
+
+-- how far a capture was read: its version, the bytes taken, the events that were played, the tale that they lead to,
+-- and the events behind them
+pub record Way : Type 0 where
+  pub version : ℕ
+  pub taken : List ℕ
+  pub played : List Event
+  pub tale : Tale
+  pub later : List Event
+
+abbrev pub events_of : Way → List Event
+events_of way = way.played ++ way.later
+
+-- all of them as read, for what the format says of the bytes taken; nothing is made of them
+abbrev pub read_of : Way → Read
+read_of way =
+    record { version = way.version; taken = way.taken; events = events_of way; flat = []; tale = way.tale }
+
+-- ---- the reading
+
+-- the reader stopped behind the events of the way, and took no byte too many
+pub record StopsBehind (way : Way) (stop : Stop) (left : Option (List ℕ)) : Type 0 where
+  pub says : SaysStop (read_of way) stop left
+  pub needed : AreNeededToEnd (events_of way) way.taken
+
+-- the reader took the bytes of these events, and none too many
+pub record ReadsTo (way : Way) (events : List Event) : Type 0 where
+  pub says : SaysFirst (read_of way) events
+  pub needed : AreNeeded events way.taken
+
+-- ---- the playing
+
+-- Events lead from a tale to a tale, whatever events follow. The rig and the taps are as they are after them.
+pub record Plays (first : Tale) (events : List Event) (t : Tale) (before now : List Reading) (rig : RigState) : Type 0
+  where
+    pub replays : (more : List Event) (stop : Stop) (rest : List ℕ)
+        → Replay first (events ++ more) stop rest ≡ Replay t more stop rest
+    pub counts : t.played ≡ length events
+    pub stands : StandsFor rig t
+    pub heard : now ≡ told_notes t.notes before
+
+-- at most n events were played, and none is read behind fewer
+pub record IsInOrder (n : ℕ) (way : Way) : Type 0 where
+  pub most : length way.played ≤ n
+  pub first : length way.played < n → way.later ≡ []
+
+-- ---- the endings
+
+-- the first n events were played, all others were read, and all is written
+pub record IsCut (n : ℕ) (way : Way) (before now : Streams) : Type 0 where
+  pub all : length way.played ≡ n
+  pub stops : StopsBehind way End now.left
+  pub held : now.held ≡ appended before.held (cut_file way.tale way.later)
+  pub fits : length (cut_file way.tale way.later) ≤ limit
+
+-- it ends before n events, and nothing is written
+pub record IsPastEnd (n : ℕ) (way : Way) (number : ℕ) (before now : Streams) : Type 0 where
+  pub number_is : number ≡ length way.played + 1
+  pub few : length way.played < n
+  pub stops : StopsBehind way End now.left
+  pub held : now.held ≡ before.held
+
+-- what is due behind the events of a way: nothing before n of them
+abbrev pub due_behind : ℕ → Way → List ℕ
+due_behind n way = if length way.played == n then begun way.tale way.later else []
+
+-- the reader stopped otherwise, and all that was due stands
+pub record IsStopped (n : ℕ) (way : Way) (number : ℕ) (stop : Stop) (before now : Streams) : Type 0 where
+  pub number_is : number ≡ length (events_of way) + 1
+  pub stops : StopsBehind way stop now.left
+  pub other : IsNotEnd stop
+  pub held : now.held ≡ appended before.held (due_behind n way)
+
+-- the next event is among the first n and has a fault; nothing is written
+pub record HasFault (n : ℕ) (way : Way) (number : ℕ) (fault : EventFault) (before now : Streams) : Type 0 where
+  pub number_is : number ≡ length way.played + 1
+  pub few : length way.played < n
+  pub event : Event
+  pub reads : ReadsTo way (way.played ++ event ∷ [])
+  pub fault_is : Step way.tale.state number event ≡ Err fault
+  pub held : now.held ≡ before.held
+
+-- the last event that was read is not played
+pub record IsLast (n : ℕ) (way : Way) (number : ℕ) (before : List Event) (event : Event) : Type 0 where
+  pub all : length way.played ≡ n
+  pub number_is : number ≡ length (events_of way)
+  pub are : way.later ≡ before ++ event ∷ []
+  pub reads : ReadsTo way (events_of way)
+
+-- With the record of the last event the file would be too long, and without it it would not. None of it was written.
+pub record IsLong (n : ℕ) (way : Way) (number : ℕ) (before now : Streams) : Type 0 where
+  pub earlier : List Event
+  pub event : Event
+  pub last : IsLast n way number earlier event
+  pub held : now.held ≡ appended before.held (begun way.tale earlier)
+  pub fits : length (cut_file way.tale earlier) ≤ limit
+  pub long : limit < length (cut_file way.tale way.later)
+
+-- a proper part of the head and the state was written, behind event n
+pub record LacksState (n : ℕ) (way : Way) (number : ℕ) (before now : Streams) : Type 0 where
+  pub all : length way.played ≡ n
+  pub number_is : number ≡ n
+  pub none : way.later ≡ []
+  pub reads : ReadsTo way way.played
+  pub held : AppendsPart before.held now.held (snapshot way.tale)
+
+-- a proper part of the record of the last event was written, for which there was room
+pub record LacksRecord (n : ℕ) (way : Way) (number : ℕ) (before now : Streams) : Type 0 where
+  pub earlier : List Event
+  pub event : Event
+  pub last : IsLast n way number earlier event
+  pub held : AppendsPart (appended before.held (begun way.tale earlier)) now.held (spelled event)
+  pub fits : length (cut_file way.tale way.later) ≤ limit
+
+-- a proper part of the End record was written
+pub record LacksEnd (n : ℕ) (way : Way) (number : ℕ) (before now : Streams) : Type 0 where
+  pub all : length way.played ≡ n
+  pub number_is : number ≡ length (events_of way) + 1
+  pub stops : StopsBehind way End now.left
+  pub held : AppendsPart (appended before.held (begun way.tale way.later)) now.held spelled_end
+
+abbrev pub SaysEnding : ℕ → Way → (before now : Streams) → CutEnding → Type 0
+SaysEnding n way before now Done = IsCut n way before now
+SaysEnding n way before now (PastEnd number) = IsPastEnd n way number before now
+SaysEnding n way before now (Stopped number stop) = IsStopped n way number stop before now
+SaysEnding n way before now (Faulted number fault) = HasFault n way number fault before now
+SaysEnding n way before now (TooLong number) = IsLong n way number before now
+SaysEnding n way before now (WriteFailed number) =
+    LacksState n way number before now ⊎ (LacksRecord n way number before now ⊎ LacksEnd n way number before now)
+
+-- How cutting a capture behind its first n events ends. The store steps are those of the events played, by both counts,
+-- and those of reading the cells once.
+pub record EndsCut (n : ℕ) (first : Tale) (before now : Streams) (rig : RigState) (ending : CutEnding) : Type 0 where
+  pub way : Way
+  pub bytes : before.left ≡ prepended way.taken now.left
+  pub order : IsInOrder n way
+  pub plays : Plays (raised first way.version) way.played way.tale before.heard now.heard rig
+  pub says : SaysEnding n way before now ending
+  pub cost : now.steps ≤ before.steps + way.tale.cost + dump_cost way.tale.state.gpu.parts.m
+  pub box_cost : now.steps ≤ before.steps + way.tale.box_cost + dump_cost way.tale.state.gpu.parts.m
+
+-- ---- causes
+
+-- it ended by a fault of the source
+abbrev pub MayReadFault : CutEnding → Type 0
+MayReadFault (Stopped number (ReadFault byte)) = Unit {0}
+MayReadFault ending = ⊥
+
+-- it ended by a fault of the sink
+abbrev pub MayWriteFault : CutEnding → Type 0
+MayWriteFault (WriteFailed number) = Unit {0}
+MayWriteFault ending = ⊥
+
+-- it never stops with End
+abbrev pub IsEnding : CutEnding → Type 0
+IsEnding (Stopped number End) = ⊥
+IsEnding ending = Unit {0}

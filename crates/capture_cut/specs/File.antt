@@ -1,0 +1,42 @@
+-- What is written of a capture that is cut (our own rule): the state behind its first events, then the records of the
+-- others, and an End record.
+use Rattle.std.specs.Prelude.{ℕ, List, ◌++◌}
+use Rattle.gpu_capture.specs.Written.{spelled_end}
+use Rattle.gpu_capture.specs.declared.event.Event.{Event}
+use Rattle.gpu_core.specs.Kept.{kept_of}
+use Rattle.event_play.specs.Replay.{Tale}
+use Rattle.event_play.specs.RigState.{RigState}
+use Rattle.snapshot_words.specs.Outline.{snap_bytes, snapshot_head}
+use Rattle.snapshot_words.specs.declared.outline.Outline.{Outline}
+use Rattle.capture_flat.specs.Out.{spell}
+
+-- a rig but for its memories
+abbrev pub outline_of : RigState → Outline
+outline_of rig = record {
+  played = rig.played;
+  regs = rig.gpu.parts.regs;
+  pending = rig.gpu.pending;
+  load = rig.gpu.parts.load;
+  store = rig.gpu.parts.store;
+  run = rig.running;
+}
+
+-- the head of a snapshot and the state of a rig; no proof computes them
+unfoldable pub rig_bytes : RigState → List ℕ
+rig_bytes rig = snapshot_head ++ snap_bytes (outline_of rig) rig.gpu.parts.m rig.ram
+
+-- what a rig keeps that played a tale
+abbrev pub rig_of : Tale → RigState
+rig_of t = record { gpu = kept_of t.state.gpu; ram = t.state.ram; running = t.state.running; played = t.played }
+
+-- the head and the state behind a tale
+abbrev pub snapshot : Tale → List ℕ
+snapshot t = rig_bytes (rig_of t)
+
+-- with the records of events behind it, which are not played
+abbrev pub begun : Tale → List Event → List ℕ
+begun t later = snapshot t ++ spell later
+
+-- with an End record behind these
+abbrev pub cut_file : Tale → List Event → List ℕ
+cut_file t later = begun t later ++ spelled_end

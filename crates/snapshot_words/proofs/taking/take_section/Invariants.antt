@@ -1,0 +1,16 @@
+use Rattle.std.proofs.Common.{◌≡◌, ◌≤◌, ◌+◌, ◌*◌, ◌-◌, length}
+use Rattle.snapshot_words.specs.Taking.{Goes}
+use Rattle.snapshot_words.specs.Sections.{AreAllowed}
+use Rattle.snapshot_words.proofs.taking.take_section.Given as goal
+
+abbrev pub invariant-words : goal.invariant-words
+invariant-words g l = record {
+  goes : Goes l.section (g.S.Source.left l.initial.source) (g.S.Source.left l.source) l.initial.place l.place l.words.items;
+  allowed : AreAllowed l.section l.words.items;
+  place : l.place ≡ l.initial.place + 4 * length l.words.items;
+  few : length l.words.items ≤ 13;
+  faults : g.S.Source.faults l.initial.source ≤ g.S.Source.faults l.source;
+}
+
+abbrev pub decreases-words : goal.decreases-words
+decreases-words g l = 13 - length l.words.items

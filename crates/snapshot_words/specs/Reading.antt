@@ -1,0 +1,111 @@
+-- What bytes are, read as a state (our own rule).
+use Rattle.std.specs.Prelude.{ℕ, ◌+◌, ◌*◌, List, [], ◌∷◌, ◌++◌, Option, if◌then◌else◌, length, take, drop, nat_lt}
+use Rattle.byteorder.specs.Endian.{little_number}
+use Rattle.gp0_words.specs.declared.pending.Pending.{Pending}
+use Rattle.gp1_status.specs.Registers.{Registers}
+use Rattle.gp1_status.specs.Words.{registers_in}
+use Rattle.vram_copy.specs.declared.transfer.Transfer.{Transfer}
+use Rattle.snapshot_words.specs.Sections.{allows, wants}
+use Rattle.snapshot_words.specs.Values.{height_in, played_in, pending_in, load_in, store_in, run_in, cells_in}
+use Rattle.snapshot_words.specs.declared.outline.Outline.{Outline}
+use Rattle.snapshot_words.specs.declared.section.Section.{Section}
+use Rattle.snapshot_words.specs.declared.section.Section.TheVariants as section
+
+-- What bytes from a place on are: a value, with the place behind it and the bytes that are left; or they break off at a
+-- place; or the word at a place may not stand there.
+pub data Found (A : Type 0) : Type 0 where
+  Whole : A → ℕ → List ℕ → Found A
+  Short : ℕ → Found A
+  Bad : ℕ → ℕ → Found A
+
+-- a value, and what is read behind it
+abbrev pub found_then : {A B : Type 0} → Found A → (A → ℕ → List ℕ → Found B) → Found B
+found_then (Whole value place rest) next = next value place rest
+found_then (Short place) next = Short place
+found_then (Bad place word) next = Bad place word
+
+-- ---- one part
+
+-- the words of a part of which these came
+abbrev pub section_from : Section → (got : List ℕ) → (place : ℕ) → (bytes : List ℕ) → Found (List ℕ)
+section_from s got place [] = if wants s got then Short place else Whole got place []
+section_from s got place (a ∷ []) = if wants s got then Short (place + 1) else Whole got place (a ∷ [])
+section_from s got place (a ∷ b ∷ []) = if wants s got then Short (place + 2) else Whole got place (a ∷ b ∷ [])
+section_from s got place (a ∷ b ∷ c ∷ []) =
+    if wants s got then Short (place + 3) else Whole got place (a ∷ b ∷ c ∷ [])
+section_from s got place (a ∷ b ∷ c ∷ d ∷ rest) =
+    let word = little_number 4 (a ∷ b ∷ c ∷ d ∷ []) in
+    if wants s got then
+    (if allows s got word then section_from s (got ++ word ∷ []) (place + 4) rest else Bad place word)
+    else Whole got place (a ∷ b ∷ c ∷ d ∷ rest)
+
+-- ---- a state but for its memories: its parts, one after another
+
+-- behind the open store
+abbrev pub run_from : (played : ℕ) → Registers → Pending → (load store : Option Transfer) → ℕ → List ℕ → Found Outline
+run_from played regs at_splitter load store place bytes =
+    found_then (section_from section.Run [] place bytes) (λ words. Whole (record {
+      played = played;
+      regs = regs;
+      pending = at_splitter;
+      load = load;
+      store = store;
+      run = run_in words;
+    }))
+
+-- behind what is pending
+abbrev pub store_from : (played : ℕ) → Registers → Pending → (load : Option Transfer) → ℕ → List ℕ → Found Outline
+store_from played regs at_splitter load place bytes =
+    found_then (section_from (section.Store regs.height) [] place bytes)
+        (λ words. run_from played regs at_splitter load (store_in words))
+
+-- behind the registers
+abbrev pub pending_from : (played : ℕ) → Registers → ℕ → List ℕ → Found Outline
+pending_from played regs place bytes =
+    found_then (section_from (section.Pending regs.height) [] place bytes)
+        (λ words. store_from played regs (pending_in words) (load_in words))
+
+-- behind the front
+abbrev pub registers_from : (height played : ℕ) → ℕ → List ℕ → Found Outline
+registers_from height played place bytes =
+    found_then (section_from (section.Registers height) [] place bytes)
+        (λ words. pending_from played (registers_in height words))
+
+unfoldable pub outline_from : (place : ℕ) → List ℕ → Found Outline
+outline_from place bytes =
+    found_then (section_from section.Front [] place bytes)
+        (λ words. registers_from (height_in words) (played_in words))
+
+-- ---- a whole state
+
+-- the words that bytes are, four by four
+abbrev pub words_in : List ℕ → List ℕ
+words_in (a ∷ b ∷ c ∷ d ∷ rest) = little_number 4 (a ∷ b ∷ c ∷ d ∷ []) ∷ words_in rest
+words_in short = []
+
+-- so many words, which may be any
+abbrev pub memory_from : (count : ℕ) → (place : ℕ) → List ℕ → Found (List ℕ)
+memory_from count place bytes =
+    if nat_lt (length bytes) (4 * count) then Short (place + length bytes)
+    else Whole (words_in (take (4 * count) bytes)) (place + 4 * count) (drop (4 * count) bytes)
+
+-- a state with its memories: the cells of video memory, and the words of main memory
+pub record Snapshot : Type 0 where
+  pub outline : Outline
+  pub m : List ℕ
+  pub ram : List ℕ
+
+-- the words of main memory
+unfoldable pub ram_words : ℕ
+ram_words = 524288
+
+-- behind the outline
+abbrev pub memories_from : Outline → ℕ → List ℕ → Found Snapshot
+memories_from o place bytes =
+    found_then (memory_from (512 * o.regs.height) place bytes) (λ cells place rest.
+    found_then (memory_from ram_words place rest) (λ ram.
+    Whole (record { outline = o; m = cells_in cells; ram = ram })))
+
+-- the state behind its head
+unfoldable pub state_from : (place : ℕ) → List ℕ → Found Snapshot
+state_from place bytes = found_then (outline_from place bytes) memories_from

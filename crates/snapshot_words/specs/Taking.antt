@@ -1,0 +1,77 @@
+-- What is taken from a source, word by word, and what the table says of it.
+use Rattle.std.specs.Prelude.{◌≡◌, ◌<◌, ℕ, ◌+◌, ◌*◌, ◌^◌, List, [], ◌++◌, Option, length}
+use Rattle.dev_io.specs.Device.{prepended, IsAtEnd}
+use Rattle.gpu_capture.specs.Written.{word_bytes}
+use Rattle.gpu_capture.specs.declared.event.Stop.TheVariants.{Truncated, ReadFault}
+use Rattle.snapshot_words.specs.Outline.{bytes_of, outline_words}
+use Rattle.snapshot_words.specs.Reading.{Found, Whole, Short, Bad, section_from, outline_from}
+use Rattle.snapshot_words.specs.declared.fault.SnapFault.{SnapFault}
+use Rattle.snapshot_words.specs.declared.fault.SnapFault.TheVariants as fault
+use Rattle.snapshot_words.specs.declared.outline.Outline.{Outline}
+use Rattle.snapshot_words.specs.declared.section.Section.{Section}
+
+-- the source failed
+abbrev pub IsReadFault : SnapFault → Type 0
+IsReadFault (fault.Stop (ReadFault byte)) = Unit {0}
+IsReadFault other = ⊥
+
+-- ---- words
+
+-- a word was taken
+pub record IsWord (before now : Option (List ℕ)) (word : ℕ) : Type 0 where
+  pub bytes : before ≡ prepended (word_bytes word) now
+  pub fits : word < 2 ^ 32
+
+-- no word was had, after these bytes of it
+abbrev pub SaysNoWord : SnapFault → ℕ → List ℕ → Option (List ℕ) → Type 0
+SaysNoWord (fault.Stop (Truncated byte)) place taken now =
+    (length taken < 4) × (byte ≡ place + length taken) × IsAtEnd now
+SaysNoWord (fault.Stop (ReadFault byte)) place taken now = (length taken < 4) × (byte ≡ place + length taken)
+SaysNoWord (fault.Stop other) place taken now = ⊥
+SaysNoWord (fault.Bad byte word) place taken now = ⊥
+
+pub record EndsWord (before now : Option (List ℕ)) (place : ℕ) (why : SnapFault) : Type 0 where
+  pub taken : List ℕ
+  pub bytes : before ≡ prepended taken now
+  pub says : SaysNoWord why place taken now
+
+-- of so many words from a place on not all came: after some whole words a part of the next one
+pub record BreaksOff (before now : Option (List ℕ)) (place count : ℕ) (why : SnapFault) : Type 0 where
+  pub got : List ℕ
+  pub part : List ℕ
+  pub bytes : before ≡ prepended (bytes_of got ++ part) now
+  pub few : length got < count
+  pub says : SaysNoWord why (place + 4 * length got) part now
+
+-- ---- what is read of them
+
+-- why reading ends, by what the bytes taken are: whatever follows them, where a word may not stand at its place; and
+-- without more, where they break off
+abbrev pub SaysFault : {A : Type 0} → SnapFault → (List ℕ → Found A) → List ℕ → Option (List ℕ) → Type 0
+SaysFault (fault.Bad byte word) found taken now = (rest : List ℕ) → found (taken ++ rest) ≡ Bad byte word
+SaysFault (fault.Stop (Truncated byte)) found taken now = (found taken ≡ Short byte) × IsAtEnd now
+SaysFault (fault.Stop (ReadFault byte)) found taken now = found taken ≡ Short byte
+SaysFault (fault.Stop other) found taken now = ⊥
+
+-- bytes were taken that say this fault
+pub record Stops {A : Type 0} (found : List ℕ → Found A) (before now : Option (List ℕ)) (why : SnapFault) : Type 0 where
+  pub taken : List ℕ
+  pub bytes : before ≡ prepended taken now
+  pub says : SaysFault why found taken now
+
+-- The words so far of a part were taken. Whatever follows, it goes on from them at the place behind them.
+pub record Goes (s : Section) (before now : Option (List ℕ)) (first place : ℕ) (got : List ℕ) : Type 0 where
+  pub bytes : before ≡ prepended (bytes_of got) now
+  pub says : (rest : List ℕ) → section_from s [] first (bytes_of got ++ rest) ≡ section_from s got place rest
+
+-- the words of a whole part were taken
+pub record Takes (s : Section) (before now : Option (List ℕ)) (first place : ℕ) (words : List ℕ) : Type 0 where
+  pub bytes : before ≡ prepended (bytes_of words) now
+  pub moved : place ≡ first + 4 * length words
+  pub says : (rest : List ℕ) → section_from s [] first (bytes_of words ++ rest) ≡ Whole words place rest
+
+-- the words of a state but for its memories were taken, and no byte more
+pub record TakesOutline (before now : Option (List ℕ)) (first place : ℕ) (o : Outline) : Type 0 where
+  pub bytes : before ≡ prepended (bytes_of (outline_words o)) now
+  pub moved : place ≡ first + 4 * length (outline_words o)
+  pub says : (rest : List ℕ) → outline_from first (bytes_of (outline_words o) ++ rest) ≡ Whole o place rest

@@ -1,0 +1,17 @@
+//! The table of a snapshot: the state of a machine as words, and which words may stand at each place.
+#![tactic(auto)]
+
+mod fault;
+mod outline;
+mod section;
+mod parts;
+mod read;
+mod taking;
+mod values;
+mod write;
+
+pub use fault::SnapFault;
+pub use outline::Outline;
+pub use read::read_outline;
+pub use taking::take_word;
+pub use write::{SNAPSHOT_HEAD, write_head, write_outline};

@@ -1,0 +1,142 @@
+// Whole parts that are read.
+ghost use Rattle.std.specs.Prelude.{◌≡◌, ◌≤◌, ◌<◌, ◌+◌, ◌*◌, ◌^◌, [], IfOk, IfErr};
+ghost use Rattle.dev_io.specs.Device.{Rose};
+ghost use Rattle.gp0_words.specs.Next.{IsPending};
+ghost use Rattle.gp1_status.specs.Words.{words_of, AreAllowed as RegisterBits};
+ghost use Rattle.gpu_core.specs.Kept.{IsLinked, IsOpen};
+ghost use Rattle.list_dma.specs.Plans.{IsRun};
+ghost use Rattle.px_num.specs.Height.{IsHeight};
+ghost use Rattle.snapshot_words.specs.Reading.{section_from};
+ghost use Rattle.snapshot_words.specs.Taking.{Takes, Stops, IsReadFault};
+ghost use Rattle.snapshot_words.specs.Values.{front_words, pending_words, store_words, run_words};
+
+use crate::fault::SnapFault;
+use crate::section::Section;
+use crate::taking::take_section;
+use crate::values::{front_in, load_in, pending_in, registers_in, run_in, store_in};
+use dev_io::Source;
+use gp0_words::Pending;
+use gp1_status::Regs;
+use list_dma::Run;
+use vram_copy::Transfer;
+
+/// The height of video memory, and the number of events played.
+#[tactic(auto, using(crate::proofs::Shapes::front_is))]
+pub(crate) fn read_front<S: Source>(
+    source: &mut S,
+    place: &mut u32,
+) -> Result<(u16, u64), SnapFault>
+    requires place { place.old < 2 ^ 30 }
+    ensures takes { IfOk result (λ front.
+        Takes Section.Front (S.left source.old) (S.left source.new) place.old place.new (front_words front.0 front.1)) }
+    ensures height { IfOk result (λ front. IsHeight front.0) }
+    ensures few { IfOk result (λ front. front.1 < 2 ^ 63) }
+    ensures near { place.new ≤ place.old + 52 }
+    ensures fault { IfErr result (λ fault.
+        Stops (section_from Section.Front [] place.old) (S.left source.old) (S.left source.new) fault) }
+    ensures cause { IfErr result (λ fault. IsReadFault fault → Rose (S.faults source.old) (S.faults source.new)) }
+    ensures faults { S.faults source.old ≤ S.faults source.new }
+{
+    match take_section(source, place, Section::Front) {
+        Ok(words) => Ok(front_in(words.as_slice())),
+        Err(fault) => Err(fault),
+    }
+}
+
+/// The registers.
+#[tactic(auto, using(crate::proofs::Shapes::registers_are))]
+pub(crate) fn read_registers<S: Source>(
+    source: &mut S,
+    place: &mut u32,
+    height: u16,
+) -> Result<Regs, SnapFault>
+    requires height { IsHeight height }
+    requires place { place.old < 2 ^ 30 }
+    ensures takes { IfOk result (λ regs.
+        Takes (Section.Registers height) (S.left source.old) (S.left source.new) place.old place.new (words_of regs)) }
+    ensures height { IfOk result (λ regs. regs.height ≡ height) }
+    ensures bits { IfOk result (λ regs. RegisterBits height (words_of regs)) }
+    ensures near { place.new ≤ place.old + 52 }
+    ensures fault { IfErr result (λ fault.
+        Stops (section_from (Section.Registers height) [] place.old) (S.left source.old) (S.left source.new) fault) }
+    ensures cause { IfErr result (λ fault. IsReadFault fault → Rose (S.faults source.old) (S.faults source.new)) }
+    ensures faults { S.faults source.old ≤ S.faults source.new }
+{
+    match take_section(source, place, Section::Registers { height }) {
+        Ok(words) => Ok(registers_in(height, words.as_slice())),
+        Err(fault) => Err(fault),
+    }
+}
+
+/// The open store.
+#[tactic(auto, using(crate::proofs::Shapes::store_is))]
+pub(crate) fn read_store<S: Source>(
+    source: &mut S,
+    place: &mut u32,
+    height: u16,
+) -> Result<Option<Transfer>, SnapFault>
+    requires height { IsHeight height }
+    requires place { place.old < 2 ^ 30 }
+    ensures takes { IfOk result (λ store.
+        Takes (Section.Store height) (S.left source.old) (S.left source.new) place.old place.new (store_words store)) }
+    ensures bounds { IfOk result (λ store. IsOpen height store) }
+    ensures near { place.new ≤ place.old + 52 }
+    ensures fault { IfErr result (λ fault.
+        Stops (section_from (Section.Store height) [] place.old) (S.left source.old) (S.left source.new) fault) }
+    ensures cause { IfErr result (λ fault. IsReadFault fault → Rose (S.faults source.old) (S.faults source.new)) }
+    ensures faults { S.faults source.old ≤ S.faults source.new }
+{
+    match take_section(source, place, Section::Store { height }) {
+        Ok(words) => Ok(store_in(height, words.as_slice())),
+        Err(fault) => Err(fault),
+    }
+}
+
+/// What is pending, and the open load.
+#[tactic(auto, using(crate::proofs::Pendings::pending_is))]
+pub(crate) fn read_pending<S: Source>(
+    source: &mut S,
+    place: &mut u32,
+    height: u16,
+) -> Result<(Pending, Option<Transfer>), SnapFault>
+    requires height { IsHeight height }
+    requires place { place.old < 2 ^ 30 }
+    ensures takes { IfOk result (λ part.
+        Takes (Section.Pending height) (S.left source.old) (S.left source.new) place.old place.new
+            (pending_words part.0 part.1)) }
+    ensures bounds { IfOk result (λ part. IsPending part.0) }
+    ensures link { IfOk result (λ part. IsLinked part.0 part.1) }
+    ensures load { IfOk result (λ part. IsOpen height part.1) }
+    ensures near { place.new ≤ place.old + 52 }
+    ensures fault { IfErr result (λ fault.
+        Stops (section_from (Section.Pending height) [] place.old) (S.left source.old) (S.left source.new) fault) }
+    ensures cause { IfErr result (λ fault. IsReadFault fault → Rose (S.faults source.old) (S.faults source.new)) }
+    ensures faults { S.faults source.old ≤ S.faults source.new }
+{
+    match take_section(source, place, Section::Pending { height }) {
+        Ok(words) => {
+            let words = words.as_slice();
+            Ok((pending_in(height, words), load_in(height, words)))
+        }
+        Err(fault) => Err(fault),
+    }
+}
+
+/// The running transfer.
+#[tactic(auto, using(crate::proofs::Pendings::run_is))]
+pub(crate) fn read_run<S: Source>(source: &mut S, place: &mut u32) -> Result<Run, SnapFault>
+    requires place { place.old < 2 ^ 30 }
+    ensures takes { IfOk result (λ run.
+        Takes Section.Run (S.left source.old) (S.left source.new) place.old place.new (run_words run)) }
+    ensures bounds { IfOk result IsRun }
+    ensures near { place.new ≤ place.old + 52 }
+    ensures fault { IfErr result (λ fault.
+        Stops (section_from Section.Run [] place.old) (S.left source.old) (S.left source.new) fault) }
+    ensures cause { IfErr result (λ fault. IsReadFault fault → Rose (S.faults source.old) (S.faults source.new)) }
+    ensures faults { S.faults source.old ≤ S.faults source.new }
+{
+    match take_section(source, place, Section::Run) {
+        Ok(words) => Ok(run_in(words.as_slice())),
+        Err(fault) => Err(fault),
+    }
+}

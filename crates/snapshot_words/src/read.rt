@@ -1,0 +1,43 @@
+// A state but for its memories, read part by part.
+ghost use Rattle.std.specs.Prelude.{◌≡◌, ◌≤◌, ◌<◌, ◌+◌, ◌*◌, ◌^◌, IfOk, IfErr};
+ghost use Rattle.dev_io.specs.Device.{Rose};
+ghost use Rattle.snapshot_words.specs.Outline.{IsOutline};
+ghost use Rattle.snapshot_words.specs.Reading.{outline_from};
+ghost use Rattle.snapshot_words.specs.Taking.{TakesOutline, Stops, IsReadFault};
+
+use crate::fault::SnapFault;
+use crate::outline::Outline;
+use crate::parts::{read_front, read_pending, read_registers, read_run, read_store};
+use dev_io::Source;
+
+/// Reads a state but for its memories from a place on, which is then the place behind it.
+///
+/// It takes no byte behind the state. A word that may not stand at its place is refused as soon as it is taken.
+pub fn read_outline<S: Source>(source: &mut S, place: &mut u32) -> Result<Outline, SnapFault>
+    requires { place.old < 2 ^ 29 }
+    // The bytes taken are its spelling, and it is within the bounds.
+    ensures takes { IfOk result (λ outline.
+        TakesOutline (S.left source.old) (S.left source.new) place.old place.new outline) }
+    ensures bounds { IfOk result IsOutline }
+    ensures near { place.new ≤ place.old + 260 }
+
+    // Why it is refused: what the bytes taken say, and a failure of the source only where it failed.
+    ensures fault { IfErr result (λ fault.
+        Stops (outline_from place.old) (S.left source.old) (S.left source.new) fault) }
+    ensures cause { IfErr result (λ fault. IsReadFault fault → Rose (S.faults source.old) (S.faults source.new)) }
+    ensures faults { S.faults source.old ≤ S.faults source.new }
+{
+    let (height, played) = read_front(source, place)?;
+    let regs = read_registers(source, place, height)?;
+    let (pending, load) = read_pending(source, place, height)?;
+    let store = read_store(source, place, height)?;
+    let run = read_run(source, place)?;
+    Ok(Outline {
+        played,
+        regs,
+        pending,
+        load,
+        store,
+        run,
+    })
+}

@@ -1,0 +1,241 @@
+// The parts of a state, and which words may stand in each.
+ghost use Rattle.std.specs.Prelude.{◌≡◌, ◌≤◌, ◌<◌, ◌+◌, ◌*◌, ◌^◌, ◌==◌, true, if◌then◌else◌, min, length, slice_index};
+ghost use Rattle.gp0_words.specs.Kinds.{is_set, is_end};
+ghost use Rattle.snapshot_words.specs.Sections.{
+  need,
+  wants,
+  allows,
+  need_pending,
+  need_store,
+  need_run,
+  allows_front,
+  allows_pending,
+  allows_packet,
+  allows_job,
+  allows_line,
+  allows_store,
+  allows_run,
+  allows_words,
+  IsSection,
+  is_address,
+  is_within,
+  is_line,
+};
+
+use gp0_words::first_len;
+
+/// A part of a state.
+#[derive(Clone, Copy, Debug, PartialEq, Eq)]
+pub enum Section {
+    /// The height, and the number of events played, low and high.
+    Front,
+    /// The registers.
+    Registers { height: u16 },
+    /// What is pending.
+    Pending { height: u16 },
+    /// The open store.
+    Store { height: u16 },
+    /// The running transfer.
+    Run,
+}
+
+/// A word of those that came, 0 where it has not come.
+pub(crate) fn word_at(got: &[u32], i: usize) -> u32
+    ensures { result ≡ slice_index got.now i }
+{
+    if i < got.len() { got[i] } else { 0 }
+}
+
+// Whether a bit of a word is 1.
+fn bit(word: u32, k: u32) -> bool
+    requires { k < 32 }
+    ensures { result ≡ is_set word k }
+{
+    word >> k & 1 == 1
+}
+
+// Whether a word ends a polyline, where it stands in place of a vertex's first word.
+fn ends_polyline(word: u32) -> bool
+    ensures { result ≡ is_end word }
+{
+    word & 0xf000_f000 == 0x5000_5000
+}
+
+fn is_within(low: u32, high: u32, word: u32) -> bool
+    ensures { result ≡ is_within low high word }
+{
+    low <= word && word <= high
+}
+
+fn is_address(word: u32) -> bool
+    ensures { result ≡ is_address word }
+{
+    word % 4 == 0 && word < 0x20_0000
+}
+
+fn is_line(word: u32) -> bool
+    ensures { result ≡ is_line word }
+{
+    word >> 29 == 2 && bit(word, 27)
+}
+
+fn need_pending(got: &[u32]) -> usize
+    ensures value { result ≡ need_pending got.now }
+    ensures most { result ≤ 13 }
+{
+    match word_at(got, 0) {
+        1 => 2 + word_at(got, 1).min(11) as usize,
+        2 => 6,
+        3 => if word_at(got, 4) == 1 { 6 } else { 5 },
+        _ => 1,
+    }
+}
+
+fn need_store(got: &[u32]) -> usize
+    ensures value { result ≡ need_store got.now }
+    ensures most { result ≤ 13 }
+{
+    if word_at(got, 0) == 1 { 6 } else { 1 }
+}
+
+fn need_run(got: &[u32]) -> usize
+    ensures value { result ≡ need_run got.now }
+    ensures most { result ≤ 13 }
+{
+    match word_at(got, 0) {
+        1 => 5,
+        2 => 2,
+        _ => 1,
+    }
+}
+
+/// How many words a part has, by the words of it that came, at most thirteen.
+pub(crate) fn need(section: Section, got: &[u32]) -> usize
+    ensures value { result ≡ need section got.now }
+    ensures most { result ≤ 13 }
+{
+    match section {
+        Section::Front => 3,
+        Section::Registers { .. } => 13,
+        Section::Pending { .. } => need_pending(got),
+        Section::Store { .. } => need_store(got),
+        Section::Run => need_run(got),
+    }
+}
+
+/// Whether one word more is due in a part.
+pub(crate) fn wants(section: Section, got: &[u32]) -> bool
+    ensures value { result ≡ wants section got.now }
+    ensures few { result ≡ true → length got.now < 13 }
+{
+    got.len() < need(section, got)
+}
+
+fn allows_front(got: &[u32], word: u32) -> bool
+    ensures { result ≡ allows_front got.now word }
+{
+    match got.len() {
+        0 => word == 512 || word == 1024,
+        1 => true,
+        _ => word < 0x8000_0000,
+    }
+}
+
+fn allows_job(height: u16, got: &[u32], word: u32) -> bool
+    ensures { result ≡ allows_job height got.now word }
+{
+    match got.len() {
+        1 => word < 1024,
+        2 => word < u32::from(height),
+        3 => is_within(1, 1024, word),
+        4 => is_within(1, 512, word),
+        _ => word % 2 == 0 && u64::from(word) < u64::from(word_at(got, 3)) * u64::from(word_at(got, 4)),
+    }
+}
+
+fn allows_packet(got: &[u32], word: u32) -> bool
+    requires some { 1 ≤ length got.now }
+    ensures { result ≡ allows_packet got.now word }
+{
+    match got.len() {
+        1 => is_within(1, 11, word),
+        2 => 1 < first_len(word),
+        _ => got.len() - 1 < first_len(word_at(got, 2)),
+    }
+}
+
+fn allows_line(got: &[u32], word: u32) -> bool
+    ensures { result ≡ allows_line got.now word }
+{
+    match got.len() {
+        1 => is_line(word),
+        2 => bit(word_at(got, 1), 28) || word == word_at(got, 1),
+        3 => true,
+        4 => if bit(word_at(got, 1), 28) {
+            word <= 1
+        } else {
+            word == 0
+        },
+        _ => !ends_polyline(word),
+    }
+}
+
+fn allows_pending(height: u16, got: &[u32], word: u32) -> bool
+    ensures { result ≡ allows_pending height got.now word }
+{
+    if got.len() == 0 {
+        return word <= 3;
+    }
+    match word_at(got, 0) {
+        1 => allows_packet(got, word),
+        2 => allows_job(height, got, word),
+        _ => allows_line(got, word),
+    }
+}
+
+fn allows_store(height: u16, got: &[u32], word: u32) -> bool
+    ensures { result ≡ allows_store height got.now word }
+{
+    if got.len() == 0 {
+        word <= 1
+    } else {
+        allows_job(height, got, word)
+    }
+}
+
+fn allows_words(got: &[u32], word: u32) -> bool
+    ensures { result ≡ allows_words got.now word }
+{
+    match got.len() {
+        1 => is_address(word),
+        2 => is_within(1, 524_288, word),
+        3 => is_within(1, 65_536, word),
+        _ => word <= 3,
+    }
+}
+
+fn allows_run(got: &[u32], word: u32) -> bool
+    ensures { result ≡ allows_run got.now word }
+{
+    if got.len() == 0 {
+        return word <= 2;
+    }
+    match word_at(got, 0) {
+        1 => allows_words(got, word),
+        _ => is_address(word),
+    }
+}
+
+/// Whether a word may come in a part behind the words of it that came.
+pub(crate) fn allows(section: Section, got: &[u32], word: u32) -> bool
+    requires { IsSection section }
+    ensures { result ≡ allows section got.now word }
+{
+    match section {
+        Section::Front => allows_front(got, word),
+        Section::Registers { height } => gp1_status::allows(height, got.len(), word),
+        Section::Pending { height } => allows_pending(height, got, word),
+        Section::Store { height } => allows_store(height, got, word),
+        Section::Run => allows_run(got, word),
+    }
+}

@@ -1,0 +1,81 @@
+// Words that are taken from a source.
+ghost use Rattle.std.specs.Prelude.{◌≡◌, ◌≤◌, ◌<◌, ◌+◌, ◌*◌, ◌^◌, [], IfOk, IfErr};
+ghost use Rattle.dev_io.specs.Device.{Rose};
+ghost use Rattle.gpu_capture.specs.Written.{word_bytes};
+ghost use Rattle.snapshot_words.specs.Reading.{section_from};
+ghost use Rattle.snapshot_words.specs.Sections.{IsSection, IsWhole};
+ghost use Rattle.snapshot_words.specs.Taking.{IsWord, EndsWord, Takes, Stops, IsReadFault};
+
+use crate::fault::SnapFault;
+use crate::section::{Section, allows, wants};
+use arrayvec::ArrayVec;
+use byteorder::{ByteOrder, LittleEndian};
+use dev_io::{Source, fill};
+use gpu_capture::Stop;
+
+// The word of four bytes, low first.
+fn word_in(bytes: &[u8; 4]) -> u32
+    ensures value { word_bytes result ≡ bytes.now }
+    ensures fits { result < 2 ^ 32 }
+{
+    LittleEndian::read_u32(bytes)
+}
+
+/// The word at a place.
+pub fn take_word<S: Source>(source: &mut S, place: u32) -> Result<u32, SnapFault>
+    requires { place < 2 ^ 31 }
+    ensures word { IfOk result (λ word. IsWord (S.left source.old) (S.left source.new) word) }
+    ensures fault { IfErr result (λ fault. EndsWord (S.left source.old) (S.left source.new) place fault) }
+    ensures cause { IfErr result (λ fault. IsReadFault fault → Rose (S.faults source.old) (S.faults source.new)) }
+    ensures faults { S.faults source.old ≤ S.faults source.new }
+{
+    let mut bytes = [0u8; 4];
+    match fill(source, &mut bytes) {
+        Ok(4) => Ok(word_in(&bytes)),
+        Ok(n) => {
+            let stop = Stop::Truncated {
+                byte: place + n as u32,
+            };
+            Err(SnapFault::Stop { stop })
+        }
+        Err(n) => {
+            let stop = Stop::ReadFault {
+                byte: place + n as u32,
+            };
+            Err(SnapFault::Stop { stop })
+        }
+    }
+}
+
+/// The words of a part, from a place on, which is then the place behind them.
+pub(crate) fn take_section<S: Source>(
+    source: &mut S,
+    place: &mut u32,
+    section: Section,
+) -> Result<ArrayVec<u32, 16>, SnapFault>
+    requires section { IsSection section }
+    requires place { place.old < 2 ^ 30 }
+    ensures takes { IfOk result (λ words.
+        Takes section (S.left source.old) (S.left source.new) place.old place.new words.items) }
+    ensures whole { IfOk result (λ words. IsWhole section words.items) }
+    ensures near { place.new ≤ place.old + 52 }
+    ensures fault { IfErr result (λ fault.
+        Stops (section_from section [] place.old) (S.left source.old) (S.left source.new) fault) }
+    ensures cause { IfErr result (λ fault. IsReadFault fault → Rose (S.faults source.old) (S.faults source.new)) }
+    ensures faults { S.faults source.old ≤ S.faults source.new }
+{
+    let mut words = ArrayVec::<u32, 16>::new();
+    'words: while wants(section, words.as_slice()) {
+        let at = *place;
+        let word = match take_word(source, at) {
+            Ok(word) => word,
+            Err(fault) => return Err(fault),
+        };
+        if !allows(section, words.as_slice(), word) {
+            return Err(SnapFault::Bad { byte: at, word });
+        }
+        words.push(word);
+        *place = at + 4;
+    }
+    Ok(words)
+}
