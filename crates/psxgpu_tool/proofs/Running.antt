@@ -30,13 +30,16 @@ use Rattle.psxgpu_tool.specs.First.{first, play_of, seen}
 use Rattle.psxgpu_tool.specs.FlatRun.{FlatRun}
 use Rattle.psxgpu_tool.specs.Line.{status_of, ending_line, ending_text, flat_status, flat_text, slim_status, slim_text, usage_line}
 use Rattle.psxgpu_tool.specs.Outside.{Outside, Says, HasFailed, HasFailedToRead, EndsTelling}
-use Rattle.psxgpu_tool.specs.Run.{Whole, Refused, Starved, Cut, EndsAsCaptured, WithinCost, WithinBoxCost, Tells, Declined, DemoRun, Runs}
+use Rattle.psxgpu_tool.specs.PlayRun.{PlayRun}
+use Rattle.psxgpu_tool.specs.Run.{CommandRun, Declined, Runs, RunsAs}
 use Rattle.psxgpu_tool.specs.SlimRun.{SlimRun}
+use Rattle.psxgpu_tool.specs.TellRun.{Tells}
 use Rattle.psxgpu_tool.specs.Words.{HavePlayed, whole_replay}
-use Rattle.psxgpu_tool.specs.declared.command.Command.TheVariants.{Plays, Flat, Slim, Demo as DemoOf, Help, Version}
+use Rattle.psxgpu_tool.specs.declared.command.Command.{Command}
+use Rattle.psxgpu_tool.specs.declared.command.Command.TheVariants.{Plays, Flat, Slim, Demo as DemoOf}
 use Rattle.psxgpu_tool.proofs.First.{first_stands, first_short}
 use Rattle.psxgpu_tool.proofs.Flats.{flat_three, flat_four, flat_whole, flat_complete}
-use Rattle.psxgpu_tool.proofs.Commands.{same_mode, plays_no_help, plays_no_version, plays_no_demo, plays_no_flat, same_demo, demo_no_help, demo_no_version, demo_no_flat, flat_no_help, flat_no_version, plays_no_slim, demo_no_slim, flat_no_slim, slim_no_help, slim_no_version}
+use Rattle.psxgpu_tool.proofs.Commands.{same_command}
 use Rattle.psxgpu_tool.proofs.Slims.{slim_three, slim_four, slim_whole, slim_complete}
 use Rattle.psxgpu_tool.proofs.Told.{three_starved, four_cut, if_told, whole_run, refused_run, starved_run, cut_run, complete_run, cost_run, box_cost_run}
 
@@ -114,51 +117,60 @@ may_read ending three = let is = three_starved ending three in subst MayReadFaul
 may_write : (ending : Ending) → status_of ending ≡ 4 → MayWriteFault ending
 may_write ending four = let is = four_cut ending four in subst MayWriteFault (sym is.1) tt
 
-module _ (words : Vec (String Global) Global) (heard heard_now : List Reading) (before now : Outside) (ending : Ending)
+-- ---- the commands
+
+-- a run of a command with this status
+answers : (command : Command) (heard : List Reading) (before now : Outside) (status : ℕ) → IsKnown status
+    → (status ≡ 0 → now.err ≡ before.err) → RunsAs command heard before now status
+    → CommandRun command heard before now status
+answers command heard before now status known silent does = record {
+  does = does;
+  used = known.used;
+  starving = λ five. absurd (known.remembered five);
+  silent = silent;
+  few = known.few;
+}
+
+module _ (heard heard_now : List Reading) (before now : Outside) (ending : Ending)
     (says : Says before.err now.err (ending_text ending heard_now))
     (silent : status_of ending ≡ 0 → now.err ≡ before.err) where
-  -- a command that reads
-  pub plays_runs : (mode : Mode) (rig : RigState) → Names words (Plays mode)
+  -- a capture that is played
+  play_run : (mode : Mode) (rig : RigState) → EndsPlay mode play_of (seen heard before) (seen heard_now now) rig ending
+      → (MayReadFault ending → HasFailedToRead before.source now.source)
+      → (MayWriteFault ending → HasFailed before.out now.out)
+      → PlayRun mode heard before now (status_of ending)
+  play_run mode rig ends read_cause write_cause = record {
+    whole = λ zero. if_told before.source.left _
+        (λ bytes told. whole_run mode heard heard_now before now rig bytes told ending ends zero);
+    refused = λ two. if_told before.source.left _
+        (λ bytes told. refused_run mode heard heard_now before now rig bytes told ending ends two says);
+    starved = λ three. (
+      read_cause (may_read ending three),
+      if_told before.source.left _
+          (λ bytes told. starved_run mode heard heard_now before now rig bytes told ending ends three says),
+    );
+    cut = λ four. (
+      write_cause (may_write ending four),
+      if_told before.source.left _
+          (λ bytes told. cut_run mode heard heard_now before now rig bytes told ending ends four says),
+    );
+    complete = λ read write. inr (if_told before.source.left _
+        (λ bytes told. complete_run mode heard heard_now before now rig bytes told ending ends
+        (λ may. read (read_cause may)) (λ may. write (write_cause may))));
+    cost = if_told before.source.left _
+        (λ bytes told. cost_run mode heard heard_now before now rig bytes told ending ends);
+    box_cost = if_told before.source.left _
+        (λ bytes told. box_cost_run mode heard heard_now before now rig bytes told ending ends);
+  }
+
+  pub plays_runs : (mode : Mode) (rig : RigState)
       → EndsPlay mode play_of (seen heard before) (seen heard_now now) rig ending
       → (MayReadFault ending → HasFailedToRead before.source now.source)
       → (MayWriteFault ending → HasFailed before.out now.out)
-      → Runs words heard before now (status_of ending)
-  plays_runs mode rig named ends read_cause write_cause =
-      let is = λ (m : Mode) (names : Names words (Plays m)). same_mode
-      (map string_bytes words.items) mode m named.0 names.0 in
-      record {
-        whole = λ m names zero. subst (λ (m : Mode). Whole m heard before now) (is m names)
-            (if_told before.source.left _
-            (λ bytes told. whole_run mode heard heard_now before now rig bytes told ending ends zero));
-        refused = λ m names two. subst (λ (m : Mode). Refused m heard before now) (is m names)
-            (if_told before.source.left _ (λ bytes told. refused_run mode heard heard_now before now rig bytes told ending ends two says));
-        starved = λ m names three. subst (λ (m : Mode). Starved m heard before now) (is m names) (
-          read_cause (may_read ending three),
-          if_told before.source.left _ (λ bytes told. starved_run mode heard heard_now before now rig bytes told ending ends three says),
-        );
-        cut = λ m names four. subst (λ (m : Mode). Cut m heard before now) (is m names) (
-          write_cause (may_write ending four),
-          if_told before.source.left _ (λ bytes told. cut_run mode heard heard_now before now rig bytes told ending ends four says),
-        );
-        complete = λ m names read write. inr (subst (λ (m : Mode). EndsAsCaptured m before (status_of ending)) (is m names)
-            (if_told before.source.left _ (λ bytes told. complete_run mode heard heard_now before now rig bytes told ending ends
-            (λ may. read (read_cause may)) (λ may. write (write_cause may)))));
-        cost = λ m names. subst (λ (m : Mode). WithinCost m before now) (is m names)
-            (if_told before.source.left _
-            (λ bytes told. cost_run mode heard heard_now before now rig bytes told ending ends));
-        box_cost = λ m names. subst (λ (m : Mode). WithinBoxCost m before now) (is m names)
-            (if_told before.source.left _ (λ bytes told. box_cost_run mode heard heard_now before now rig bytes told ending ends));
-        flat = λ names. absurd (plays_no_flat _ mode named.0 names.0);
-        slim = λ names. absurd (plays_no_slim _ mode named.0 names.0);
-        demo = λ n names. absurd (plays_no_demo _ mode n named.0 names.0);
-        help = λ names. absurd (plays_no_help _ mode named.0 names.0);
-        version = λ names. absurd (plays_no_version _ mode named.0 names.0);
-        usage = (λ one. absurd ((known_ending ending).used one), λ usage. absurd (usage (Plays mode) named));
-        misused = λ one. absurd ((known_ending ending).used one);
-        starving = λ five. absurd ((known_ending ending).remembered five);
-        silent = silent;
-        few = (known_ending ending).few;
-      }
+      → CommandRun (Plays mode) heard before now (status_of ending)
+  plays_runs mode rig ends read_cause write_cause =
+      answers (Plays mode) heard before now (status_of ending) (known_ending ending) silent
+      (play_run mode rig ends read_cause write_cause)
 
   -- what was to be told was, or a part of it
   tells : (bytes : List ℕ) (event : ℕ) (e : Ending) → EndsTelling bytes event before.out now.out e
@@ -178,13 +190,13 @@ module _ (words : Vec (String Global) Global) (heard heard_now : List Reading) (
   tells bytes event (Stopped n stop) ends says = absurd ends
 
   -- a demo
-  pub demo_runs : (n steps : ℕ) (rig : RigState) → Names words (DemoOf n)
+  pub demo_runs : (n steps : ℕ) (rig : RigState)
       → HavePlayed first (demo_words n) (without_sink heard before.steps) (without_sink heard_now steps) rig
       → ((s : State) → kept_of s ≡ rig.gpu → EndsTelling (demo_bytes heard_now s)
       (next_number rig.played) before.out now.out ending)
       → (rig.gpu.parts.regs.height ≡ short_height → now.steps ≤ steps + cells_cost) → now.source ≡ before.source
-      → Runs words heard before now (status_of ending)
-  demo_runs n steps rig named played ends cost unread =
+      → CommandRun (DemoOf n) heard before now (status_of ending)
+  demo_runs n steps rig played ends cost unread =
       let replay = ap (whole_replay first) (sym (append-nil (Demo n))) ∙ played.comes [] in
       let tale : demo_tale n ≡ played.tale = ap (λ (r : Played). r.tale) replay in
       let told = played.heard ∙ ap (λ (t : Tale). told_notes t.notes heard) (sym tale) in
@@ -204,31 +216,11 @@ module _ (words : Vec (String Global) Global) (heard heard_now : List Reading) (
       (arith, c, played.cost, spent) in
       let boxed : (demo_tale n).cost ≤ (demo_tale n).box_cost = costs_small first (Demo n) End [] (omega arith) in
       let within_boxes : now.steps ≤ before.steps + DemoBoxCost n = omega (arith, within, boxed) in
-      let run : DemoRun n heard before now (status_of ending) =
-      record { tells = inr telling; unread = unread; cost = within; box_cost = within_boxes }
-      in
-      record {
-        whole = λ m names. absurd (plays_no_demo _ m n names.0 named.0);
-        refused = λ m names. absurd (plays_no_demo _ m n names.0 named.0);
-        starved = λ m names. absurd (plays_no_demo _ m n names.0 named.0);
-        cut = λ m names. absurd (plays_no_demo _ m n names.0 named.0);
-        complete = λ m names. absurd (plays_no_demo _ m n names.0 named.0);
-        cost = λ m names. absurd (plays_no_demo _ m n names.0 named.0);
-        box_cost = λ m names. absurd (plays_no_demo _ m n names.0 named.0);
-        flat = λ names. absurd (demo_no_flat _ n named.0 names.0);
-        slim = λ names. absurd (demo_no_slim _ n named.0 names.0);
-        demo = λ m names. subst (λ (m : ℕ). DemoRun m heard before now (status_of ending)) (same_demo (map string_bytes words.items) n m named names) run;
-        help = λ names. absurd (demo_no_help _ n named.0 names.0);
-        version = λ names. absurd (demo_no_version _ n named.0 names.0);
-        usage = (λ one. absurd ((known_ending ending).used one), λ usage. absurd (usage (DemoOf n) named));
-        misused = λ one. absurd ((known_ending ending).used one);
-        starving = λ five. absurd ((known_ending ending).remembered five);
-        silent = silent;
-        few = (known_ending ending).few;
-      }
+      answers (DemoOf n) heard before now (status_of ending) (known_ending ending) silent
+      (record { tells = inr telling; unread = unread; cost = within; box_cost = within_boxes })
 
 -- a flat capture
-module _ (words : Vec (String Global) Global) (heard heard_now : List Reading) (before now : Outside) (ending : FlatEnding)
+module _ (heard heard_now : List Reading) (before now : Outside) (ending : FlatEnding)
     (says : Says before.err now.err (flat_text ending heard_now)) (silent : flat_status ending ≡ 0 → now.err ≡ before.err) where
   run_of : (rig : RigState) → EndsFlat first (seen heard before) (seen heard_now now) rig ending → IsFlatEnding ending
       → (MayReadFlat ending → HasFailedToRead before.source now.source) → (MayWriteFlat ending → HasFailed before.out now.out)
@@ -242,33 +234,20 @@ module _ (words : Vec (String Global) Global) (heard heard_now : List Reading) (
         (λ may. read (read_cause may)) (λ may. write (write_cause may))));
   }
 
-  pub flat_runs : (rig : RigState) → Names words Flat → EndsFlat first (seen heard before) (seen heard_now now) rig ending → IsFlatEnding ending
-      → (MayReadFlat ending → HasFailedToRead before.source now.source) → (MayWriteFlat ending → HasFailed before.out now.out)
-      → Runs words heard before now (flat_status ending)
-  flat_runs rig named ends is_ending read_cause write_cause = record {
-    whole = λ m names. absurd (plays_no_flat _ m names.0 named.0);
-    refused = λ m names. absurd (plays_no_flat _ m names.0 named.0);
-    starved = λ m names. absurd (plays_no_flat _ m names.0 named.0);
-    cut = λ m names. absurd (plays_no_flat _ m names.0 named.0);
-    complete = λ m names. absurd (plays_no_flat _ m names.0 named.0);
-    cost = λ m names. absurd (plays_no_flat _ m names.0 named.0);
-    box_cost = λ m names. absurd (plays_no_flat _ m names.0 named.0);
-    flat = λ names. run_of rig ends is_ending read_cause write_cause;
-    slim = λ names. absurd (flat_no_slim _ named.0 names.0);
-    demo = λ n names. absurd (demo_no_flat _ n names.0 named.0);
-    help = λ names. absurd (flat_no_help _ named.0 names.0);
-    version = λ names. absurd (flat_no_version _ named.0 names.0);
-    usage = (λ one. absurd ((known_flat ending).used one), λ usage. absurd (usage Flat named));
-    misused = λ one. absurd ((known_flat ending).used one);
-    starving = λ five. absurd ((known_flat ending).remembered five);
-    silent = silent;
-    few = (known_flat ending).few;
-  }
+  pub flat_runs : (rig : RigState) → EndsFlat first (seen heard before) (seen heard_now now) rig ending
+      → IsFlatEnding ending
+      → (MayReadFlat ending → HasFailedToRead before.source now.source)
+      → (MayWriteFlat ending → HasFailed before.out now.out)
+      → CommandRun Flat heard before now (flat_status ending)
+  flat_runs rig ends is_ending read_cause write_cause =
+      answers Flat heard before now (flat_status ending) (known_flat ending) silent
+      (run_of rig ends is_ending read_cause write_cause)
 
 -- a capture without its dead drawing
-module _ (words : Vec (String Global) Global) (heard : List Reading) (before now : Outside) (ending : SlimEnding)
+module _ (heard : List Reading) (before now : Outside) (ending : SlimEnding)
     (says : Says before.err now.err (slim_text ending heard)) (silent : slim_status ending ≡ 0 → now.err ≡ before.err) where
-  slim_run_of : EndsSlim (slim_streams before.source.left before.source.faults before.out.held) (slim_streams now.source.left now.source.faults now.out.held) ending → IsSlimEnding ending
+  slim_run_of : EndsSlim (slim_streams before.source.left before.source.faults before.out.held)
+      (slim_streams now.source.left now.source.faults now.out.held) ending → IsSlimEnding ending
       → (MayReadSlim ending → HasFailedToRead before.source now.source) → (MayWriteSlim ending → HasFailed before.out now.out)
       → now.steps ≡ before.steps → SlimRun heard before now (slim_status ending)
   slim_run_of ends is_ending read_cause write_cause free = record {
@@ -287,29 +266,14 @@ module _ (words : Vec (String Global) Global) (heard : List Reading) (before now
     free = free;
   }
 
-  pub slim_runs : Names words Slim
-      → EndsSlim (slim_streams before.source.left before.source.faults before.out.held) (slim_streams now.source.left now.source.faults now.out.held) ending → IsSlimEnding ending
-      → (MayReadSlim ending → HasFailedToRead before.source now.source) → (MayWriteSlim ending → HasFailed before.out now.out)
-      → now.steps ≡ before.steps → Runs words heard before now (slim_status ending)
-  slim_runs named ends is_ending read_cause write_cause free = record {
-    whole = λ m names. absurd (plays_no_slim _ m names.0 named.0);
-    refused = λ m names. absurd (plays_no_slim _ m names.0 named.0);
-    starved = λ m names. absurd (plays_no_slim _ m names.0 named.0);
-    cut = λ m names. absurd (plays_no_slim _ m names.0 named.0);
-    complete = λ m names. absurd (plays_no_slim _ m names.0 named.0);
-    cost = λ m names. absurd (plays_no_slim _ m names.0 named.0);
-    box_cost = λ m names. absurd (plays_no_slim _ m names.0 named.0);
-    flat = λ names. absurd (flat_no_slim _ names.0 named.0);
-    slim = λ names. slim_run_of ends is_ending read_cause write_cause free;
-    demo = λ n names. absurd (demo_no_slim _ n names.0 named.0);
-    help = λ names. absurd (slim_no_help _ named.0 names.0);
-    version = λ names. absurd (slim_no_version _ named.0 names.0);
-    usage = (λ one. absurd ((known_slim ending).used one), λ usage. absurd (usage Slim named));
-    misused = λ one. absurd ((known_slim ending).used one);
-    starving = λ five. absurd ((known_slim ending).remembered five);
-    silent = silent;
-    few = (known_slim ending).few;
-  }
+  pub slim_runs : EndsSlim (slim_streams before.source.left before.source.faults before.out.held)
+      (slim_streams now.source.left now.source.faults now.out.held) ending → IsSlimEnding ending
+      → (MayReadSlim ending → HasFailedToRead before.source now.source)
+      → (MayWriteSlim ending → HasFailed before.out now.out)
+      → now.steps ≡ before.steps → CommandRun Slim heard before now (slim_status ending)
+  slim_runs ends is_ending read_cause write_cause free =
+      answers Slim heard before now (slim_status ending) (known_slim ending) silent
+      (slim_run_of ends is_ending read_cause write_cause free)
 
 -- nothing was played on a new rig
 pub nothing_played : (heard : List Reading) (steps : ℕ) (rig : RigState) → rig ≡ first_rig
@@ -323,22 +287,27 @@ nothing_played heard steps rig is = record {
   height = refl;
 }
 
--- words that name no command
+-- ---- any words
+
+-- words that name a command
+pub command_runs : (words : Vec (String Global) Global) (command : Command) (heard : List Reading)
+    (before now : Outside) (status : ℕ) → Names words command → CommandRun command heard before now status
+    → Runs words heard before now status
+command_runs words command heard before now status named run = record {
+  does = λ other names. subst (λ (c : Command). RunsAs c heard before now status)
+      (same_command (map string_bytes words.items) command other named names) run.does;
+  usage = (λ one. absurd (run.used one), λ usage. absurd (usage command named));
+  misused = λ one. absurd (run.used one);
+  starving = run.starving;
+  silent = run.silent;
+  few = run.few;
+}
+
+-- words that name none
 pub misused_runs : (words : Vec (String Global) Global) (heard : List Reading) (before now : Outside) → IsUsage words
     → Declined usage_line before now → Runs words heard before now 1
 misused_runs words heard before now usage declined = record {
-  whole = λ m names. absurd (usage (Plays m) names);
-  refused = λ m names. absurd (usage (Plays m) names);
-  starved = λ m names. absurd (usage (Plays m) names);
-  cut = λ m names. absurd (usage (Plays m) names);
-  complete = λ m names. absurd (usage (Plays m) names);
-  cost = λ m names. absurd (usage (Plays m) names);
-  box_cost = λ m names. absurd (usage (Plays m) names);
-  flat = λ names. absurd (usage Flat names);
-  slim = λ names. absurd (usage Slim names);
-  demo = λ n names. absurd (usage (DemoOf n) names);
-  help = λ names. absurd (usage Help names);
-  version = λ names. absurd (usage Version names);
+  does = λ command names. absurd (usage command names);
   usage = (λ one. usage, λ usage. refl);
   misused = λ one. declined;
   starving = λ five. absurd (omega (arith, five));

@@ -16,7 +16,7 @@ use Rattle.event_play.specs.declared.ending.Mode.{Mode}
 use Rattle.psxgpu_tool.specs.First.{play_of, seen}
 use Rattle.psxgpu_tool.specs.Line.{status_of, ending_line, ending_text}
 use Rattle.psxgpu_tool.specs.Outside.{Outside, Says}
-use Rattle.psxgpu_tool.specs.Run.{WholeRun, RefusedRun, StarvedRun, CutRun}
+use Rattle.psxgpu_tool.specs.PlayRun.{WholeRun, RefusedRun, StarvedRun, BlockedRun}
 
 -- ---- endings
 
@@ -329,7 +329,7 @@ module _ (mode : Mode) (heard heard_now : List Reading) (before now : Outside) (
       starved_by is.0 is.1.0 (subst Ends is.1.1 ends) (rw append-nil at text)
 
   cut_by : (number : ℕ) → Ends (WriteFailed number) → Says before.err now.err (ending_line (WriteFailed number))
-      → CutRun mode heard bytes before now
+      → BlockedRun mode heard bytes before now
   cut_by number ends says =
       let is_cut = taken_of (WriteFailed number) ends in
       let lacks = ends.says in
@@ -354,7 +354,7 @@ module _ (mode : Mode) (heard heard_now : List Reading) (before now : Outside) (
 
   pub cut_run : (ending : Ending) → Ends ending → status_of ending ≡ 4
       → Says before.err now.err (ending_text ending heard_now)
-      → CutRun mode heard bytes before now
+      → BlockedRun mode heard bytes before now
   cut_run ending ends four says =
       let is = four_cut ending four in
       let text = subst (λ (e : Ending). Says before.err now.err (ending_text e heard_now)) is.1 says in

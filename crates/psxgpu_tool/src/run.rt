@@ -2,7 +2,7 @@
 ghost use Rattle.std.specs.Prelude.{◌≡◌, map};
 ghost use Rattle.psxgpu_tool.specs.Line.{memory_line};
 ghost use Rattle.psxgpu_tool.specs.Outside.{outside, source_side, sink_side, Says, EndsTelling};
-ghost use Rattle.psxgpu_tool.specs.Run.{Runs};
+ghost use Rattle.psxgpu_tool.specs.Run.{CommandRun, Runs};
 
 use crate::command::{Command, read_command};
 use crate::demo::{play_demo, tell_demo};
@@ -43,16 +43,38 @@ pub fn run<S: Source, K: Sink, E: Sink, L: Ledger>(
             tell(err, b"psxgpu: usage\n");
             1
         }
-        Some(Command::Help) => end(err, tell_text(HELP, out), &taps),
-        Some(Command::Version) => end(err, tell_text(VERSION, out), &taps),
-        Some(Command::Plays { mode }) => match Rig::new(alloc) {
+        Some(command) => run_command(alloc, command, source, out, err, taps, steps),
+    }
+}
+
+/// Runs a command.
+fn run_command<S: Source, K: Sink, E: Sink, L: Ledger>(
+    alloc: Global,
+    command: Command,
+    source: &mut S,
+    out: &mut K,
+    err: &mut E,
+    mut taps: Vec<Box<dyn Tap>>,
+    steps: &mut Steps<L>,
+) -> u8
+    ensures { CommandRun command (map ⟦<Box<dyn Tap> as Listener>⟧.heard taps.items)
+        (outside (source_side (S.left source.old) (S.faults source.old))
+        (sink_side (K.held out.old) (K.faults out.old)) (sink_side (E.held err.old) (E.faults err.old)) steps.old)
+        (outside (source_side (S.left source.new) (S.faults source.new))
+        (sink_side (K.held out.new) (K.faults out.new)) (sink_side (E.held err.new) (E.faults err.new)) steps.new)
+        result }
+{
+    match command {
+        Command::Help => end(err, tell_text(HELP, out), &taps),
+        Command::Version => end(err, tell_text(VERSION, out), &taps),
+        Command::Plays { mode } => match Rig::new(alloc) {
             Ok(mut rig) => {
                 let ending = rig.play(source, out, mode, &mut taps, steps);
                 end(err, ending, &taps)
             }
             Err(_) => tell_no_memory(err),
         },
-        Some(Command::Demo { packets }) => match Rig::new(alloc) {
+        Command::Demo { packets } => match Rig::new(alloc) {
             Ok(mut rig) => {
                 play_demo(&mut rig, packets, &mut taps, steps);
                 let ending = tell_demo(&rig, out, &taps, steps);
@@ -60,14 +82,14 @@ pub fn run<S: Source, K: Sink, E: Sink, L: Ledger>(
             }
             Err(_) => tell_no_memory(err),
         },
-        Some(Command::Flat) => match Rig::new(alloc) {
+        Command::Flat => match Rig::new(alloc) {
             Ok(mut rig) => {
                 let ending = flat(&mut rig, source, out, &mut taps, steps);
                 end_flat(err, ending, &taps)
             }
             Err(_) => tell_no_memory(err),
         },
-        Some(Command::Slim) => match Slim::new(alloc) {
+        Command::Slim => match Slim::new(alloc) {
             Ok(mut slim) => {
                 let ending = slim.pass(source, out);
                 end_slim(err, ending, &taps)

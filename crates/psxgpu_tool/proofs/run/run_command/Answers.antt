@@ -1,0 +1,41 @@
+use Rattle.std.proofs.Common.{refl, ap, ◌∙◌}
+use Rattle.event_play.specs.RigState.{RigState}
+use Rattle.event_play.specs.Step.{first_machine}
+use Rattle.psxgpu_tool.proofs.First.{first_stands}
+use Rattle.psxgpu_tool.proofs.Running.{plays_runs, demo_runs, flat_runs, slim_runs, nothing_played}
+use Rattle.psxgpu_tool.proofs.run.run_command.Goals as goal
+
+pub returns-in-Ok : goal.returns-in-Ok
+returns-in-Ok g c =
+    let none = ap (λ (r : RigState). r.played) c.in-Ok.ensures in
+    let ends = c.play-ending.ensures.ends first_machine (first_stands _ c.in-Ok.ensures) in
+    rw (c.in-Plays.is, c.end-in-Ok.ensures.status)
+    (plays_runs _ _ _ _ _ c.end-in-Ok.ensures.says
+    (λ zero. c.end-in-Ok.ensures.silent (c.end-in-Ok.ensures.status ∙ zero))
+    c.in-Plays.mode c.play-ending.new.self (rw none at ends)
+    c.play-ending.ensures.read_cause c.play-ending.ensures.write_cause)
+
+pub returns-in-Ok-new : goal.returns-in-Ok-new
+returns-in-Ok-new g c =
+    rw (c.in-Demo.is, c.end-in-Ok-new.ensures.status)
+    (demo_runs _ _ _ _ _ c.end-in-Ok-new.ensures.says
+    (λ zero. c.end-in-Ok-new.ensures.silent (c.end-in-Ok-new.ensures.status ∙ zero))
+    c.in-Demo.packets _ c.play_demo.new.rig
+    (c.play_demo.ensures _ _ (nothing_played _ _ _ c.in-Ok-new.ensures)) c.tell_demo-ending.ensures.ends
+    c.tell_demo-ending.ensures.cost refl)
+
+pub returns-in-Ok-new-2 : goal.returns-in-Ok-new-2
+returns-in-Ok-new-2 g c =
+    rw (c.in-Flat.is, c.end_flat.ensures.status)
+    (flat_runs _ _ _ _ _ c.end_flat.ensures.says
+    (λ zero. c.end_flat.ensures.silent (c.end_flat.ensures.status ∙ zero)) c.flat-ending.new.rig
+    (c.flat-ending.ensures.ends first_machine (first_stands _ c.in-Ok-new-2.ensures)) c.flat-ending.ensures.known
+    c.flat-ending.ensures.read_cause c.flat-ending.ensures.write_cause)
+
+pub returns-in-Ok-new-3 : goal.returns-in-Ok-new-3
+returns-in-Ok-new-3 g c =
+    rw (c.in-Slim.is, c.end_slim.ensures.status)
+    (slim_runs _ _ _ _ c.end_slim.ensures.says
+    (λ zero. c.end_slim.ensures.silent (c.end_slim.ensures.status ∙ zero))
+    c.pass-ending.ensures.ends c.pass-ending.ensures.known
+    c.pass-ending.ensures.read_cause c.pass-ending.ensures.write_cause refl)

@@ -1,0 +1,33 @@
+-- What a run says that reads nothing.
+use Rattle.std.specs.Prelude.{◌≡◌, ◌≤◌, ◌+◌, ◌⊎◌, ℕ, List}
+use Rattle.dev_io.specs.Device.{appended, AppendsPart}
+use Rattle.gpu_taps.specs.Tally.{Reading}
+use Rattle.event_play.specs.Replay.{next_number}
+use Rattle.event_play.specs.declared.ending.Ending.TheVariants.{WriteFailed}
+use Rattle.psxgpu_tool.specs.DemoOut.{demo_tale, DemoOut, DemoCost, DemoBoxCost}
+use Rattle.psxgpu_tool.specs.Line.{ending_line}
+use Rattle.psxgpu_tool.specs.Outside.{Outside, Says, HasFailed}
+
+-- the source, and its count, are as they were
+abbrev pub Unread : (before now : Outside) → Type 0
+Unread before now = now.source ≡ before.source
+
+-- these bytes were written; or out failed, and lacks one that was due at this event
+abbrev pub Tells : (bytes : List ℕ) → (event : ℕ) → (before now : Outside) → (status : ℕ) → Type 0
+Tells bytes event before now status =
+    ((status ≡ 0) × (now.out.held ≡ appended before.out.held bytes))
+    ⊎ ((status ≡ 4) × AppendsPart before.out.held now.out.held bytes × HasFailed before.out now.out
+    × Says before.err now.err (ending_line (WriteFailed event)))
+
+-- a demo: what is told of it is due behind its last event
+pub record DemoRun (packets : ℕ) (heard : List Reading) (before now : Outside) (status : ℕ) : Type 0 where
+  pub tells : (status ≡ 5) ⊎ Tells (DemoOut packets heard) (next_number (demo_tale packets).played) before now status
+  pub unread : Unread before now
+  pub cost : now.steps ≤ before.steps + DemoCost packets
+  pub box_cost : now.steps ≤ before.steps + DemoBoxCost packets
+
+-- a fixed text
+pub record TextRun (text : List ℕ) (before now : Outside) (status : ℕ) : Type 0 where
+  pub tells : Tells text 1 before now status
+  pub unread : Unread before now
+  pub free : now.steps ≡ before.steps
