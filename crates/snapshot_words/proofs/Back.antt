@@ -6,7 +6,8 @@ use Rattle.gpu_core.specs.Kept.{IsLinked}
 use Rattle.list_dma.specs.declared.run.Run.{Run}
 use Rattle.list_dma.specs.declared.run.Run.TheVariants as run
 use Rattle.vram_copy.specs.declared.transfer.Transfer.{Transfer}
-use Rattle.snapshot_words.specs.Values.{front_words, played_in, pending_words, pending_in, load_in, store_words, store_in}
+use Rattle.snapshot_words.specs.Values.{front_words, played_in, pending_words, pending_in, load_in, store_words}
+use Rattle.snapshot_words.specs.Values.{store_in}
 use Rattle.snapshot_words.specs.Values.{run_words, run_in}
 
 pub played_back : (height played : ℕ) → played_in (front_words height played) ≡ played

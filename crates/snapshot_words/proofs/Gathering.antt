@@ -1,5 +1,7 @@
 -- Parts of a state, word after word.
-use Rattle.std.proofs.Common.{◌≡◌, ◌<◌, ◌+◌, ◌-◌, ◌/◌, ◌%◌, ◌^◌, ◌++◌, ◌*◌, if◌then◌else◌, List, [], ◌∷◌, ℕ, Option, true, false, length, take, slice_index, refl, ap, sym, ◌∙◌, append_assoc, append-nil, arith, inl, inr}
+use Rattle.std.proofs.Common.{◌≡◌, ◌<◌, ◌+◌, ◌-◌, ◌/◌, ◌%◌, ◌^◌, ◌++◌, ◌*◌, if◌then◌else◌, List, [], ◌∷◌, ℕ, Option}
+use Rattle.std.proofs.Common.{true, false, length, take, slice_index, refl, ap, sym, ◌∙◌, append_assoc, append-nil}
+use Rattle.std.proofs.Common.{arith, inl, inr}
 use Rattle.std.proofs.lemmas.Bool.{cases_lt}
 use Rattle.std.proofs.lemmas.List.{length_push, take-append-le, take_all, get_or_append_left, get_or-append_right}
 use Rattle.byteorder.specs.Endian.{little_number, little_bytes}
@@ -19,7 +21,8 @@ use Rattle.snapshot_words.specs.declared.section.Section.{Section}
 
 -- ---- what the next bytes are
 
-pub whole_stays : (s : Section) (got : List ℕ) (place : ℕ) (bytes : List ℕ) → wants s got ≡ false → section_from s got place bytes ≡ Whole got place bytes
+pub whole_stays : (s : Section) (got : List ℕ) (place : ℕ) (bytes : List ℕ) → wants s got ≡ false
+    → section_from s got place bytes ≡ Whole got place bytes
 whole_stays s got place [] full = rw full refl
 whole_stays s got place (a ∷ []) full = rw full refl
 whole_stays s got place (a ∷ b ∷ []) full = rw full refl
@@ -29,7 +32,7 @@ whole_stays s got place (a ∷ b ∷ c ∷ d ∷ rest) full = rw full refl
 plus_none : (n : ℕ) → n ≡ n + 0
 plus_none n = omega arith
 
-breaks_off : (s : Section) (got : List ℕ) (place : ℕ) (bytes : List ℕ) → wants s got ≡ true → length bytes < 4
+pub breaks_off : (s : Section) (got : List ℕ) (place : ℕ) (bytes : List ℕ) → wants s got ≡ true → length bytes < 4
     → section_from s got place bytes ≡ Short (place + length bytes)
 breaks_off s got place [] due few = rw due (ap Short (plus_none place))
 breaks_off s got place (a ∷ []) due few = rw due refl
@@ -62,13 +65,17 @@ word_split s got place word rest due fits =
 pub bytes_on : (got : List ℕ) (word : ℕ) → bytes_of (got ++ word ∷ []) ≡ bytes_of got ++ word_bytes word
 bytes_on [] word = append-nil (word_bytes word)
 bytes_on (w ∷ got) word =
-    ap (λ bytes. word_bytes w ++ bytes) (bytes_on got word) ∙ sym (append_assoc (word_bytes w) (bytes_of got) (word_bytes word))
+    ap (λ bytes. word_bytes w ++ bytes) (bytes_on got word)
+    ∙ sym (append_assoc (word_bytes w) (bytes_of got) (word_bytes word))
 
-pub next_word : (s : Section) (got : List ℕ) (place word : ℕ) (rest : List ℕ) → wants s got ≡ true → allows s got word ≡ true
-    → word < 2 ^ 32 → section_from s got place (word_bytes word ++ rest) ≡ section_from s (got ++ word ∷ []) (place + 4) rest
+pub next_word : (s : Section) (got : List ℕ) (place word : ℕ) (rest : List ℕ) → wants s got ≡ true
+    → allows s got word ≡ true
+    → word < 2 ^ 32
+    → section_from s got place (word_bytes word ++ rest) ≡ section_from s (got ++ word ∷ []) (place + 4) rest
 next_word s got place word rest due may fits = word_split s got place word rest due fits ∙ (rw may refl)
 
-bad_word : (s : Section) (got : List ℕ) (place word : ℕ) (rest : List ℕ) → wants s got ≡ true → allows s got word ≡ false
+pub bad_word : (s : Section) (got : List ℕ) (place word : ℕ) (rest : List ℕ) → wants s got ≡ true
+    → allows s got word ≡ false
     → word < 2 ^ 32 → section_from s got place (word_bytes word ++ rest) ≡ Bad place word
 bad_word s got place word rest due may fits = word_split s got place word rest due fits ∙ (rw may refl)
 
@@ -77,15 +84,18 @@ bad_word s got place word rest due may fits = word_split s got place word rest d
 pub goes_start : (s : Section) (left : Option (List ℕ)) (place : ℕ) → Goes s left left place place []
 goes_start s left place = record { bytes = prepended-nil left; says = λ rest. refl }
 
-module _ (s : Section) (before mid now : Option (List ℕ)) (first place : ℕ) (got : List ℕ) (goes : Goes s before mid first place got) where
-  pub goes_on : (word : ℕ) → IsWord mid now word → wants s got ≡ true → allows s got word ≡ true → Goes s before now first (place + 4) (got ++ word ∷ [])
+module _ (s : Section) (before mid now : Option (List ℕ)) (first place : ℕ) (got : List ℕ)
+    (goes : Goes s before mid first place got) where
+  pub goes_on : (word : ℕ) → IsWord mid now word → wants s got ≡ true → allows s got word ≡ true
+      → Goes s before now first (place + 4) (got ++ word ∷ [])
   goes_on word took due may = record {
     bytes = rw (bytes_on got word) (taken_on before mid now (bytes_of got) (word_bytes word) goes.bytes took.bytes);
     says = λ rest. rw (bytes_on got word, append_assoc (bytes_of got) (word_bytes word) rest)
         (goes.says (word_bytes word ++ rest) ∙ next_word s got place word rest due may took.fits);
   }
 
-  pub bad_stops : (word : ℕ) → IsWord mid now word → wants s got ≡ true → allows s got word ≡ false → Stops (section_from s [] first) before now (fault.Bad place word)
+  pub bad_stops : (word : ℕ) → IsWord mid now word → wants s got ≡ true → allows s got word ≡ false
+      → Stops (section_from s [] first) before now (fault.Bad place word)
   bad_stops word took due may = record {
     taken = bytes_of got ++ word_bytes word;
     bytes = taken_on before mid now (bytes_of got) (word_bytes word) goes.bytes took.bytes;
@@ -93,10 +103,12 @@ module _ (s : Section) (before mid now : Option (List ℕ)) (first place : ℕ) 
         (goes.says (word_bytes word ++ rest) ∙ bad_word s got place word rest due may took.fits);
   }
 
-  short_says : (taken : List ℕ) → wants s got ≡ true → length taken < 4 → section_from s [] first ((bytes_of got) ++ taken) ≡ Short (place + length taken)
+  short_says : (taken : List ℕ) → wants s got ≡ true → length taken < 4
+      → section_from s [] first ((bytes_of got) ++ taken) ≡ Short (place + length taken)
   short_says taken due few = goes.says taken ∙ breaks_off s got place taken due few
 
-  fault_says : (why : SnapFault) (taken : List ℕ) → wants s got ≡ true → SaysNoWord why place taken now → SaysFault why (section_from s [] first) ((bytes_of got) ++ taken) now
+  fault_says : (why : SnapFault) (taken : List ℕ) → wants s got ≡ true → SaysNoWord why place taken now
+      → SaysFault why (section_from s [] first) ((bytes_of got) ++ taken) now
   fault_says (fault.Stop (Truncated byte)) taken due says = (rw says.1 (short_says taken due says.0), says.2)
   fault_says (fault.Stop (ReadFault byte)) taken due says = rw says.1 (short_says taken due says.0)
   fault_says (fault.Stop End) taken due says = absurd says
@@ -105,7 +117,8 @@ module _ (s : Section) (before mid now : Option (List ℕ)) (first place : ℕ) 
   fault_says (fault.Stop (TooLong byte)) taken due says = absurd says
   fault_says (fault.Bad byte word) taken due says = absurd says
 
-  pub no_word_stops : (why : SnapFault) → EndsWord mid now place why → wants s got ≡ true → Stops (section_from s [] first) before now why
+  pub no_word_stops : (why : SnapFault) → EndsWord mid now place why → wants s got ≡ true
+      → Stops (section_from s [] first) before now why
   no_word_stops why lack due = record {
     taken = (bytes_of got) ++ lack.taken;
     bytes = taken_on before mid now (bytes_of got) lack.taken goes.bytes lack.bytes;
@@ -124,29 +137,35 @@ goes_whole s before now first place got goes moved full = record {
 -- ---- every word was due, and may stand at its place
 
 pub none_allowed : (s : Section) → AreAllowed s []
-none_allowed s = record { due = λ i h. absurd (omega arith); each = λ i h. absurd (omega arith); fits = λ i h. absurd (omega arith) }
+none_allowed s =
+    record { due = λ i h. absurd (omega arith); each = λ i h. absurd (omega arith); fits = λ i h. absurd (omega arith) }
 
 pub minus_self : (n : ℕ) → n - n ≡ 0
 minus_self n = omega arith
 
 -- what holds at each place of a list with one word more
-at_each : (P : List ℕ → ℕ → Type 0) (got : List ℕ) (word : ℕ) → ((i : ℕ) → i < length got → P (take i got) (slice_index got i)) → P got word
+at_each : (P : List ℕ → ℕ → Type 0) (got : List ℕ) (word : ℕ)
+    → ((i : ℕ) → i < length got → P (take i got) (slice_index got i)) → P got word
     → (i : ℕ) → i < length (got ++ word ∷ []) → P (take i (got ++ word ∷ [])) (slice_index (got ++ word ∷ []) i)
 at_each P got word were new i within =
     elim (cases_lt i (length got)) [
       | inl old ↦
           let front : take i (got ++ word ∷ []) ≡ take i got = take-append-le i got (word ∷ []) (omega (arith, old)) in
-          let same : slice_index (got ++ word ∷ []) i ≡ slice_index got i = get_or_append_left got (word ∷ []) 0 i old in
+          let same : slice_index (got ++ word ∷ []) i ≡ slice_index got i =
+          get_or_append_left got (word ∷ []) 0 i old in
           rw (front, same) (were i old)
       | inr last ↦
           let is : i ≡ length got = omega (arith, last, within, length_push got word) in
-          let front : take (length got) (got ++ word ∷ []) ≡ got = take-append-le (length got) got (word ∷ []) (omega arith) ∙ take_all (length got) got (omega arith) in
+          let front : take (length got) (got ++ word ∷ []) ≡ got =
+          take-append-le (length got) got (word ∷ []) (omega arith) ∙ take_all (length got) got (omega arith) in
           let end : slice_index (got ++ word ∷ []) (length got) ≡ word =
-          get_or-append_right got (word ∷ []) (length got) (length got) 0 refl (omega arith) ∙ ap (slice_index (word ∷ [])) (minus_self (length got)) in
+          get_or-append_right got (word ∷ []) (length got) (length got) 0 refl (omega arith)
+          ∙ ap (slice_index (word ∷ [])) (minus_self (length got)) in
           rw (is, front, end) new
     ]
 
-pub allowed_on : (s : Section) (got : List ℕ) (word : ℕ) → AreAllowed s got → wants s got ≡ true → allows s got word ≡ true → word < 2 ^ 32
+pub allowed_on : (s : Section) (got : List ℕ) (word : ℕ) → AreAllowed s got → wants s got ≡ true
+    → allows s got word ≡ true → word < 2 ^ 32
     → AreAllowed s (got ++ word ∷ [])
 allowed_on s got word were due may fits = record {
   due = at_each (λ before w. wants s before ≡ true) got word were.due due;
@@ -155,7 +174,8 @@ allowed_on s got word were due may fits = record {
 }
 
 -- the bytes of the word that a buffer is
-pub buffer_back : (buf : List ℕ) (word : ℕ) → length buf ≡ 4 → ((i : ℕ) → slice_index buf i < 256) → word ≡ little_number 4 buf → word_bytes word ≡ buf
+pub buffer_back : (buf : List ℕ) (word : ℕ) → length buf ≡ 4 → ((i : ℕ) → slice_index buf i < 256)
+    → word ≡ little_number 4 buf → word_bytes word ≡ buf
 buffer_back [] word long fit is = absurd (omega arith)
 buffer_back (a ∷ []) word long fit is = absurd (omega arith)
 buffer_back (a ∷ b ∷ []) word long fit is = absurd (omega arith)
@@ -164,7 +184,8 @@ buffer_back (a ∷ b ∷ c ∷ d ∷ []) word long fit is = rw is (number_of_byt
 buffer_back (a ∷ b ∷ c ∷ d ∷ e ∷ more) word long fit is = absurd (omega arith)
 
 -- a full buffer is a word
-pub gave_word : (before now : Option (List ℕ)) (buf : List ℕ) (n word : ℕ) → n ≡ 4 → length buf ≡ 4 → word_bytes word ≡ buf → word < 2 ^ 32
+pub gave_word : (before now : Option (List ℕ)) (buf : List ℕ) (n word : ℕ) → n ≡ 4 → length buf ≡ 4
+    → word_bytes word ≡ buf → word < 2 ^ 32
     → Gives before now buf n → IsWord before now word
 gave_word before now buf n word four long is fits gives = record {
   bytes = rw is (gives.bytes ∙ ap (λ bytes. prepended bytes now) (take_all n buf (omega (arith, four, long))));

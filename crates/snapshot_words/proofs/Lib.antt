@@ -5,3 +5,7 @@ pub mod Packets
 pub mod Pendings
 pub mod Back
 pub mod Chain
+pub mod Wholes
+pub mod Spelling
+pub mod Unique
+pub mod States

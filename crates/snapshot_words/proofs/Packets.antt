@@ -1,5 +1,6 @@
 -- Words of an item that is not whole.
-use Rattle.std.proofs.Common.{◌≡◌, ◌≤◌, ◌<◌, ◌+◌, ◌-◌, min, List, [], ◌∷◌, ℕ, suc, true, false, length, take, slice_index}
+use Rattle.std.proofs.Common.{◌≡◌, ◌≤◌, ◌<◌, ◌+◌, ◌-◌, min, List, [], ◌∷◌, ℕ, suc, true, false, length, take}
+use Rattle.std.proofs.Common.{slice_index}
 use Rattle.std.proofs.Common.{nat_lt, nat_le, ◌==◌, refl, sym, ◌∙◌, arith}
 use Rattle.std.proofs.lemmas.Bool.{ltb-true, leb-true, eq-eqb, ne_eqb, and_parts}
 use Rattle.std.proofs.lemmas.List.{length-take-le}
@@ -19,8 +20,10 @@ pub record IsPacketPart (words : List ℕ) : Type 0 where
 last_part : (k n w : ℕ) (got : List ℕ) (word : ℕ) → allows_packet (k ∷ n ∷ w ∷ got) word ≡ true
     → length got + 2 < first_len_of w
 last_part k n w got word may =
-    let one : (length (k ∷ n ∷ w ∷ got) == 1) ≡ false = ne_eqb (length (k ∷ n ∷ w ∷ got)) 1 (λ e. absurd (omega (arith, e))) in
-    let two : (length (k ∷ n ∷ w ∷ got) == 2) ≡ false = ne_eqb (length (k ∷ n ∷ w ∷ got)) 2 (λ e. absurd (omega (arith, e))) in
+    let one : (length (k ∷ n ∷ w ∷ got) == 1) ≡ false =
+    ne_eqb (length (k ∷ n ∷ w ∷ got)) 1 (λ e. absurd (omega (arith, e))) in
+    let two : (length (k ∷ n ∷ w ∷ got) == 2) ≡ false =
+    ne_eqb (length (k ∷ n ∷ w ∷ got)) 2 (λ e. absurd (omega (arith, e))) in
     let short : nat_lt (length (k ∷ n ∷ w ∷ got) - 1) (first_len_of w) ≡ true = rw (one, two) at may in
     let lt = ltb-true _ _ short in
     omega (arith, lt)
@@ -33,10 +36,12 @@ allows_behind height k n got word is =
     rw (none, first) refl
 
 module _ (height : ℕ) where
-  part_is : (k n w : ℕ) (more : List ℕ) → IsWhole (section.Pending height) (k ∷ n ∷ w ∷ more) → k ≡ 1 → n ≡ length more + 1
+  part_is : (k n w : ℕ) (more : List ℕ) → IsWhole (section.Pending height) (k ∷ n ∷ w ∷ more) → k ≡ 1
+      → n ≡ length more + 1
       → n < first_len_of w
   part_is k n w [] is kind count =
-      let may : nat_lt 1 (first_len_of w) ≡ true = sym (allows_behind height k n [] w kind) ∙ is.allowed.each 2 (omega arith) in
+      let may : nat_lt 1 (first_len_of w) ≡ true =
+      sym (allows_behind height k n [] w kind) ∙ is.allowed.each 2 (omega arith) in
       let lt = ltb-true 1 (first_len_of w) may in
       omega (arith, lt, count)
   part_is k n w (v ∷ vs) is kind count =
@@ -65,7 +70,8 @@ module _ (height : ℕ) where
         part = part_is k n w more is kind (omega (arith, long, most));
       }
 
-  pub packet_is : (words : List ℕ) → IsWhole (section.Pending height) words → slice_index words 0 ≡ 1 → IsPacketPart words
+  pub packet_is : (words : List ℕ) → IsWhole (section.Pending height) words → slice_index words 0 ≡ 1
+      → IsPacketPart words
   packet_is words is kind =
       let n = 2 + min (slice_index words 1) 11 in
       let zeroth : slice_index (take n words) 0 ≡ 1 = taken_word n words 0 (omega arith) ∙ kind in

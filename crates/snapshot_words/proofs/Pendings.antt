@@ -1,6 +1,8 @@
 -- What the words of what is pending are, and those of a run.
-use Rattle.std.proofs.Common.{◌≡◌, ◌≤◌, ◌<◌, ◌+◌, ◌*◌, ◌/◌, ◌-◌, ◌⊎◌, inl, inr, List, [], ◌∷◌, ℕ, zero, suc, Bool, true, false}
-use Rattle.std.proofs.Common.{not, Some, None, length, take, slice_index, nat_le, ◌==◌, ◌&&◌, ◌||◌, refl, sym, subst, ◌∙◌, arith}
+use Rattle.std.proofs.Common.{◌≡◌, ◌≤◌, ◌<◌, ◌+◌, ◌*◌, ◌/◌, ◌-◌, ◌⊎◌, inl, inr, List, [], ◌∷◌, ℕ, zero, suc, Bool}
+use Rattle.std.proofs.Common.{true, false}
+use Rattle.std.proofs.Common.{not, Some, None, length, take, slice_index, nat_le, ◌==◌, ◌&&◌, ◌||◌, refl, sym, subst}
+use Rattle.std.proofs.Common.{◌∙◌, arith}
 use Rattle.std.proofs.Common.{if◌then◌else◌}
 use Rattle.std.proofs.lemmas.Bool.{ltb-true, leb-true, eqb-true, and_parts, cases_Bool}
 use Rattle.std.proofs.lemmas.Nat.{mul-le}
@@ -16,7 +18,8 @@ use Rattle.snapshot_words.specs.Shapes.{IsPendingPart, IsRunPart}
 use Rattle.snapshot_words.specs.declared.section.Section.{Section}
 use Rattle.snapshot_words.specs.declared.section.Section.TheVariants as section
 use Rattle.snapshot_words.proofs.Packets.{IsPacketPart, packet_is}
-use Rattle.snapshot_words.proofs.Shapes.{shape1, shape2, shape5, shape6, length_is, taken_word, job_tests, either, is_not, address_is}
+use Rattle.snapshot_words.proofs.Shapes.{shape1, shape2, shape5, shape6, length_is, taken_word, job_tests, either}
+use Rattle.snapshot_words.proofs.Shapes.{is_not, address_is}
 
 -- ---- kinds
 
@@ -35,14 +38,16 @@ line_is command e =
     let two : class_of command ≡ 2 = eqb-true (class_of command) 2 parts.0 in
     rw (two, parts.1) refl
 
-color_is : (command color : ℕ) → (is_set command 28 || (color == command)) ≡ true → is_set command 28 ≡ false → color ≡ command
+color_is : (command color : ℕ) → (is_set command 28 || (color == command)) ≡ true → is_set command 28 ≡ false
+    → color ≡ command
 color_is command color e flat =
     elim (either (is_set command 28) (color == command) e) [
       | inl shaded ↦ absurd (let f = sym shaded ∙ flat in cc)
       | inr same ↦ eqb-true color command same
     ]
 
-no_half : (shaded : Bool) (flag : ℕ) → (if shaded then nat_le flag 1 else flag == 0) ≡ true → (flag == 1) ≡ false → flag ≡ 0
+no_half : (shaded : Bool) (flag : ℕ) → (if shaded then nat_le flag 1 else flag == 0) ≡ true → (flag == 1) ≡ false
+    → flag ≡ 0
 no_half true zero e other = refl
 no_half true (suc zero) e other = absurd cc
 no_half true (suc (suc n)) e other = absurd (let le = leb-true (suc (suc n)) 1 e in omega (arith, le))
@@ -102,7 +107,8 @@ module _ (height : ℕ) where
         load = job;
       })
 
-  line_listed : (k command color vertex flag : ℕ) → IsWhole (section.Pending height) (k ∷ command ∷ color ∷ vertex ∷ flag ∷ [])
+  line_listed : (k command color vertex flag : ℕ)
+      → IsWhole (section.Pending height) (k ∷ command ∷ color ∷ vertex ∷ flag ∷ [])
       → k ≡ 3 → (flag == 1) ≡ false → IsPendingPart height (k ∷ command ∷ color ∷ vertex ∷ flag ∷ [])
   line_listed k command color vertex flag whole kind other =
       let is : IsWhole (section.Pending height) (3 ∷ command ∷ color ∷ vertex ∷ flag ∷ []) =
@@ -113,7 +119,11 @@ module _ (height : ℕ) where
         packet = λ e. absurd (omega (arith, e));
         few = omega arith;
         job = λ e. absurd (omega (arith, e));
-        bounds = (line_is command (is.allowed.each 1 (omega arith)), color_is command color (is.allowed.each 2 (omega arith)));
+        bounds = (
+          line_is command (is.allowed.each 1 (omega arith)),
+          color_is command color (is.allowed.each 2
+              (omega arith)),
+        );
         link = refl;
         load = tt;
       })
@@ -125,14 +135,19 @@ module _ (height : ℕ) where
       let with_kind : IsWhole (section.Pending height) (3 ∷ command ∷ color ∷ vertex ∷ flag ∷ half ∷ []) =
       subst (λ k. IsWhole (section.Pending height) (k ∷ command ∷ color ∷ vertex ∷ flag ∷ half ∷ [])) kind whole in
       let is : IsWhole (section.Pending height) (3 ∷ command ∷ color ∷ vertex ∷ 1 ∷ half ∷ []) =
-      subst (λ flag. IsWhole (section.Pending height) (3 ∷ command ∷ color ∷ vertex ∷ flag ∷ half ∷ [])) one with_kind in
+      subst (λ flag. IsWhole (section.Pending height)
+      (3 ∷ command ∷ color ∷ vertex ∷ flag ∷ half ∷ [])) one with_kind in
       rw (kind, one) (record {
         spelled = refl;
         packet = λ e. absurd (omega (arith, e));
         few = omega arith;
         job = λ e. absurd (omega (arith, e));
-        bounds = (line_is command (is.allowed.each 1 (omega arith)), half_shaded (is_set command 28) (is.allowed.each 4 (omega arith)),
-        is_not (is_end half) (is.allowed.each 5 (omega arith)));
+        bounds = (
+          line_is command (is.allowed.each 1 (omega arith)),
+          half_shaded (is_set command 28)
+              (is.allowed.each 4 (omega arith)),
+          is_not (is_end half) (is.allowed.each 5 (omega arith)),
+        );
         link = refl;
         load = tt;
       })
@@ -142,14 +157,14 @@ module _ (height : ℕ) where
     idle_is kind =
         let same : slice_index (take 1 words) 0 ≡ 0 = taken_word 1 words 0 (omega arith) ∙ kind in
         shape1 (λ words. slice_index words 0 ≡ 0 → IsPendingPart height words) (λ k e. idle_listed k e) words
-            (length_is (section.Pending height) words is 1 (rw kind refl) (rw same refl)) kind
+        (length_is (section.Pending height) words is 1 (rw kind refl) (rw same refl)) kind
 
     load_is : slice_index words 0 ≡ 2 → IsPendingPart height words
     load_is kind =
         let same : slice_index (take 6 words) 0 ≡ 2 = taken_word 6 words 0 (omega arith) ∙ kind in
         shape6 (λ words. IsWhole (section.Pending height) words → slice_index words 0 ≡ 2 → IsPendingPart height words)
-            (λ k x y w h at is e. load_listed k x y w h at is e) words
-            (length_is (section.Pending height) words is 6 (rw kind refl) (rw same refl)) is kind
+        (λ k x y w h at is e. load_listed k x y w h at is e) words
+        (length_is (section.Pending height) words is 6 (rw kind refl) (rw same refl)) is kind
 
     line_shape : slice_index words 0 ≡ 3 → IsPendingPart height words
     line_shape kind =
@@ -157,18 +172,20 @@ module _ (height : ℕ) where
           | inl one ↦
               let same : slice_index (take 6 words) 0 ≡ 3 = taken_word 6 words 0 (omega arith) ∙ kind in
               let flag : (slice_index (take 6 words) 4 == 1) ≡ true = rw (taken_word 6 words 4 (omega arith)) one in
-              shape6 (λ words. IsWhole (section.Pending height) words → slice_index words 0 ≡ 3 → slice_index words 4 ≡ 1
-                  → IsPendingPart height words)
-                  (λ k command color vertex flag half is e f. joint_listed k command color vertex flag half is e f) words
-                  (length_is (section.Pending height) words is 6 (rw (kind, one) refl) (rw (same, flag) refl)) is kind
-                  (eqb-true _ _ one)
+              shape6 (λ words. IsWhole (section.Pending height) words → slice_index words 0
+              ≡ 3 → slice_index words 4 ≡ 1
+              → IsPendingPart height words)
+              (λ k command color vertex flag half is e f. joint_listed k command color vertex flag half is e f) words
+              (length_is (section.Pending height) words is 6 (rw (kind, one) refl) (rw (same, flag) refl)) is kind
+              (eqb-true _ _ one)
           | inr other ↦
               let same : slice_index (take 5 words) 0 ≡ 3 = taken_word 5 words 0 (omega arith) ∙ kind in
               let flag : (slice_index (take 5 words) 4 == 1) ≡ false = rw (taken_word 5 words 4 (omega arith)) other in
               shape5 (λ words. IsWhole (section.Pending height) words → slice_index words 0 ≡ 3
-                  → (slice_index words 4 == 1) ≡ false → IsPendingPart height words)
-                  (λ k command color vertex flag is e f. line_listed k command color vertex flag is e f) words
-                  (length_is (section.Pending height) words is 5 (rw (kind, other) refl) (rw (same, flag) refl)) is kind other
+              → (slice_index words 4 == 1) ≡ false → IsPendingPart height words)
+              (λ k command color vertex flag is e f. line_listed k command color vertex flag is e f) words
+              (length_is (section.Pending height) words is 5 (rw (kind, other) refl) (rw
+              (same, flag) refl)) is kind other
         ]
 
   pub pending_is : (words : List ℕ) → IsWhole (section.Pending height) words → IsPendingPart height words
@@ -193,8 +210,11 @@ turn_listed k at left block flags whole kind =
     let few = leb-true flags 3 (is.allowed.each 4 (omega arith)) in
     rw kind (record {
       spelled = rw (flags-again flags (omega (arith, few))) refl;
-      bounds = (address_is at (is.allowed.each 1 (omega arith)), (leb-true 1 left lefts.0, leb-true left 524288 lefts.1),
-      (leb-true 1 block blocks.0, leb-true block 65536 blocks.1));
+      bounds = (
+        address_is at (is.allowed.each 1 (omega arith)),
+        (leb-true 1 left lefts.0, leb-true left 524288 lefts.1),
+        (leb-true 1 block blocks.0, leb-true block 65536 blocks.1),
+      );
     })
 
 node_listed : (k node : ℕ) → IsWhole section.Run (k ∷ node ∷ []) → k ≡ 2 → IsRunPart (k ∷ node ∷ [])
@@ -210,21 +230,21 @@ module _ (words : List ℕ) (is : IsWhole section.Run words) where
   rest_is kind =
       let same : slice_index (take 1 words) 0 ≡ 0 = taken_word 1 words 0 (omega arith) ∙ kind in
       shape1 (λ words. slice_index words 0 ≡ 0 → IsRunPart words) (λ k e. rest_listed k e) words
-          (length_is section.Run words is 1 (rw kind refl) (rw same refl)) kind
+      (length_is section.Run words is 1 (rw kind refl) (rw same refl)) kind
 
   turn_is : slice_index words 0 ≡ 1 → IsRunPart words
   turn_is kind =
       let same : slice_index (take 5 words) 0 ≡ 1 = taken_word 5 words 0 (omega arith) ∙ kind in
       shape5 (λ words. IsWhole section.Run words → slice_index words 0 ≡ 1 → IsRunPart words)
-          (λ k at left block flags is e. turn_listed k at left block flags is e) words
-          (length_is section.Run words is 5 (rw kind refl) (rw same refl)) is kind
+      (λ k at left block flags is e. turn_listed k at left block flags is e) words
+      (length_is section.Run words is 5 (rw kind refl) (rw same refl)) is kind
 
   node_is : slice_index words 0 ≡ 2 → IsRunPart words
   node_is kind =
       let same : slice_index (take 2 words) 0 ≡ 2 = taken_word 2 words 0 (omega arith) ∙ kind in
       shape2 (λ words. IsWhole section.Run words → slice_index words 0 ≡ 2 → IsRunPart words)
-          (λ k node is e. node_listed k node is e) words
-          (length_is section.Run words is 2 (rw kind refl) (rw same refl)) is kind
+      (λ k node is e. node_listed k node is e) words
+      (length_is section.Run words is 2 (rw kind refl) (rw same refl)) is kind
 
 pub run_is : (words : List ℕ) → IsWhole section.Run words → IsRunPart words
 run_is [] is = absurd (let e = is.whole in cc)

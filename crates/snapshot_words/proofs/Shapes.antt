@@ -1,8 +1,11 @@
 -- What the words of whole parts are.
-use Rattle.std.proofs.Common.{◌≡◌, ◌≤◌, ◌<◌, ◌+◌, ◌*◌, ◌%◌, ◌/◌, ◌-◌, ◌^◌, ◌⊎◌, inl, inr, min, List, [], ◌∷◌, ℕ, Bool, true, false}
-use Rattle.std.proofs.Common.{not, Option, Some, None, length, take, slice_index, nat_lt, nat_le, ◌==◌, ◌&&◌, ◌||◌, refl, sym, ap}
+use Rattle.std.proofs.Common.{◌≡◌, ◌≤◌, ◌<◌, ◌+◌, ◌*◌, ◌%◌, ◌/◌, ◌-◌, ◌^◌, ◌⊎◌, inl, inr, min, List, [], ◌∷◌, ℕ, Bool}
+use Rattle.std.proofs.Common.{true, false}
+use Rattle.std.proofs.Common.{not, Option, Some, None, length, take, slice_index, nat_lt, nat_le, ◌==◌, ◌&&◌, ◌||◌}
+use Rattle.std.proofs.Common.{refl, sym, ap}
 use Rattle.std.proofs.Common.{subst, ◌∙◌, arith, if◌then◌else◌}
-use Rattle.std.proofs.lemmas.Bool.{ltb-true, ltb-false, leb-true, eqb-true, eq-eqb, ne_eqb, and_parts, cases_lt, cases_Bool}
+use Rattle.std.proofs.lemmas.Bool.{ltb-true, ltb-false, leb-true, eqb-true, eq-eqb, ne_eqb, and_parts, cases_lt}
+use Rattle.std.proofs.lemmas.Bool.{cases_Bool}
 use Rattle.std.proofs.lemmas.List.{length-take-le, get_or-take}
 use Rattle.gp0_words.specs.Kinds.{class_of, is_end, is_set}
 use Rattle.gp0_words.specs.Next.{IsPending, IsPolyline}
@@ -15,7 +18,8 @@ use Rattle.list_dma.specs.Plans.{IsRun, IsWordAddress}
 use Rattle.px_num.specs.Height.{IsHeight}
 use Rattle.vram_copy.specs.declared.transfer.Transfer.{Transfer}
 use Rattle.snapshot_words.specs.Sections.{need, wants, allows, is_address, is_within, is_line, IsWhole}
-use Rattle.snapshot_words.specs.Values.{front_words, height_in, played_in, job_in, store_words, store_in, run_words, run_in}
+use Rattle.snapshot_words.specs.Values.{front_words, height_in, played_in, job_in, store_words, store_in, run_words}
+use Rattle.snapshot_words.specs.Values.{run_in}
 use Rattle.snapshot_words.specs.Values.{pending_words, pending_in, load_in, half_in, half_words}
 use Rattle.snapshot_words.specs.Shapes.{IsFront, IsRegisters, IsStore, IsPendingPart, IsRunPart}
 use Rattle.snapshot_words.specs.declared.section.Section.{Section}
@@ -41,7 +45,8 @@ shape2 P f = one_more P 1 (λ a. shape1 (λ r. P (a ∷ r)) (f a))
 pub shape3 : (P : List ℕ → Type 0) → ((a b c : ℕ) → P (a ∷ b ∷ c ∷ [])) → (words : List ℕ) → length words ≡ 3 → P words
 shape3 P f = one_more P 2 (λ a. shape2 (λ r. P (a ∷ r)) (f a))
 
-pub shape5 : (P : List ℕ → Type 0) → ((a b c d e : ℕ) → P (a ∷ b ∷ c ∷ d ∷ e ∷ [])) → (words : List ℕ) → length words ≡ 5
+pub shape5 : (P : List ℕ → Type 0) → ((a b c d e : ℕ) → P (a ∷ b ∷ c ∷ d ∷ e ∷ [])) → (words : List ℕ)
+    → length words ≡ 5
     → P words
 shape5 P f = one_more P 4 (λ a. one_more (λ r. P (a ∷ r)) 3 (λ b. shape3 (λ r. P (a ∷ b ∷ r)) (f a b)))
 
@@ -107,7 +112,8 @@ front_listed a b c is =
 
 pub front_is : (words : List ℕ) → IsWhole section.Front words → IsFront words
 front_is words is =
-    shape3 (λ words. IsWhole section.Front words → IsFront words) front_listed words (length_is section.Front words is 3 refl refl) is
+    shape3 (λ words. IsWhole section.Front words → IsFront words) front_listed words
+    (length_is section.Front words is 3 refl refl) is
 
 -- ---- registers
 
@@ -168,11 +174,11 @@ module _ (height : ℕ) where
         | inl one ↦
             let same : (slice_index (take 6 words) 0 == 1) ≡ true = rw (taken_word 6 words 0 (omega arith)) one in
             shape6 (λ words. IsWhole store words → slice_index words 0 ≡ 1 → IsStore height words)
-                (λ k x y w h at is kind. store_listed k x y w h at is kind) words
-                (length_is store words is 6 (rw one refl) (rw same refl)) is (eqb-true _ _ one)
+            (λ k x y w h at is kind. store_listed k x y w h at is kind) words
+            (length_is store words is 6 (rw one refl) (rw same refl)) is (eqb-true _ _ one)
         | inr other ↦
             let same : (slice_index (take 1 words) 0 == 1) ≡ false = rw (taken_word 1 words 0 (omega arith)) other in
             shape1 (λ words. IsWhole store words → (slice_index words 0 == 1) ≡ false → IsStore height words)
-                (λ k is other. store_none k is other) words
-                (length_is store words is 1 (rw other refl) (rw same refl)) is other
+            (λ k is other. store_none k is other) words
+            (length_is store words is 1 (rw other refl) (rw same refl)) is other
       ]

@@ -57,24 +57,24 @@ run_from played regs at_splitter load store place bytes =
 abbrev pub store_from : (played : ℕ) → Registers → Pending → (load : Option Transfer) → ℕ → List ℕ → Found Outline
 store_from played regs at_splitter load place bytes =
     found_then (section_from (section.Store regs.height) [] place bytes)
-        (λ words. run_from played regs at_splitter load (store_in words))
+    (λ words. run_from played regs at_splitter load (store_in words))
 
 -- behind the registers
 abbrev pub pending_from : (played : ℕ) → Registers → ℕ → List ℕ → Found Outline
 pending_from played regs place bytes =
     found_then (section_from (section.Pending regs.height) [] place bytes)
-        (λ words. store_from played regs (pending_in words) (load_in words))
+    (λ words. store_from played regs (pending_in words) (load_in words))
 
 -- behind the front
 abbrev pub registers_from : (height played : ℕ) → ℕ → List ℕ → Found Outline
 registers_from height played place bytes =
     found_then (section_from (section.Registers height) [] place bytes)
-        (λ words. pending_from played (registers_in height words))
+    (λ words. pending_from played (registers_in height words))
 
 unfoldable pub outline_from : (place : ℕ) → List ℕ → Found Outline
 outline_from place bytes =
     found_then (section_from section.Front [] place bytes)
-        (λ words. registers_from (height_in words) (played_in words))
+    (λ words. registers_from (height_in words) (played_in words))
 
 -- ---- a whole state
 

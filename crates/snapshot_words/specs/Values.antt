@@ -90,7 +90,7 @@ run_in words =
     if slice_index words 0 == 0 then run.Idle else
     (if slice_index words 0 == 1 then
     run.Words (slice_index words 1) (slice_index words 2) (slice_index words 3)
-        (bit (slice_index words 4) 0 == 1) (bit (slice_index words 4) 1 == 1)
+    (bit (slice_index words 4) 0 == 1) (bit (slice_index words 4) 1 == 1)
     else run.List (slice_index words 1))
 
 abbrev pub cells_in : List ℕ → List ℕ

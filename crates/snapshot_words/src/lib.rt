@@ -2,10 +2,11 @@
 #![tactic(auto)]
 
 mod fault;
+pub mod laws;
 mod outline;
-mod section;
 mod parts;
 mod read;
+mod section;
 mod taking;
 mod values;
 mod write;

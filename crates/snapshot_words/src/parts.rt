@@ -103,7 +103,7 @@ pub(crate) fn read_pending<S: Source>(
     requires place { place.old < 2 ^ 30 }
     ensures takes { IfOk result (λ part.
         Takes (Section.Pending height) (S.left source.old) (S.left source.new) place.old place.new
-            (pending_words part.0 part.1)) }
+        (pending_words part.0 part.1)) }
     ensures bounds { IfOk result (λ part. IsPending part.0) }
     ensures link { IfOk result (λ part. IsLinked part.0 part.1) }
     ensures load { IfOk result (λ part. IsOpen height part.1) }

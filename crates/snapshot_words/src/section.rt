@@ -149,7 +149,8 @@ fn allows_job(height: u16, got: &[u32], word: u32) -> bool
         2 => word < u32::from(height),
         3 => is_within(1, 1024, word),
         4 => is_within(1, 512, word),
-        _ => word % 2 == 0 && u64::from(word) < u64::from(word_at(got, 3)) * u64::from(word_at(got, 4)),
+        _ => word % 2 == 0
+            && u64::from(word) < u64::from(word_at(got, 3)) * u64::from(word_at(got, 4)),
     }
 }
 

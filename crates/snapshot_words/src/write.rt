@@ -4,7 +4,8 @@ ghost use Rattle.dev_io.specs.Device.{Writes};
 ghost use Rattle.gp0_words.specs.Next.{IsPending};
 ghost use Rattle.gpu_capture.specs.Written.{word_bytes};
 ghost use Rattle.snapshot_words.specs.Outline.{snapshot_head, outline_words, bytes_of};
-ghost use Rattle.snapshot_words.specs.Values.{front_words, job_words, load_words, pending_words, store_words, run_words};
+ghost use Rattle.snapshot_words.specs.Values.{front_words, job_words, load_words, pending_words};
+ghost use Rattle.snapshot_words.specs.Values.{store_words, run_words};
 
 use crate::outline::Outline;
 use arrayvec::ArrayVec;

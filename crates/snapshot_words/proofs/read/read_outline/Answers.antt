@@ -16,27 +16,27 @@ pub returns-in_err-pending-clause-fault : goal.returns-in_err-pending-clause-fau
 returns-in_err-pending-clause-fault g c =
     let p = err_from_is_err_and c.from_residual-in_err-pending.result c.from_residual-in_err-pending.ensures.1 in
     rw (p.1, p.2) (pending_stop _ _ _ _ _ _ c.in_ok-height.ensures.takes
-        _ _ c.in_ok-regs.regs c.in_ok-regs.ensures.height c.in_ok-regs.ensures.takes _ _ c.in_err-pending.ensures.fault)
+    _ _ c.in_ok-regs.regs c.in_ok-regs.ensures.height c.in_ok-regs.ensures.takes _ _ c.in_err-pending.ensures.fault)
 
 pub returns-in_err-store-clause-fault : goal.returns-in_err-store-clause-fault
 returns-in_err-store-clause-fault g c =
     let p = err_from_is_err_and c.from_residual-in_err-store.result c.from_residual-in_err-store.ensures.1 in
     rw (p.1, p.2) (store_stop _ _ _ _ _ _ c.in_ok-height.ensures.takes
-        _ _ c.in_ok-regs.regs c.in_ok-regs.ensures.height c.in_ok-regs.ensures.takes
-        _ _ c.in_ok-pending.pending c.in_ok-pending.load c.in_ok-pending.ensures.link c.in_ok-pending.ensures.takes
-        _ _ c.in_err-store.ensures.fault)
+    _ _ c.in_ok-regs.regs c.in_ok-regs.ensures.height c.in_ok-regs.ensures.takes
+    _ _ c.in_ok-pending.pending c.in_ok-pending.load c.in_ok-pending.ensures.link c.in_ok-pending.ensures.takes
+    _ _ c.in_err-store.ensures.fault)
 
 pub returns-in_err-run-clause-fault : goal.returns-in_err-run-clause-fault
 returns-in_err-run-clause-fault g c =
     let p = err_from_is_err_and c.from_residual-in_err-run.result c.from_residual-in_err-run.ensures.1 in
     rw (p.1, p.2) (run_stop _ _ _ _ _ _ c.in_ok-height.ensures.takes
-        _ _ c.in_ok-regs.regs c.in_ok-regs.ensures.height c.in_ok-regs.ensures.takes
-        _ _ c.in_ok-pending.pending c.in_ok-pending.load c.in_ok-pending.ensures.link c.in_ok-pending.ensures.takes
-        _ _ c.in_ok-store.store c.in_ok-store.ensures.takes _ _ c.in_err-run.ensures.fault)
+    _ _ c.in_ok-regs.regs c.in_ok-regs.ensures.height c.in_ok-regs.ensures.takes
+    _ _ c.in_ok-pending.pending c.in_ok-pending.load c.in_ok-pending.ensures.link c.in_ok-pending.ensures.takes
+    _ _ c.in_ok-store.store c.in_ok-store.ensures.takes _ _ c.in_err-run.ensures.fault)
 
 pub returns-clause-takes : goal.returns-clause-takes
 returns-clause-takes g c =
     all_came _ _ _ _ _ _ c.in_ok-height.ensures.takes
-        _ _ c.in_ok-regs.regs c.in_ok-regs.ensures.height c.in_ok-regs.ensures.takes
-        _ _ c.in_ok-pending.pending c.in_ok-pending.load c.in_ok-pending.ensures.link c.in_ok-pending.ensures.takes
-        _ _ c.in_ok-store.store c.in_ok-store.ensures.takes _ _ c.in_ok-run.run' c.in_ok-run.ensures.takes
+    _ _ c.in_ok-regs.regs c.in_ok-regs.ensures.height c.in_ok-regs.ensures.takes
+    _ _ c.in_ok-pending.pending c.in_ok-pending.load c.in_ok-pending.ensures.link c.in_ok-pending.ensures.takes
+    _ _ c.in_ok-store.store c.in_ok-store.ensures.takes _ _ c.in_ok-run.run' c.in_ok-run.ensures.takes

@@ -5,7 +5,8 @@ use Rattle.snapshot_words.proofs.taking.take_section.Given as goal
 
 abbrev pub invariant-words : goal.invariant-words
 invariant-words g l = record {
-  goes : Goes l.section (g.S.Source.left l.initial.source) (g.S.Source.left l.source) l.initial.place l.place l.words.items;
+  goes : Goes l.section (g.S.Source.left l.initial.source)
+      (g.S.Source.left l.source) l.initial.place l.place l.words.items;
   allowed : AreAllowed l.section l.words.items;
   place : l.place ≡ l.initial.place + 4 * length l.words.items;
   few : length l.words.items ≤ 13;

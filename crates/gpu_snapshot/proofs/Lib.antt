@@ -1,0 +1,12 @@
+pub mod Bytes
+pub mod CellWords
+pub mod RamWords
+pub mod Profiles
+pub mod Keeping
+pub mod States
+pub mod MemoriesBack
+pub mod Restoring
+pub mod Heads
+pub mod Openings
+pub mod Moving
+pub mod Played

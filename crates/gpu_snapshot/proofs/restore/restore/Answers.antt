@@ -1,0 +1,29 @@
+use Rattle.std.proofs.Common.{◌≡◌, ◌∙◌, ap}
+use Rattle.gpu_core.specs.Kept.{Kept}
+use Rattle.gpu_snapshot.specs.Restored.{version_behind}
+use Rattle.gpu_snapshot.proofs.Restoring.{stops_outline, stops_memories, restores, reader_of}
+use Rattle.gpu_snapshot.proofs.restore.restore.Goals as goal
+
+pub returns-in-Err-clause-fault : goal.returns-in-Err-clause-fault
+returns-in-Err-clause-fault g c = stops_outline _ _ _ _ c.in-Err.ensures.fault
+
+pub returns-in-Err-read_memories-clause-fault : goal.returns-in-Err-read_memories-clause-fault
+returns-in-Err-read_memories-clause-fault g c =
+    let height : c.put_outline.new.rig.gpu.parts.regs.height ≡ c.in-Ok.outline.regs.height =
+    ap (λ (k : Kept). k.parts.regs.height) c.put_outline.ensures.gpu in
+    stops_memories _ _ _ _ _ _ c.in-Ok.outline _ c.in-Ok.ensures.takes (rw height at c.in-Err-read_memories.ensures.fault)
+    (rw height at c.read_memories.ensures.cost)
+
+pub returns-in-Ok-read_memories-clause-restored : goal.returns-in-Ok-read_memories-clause-restored
+returns-in-Ok-read_memories-clause-restored g c =
+    let height : c.put_outline.new.rig.gpu.parts.regs.height ≡ c.in-Ok.outline.regs.height =
+    ap (λ (k : Kept). k.parts.regs.height) c.put_outline.ensures.gpu in
+    let version : c.version_behind-version.result ≡ version_behind c.in-Ok.outline.regs.height =
+    c.version_behind-version.ensures.value ∙ ap version_behind c.height.ensures.value in
+    restores _ _ _ _ _ _ c.read_memories.new.place c.put_outline.new.rig c.read_memories.new.rig
+    c.in-Ok.outline c.at.result c.in-Ok.ensures.takes c.put_outline.ensures
+    c.in-Ok-read_memories.ensures.takes c.read_memories.ensures.others
+    (c.read_memories.ensures.rows ∙ c.put_outline.ensures.rows) c.read_memories.ensures.words
+    (rw height at c.in-Ok-read_memories.ensures.place)
+    (reader_of c.at.result c.version_behind-version.result c.in-Ok.outline.regs.height c.read_memories.new.place
+    c.at.ensures.place c.at.ensures.stop version) (rw height at c.read_memories.ensures.cost)

@@ -1,0 +1,48 @@
+-- The memories of a state, as they are taken from a source.
+use Rattle.std.specs.Prelude.{◌≡◌, ◌<◌, ℕ, ◌+◌, ◌*◌, List, ◌++◌, Option, length}
+use Rattle.dev_io.specs.Device.{prepended, IsAtEnd}
+use Rattle.event_play.specs.RigState.{RigState}
+use Rattle.gpu_capture.specs.Whole.{AreWords}
+use Rattle.gpu_capture.specs.declared.event.Stop.TheVariants.{Truncated, ReadFault}
+use Rattle.snapshot_words.specs.Outline.{AreCells, bytes_of}
+use Rattle.snapshot_words.specs.Values.{cell_words}
+use Rattle.snapshot_words.specs.declared.fault.SnapFault.{SnapFault}
+use Rattle.snapshot_words.specs.declared.fault.SnapFault.TheVariants as fault
+
+-- these cells were taken, two in each word, and no byte more
+pub record TakesCells (before now : Option (List ℕ)) (cells : List ℕ) : Type 0 where
+  pub bytes : before ≡ prepended (bytes_of (cell_words cells)) now
+  pub each : AreCells cells
+
+-- these words were taken, and no byte more
+pub record TakesWords (before now : Option (List ℕ)) (words : List ℕ) : Type 0 where
+  pub bytes : before ≡ prepended (bytes_of words) now
+  pub each : AreWords words
+
+-- both memories were taken, and no byte more
+pub record TakesMemories (before now : Option (List ℕ)) (m ram : List ℕ) : Type 0 where
+  pub bytes : before ≡ prepended (bytes_of (cell_words m) ++ bytes_of ram) now
+  pub cells : AreCells m
+  pub words : AreWords ram
+
+-- why a word breaks off at a place
+abbrev pub SaysShort : SnapFault → (place : ℕ) → (now : Option (List ℕ)) → Type 0
+SaysShort (fault.Stop (Truncated byte)) place now = (byte ≡ place) × IsAtEnd now
+SaysShort (fault.Stop (ReadFault byte)) place now = byte ≡ place
+SaysShort (fault.Stop other) place now = ⊥
+SaysShort (fault.Bad byte word) place now = ⊥
+
+-- so many words are due from a place on, and fewer bytes than theirs were had
+pub record LacksWords (before now : Option (List ℕ)) (place count : ℕ) (why : SnapFault) : Type 0 where
+  pub taken : List ℕ
+  pub bytes : before ≡ prepended taken now
+  pub few : length taken < 4 * count
+  pub says : SaysShort why (place + length taken) now
+
+-- a rig with other cells
+abbrev pub with_cells : RigState → List ℕ → RigState
+with_cells rig m = record rig { gpu = record rig.gpu { parts = record rig.gpu.parts { m = m } } }
+
+-- a rig with other memories
+abbrev pub with_memories : RigState → (m ram : List ℕ) → RigState
+with_memories rig m ram = record (with_cells rig m) { ram = ram }

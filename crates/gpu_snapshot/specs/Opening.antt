@@ -1,0 +1,89 @@
+-- A file that is opened: what is taken of its bytes, and what they say.
+use Rattle.std.specs.Prelude.{◌≡◌, ◌≤◌, ℕ, ◌+◌, ◌*◌, List, [], ◌++◌, None, Result, Ok, if◌then◌else◌, length, take}
+use Rattle.std.specs.Prelude.{drop, nat_lt, Option}
+use Rattle.dev_io.specs.Device.{prepended, IsAtEnd}
+use Rattle.gpu_capture.specs.Capture.{IsVersion}
+use Rattle.gpu_capture.specs.Reader.{tag_due}
+use Rattle.gpu_capture.specs.State.{ReaderState}
+use Rattle.gpu_capture.specs.declared.event.Stop.TheVariants.{NotCapture, Truncated, ReadFault}
+use Rattle.event_play.specs.Replay.{Tale, raised}
+use Rattle.event_play.specs.RigState.{RigState, first_rig, Stands, StandsFor}
+use Rattle.snapshot_words.specs.Outline.{snapshot_head, snap_bytes}
+use Rattle.snapshot_words.specs.Reading.{Snapshot}
+use Rattle.snapshot_words.specs.declared.fault.SnapFault.{SnapFault}
+use Rattle.snapshot_words.specs.declared.fault.SnapFault.TheVariants as fault
+use Rattle.gpu_snapshot.specs.Head.{file_head}
+use Rattle.gpu_snapshot.specs.Intake.{Intake}
+use Rattle.gpu_snapshot.specs.Opened.{Opened, Captured, Restored, Unknown, BreaksOff, BadWord, opened}
+use Rattle.gpu_snapshot.specs.Restored.{rig_in, machine_in, reader_behind, state_cost}
+use Rattle.gpu_snapshot.specs.declared.head.FileHead.{FileHead}
+use Rattle.gpu_snapshot.specs.declared.head.FileHead.TheVariants as head
+
+-- the most store steps of opening: those of reading a state, where there is one
+abbrev pub cost_behind : Result FileHead ℕ → List ℕ → ℕ
+cost_behind (Ok head.Snapshot) bytes = state_cost bytes
+cost_behind other bytes = 0
+
+unfoldable pub opening_cost : List ℕ → ℕ
+opening_cost bytes =
+    if nat_lt (length bytes) 8 then 0 else cost_behind (file_head (take 8 bytes)) (drop 8 bytes)
+
+-- some bytes are too few
+abbrev pub IsTooShort : Opened → Type 0
+IsTooShort (BreaksOff place) = Unit {0}
+IsTooShort found = ⊥
+
+-- none of these bytes is one too many: a proper part of them is too short for a head, or for a state
+abbrev pub AreNeeded : List ℕ → Type 0
+AreNeeded taken = (part more : List ℕ) → taken ≡ part ++ more → (more ≡ [] → ⊥) → IsTooShort (opened part)
+
+-- The head of a capture was taken, and no byte more. The rig is a new one, tall for version 3, and the reader stands
+-- behind the head.
+pub record OpensCapture (before now : Intake) (rig : RigState) (reader : ReaderState) : Type 0 where
+  pub version : ℕ
+  pub known : IsVersion version
+  pub taken : List ℕ
+  pub bytes : before.left ≡ prepended taken now.left
+  pub needed : AreNeeded taken
+  pub says : (rest : List ℕ) → opened (taken ++ rest) ≡ Captured version rest
+  pub reader_is : reader ≡ record { progress = tag_due version 8; stop = None }
+  pub stands : (t : Tale) → StandsFor first_rig t → StandsFor rig (raised t version)
+  pub played : rig.played ≡ 0
+  pub cost : now.steps ≡ before.steps
+
+-- The head of a snapshot and the spelling of its state were taken, and no byte more. The rig is that state, and the
+-- reader stands behind it.
+pub record OpensState (before now : Intake) (rig : RigState) (reader : ReaderState) : Type 0 where
+  pub snapshot : Snapshot
+  pub place : ℕ
+  pub taken : List ℕ
+  pub taken_is : taken ≡ snapshot_head ++ snap_bytes snapshot.outline snapshot.m snapshot.ram
+  pub bytes : before.left ≡ prepended taken now.left
+  pub needed : AreNeeded taken
+  pub says : (rest : List ℕ) → opened (taken ++ rest) ≡ Restored snapshot place rest
+  pub reader_is : reader ≡ reader_behind snapshot.outline.regs.height place
+  pub rig_is : rig ≡ rig_in snapshot
+  pub stands : Stands rig (machine_in snapshot)
+  pub cost : now.steps ≤ before.steps + 64 * snapshot.outline.regs.height
+  pub cost_is : (rest : List ℕ) → opening_cost (taken ++ rest) ≡ 64 * snapshot.outline.regs.height
+
+-- why a file is not opened, by what the bytes taken are
+abbrev pub SaysRefusal : SnapFault → (taken : List ℕ) → (now : Option (List ℕ)) → Type 0
+SaysRefusal (fault.Stop (NotCapture byte)) taken now = (rest : List ℕ) → opened (taken ++ rest) ≡ Unknown byte rest
+SaysRefusal (fault.Stop (Truncated byte)) taken now = (opened taken ≡ BreaksOff byte) × IsAtEnd now
+SaysRefusal (fault.Stop (ReadFault byte)) taken now = opened taken ≡ BreaksOff byte
+SaysRefusal (fault.Stop stop) taken now = ⊥
+SaysRefusal (fault.Bad byte word) taken now = (rest : List ℕ) → opened (taken ++ rest) ≡ BadWord byte word
+
+-- but for a word that may not stand at its place, none of the bytes is one too many
+abbrev pub AreNeededFor : SnapFault → List ℕ → Type 0
+AreNeededFor (fault.Stop stop) taken = AreNeeded taken
+AreNeededFor (fault.Bad byte word) taken = Unit {0}
+
+-- bytes were taken, and the file is refused
+pub record Refuses (before now : Intake) (why : SnapFault) : Type 0 where
+  pub taken : List ℕ
+  pub bytes : before.left ≡ prepended taken now.left
+  pub needed : AreNeededFor why taken
+  pub says : SaysRefusal why taken now.left
+  pub cost : (rest : List ℕ) → now.steps ≤ before.steps + opening_cost (taken ++ rest)

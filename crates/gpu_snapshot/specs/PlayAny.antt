@@ -1,0 +1,115 @@
+-- How a capture or a snapshot is played (our own rule).
+use Rattle.std.specs.Prelude.{◌≡◌, ◌≤◌, ℕ, ◌+◌, List, [], ◌++◌}
+use Rattle.dev_io.specs.Device.{prepended}
+use Rattle.gpu_capture.specs.Reader.{tag_due}
+use Rattle.gpu_capture.specs.declared.event.Stop.{Stop}
+use Rattle.gpu_capture.specs.declared.event.Stop.TheVariants.{NotCapture, Truncated, BadRecord, ReadFault}
+use Rattle.event_play.specs.Causes.{MayReadFault, MayWriteFault, IsEnding}
+use Rattle.event_play.specs.Out.{ending_under}
+use Rattle.event_play.specs.Playing.{EndsPlay}
+use Rattle.event_play.specs.Replay.{Tale, Played, Play, played_behind, from_state, next_number}
+use Rattle.event_play.specs.RigState.{RigState}
+use Rattle.event_play.specs.Streams.{Streams}
+use Rattle.event_play.specs.declared.ending.Ending.{Ending}
+use Rattle.event_play.specs.declared.ending.Ending.TheVariants.{Stopped}
+use Rattle.event_play.specs.declared.ending.Mode.{Mode}
+use Rattle.snapshot_words.specs.Reading.{Snapshot}
+use Rattle.snapshot_words.specs.declared.fault.SnapFault.{SnapFault}
+use Rattle.snapshot_words.specs.declared.fault.SnapFault.TheVariants as fault
+use Rattle.gpu_snapshot.specs.Opened.{Opened, Captured, Restored, Unknown, BreaksOff, BadWord, opened}
+use Rattle.gpu_snapshot.specs.Opening.{opening_cost}
+use Rattle.gpu_snapshot.specs.Restored.{machine_in, version_behind}
+use Rattle.gpu_snapshot.specs.declared.ending.AnyEnding.{AnyEnding}
+use Rattle.gpu_snapshot.specs.declared.ending.AnyEnding.TheVariants as any
+
+-- the tale of a state: nothing was played from it yet, and it says how many events were played before
+abbrev pub restored_tale : Snapshot → Tale
+restored_tale s = from_state (machine_in s) s.outline.played
+
+-- the records behind a state that ends at a place, played from it
+abbrev pub played_restored : Snapshot → (place : ℕ) → List ℕ → Played
+played_restored s place rest = played_behind (restored_tale s) (tag_due (version_behind s.outline.regs.height) place) rest
+
+-- nothing is played, and it ends with this stop
+abbrev pub unplayed : Tale → Stop → List ℕ → Played
+unplayed first stop rest =
+    record { tale = first; ending = Stopped (next_number first.played) stop; rest = rest }
+
+abbrev pub played_opened : Tale → (bytes : List ℕ) → Opened → Played
+played_opened first bytes (Captured version rest) = Play first bytes
+played_opened first bytes (Restored s place rest) = played_restored s place rest
+played_opened first bytes (Unknown place rest) = unplayed first (NotCapture place) rest
+played_opened first bytes (BreaksOff place) = unplayed first (Truncated place) []
+played_opened first bytes (BadWord place word) = unplayed first (BadRecord place word) []
+
+-- A capture is played from a tale; a snapshot from its own state, with the records behind it. Other bytes have no event.
+-- Those in which a word of a state may not stand at its place end as if it were that of a record; `AnyUnder` tells them
+-- apart.
+unfoldable pub PlayAny : Tale → List ℕ → Played
+PlayAny first bytes = played_opened first bytes (opened bytes)
+
+-- ---- endings
+
+-- a bad word of a state is an ending of its own
+abbrev pub any_ending : Opened → Ending → AnyEnding
+any_ending (BadWord place word) ending = any.BadSnapshot place word
+any_ending found ending = any.Played ending
+
+-- how playing bytes ends under a mode
+abbrev pub AnyUnder : Mode → Tale → List ℕ → AnyEnding
+AnyUnder mode first bytes = any_ending (opened bytes) (ending_under mode (PlayAny first bytes))
+
+-- how it ends where a file is not opened
+abbrev pub any_ending_of : SnapFault → AnyEnding
+any_ending_of (fault.Stop stop) = any.Played (Stopped 1 stop)
+any_ending_of (fault.Bad byte word) = any.BadSnapshot byte word
+
+abbrev pub IsAnyEnding : AnyEnding → Type 0
+IsAnyEnding (any.Played ending) = IsEnding ending
+IsAnyEnding (any.BadSnapshot byte word) = Unit {0}
+
+abbrev pub AnyMayReadFault : AnyEnding → Type 0
+AnyMayReadFault (any.Played ending) = MayReadFault ending
+AnyMayReadFault (any.BadSnapshot byte word) = ⊥
+
+abbrev pub AnyMayWriteFault : AnyEnding → Type 0
+AnyMayWriteFault (any.Played ending) = MayWriteFault ending
+AnyMayWriteFault (any.BadSnapshot byte word) = ⊥
+
+-- ---- how it is played
+
+abbrev pub HasNoBadWord : Opened → Type 0
+HasNoBadWord (BadWord place word) = ⊥
+HasNoBadWord found = Unit {0}
+
+-- no word of a state is bad: in the bytes taken, where there are no others or the source failed, and else in any that
+-- begin with them
+abbrev pub IsGood : Ending → (taken : List ℕ) → Type 0
+IsGood (Stopped number (Truncated byte)) taken = HasNoBadWord (opened taken)
+IsGood (Stopped number (ReadFault byte)) taken = HasNoBadWord (opened taken)
+IsGood ending taken = (rest : List ℕ) → HasNoBadWord (opened (taken ++ rest))
+
+-- with so many store steps more
+abbrev pub spent : Streams → ℕ → Streams
+spent before more = record before { steps = before.steps + more }
+
+-- It was played to this ending, by how bytes are played, with the store steps of opening it besides those of playing.
+pub record PlaysAny (mode : Mode) (first : Tale) (before now : Streams) (ending : Ending) : Type 0 where
+  pub rig : RigState
+  pub opening : ℕ
+  pub plays : EndsPlay mode (PlayAny first) (spent before opening) now rig ending
+  pub good : IsGood ending plays.taken
+  pub cost : (rest : List ℕ) → opening ≤ opening_cost (plays.taken ++ rest)
+
+-- This word of a state is bad, whatever follows the bytes taken. Nothing was played or written.
+pub record FindsBadWord (before now : Streams) (byte word : ℕ) : Type 0 where
+  pub taken : List ℕ
+  pub bytes : before.left ≡ prepended taken now.left
+  pub says : (rest : List ℕ) → opened (taken ++ rest) ≡ BadWord byte word
+  pub held : now.held ≡ before.held
+  pub heard : now.heard ≡ before.heard
+  pub cost : (rest : List ℕ) → now.steps ≤ before.steps + opening_cost (taken ++ rest)
+
+abbrev pub EndsAny : Mode → (first : Tale) → (before now : Streams) → AnyEnding → Type 0
+EndsAny mode first before now (any.Played ending) = PlaysAny mode first before now ending
+EndsAny mode first before now (any.BadSnapshot byte word) = FindsBadWord before now byte word

@@ -1,0 +1,102 @@
+-- What a rig and a reader are behind a state (our own rule).
+use Rattle.std.specs.Prelude.{◌≡◌, ◌≤◌, ℕ, ◌+◌, ◌*◌, List, [], ◌++◌, ◌==◌, if◌then◌else◌, None, length}
+use Rattle.px_num.specs.Height.{tall_height}
+use Rattle.dev_io.specs.Device.{prepended}
+use Rattle.gpu_capture.specs.Reader.{tag_due}
+use Rattle.gpu_capture.specs.State.{ReaderState}
+use Rattle.gpu_core.specs.Kept.{kept_of, kept_with, state_with}
+use Rattle.event_play.specs.Replay.{tall_version}
+use Rattle.event_play.specs.RigState.{RigState, Stands}
+use Rattle.event_play.specs.Step.{Machine}
+use Rattle.gpu_snapshot.specs.Intake.{Intake}
+use Rattle.snapshot_words.specs.Outline.{snap_bytes}
+use Rattle.snapshot_words.specs.Reading.{Found, Whole, Short, Bad, Snapshot, outline_from, state_from}
+use Rattle.snapshot_words.specs.Taking.{SaysFault}
+use Rattle.snapshot_words.specs.declared.fault.SnapFault.{SnapFault}
+use Rattle.snapshot_words.specs.declared.fault.SnapFault.TheVariants as fault
+use Rattle.snapshot_words.specs.declared.outline.Outline.{Outline}
+
+-- a state begins behind the head
+abbrev pub first_place : ℕ
+first_place = 8
+
+-- the rig that a state is
+abbrev pub rig_in : Snapshot → RigState
+rig_in s = record {
+  gpu = kept_with s.m s.outline.regs s.outline.pending s.outline.load s.outline.store;
+  ram = s.ram;
+  running = s.outline.run;
+  played = s.outline.played;
+}
+
+-- the machine that it is: the words of its drawing processor are one list that leaves what is pending
+abbrev pub machine_in : Snapshot → Machine
+machine_in s = record { gpu = state_with (rig_in s).gpu; ram = s.ram; running = s.outline.run }
+
+-- the records behind a state are those of a capture of version 3 where video memory is tall, and else of version 2
+abbrev pub version_behind : (height : ℕ) → ℕ
+version_behind height = if height == tall_height then tall_version else 2
+
+-- the reader of the records behind a state that ends at a place
+abbrev pub reader_behind : (height place : ℕ) → ReaderState
+reader_behind height place = record { progress = tag_due (version_behind height) place; stop = None }
+
+-- ---- how it is put together
+
+-- a rig has all of a state but for its memories, and these have their sizes; some machine stands for it
+pub record HoldsOutline (rig : RigState) (o : Outline) : Type 0 where
+  pub gpu : rig.gpu ≡ kept_with rig.gpu.parts.m o.regs o.pending o.load o.store
+  pub running : rig.running ≡ o.run
+  pub played : rig.played ≡ o.played
+  pub rows : length rig.gpu.parts.m ≡ 1024 * o.regs.height
+  pub words : length rig.ram ≡ 524288
+  pub stands : kept_of (state_with rig.gpu) ≡ rig.gpu
+
+-- ---- how it is read
+
+-- how many rows a state says that video memory has; 0 where it breaks off before that is settled
+abbrev pub rows_found : Found Outline → ℕ
+rows_found (Whole o place rest) = o.regs.height
+rows_found (Short place) = 0
+rows_found (Bad place word) = 0
+
+-- the most store steps of reading a state: one for each sixteen cells
+unfoldable pub state_cost : (bytes : List ℕ) → ℕ
+state_cost bytes = 64 * rows_found (outline_from first_place bytes)
+
+-- some bytes break off
+abbrev pub IsShort : {A : Type 0} → Found A → Type 0
+IsShort (Short place) = Unit {0}
+IsShort found = ⊥
+
+-- none of these bytes of a state is one too many
+abbrev pub AreNeeded : List ℕ → Type 0
+AreNeeded taken = (part more : List ℕ) → taken ≡ part ++ more → (more ≡ [] → ⊥) → IsShort (state_from first_place part)
+
+-- The spelling of a state was taken, and no byte more. The rig is that state, and the reader stands behind it.
+pub record Restores (before now : Intake) (rig : RigState) (reader : ReaderState) : Type 0 where
+  pub snapshot : Snapshot
+  pub place : ℕ
+  pub bytes : before.left ≡ prepended (snap_bytes snapshot.outline snapshot.m snapshot.ram) now.left
+  pub needed : AreNeeded (snap_bytes snapshot.outline snapshot.m snapshot.ram)
+  pub says : (rest : List ℕ) → state_from first_place (snap_bytes snapshot.outline snapshot.m snapshot.ram ++ rest)
+      ≡ Whole snapshot place rest
+  pub rig_is : rig ≡ rig_in snapshot
+  pub stands : Stands rig (machine_in snapshot)
+  pub reader_is : reader ≡ reader_behind snapshot.outline.regs.height place
+  pub cost : now.steps ≤ before.steps + 64 * snapshot.outline.regs.height
+  pub cost_is : (rest : List ℕ) → state_cost (snap_bytes snapshot.outline snapshot.m snapshot.ram ++ rest)
+      ≡ 64 * snapshot.outline.regs.height
+
+-- where a state breaks off, or the source fails, none of the bytes is one too many
+abbrev pub AreNeededFor : SnapFault → List ℕ → Type 0
+AreNeededFor (fault.Stop stop) taken = AreNeeded taken
+AreNeededFor (fault.Bad byte word) taken = Unit {0}
+
+-- bytes were taken that are no state
+pub record StopsInState (before now : Intake) (why : SnapFault) : Type 0 where
+  pub taken : List ℕ
+  pub bytes : before.left ≡ prepended taken now.left
+  pub needed : AreNeededFor why taken
+  pub says : SaysFault why (state_from first_place) taken now.left
+  pub cost : (rest : List ℕ) → now.steps ≤ before.steps + state_cost (taken ++ rest)

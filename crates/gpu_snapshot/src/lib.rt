@@ -1,0 +1,19 @@
+//! Snapshots of a machine, and captures: one of either is opened, and played.
+#![tactic(auto)]
+
+mod cells;
+mod ending;
+mod head;
+pub mod laws;
+mod memories;
+mod memory;
+mod opening;
+mod outline;
+mod play;
+mod profile;
+mod restore;
+
+pub use ending::AnyEnding;
+pub use head::FileHead;
+pub use opening::open;
+pub use play::play_any;

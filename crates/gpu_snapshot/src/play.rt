@@ -1,0 +1,65 @@
+// A capture or a snapshot is played to its end.
+ghost use Rattle.std.specs.Prelude.{◌≡◌, ◌≤◌, map};
+ghost use Rattle.dev_io.specs.Device.{Rose};
+ghost use Rattle.event_play.specs.Replay.{from_state};
+ghost use Rattle.event_play.specs.RigState.{first_rig, Stands};
+ghost use Rattle.event_play.specs.Step.{Machine};
+ghost use Rattle.event_play.specs.Streams.{streams};
+ghost use Rattle.snapshot_words.specs.Taking.{IsReadFault};
+ghost use Rattle.gpu_snapshot.specs.Intake.{intake};
+ghost use Rattle.gpu_snapshot.specs.Opening.{Refuses};
+ghost use Rattle.gpu_snapshot.specs.PlayAny.{EndsAny, IsAnyEnding, AnyMayReadFault, AnyMayWriteFault, any_ending_of};
+
+use crate::ending::AnyEnding;
+use crate::opening::open;
+use dev_io::{Sink, Source};
+use event_play::{Ending, Mode, Rig};
+use gpu_taps::Listener;
+use snapshot_words::SnapFault;
+use std::sync::ledger::Ledger;
+use vram_store::Steps;
+
+/// Plays a capture, or a snapshot and what is recorded behind it, to its End with a new rig, and writes what the mode
+/// asks for. The taps are told every note. Where the bytes are no capture and no snapshot, or break off in a head or a
+/// state, it stops at event 1.
+pub fn play_any<S: Source, K: Sink, T: Listener, L: Ledger>(
+    rig: Rig,
+    source: &mut S,
+    out: &mut K,
+    mode: Mode,
+    taps: &mut Vec<T>,
+    steps: &mut Steps<L>,
+) -> AnyEnding
+    requires new { rig ≡ first_rig }
+    // For every machine for which a new rig stands, this is how playing the bytes ends.
+    ensures ends { (s : Machine) → Stands first_rig s → EndsAny mode (from_state s 0)
+        (streams (S.left source.old) (K.held out.old) (map T.heard taps.old.items) steps.old)
+        (streams (S.left source.new) (K.held out.new) (map T.heard taps.new.items) steps.new) result }
+    ensures known { IsAnyEnding result }
+    ensures read_cause { AnyMayReadFault result → Rose (S.faults source.old) (S.faults source.new) }
+    ensures write_cause { AnyMayWriteFault result → Rose (K.faults out.old) (K.faults out.new) }
+    ensures read_faults { S.faults source.old ≤ S.faults source.new }
+    ensures write_faults { K.faults out.old ≤ K.faults out.new }
+{
+    match open(rig, source, steps) {
+        Ok((rig, reader)) => {
+            let mut rig = rig;
+            let mut reader = reader;
+            let ending = rig.play_from(&mut reader, source, out, mode, taps, steps);
+            AnyEnding::Played { ending }
+        }
+        Err(fault) => refused(fault),
+    }
+}
+
+/// How playing ends where a file is not opened.
+fn refused(fault: SnapFault) -> AnyEnding
+    ensures { result ≡ any_ending_of fault }
+{
+    match fault {
+        SnapFault::Stop { stop } => AnyEnding::Played {
+            ending: Ending::Stopped { event: 1, stop },
+        },
+        SnapFault::Bad { byte, word } => AnyEnding::BadSnapshot { byte, word },
+    }
+}

@@ -1,0 +1,59 @@
+// A state is read into a rig.
+ghost use Rattle.std.specs.Prelude.{◌≡◌, ◌≤◌, ◌==◌, if◌then◌else◌, IfOk, IfErr};
+ghost use Rattle.px_num.specs.Height.{IsHeight};
+ghost use Rattle.dev_io.specs.Device.{Rose};
+ghost use Rattle.gpu_capture.specs.Capture.{IsVersion};
+ghost use Rattle.event_play.specs.RigState.{first_rig};
+ghost use Rattle.snapshot_words.specs.Taking.{IsReadFault};
+ghost use Rattle.gpu_snapshot.specs.Intake.{intake};
+ghost use Rattle.gpu_snapshot.specs.Restored.{version_behind, Restores, StopsInState};
+
+use crate::memories::read_memories;
+use crate::outline::put_outline;
+use dev_io::Source;
+use event_play::Rig;
+use gpu_capture::EventReader;
+use snapshot_words::{SnapFault, read_outline};
+use std::sync::ledger::Ledger;
+use vram_store::Steps;
+
+/// How many rows video memory has in the tall profile.
+const TALL_HEIGHT: u16 = 1024;
+
+/// The place of a state, behind the head.
+const FIRST_PLACE: u32 = 8;
+
+/// The version of the records behind a state of this height.
+fn version_behind(height: u16) -> u8
+    ensures value { result ≡ version_behind height }
+    ensures known { IsVersion result }
+{
+    if height == TALL_HEIGHT { 3 } else { 2 }
+}
+
+/// Reads a state into a new rig, and answers the reader of the records behind it.
+pub(crate) fn restore<S: Source, L: Ledger>(
+    rig: &mut Rig,
+    source: &mut S,
+    steps: &mut Steps<L>,
+) -> Result<EventReader, SnapFault>
+    requires new { rig.old ≡ first_rig }
+    ensures restored { IfOk result (λ reader. Restores (intake (S.left source.old) steps.old)
+        (intake (S.left source.new) steps.new) rig.new reader) }
+    ensures fault { IfErr result (λ fault. StopsInState (intake (S.left source.old) steps.old)
+        (intake (S.left source.new) steps.new) fault) }
+    ensures cause { IfErr result (λ fault. IsReadFault fault → Rose (S.faults source.old) (S.faults source.new)) }
+    ensures faults { S.faults source.old ≤ S.faults source.new }
+{
+    let mut place = FIRST_PLACE;
+    let outline = match read_outline(source, &mut place) {
+        Ok(outline) => outline,
+        Err(fault) => return Err(fault),
+    };
+    let version = version_behind(outline.regs.height());
+    put_outline(rig, outline);
+    match read_memories(source, &mut place, rig, steps) {
+        Ok(()) => Ok(EventReader::at(version, place)),
+        Err(fault) => Err(fault),
+    }
+}

@@ -1,0 +1,71 @@
+-- Every state is read from its spelling.
+use Rattle.std.proofs.Common.{◌≡◌, ◌+◌, ◌*◌, ◌++◌, List, [], ℕ, Option, None, length, refl, ap, sym, subst, ◌∙◌}
+use Rattle.gp0_words.specs.declared.pending.Pending.{Pending}
+use Rattle.gp1_status.specs.Registers.{Registers}
+use Rattle.gp1_status.specs.Words.{words_of}
+use Rattle.gpu_capture.specs.Whole.{AreWords}
+use Rattle.snapshot_words.specs.Outline.{IsOutline, outline_words, bytes_of}
+use Rattle.snapshot_words.specs.Reading.{Whole, outline_from}
+use Rattle.snapshot_words.specs.Sections.{IsWhole}
+use Rattle.snapshot_words.specs.Taking.{Takes, TakesOutline}
+use Rattle.snapshot_words.specs.Values.{front_words, pending_words, store_words, run_words}
+use Rattle.snapshot_words.specs.declared.outline.Outline.{Outline}
+use Rattle.snapshot_words.specs.declared.section.Section.{Section}
+use Rattle.snapshot_words.specs.declared.section.Section.TheVariants as section
+use Rattle.snapshot_words.proofs.Chain.{all_came}
+use Rattle.snapshot_words.proofs.ReadBack.{read_back}
+use Rattle.snapshot_words.proofs.Wholes.{words_left_part, words_right_part, height_few, front_whole, registers_whole}
+use Rattle.snapshot_words.proofs.Wholes.{pending_whole, store_whole, run_whole}
+
+-- a whole part is taken from bytes that nobody tells
+whole_takes : (s : Section) (words : List ℕ) (first : ℕ) → IsWhole s words
+    → Takes s None None first (first + 4 * length words) words
+whole_takes s words first is = record { bytes = refl; moved = refl; says = λ rest. read_back s words rest first is }
+
+abbrev outline_front : Outline → List ℕ
+outline_front o = front_words o.regs.height o.played
+
+parts_fit : (o : Outline) → AreWords (outline_words o)
+    → AreWords
+    ((((outline_front o ++ words_of o.regs) ++ pending_words o.pending o.load) ++ store_words o.store) ++ run_words o.run)
+unfolding outline_words
+parts_fit o are = are
+
+outline_taken : (o : Outline) (place : ℕ) → IsOutline o → AreWords (outline_words o)
+    → (end : ℕ) × TakesOutline None None place end o
+outline_taken o place is are =
+    let tall = height_few o.regs.height is.height in
+    let fit = parts_fit o are in
+    let upto_store = words_left_part
+    (((outline_front o ++ words_of o.regs) ++ pending_words o.pending o.load) ++ store_words o.store)
+    (run_words o.run) fit in
+    let upto_pending = words_left_part ((outline_front o ++ words_of o.regs) ++ pending_words o.pending o.load)
+    (store_words o.store) upto_store in
+    let upto_registers =
+    words_left_part (outline_front o ++ words_of o.regs) (pending_words o.pending o.load) upto_pending in
+    let place1 = place + 4 * length (outline_front o) in
+    let place2 = place1 + 4 * length (words_of o.regs) in
+    let place3 = place2 + 4 * length (pending_words o.pending o.load) in
+    let place4 = place3 + 4 * length (store_words o.store) in
+    let place5 = place4 + 4 * length (run_words o.run) in
+    let front =
+    whole_takes section.Front (outline_front o) place (front_whole o.regs.height o.played is.height is.few) in
+    let registers = whole_takes (section.Registers o.regs.height) (words_of o.regs) place1
+    (registers_whole o.regs is.bits (words_right_part (outline_front o) (words_of o.regs) upto_registers)) in
+    let pendings = whole_takes (section.Pending o.regs.height) (pending_words o.pending o.load) place2
+    (pending_whole o.regs.height tall o.pending o.load is.pending is.link is.load
+    (words_right_part (outline_front o ++ words_of o.regs) (pending_words o.pending o.load) upto_pending)) in
+    let stores =
+    whole_takes (section.Store o.regs.height) (store_words o.store) place3
+    (store_whole o.regs.height tall o.store is.store) in
+    let runs = whole_takes section.Run (run_words o.run) place4 (run_whole o.run is.run) in (
+      place5,
+      all_came place None None place1 o.regs.height o.played front None place2 o.regs refl registers None place3
+          o.pending o.load is.link pendings None place4 o.store stores None place5 o.run runs,
+    )
+
+pub outline_read : (o : Outline) (place : ℕ) (rest : List ℕ) → IsOutline o → AreWords (outline_words o)
+    → outline_from place (bytes_of (outline_words o) ++ rest) ≡ Whole o (place + 4 * length (outline_words o)) rest
+outline_read o place rest is are =
+    let taken = outline_taken o place is are in
+    taken.1.says rest ∙ ap (λ end. Whole o end rest) taken.1.moved
