@@ -75,6 +75,7 @@ module _ (n : ℕ) (start : Tale) (before now : Streams) (rig : RigState) (p : P
     fits = fits;
     cost = spent;
     small = at.small;
+    allowed = tt;
   }
 
   pub state_lacks : (number : ℕ) → number ≡ n → AppendsPart now.held held (rig_bytes rig)

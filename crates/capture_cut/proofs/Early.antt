@@ -15,7 +15,8 @@ use Rattle.event_play.specs.declared.fault.EventFault.{EventFault}
 use Rattle.capture_cut.specs.Came.{EndsAnswer, EndsEarly, IsIdle, HasRead}
 use Rattle.capture_cut.specs.Cut.{Way, EndsCut, SaysEnding, StopsBehind}
 use Rattle.capture_cut.specs.declared.ending.CutEnding.{CutEnding}
-use Rattle.capture_cut.specs.declared.ending.CutEnding.TheVariants.{Done, PastEnd, Stopped, Faulted, TooLong, WriteFailed}
+use Rattle.capture_cut.specs.declared.ending.CutEnding.TheVariants.{Done, PastEnd, Stopped, Faulted, TooLong}
+use Rattle.capture_cut.specs.declared.ending.CutEnding.TheVariants.{WriteFailed}
 use Rattle.capture_cut.proofs.Playing.{Awaits}
 use Rattle.capture_cut.proofs.Reading.{read_on, reads_to, stops_bytes, stops_behind}
 
@@ -56,7 +57,8 @@ module _ (k n : ℕ) (start : Tale) (version : ℕ) (before now : Streams) (was 
         box_cost = spent_within before.steps steps at.tale.cost at.tale.box_cost _ within at.small;
       }
 
-  fault_ends : (event : Event) (at : Awaits k start version before now was new (Ok event)) (number : ℕ) (fault : EventFault)
+  fault_ends : (event : Event) (at : Awaits k start version before now was new (Ok event)) (number : ℕ)
+      (fault : EventFault)
       → now.held ≡ before.held → number ≡ next_number at.tale.played
       → FaultsEvent at.tale event fault mid behind was rig
       → EndsCut n start before after rig (Faulted number fault)
@@ -81,8 +83,8 @@ module _ (k n : ℕ) (start : Tale) (version : ℕ) (before now : Streams) (was 
   stops_way stop at =
       let P : List Event → Type 0 = λ events. HasRead before.left at.left at.old at.taken events in
       stops_behind before.left at.left now.left at.old new at.taken stop
-      (way (Err stop) at (at.taken ++ at.answers.taken)) (subst P (sym (append-nil at.events)) at.reads) at.answers at.same
-      refl
+      (way (Err stop) at (at.taken ++ at.answers.taken)) (subst P (sym (append-nil at.events)) at.reads) at.answers
+      at.same refl
 
   stop_ends : (stop : Stop) (at : Awaits k start version before now was new (Err stop)) (ending : CutEnding)
       → now.held ≡ before.held → EndsEarly (next_number at.tale.played) stop ending → IsIdle mid behind was rig

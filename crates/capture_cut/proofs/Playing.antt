@@ -41,7 +41,8 @@ plays_none s version heard rig stands =
     }
 
 -- the tale with one event more
-abbrev next_tale : (t : Tale) (event : Event) (before now : Outlets) (rig : RigState) → PlaysNext t event before now rig → Tale
+abbrev next_tale : (t : Tale) (event : Event) (before now : Outlets) (rig : RigState)
+    → PlaysNext t event before now rig → Tale
 next_tale t event before now rig plays = tale_on t event plays.step.machine plays.shown plays.step.notes
 
 plays_on : (first t : Tale) (events : List Event) (event : Event) (heard : List Reading) (mid now : Outlets)
@@ -50,7 +51,8 @@ plays_on : (first t : Tale) (events : List Event) (event : Event) (heard : List 
     → Plays first (events ++ event ∷ []) (next_tale t event mid now rig next) heard now.heard rig
 plays_on first t events event heard mid now was rig plays next few =
     let after : Tale = next_tale t event mid now rig next in
-    let is : after_event t event ≡ Ok after = after-event t event next.step.machine next.shown next.step.notes next.step.is in
+    let is : after_event t event ≡ Ok after =
+    after-event t event next.step.machine next.shown next.step.notes next.step.is in
     let long = length-append events (event ∷ []) in
     record {
       replays = λ more stop rest.
@@ -81,8 +83,8 @@ pub record Awaits (n : ℕ) (start : Tale) (version : ℕ) (before now : Streams
   pub cost : now.steps ≤ before.steps + tale.cost
   pub small : tale.cost ≤ tale.box_cost
 
-pub awaits_first : (s : Machine) (left left_now held : Option (List ℕ)) (heard : List Reading) (steps : ℕ) (rig : RigState)
-    (first new : Progress) (version : ℕ) (next : Result Event Stop) → IsStart first
+pub awaits_first : (s : Machine) (left left_now held : Option (List ℕ)) (heard : List Reading) (steps : ℕ)
+    (rig : RigState) (first new : Progress) (version : ℕ) (next : Result Event Stop) → IsStart first
     → StandsFor rig (raised (from_state s 0) version) → version ≡ new.version
     → IfOk next (λ event. Takes first new left left_now (event ∷ [])) → OnOk next (1 ≤ new.version)
     → IfErr next (λ stop. StopsAt first new left left_now stop)

@@ -1,6 +1,6 @@
 -- What was read so far, and the next answer of the reader.
-use Rattle.std.proofs.Common.{◌≡◌, ◌≤◌, ◌++◌, ℕ, List, [], ◌∷◌, Option, Result, Ok, Err, OnOk, IsOk, IfOk, IfErr, false, true, refl, sym}
-use Rattle.std.proofs.Common.{◌∙◌}
+use Rattle.std.proofs.Common.{◌≡◌, ◌≤◌, ◌++◌, ℕ, List, [], ◌∷◌, Option, Result, Ok, Err, OnOk, IsOk, IfOk, IfErr}
+use Rattle.std.proofs.Common.{false, true, refl, sym, ◌∙◌}
 use Rattle.dev_io.specs.Device.{prepended}
 use Rattle.dev_io.proofs.Parts.{prepended-nil, taken_on}
 use Rattle.gpu_capture.specs.Reader.{Takes, StopsAt, IsStart, IsReadFault, capture_from}
@@ -22,8 +22,8 @@ read_none left p is = record {
 }
 
 -- one event more
-pub read_on : (before mid now : Option (List ℕ)) (old new : Progress) (xs : List ℕ) (events : List Event) (given : Event)
-    → HasRead before mid old xs events → (takes : Takes old new mid now (given ∷ []))
+pub read_on : (before mid now : Option (List ℕ)) (old new : Progress) (xs : List ℕ) (events : List Event)
+    (given : Event) → HasRead before mid old xs events → (takes : Takes old new mid now (given ∷ []))
     → HasRead before now new (xs ++ takes.taken) (events ++ given ∷ [])
 read_on before mid now old new xs events given was takes = record {
   bytes = taken_on before mid now xs takes.taken was.bytes takes.bytes;
@@ -40,10 +40,11 @@ reads_to before now p events way has known same = record {
 }
 
 -- the reader stopped
-pub stops_bytes : (before mid now : Option (List ℕ)) (old new : Progress) (xs : List ℕ) (events : List Event) (stop : Stop)
-    → HasRead before mid old xs events → (stops : StopsAt old new mid now stop)
+pub stops_bytes : (before mid now : Option (List ℕ)) (old new : Progress) (xs : List ℕ) (events : List Event)
+    (stop : Stop) → HasRead before mid old xs events → (stops : StopsAt old new mid now stop)
     → before ≡ prepended (xs ++ stops.taken) now
-stops_bytes before mid now old new xs events stop was stops = taken_on before mid now xs stops.taken was.bytes stops.bytes
+stops_bytes before mid now old new xs events stop was stops =
+    taken_on before mid now xs stops.taken was.bytes stops.bytes
 
 pub stops_behind : (before mid now : Option (List ℕ)) (old new : Progress) (xs : List ℕ) (stop : Stop) (way : Way)
     → HasRead before mid old xs (events_of way) → (stops : StopsAt old new mid now stop)
@@ -75,6 +76,7 @@ answered (Ok event) P is on = on
 answered (Err stop) P is on = let none : false ≡ true = is in absurd cc
 
 -- an answer that the source failed
-pub failed : (next : Result Event Stop) (P : Type 0) → IsReadFailure next → IfErr next (λ stop. IsReadFault stop → P) → P
+pub failed : (next : Result Event Stop) (P : Type 0) → IsReadFailure next
+    → IfErr next (λ stop. IsReadFault stop → P) → P
 failed (Ok event) P is cause = absurd is
 failed (Err stop) P is cause = cause is

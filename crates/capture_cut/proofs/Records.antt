@@ -3,7 +3,7 @@ use Rattle.std.proofs.Common.{◌≡◌, ◌≤◌, inl, inr, ◌+◌, ◌++◌,
 use Rattle.std.proofs.Common.{length, length-append, refl, ap, sym, subst, ◌∙◌, append_assoc, append-nil, arith}
 use Rattle.dev_io.specs.Device.{appended, prepended, AppendsPart}
 use Rattle.gpu_capture.specs.Reader.{Takes, StopsAt}
-use Rattle.gpu_capture.specs.Written.{spelled, spelled_end, tag_of}
+use Rattle.gpu_capture.specs.Written.{spelled, spelled_end, tag_of, Allows}
 use Rattle.gpu_capture.specs.declared.event.Event.{Event}
 use Rattle.gpu_capture.specs.declared.event.Stop.{Stop}
 use Rattle.gpu_capture.specs.declared.progress.Progress.{Progress}
@@ -12,12 +12,14 @@ use Rattle.event_play.specs.Replay.{Tale}
 use Rattle.event_play.specs.RigState.{RigState}
 use Rattle.event_play.specs.Streams.{Streams, streams}
 use Rattle.capture_flat.specs.Out.{spell}
+use Rattle.capture_flat.proofs.Allows.{allows_append}
 use Rattle.capture_flat.proofs.Pieces.{spell-append, wrote_on}
 use Rattle.capture_cut.specs.Came.{Came, HasRead, WritesRecord, EndsRecord, EndsAt}
 use Rattle.capture_cut.specs.Cut.{Way, EndsCut, IsLast, SaysEnding, StopsBehind, events_of}
 use Rattle.capture_cut.specs.File.{snapshot, begun, cut_file}
 use Rattle.capture_cut.specs.declared.ending.CutEnding.{CutEnding}
-use Rattle.capture_cut.specs.declared.ending.CutEnding.TheVariants.{Done, PastEnd, Stopped, Faulted, TooLong, WriteFailed}
+use Rattle.capture_cut.specs.declared.ending.CutEnding.TheVariants.{Done, PastEnd, Stopped, Faulted, TooLong}
+use Rattle.capture_cut.specs.declared.ending.CutEnding.TheVariants.{WriteFailed}
 use Rattle.capture_cut.proofs.Reading.{read_on, reads_to, stops_behind, stops_bytes, version_on}
 
 -- ---- bytes
@@ -26,7 +28,8 @@ use Rattle.capture_cut.proofs.Reading.{read_on, reads_to, stops_behind, stops_by
 begun_on : (t : Tale) (later : List Event) (event : Event)
     → begun t (later ++ event ∷ []) ≡ begun t later ++ spelled event
 begun_on t later event =
-    ap (λ bytes. snapshot t ++ bytes) (spell-append later (event ∷ []) ∙ ap (λ bytes. spell later ++ bytes) (append-nil (spelled event)))
+    ap (λ bytes. snapshot t ++ bytes) (spell-append later (event ∷ [])
+    ∙ ap (λ bytes. spell later ++ bytes) (append-nil (spelled event)))
     ∙ sym (append_assoc (snapshot t) (spell later) (spelled event))
 
 file_length : (t : Tale) (later : List Event) → length (cut_file t later) ≡ length (begun t later) + 4
@@ -104,9 +107,9 @@ module _ (n : ℕ) (start : Tale) (before now : Streams) (rig : RigState) (old n
         let b = ap length (more_events at.way.played at.way.later event) in
         omega (arith, a, b, at.count_is)
 
-    pub came_on : (size_now : ℕ) → WritesRecord size event now.held held size_now
+    pub came_on : (size_now : ℕ) → WritesRecord size event now.held held size_now → Allows 2 event
         → Came n start before after rig new size_now (count + 1)
-    came_on size_now writes = record {
+    came_on size_now writes allows = record {
       way = way taken later;
       all = at.all;
       count_is = count_on;
@@ -122,6 +125,7 @@ module _ (n : ℕ) (start : Tale) (before now : Streams) (rig : RigState) (old n
       fits = writes.fits;
       cost = at.cost;
       small = at.small;
+      allowed = allows_append 2 at.way.later (event ∷ []) at.allowed (allows, tt);
     }
 
     last : (number : ℕ) → number ≡ count + 1 → IsLast n (way taken later) number at.way.later event
@@ -181,6 +185,7 @@ module _ (n : ℕ) (start : Tale) (before now : Streams) (rig : RigState) (old n
           all = at.all;
           stops = subst P end.0 behind;
           held = wrote_on before.held now.held held (begun at.way.tale at.way.later) spelled_end at.held end.1;
+          allowed = at.allowed;
           fits = let a = file_length at.way.tale at.way.later in omega (arith, a, at.size_is, at.fits);
         })
     stop_ends number (WriteFailed told) is end =

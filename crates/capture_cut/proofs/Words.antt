@@ -1,8 +1,10 @@
 -- Words and cells, part by part.
-use Rattle.std.proofs.Common.{◌≡◌, ◌≤◌, ◌<◌, ◌+◌, ◌*◌, ◌/◌, ◌%◌, ◌^◌, ◌++◌, ℕ, zero, suc, List, [], ◌∷◌, length, take, drop}
-use Rattle.std.proofs.Common.{get_or, arith, refl, ap, sym, subst, ◌∙◌, append-nil, append_assoc, length-drop, set}
+use Rattle.std.proofs.Common.{◌≡◌, ◌≤◌, ◌<◌, ◌+◌, ◌*◌, ◌/◌, ◌%◌, ◌^◌, ◌++◌, ℕ, zero, suc, List, []}
+use Rattle.std.proofs.Common.{◌∷◌, length, take, drop, get_or, arith, refl, ap, sym, subst, ◌∙◌, append-nil}
+use Rattle.std.proofs.Common.{append_assoc, length-drop, set}
 use Rattle.std.proofs.lemmas.Grind.{flat_map-append}
-use Rattle.std.proofs.lemmas.List.{drop-drop, drop_all, take-append-drop, take_all, take_more, take_more_set, get_or-drop, length-take-le}
+use Rattle.std.proofs.lemmas.List.{drop-drop, drop_all, take-append-drop, take_all, take_more}
+use Rattle.std.proofs.lemmas.List.{take_more_set, get_or-drop, length-take-le}
 use Rattle.std.proofs.lemmas.Slice.{take-put_mid}
 use Rattle.std.proofs.Math.Seq.{take-add}
 use borrow.Rule.Slice.PartMut.{put_mid}
@@ -56,8 +58,8 @@ ram_on ram words first i word long fits lt count so_far is =
     ∙ ap (λ w. take i (drop first ram) ++ w ∷ []) next
     ∙ sym (take_more (drop first ram) i 0 (omega (arith, d, long, fits, lt)))
 
-pub ram_whole : (ram words : List ℕ) (first i : ℕ) → take i words ≡ take i (drop first ram) → i ≡ 512 → length words ≡ 512
-    → words ≡ take 512 (drop first ram)
+pub ram_whole : (ram words : List ℕ) (first i : ℕ) → take i words ≡ take i (drop first ram) → i ≡ 512
+    → length words ≡ 512 → words ≡ take 512 (drop first ram)
 ram_whole ram words first i so_far all count =
     let P : ℕ → Type 0 = λ n. take i words ≡ take n (drop first ram) in
     sym (take_all i words (omega (arith, all, count))) ∙ subst P all so_far
@@ -117,8 +119,8 @@ row_on m words part lanes start k w so_far is loaded le long fits =
     ∙ sym (ap cell_words (take-add (16 * k) 16 (drop start m))
     ∙ cells_append (8 * k) (take (16 * k) (drop start m)) (take 16 (drop (16 * k) (drop start m))) even))
 
-pub row_whole : (m words : List ℕ) (start k : ℕ) → take (8 * k) words ≡ cell_words (take (16 * k) (drop start m)) → k ≡ 64
-    → length words ≡ 512 → words ≡ cell_words (take 1024 (drop start m))
+pub row_whole : (m words : List ℕ) (start k : ℕ) → take (8 * k) words ≡ cell_words (take (16 * k) (drop start m))
+    → k ≡ 64 → length words ≡ 512 → words ≡ cell_words (take 1024 (drop start m))
 row_whole m words start k so_far all long =
     let e : 16 * k ≡ 1024 = omega (arith, all) in
     let P : ℕ → Type 0 = λ n. take (8 * k) words ≡ cell_words (take n (drop start m)) in

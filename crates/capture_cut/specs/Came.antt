@@ -3,7 +3,7 @@ use Rattle.std.specs.Prelude.{◌≡◌, ◌≤◌, ◌<◌, ℕ, List, ◌++◌
 use Rattle.dev_io.specs.Device.{prepended, appended, AppendsPart}
 use Rattle.gpu_capture.specs.Capture.{capture, then_events, limit}
 use Rattle.gpu_capture.specs.Reader.{IsReadFault, capture_from}
-use Rattle.gpu_capture.specs.Written.{spelled, spelled_end}
+use Rattle.gpu_capture.specs.Written.{spelled, spelled_end, AllowsAll}
 use Rattle.gpu_capture.specs.declared.event.Event.{Event}
 use Rattle.gpu_capture.specs.declared.event.Stop.{Stop}
 use Rattle.gpu_capture.specs.declared.event.Stop.TheVariants.{End}
@@ -18,7 +18,8 @@ use Rattle.capture_flat.specs.Passing.{AreNeeded}
 use Rattle.capture_cut.specs.Cut.{Way, events_of, Plays}
 use Rattle.capture_cut.specs.File.{begun}
 use Rattle.capture_cut.specs.declared.ending.CutEnding.{CutEnding}
-use Rattle.capture_cut.specs.declared.ending.CutEnding.TheVariants.{Done, PastEnd, Stopped, Faulted, TooLong, WriteFailed}
+use Rattle.capture_cut.specs.declared.ending.CutEnding.TheVariants.{Done, PastEnd, Stopped, Faulted, TooLong}
+use Rattle.capture_cut.specs.declared.ending.CutEnding.TheVariants.{WriteFailed}
 
 -- ---- one event that is played
 
@@ -93,6 +94,7 @@ pub record Came (n : ℕ) (start : Tale) (before now : Streams) (rig : RigState)
   pub fits : size + 4 ≤ limit
   pub cost : now.steps ≤ before.steps + way.tale.cost + dump_cost way.tale.state.gpu.parts.m
   pub small : way.tale.cost ≤ way.tale.box_cost
+  pub allowed : AllowsAll 2 way.later
 
 -- the record of an event was written behind so many bytes, with room for an End record
 pub record WritesRecord (size : ℕ) (event : Event) (before now : Option (List ℕ)) (size_now : ℕ) : Type 0 where

@@ -3,7 +3,7 @@ use Rattle.std.specs.Prelude.{◌≡◌, ◌≤◌, ◌<◌, ◌⊎◌, ◌==◌
 use Rattle.std.specs.Prelude.{if◌then◌else◌}
 use Rattle.dev_io.specs.Device.{prepended, appended, AppendsPart}
 use Rattle.gpu_capture.specs.Capture.{limit}
-use Rattle.gpu_capture.specs.Written.{spelled, spelled_end}
+use Rattle.gpu_capture.specs.Written.{spelled, spelled_end, AllowsAll}
 use Rattle.gpu_capture.specs.declared.event.Event.{Event}
 use Rattle.gpu_capture.specs.declared.event.Stop.{Stop}
 use Rattle.gpu_capture.specs.declared.event.Stop.TheVariants.{End, ReadFault}
@@ -19,7 +19,8 @@ use Rattle.event_play.specs.declared.fault.EventFault.{EventFault}
 use Rattle.capture_flat.specs.Passing.{Way as Read, AreNeeded, AreNeededToEnd, SaysFirst, SaysStop}
 use Rattle.capture_cut.specs.File.{snapshot, begun, cut_file}
 use Rattle.capture_cut.specs.declared.ending.CutEnding.{CutEnding}
-use Rattle.capture_cut.specs.declared.ending.CutEnding.TheVariants.{Done, PastEnd, Stopped, Faulted, TooLong, WriteFailed}
+use Rattle.capture_cut.specs.declared.ending.CutEnding.TheVariants.{Done, PastEnd, Stopped, Faulted, TooLong}
+use Rattle.capture_cut.specs.declared.ending.CutEnding.TheVariants.{WriteFailed}
 
 -- how far a capture was read: its version, the bytes taken, the events that were played, the tale that they lead to,
 -- and the events behind them
@@ -68,11 +69,13 @@ pub record IsInOrder (n : ℕ) (way : Way) : Type 0 where
 
 -- ---- the endings
 
--- the first n events were played, all others were read, and all is written
+-- The first n events were played, all others were read, and all is written. The others can be written: their records
+-- are known from version 2 on.
 pub record IsCut (n : ℕ) (way : Way) (before now : Streams) : Type 0 where
   pub all : length way.played ≡ n
   pub stops : StopsBehind way End now.left
   pub held : now.held ≡ appended before.held (cut_file way.tale way.later)
+  pub allowed : AllowsAll 2 way.later
   pub fits : length (cut_file way.tale way.later) ≤ limit
 
 -- it ends before n events, and nothing is written

@@ -3,7 +3,7 @@ ghost use Rattle.std.specs.Prelude.{◌≡◌, ◌≤◌, ◌<◌, ◌+◌, ◌^
 ghost use Rattle.dev_io.specs.Device.{Rose};
 ghost use Rattle.gpu_capture.specs.Record.{IsEvent};
 ghost use Rattle.gpu_capture.specs.Reader.{IsReadFault, work_left};
-ghost use Rattle.gpu_capture.specs.Written.{record_words, spelled};
+ghost use Rattle.gpu_capture.specs.Written.{spelled, Allows};
 ghost use Rattle.gpu_taps.specs.Tally.{Reading};
 ghost use Rattle.event_play.specs.Replay.{Tale};
 ghost use Rattle.event_play.specs.RigState.{RigState};
@@ -30,9 +30,10 @@ pub(crate) fn write_rest<S: Source, K: Sink>(
     requires ready { reader.old.stop ≡ None }
     requires few { work_left reader.old.progress < 2 ^ 51 }
     requires room { size + 4 ≤ 2 ^ 30 }
-    ensures ends { (n : ℕ) (start : Tale) (before : Streams) (heard : List Reading) (steps : ℕ) (rig : RigState) →
-        Came n start before (streams (S.left source.old) (K.held out.old) heard steps) rig reader.old.progress size read →
-        EndsCut n start before (streams (S.left source.new) (K.held out.new) heard steps) rig result }
+    ensures ends { (n : ℕ) (start : Tale) (before : Streams) (heard : List Reading) (steps : ℕ) (rig : RigState)
+        → Came n start before (streams (S.left source.old) (K.held out.old) heard steps) rig reader.old.progress size
+        read
+        → EndsCut n start before (streams (S.left source.new) (K.held out.new) heard steps) rig result }
     ensures known { IsEnding result }
     ensures read_cause { MayReadFault result → Rose (S.faults source.old) (S.faults source.new) }
     ensures write_cause { MayWriteFault result → Rose (K.faults out.old) (K.faults out.new) }
@@ -50,6 +51,39 @@ pub(crate) fn write_rest<S: Source, K: Sink>(
             },
             Err(stop) => return finish(stop, number, out),
         }
+    }
+}
+
+// The record of an event is known from version 2 on, and its values are words. It does nothing.
+fn allowed(event: Event)
+    requires { IsEvent event }
+    ensures { Allows 2 event }
+{
+    match event {
+        Event::Ram { word, .. } => {
+            let _ = word;
+        }
+        Event::Gp0 { word } => {
+            let _ = word;
+        }
+        Event::Gp1 { word } => {
+            let _ = word;
+        }
+        Event::Dma {
+            madr,
+            bcr,
+            chcr,
+            ..
+        } => {
+            let _ = (madr, bcr, chcr);
+        }
+        Event::Begin { madr, bcr, chcr } => {
+            let _ = (madr, bcr, chcr);
+        }
+        Event::Read => {}
+        Event::Stat => {}
+        Event::Turn => {}
+        Event::Skip => {}
     }
 }
 
@@ -83,11 +117,13 @@ fn write_record<K: Sink>(
     requires room { size + 4 ≤ 2 ^ 30 }
     ensures ok { IfOk result (WritesRecord size event.now (K.held out.old) (K.held out.new)) }
     ensures room { IfOk result (λ now. now + 4 ≤ 2 ^ 30) }
+    ensures allowed { Allows 2 event.now }
     ensures ends { IfErr result (EndsRecord size number event.now (K.held out.old) (K.held out.new)) }
     ensures known { IfErr result (λ ending. IsEnding ending × (MayReadFault ending → ⊥)) }
     ensures cause { IfErr result (λ ending. MayWriteFault ending → Rose (K.faults out.old) (K.faults out.new)) }
     ensures faults { K.faults out.old ≤ K.faults out.new }
 {
+    allowed(*event);
     let after = size + record_size(event);
     if after + 4 > LIMIT {
         return Err(CutEnding::TooLong { event: number });

@@ -17,8 +17,8 @@ use gpu_taps::Listener;
 use std::sync::ledger::Ledger;
 use vram_store::Steps;
 
-/// Plays the first `n` events of a capture on a new rig, and writes a snapshot: the state behind them, and the records of
-/// the other events, which it does not play, with an End record. It takes no memory.
+/// Plays the first `n` events of a capture on a new rig, and writes a snapshot: the state behind them, and the records
+/// of the other events, which it does not play, with an End record. It takes no memory.
 ///
 /// The head and the state are due at event `n`, the record of each later event at that event. After every ending all
 /// that was due before it stands, and no byte was taken past what that ending needs. The rig and the taps are as they

@@ -33,7 +33,7 @@ use Rattle.snapshot_words.proofs.States.{state_read}
 use Rattle.capture_flat.specs.Out.{spell}
 use Rattle.capture_cut.specs.File.{cut_file, rig_bytes}
 use Rattle.capture_cut.specs.File.{snapshot as state_bytes}
-use Rattle.gpu_snapshot.specs.CutFiles.{IsCutWhole, LeadsTo, EndAlike, played_cut, GoesOn, WritesOn, EndsOn, CutLaw}
+use Rattle.gpu_snapshot.specs.CutFiles.{IsCutWhole, LeadsTo, EndAlike, played_cut, PlaysLead, GoesOn, WritesOn, EndsOn, CutLaw}
 use Rattle.gpu_snapshot.specs.Laws.{snapshot_of, spelled, IsSpelledWhole}
 use Rattle.gpu_snapshot.specs.Opened.{Restored, opened, behind_head, opened_state}
 use Rattle.gpu_snapshot.specs.PlayAny.{PlayAny, played_opened, played_restored}
@@ -172,6 +172,10 @@ raised_stays s played long = elim (cases_Bool (s.gpu.parts.regs.height == tall_h
 
 -- ---- the law
 
+plays_lead : PlaysLead
+plays_lead first t events before now rig plays =
+    ap (λ all. Replay first all End []) (sym (append-nil events)) ∙ plays.replays [] End []
+
 goes_on : GoesOn
 goes_on start t later rest is =
     let s = snapshot_of t.state t.played in
@@ -213,4 +217,4 @@ ends_on start first t events later rest leads is =
     (record { state = tale.state; played = tale.played; ending = same.ending; rest = same.rest })
 
 pub cut_files : CutLaw
-cut_files = record { goes_on = goes_on; writes_on = writes_on; ends_on = ends_on }
+cut_files = record { leads = plays_lead; goes_on = goes_on; writes_on = writes_on; ends_on = ends_on }

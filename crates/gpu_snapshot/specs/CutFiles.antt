@@ -8,10 +8,12 @@ use Rattle.gpu_taps.specs.Tally.{Reading}
 use Rattle.event_play.specs.AlikeStates.{StandAlike, PlayAlike}
 use Rattle.event_play.specs.Out.{lines_of, Out}
 use Rattle.event_play.specs.Replay.{Tale, Played, Replay, from_state}
+use Rattle.event_play.specs.RigState.{RigState}
 use Rattle.event_play.specs.Splits.{alone}
 use Rattle.event_play.specs.Told.{told_notes}
 use Rattle.event_play.specs.declared.ending.Ending.TheVariants.{Done}
 use Rattle.event_play.specs.declared.ending.Mode.{Mode}
+use Rattle.capture_cut.specs.Cut.{Plays}
 use Rattle.capture_cut.specs.File.{cut_file}
 use Rattle.gpu_snapshot.specs.Laws.{snapshot_of, IsSpelledWhole}
 use Rattle.gpu_snapshot.specs.PlayAny.{PlayAny}
@@ -58,8 +60,14 @@ abbrev pub EndsOn : Type 0
 EndsOn = (start first t : Tale) (events later : List Event) (rest : List ℕ) → LeadsTo first events t
     → IsCutWhole t later → EndAlike (played_cut start t later rest) (Replay first (events ++ later) End rest)
 
+-- the events that cutting a capture plays have no fault, and lead to the tale whose file it writes
+abbrev pub PlaysLead : Type 0
+PlaysLead = (first t : Tale) (events : List Event) (before now : List Reading) (rig : RigState)
+    → Plays first events t before now rig → LeadsTo first events t
+
 -- Files that are cut from captures go on as those do, write the rest of what they write, and end as they end.
 pub record CutLaw : Type 0 where
+  pub leads : PlaysLead
   pub goes_on : GoesOn
   pub writes_on : WritesOn
   pub ends_on : EndsOn

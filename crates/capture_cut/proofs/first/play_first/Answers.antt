@@ -27,8 +27,9 @@ pub events-init : goal.events-init
 events-init g c = record {
   first = λ s held e.
       let at = awaits_first s _ _ held _ _ _ _ _ _ c.next-first.result c.new-reader.ensures.start
-      (c.raise.ensures (from_state s 0) (record { state = e; played = sym c.requires.unplayed })) c.version.ensures.value
-      c.next-first.ensures.takes c.next-first.ensures.version (c.next-first.ensures.stop c.new-reader.ensures.stop) in
+      (c.raise.ensures (from_state s 0) (record { state = e; played = sym c.requires.unplayed }))
+      c.version.ensures.value c.next-first.ensures.takes c.next-first.ensures.version
+      (c.next-first.ensures.stop c.new-reader.ensures.stop) in
       played_on 0 _ _ _ _ _ _ _ _ _ _ at (c.in_ok-play_answer.ensures.ok at.tale at.plays.stands) (omega arith);
   ready = answered c.next-first.result _ c.in_ok-play_answer.ensures.answered c.next-first.ensures.runs_on;
   few = let less = answered c.next-first.result _ c.in_ok-play_answer.ensures.answered c.next-first.ensures.forward in
@@ -38,17 +39,17 @@ events-init g c = record {
 
 pub returns-in_err-play_answer-2-clause-ends : goal.returns-in_err-play_answer-2-clause-ends
 returns-in_err-play_answer-2-clause-ends g c = λ s held e.
-    let p = err_from_is_err_and c.from_residual-in_err-play_answer-2.result c.from_residual-in_err-play_answer-2.ensures.1
-    in
-    let at = awaits_next _ _ _ _ _ _ _ _ c.next-next.result (c.events.invariant.first s held e) c.next-next.ensures.takes
-    c.next-next.ensures.version (c.next-next.ensures.stop c.events.invariant.ready) in
+    let p = err_from_is_err_and c.from_residual-in_err-play_answer-2.result
+    c.from_residual-in_err-play_answer-2.ensures.1 in
+    let at = awaits_next _ _ _ _ _ _ _ _ c.next-next.result (c.events.invariant.first s held e)
+    c.next-next.ensures.takes c.next-next.ensures.version (c.next-next.ensures.stop c.events.invariant.ready) in
     rw (p.1, p.2) (early_ends _ _ _ _ _ _ _ _ _ _ _ c.events-test.true c.ranges.n.fits _ at _ refl
     (c.in_err-play_answer-2.ensures.ends at.tale at.plays.stands))
 
 pub returns-in_err-play_answer-2-clause-cause : goal.returns-in_err-play_answer-2-clause-cause
 returns-in_err-play_answer-2-clause-cause g c =
-    let p = err_from_is_err_and c.from_residual-in_err-play_answer-2.result c.from_residual-in_err-play_answer-2.ensures.1
-    in
+    let p = err_from_is_err_and c.from_residual-in_err-play_answer-2.result
+    c.from_residual-in_err-play_answer-2.ensures.1 in
     rw (p.1, p.2) (λ may.
     let rose = failed c.next-next.result _ (c.in_err-play_answer-2.ensures.stopped may)
     (c.next-next.ensures.cause c.events.invariant.ready) in

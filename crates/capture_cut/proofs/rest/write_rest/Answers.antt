@@ -6,7 +6,8 @@ pub events-preserved : goal.events-preserved
 events-preserved g c = record {
   came = λ n start before heard steps rig first.
       came_on _ _ _ _ _ _ _ _ _ (c.events.invariant.came n start before heard steps rig first) _ _ c.in-Ok.event
-      c.in-Ok.ensures.takes c.in-Ok.ensures.version c.in-Ok-write_record.now c.in-Ok-write_record.ensures.ok;
+      c.in-Ok.ensures.takes c.in-Ok.ensures.version c.in-Ok-write_record.now c.in-Ok-write_record.ensures.ok
+      c.in-Ok-write_record.ensures.allowed;
   ready = c.in-Ok.ensures.runs_on;
   fits = c.in-Ok-write_record.ensures.room;
   room = omega (arith, c.events.invariant.room, c.in-Ok.ensures.forward);
