@@ -1,22 +1,20 @@
 -- A file that cutting a capture writes, opened and played.
-use Rattle.std.proofs.Common.{◌≡◌, ◌≤◌, ◌+◌, ◌-◌, ◌*◌, ◌==◌, ◌++◌, List, [], ℕ, length, refl, ap, sym, subst, ◌∙◌}
+use Rattle.std.proofs.Common.{◌≡◌, ◌≤◌, ◌+◌, ◌-◌, ◌*◌, ◌==◌, ◌++◌, List, [], ◌∷◌, ℕ, length, refl, ap, sym, subst, ◌∙◌}
 use Rattle.std.proofs.Common.{append_assoc, append-nil, length-append, arith, inl, inr}
 use Rattle.std.proofs.lemmas.Bool.{cases_Bool}
 use Rattle.px_num.specs.Height.{tall_height}
 use Rattle.gp0_words.specs.Items.{Rest}
 use Rattle.gp0_words.specs.declared.pending.Pending.{Pending}
 use Rattle.gp0_words.proofs.Resume.{list_of-leaves}
-use Rattle.gpu_capture.specs.Capture.{Captured, records, limit}
+use Rattle.gpu_capture.specs.Capture.{Captured, limit}
 use Rattle.gpu_capture.specs.Reader.{tag_due, capture_from}
 use Rattle.gpu_capture.specs.Written.{spelled_end, AllowsAll}
 use Rattle.gpu_capture.specs.declared.event.Event.{Event}
 use Rattle.gpu_capture.specs.declared.event.Stop.TheVariants.{End}
-use Rattle.gpu_capture.specs.declared.record.Due.TheVariants.{Tag}
 use Rattle.gpu_capture.proofs.Steps.{at_word}
 use Rattle.gpu_capture.proofs.Written.{events_read}
 use Rattle.gpu_core.specs.Kept.{Kept}
 use Rattle.gpu_core.specs.Machine.{tall_state}
-use Rattle.gpu_taps.specs.Tally.{Reading}
 use Rattle.vram_store.specs.Vram.{zeros, tall}
 use Rattle.event_play.specs.AlikeStates.{StandAlike, PlayAlike}
 use Rattle.event_play.specs.Out.{lines_of, Out}
@@ -24,7 +22,6 @@ use Rattle.event_play.specs.Replay.{Tale, Played, Replay, from_state, raised, pl
 use Rattle.event_play.specs.Splits.{alone, with_past}
 use Rattle.event_play.specs.Step.{Machine, tall_machine}
 use Rattle.event_play.specs.Told.{told_notes}
-use Rattle.event_play.specs.declared.ending.Mode.{Mode}
 use Rattle.event_play.proofs.AlikeStates.{states-alike}
 use Rattle.event_play.proofs.Splits.{replays_split}
 use Rattle.snapshot_words.specs.Outline.{snapshot_head, snap_bytes}
@@ -33,7 +30,8 @@ use Rattle.snapshot_words.proofs.States.{state_read}
 use Rattle.capture_flat.specs.Out.{spell}
 use Rattle.capture_cut.specs.File.{cut_file, rig_bytes}
 use Rattle.capture_cut.specs.File.{snapshot as state_bytes}
-use Rattle.gpu_snapshot.specs.CutFiles.{IsCutWhole, LeadsTo, EndAlike, played_cut, PlaysLead, GoesOn, WritesOn, EndsOn, CutLaw}
+use Rattle.gpu_snapshot.specs.CutFiles.{IsCutWhole, LeadsTo, EndAlike, played_cut, PlaysLead, CutsAreWhole, GoesOn, WritesOn}
+use Rattle.gpu_snapshot.specs.CutFiles.{EndsOn, CutLaw}
 use Rattle.gpu_snapshot.specs.Laws.{snapshot_of, spelled, IsSpelledWhole}
 use Rattle.gpu_snapshot.specs.Opened.{Restored, opened, behind_head, opened_state}
 use Rattle.gpu_snapshot.specs.PlayAny.{PlayAny, played_opened, played_restored}
@@ -78,7 +76,7 @@ restored_alike s played is =
 
 -- ---- the records behind it
 
-version_known : (height : ℕ) → 1 ≤ version_behind height
+version_known : (height : ℕ) → 2 ≤ version_behind height
 version_known height = elim (cases_Bool (height == tall_height)) [
   | inl is ↦ rw is (omega arith)
   | inr is ↦ rw is (omega arith)
@@ -87,11 +85,11 @@ version_known height = elim (cases_Bool (height == tall_height)) [
 abbrev said : (version : ℕ) → List Event → List ℕ → Captured
 said version later rest = record { version = version; events = later; ending = End; rest = rest }
 
-records_said : (version place : ℕ) (later : List Event) (rest : List ℕ) → 1 ≤ version → AllowsAll version later
+records_said : (version place : ℕ) (later : List Event) (rest : List ℕ) → 2 ≤ version → AllowsAll version later
     → place + length (spell later ++ spelled_end) ≤ limit
     → capture_from (tag_due version place) ((spell later ++ spelled_end) ++ rest) ≡ said version later rest
 records_said version place later rest known allowed fits =
-    at_word (tag_due version place) ((spell later ++ spelled_end) ++ rest) known refl
+    at_word (tag_due version place) ((spell later ++ spelled_end) ++ rest) (omega (arith, known)) refl
     ∙ events_read version later place rest allowed fits
 
 -- ---- the file
@@ -176,6 +174,24 @@ plays_lead : PlaysLead
 plays_lead first t events before now rig plays =
     ap (λ all. Replay first all End []) (sym (append-nil events)) ∙ plays.replays [] End []
 
+-- what a version allows, later ones allow
+allowed_later : (later : List Event) (version : ℕ) → 2 ≤ version → AllowsAll 2 later → AllowsAll version later
+allowed_later [] version le allowed = tt
+allowed_later (event ∷ later) version le allowed =
+    let first = allowed.0 in (
+      record { known = omega (arith, first.known, le); event = first.event; words = first.words },
+      allowed_later later version le allowed.1,
+    )
+
+cuts_whole : CutsAreWhole
+cuts_whole n way before now cut state =
+    let height = way.tale.state.gpu.parts.regs.height in
+    record {
+      state = state;
+      allowed = allowed_later way.later (version_behind height) (version_known height) cut.allowed;
+      fits = cut.fits;
+    }
+
 goes_on : GoesOn
 goes_on start t later rest is =
     let s = snapshot_of t.state t.played in
@@ -217,4 +233,4 @@ ends_on start first t events later rest leads is =
     (record { state = tale.state; played = tale.played; ending = same.ending; rest = same.rest })
 
 pub cut_files : CutLaw
-cut_files = record { leads = plays_lead; goes_on = goes_on; writes_on = writes_on; ends_on = ends_on }
+cut_files = record { leads = plays_lead; whole = cuts_whole; goes_on = goes_on; writes_on = writes_on; ends_on = ends_on }

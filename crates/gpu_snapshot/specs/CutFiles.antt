@@ -10,10 +10,11 @@ use Rattle.event_play.specs.Out.{lines_of, Out}
 use Rattle.event_play.specs.Replay.{Tale, Played, Replay, from_state}
 use Rattle.event_play.specs.RigState.{RigState}
 use Rattle.event_play.specs.Splits.{alone}
+use Rattle.event_play.specs.Streams.{Streams}
 use Rattle.event_play.specs.Told.{told_notes}
 use Rattle.event_play.specs.declared.ending.Ending.TheVariants.{Done}
 use Rattle.event_play.specs.declared.ending.Mode.{Mode}
-use Rattle.capture_cut.specs.Cut.{Plays}
+use Rattle.capture_cut.specs.Cut.{Way, Plays, IsCut}
 use Rattle.capture_cut.specs.File.{cut_file}
 use Rattle.gpu_snapshot.specs.Laws.{snapshot_of, IsSpelledWhole}
 use Rattle.gpu_snapshot.specs.PlayAny.{PlayAny}
@@ -65,9 +66,15 @@ abbrev pub PlaysLead : Type 0
 PlaysLead = (first t : Tale) (events : List Event) (before now : List Reading) (rig : RigState)
     → Plays first events t before now rig → LeadsTo first events t
 
+-- what cutting a capture has written is whole, where the machine behind the first events is within the bounds
+abbrev pub CutsAreWhole : Type 0
+CutsAreWhole = (n : ℕ) (way : Way) (before now : Streams) → IsCut n way before now
+    → IsSpelledWhole (snapshot_of way.tale.state way.tale.played) → IsCutWhole way.tale way.later
+
 -- Files that are cut from captures go on as those do, write the rest of what they write, and end as they end.
 pub record CutLaw : Type 0 where
   pub leads : PlaysLead
+  pub whole : CutsAreWhole
   pub goes_on : GoesOn
   pub writes_on : WritesOn
   pub ends_on : EndsOn
