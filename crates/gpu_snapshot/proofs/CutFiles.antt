@@ -38,6 +38,7 @@ use Rattle.gpu_snapshot.specs.PlayAny.{PlayAny, played_opened, played_restored}
 use Rattle.gpu_snapshot.specs.Restored.{machine_in, version_behind, first_place}
 use Rattle.gpu_snapshot.proofs.Heads.{head_of_snapshot}
 use Rattle.gpu_snapshot.proofs.Openings.{opened_behind}
+use Rattle.gpu_snapshot.proofs.Profiles.{no_zeros}
 
 -- ---- the state
 
@@ -49,7 +50,7 @@ bytes_in s = snap_bytes s.outline s.m s.ram
 abbrev behind : Snapshot → ℕ
 behind s = first_place + length (bytes_in s)
 
-spelled_opens : (s : Snapshot) (rest : List ℕ) → IsSpelledWhole s
+pub spelled_opens : (s : Snapshot) (rest : List ℕ) → IsSpelledWhole s
     → opened (spelled s ++ rest) ≡ Restored s (behind s) rest
 spelled_opens s rest is =
     ap opened (append_assoc snapshot_head (bytes_in s) rest)
@@ -63,7 +64,7 @@ unfolding PlayAny
 spelled_plays start s rest is = ap (played_opened start (spelled s ++ rest)) (spelled_opens s rest is)
 
 -- the words that a snapshot keeps leave what those of its machine leave
-restored_alike : (s : Machine) (played : ℕ) → IsSpelledWhole (snapshot_of s played)
+pub restored_alike : (s : Machine) (played : ℕ) → IsSpelledWhole (snapshot_of s played)
     → StandAlike (machine_in (snapshot_of s played)) s
 restored_alike s played is =
     let kept : Pending → Kept = λ p. record { parts = s.gpu.parts; pending = p } in
@@ -137,10 +138,6 @@ file_plays start t later rest is =
     (records_said version (behind s) later rest (version_known t.state.gpu.parts.regs.height) is.allowed fits)
 
 -- ---- the profile
-
-no_zeros : (m : List ℕ) → m ++ zeros 0 ≡ m
-unfolding zeros
-no_zeros m = append-nil m
 
 tall_stays : (m : List ℕ) → length m ≡ 1024 * tall_height → tall m ≡ m
 unfolding tall
