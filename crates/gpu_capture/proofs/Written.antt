@@ -120,7 +120,7 @@ event_read version event.Skip place rest allows le =
 
 -- ---- all records
 
-events_read : (version : ℕ) (events : List Event) (place : ℕ) (rest : List ℕ) → AllowsAll version events
+pub events_read : (version : ℕ) (events : List Event) (place : ℕ) (rest : List ℕ) → AllowsAll version events
     → place + length (flat_map spelled events ++ spelled_end) ≤ limit
     → records version due.Tag place ((flat_map spelled events ++ spelled_end) ++ rest)
     ≡ record { version = version; events = events; ending = End; rest = rest }

@@ -10,3 +10,4 @@ pub mod Heads
 pub mod Openings
 pub mod Moving
 pub mod Played
+pub mod CutFiles

@@ -59,7 +59,7 @@ rows_of_tall rig stands =
 pub words_of_tall : (rig : RigState) → Stands rig (tall_machine first_machine) → length rig.ram ≡ 524288
 words_of_tall rig stands = ap length (sym stands.ram ∙ same_words) ∙ first_words
 
-no_zeros : (m : List ℕ) → m ++ zeros 0 ≡ m
+pub no_zeros : (m : List ℕ) → m ++ zeros 0 ≡ m
 unfolding zeros
 no_zeros m = append-nil m
 

@@ -6,3 +6,4 @@ pub mod Restored
 pub mod Opening
 pub mod PlayAny
 pub mod Laws
+pub mod CutFiles

@@ -1,5 +1,6 @@
 //! What holds of all states. No code runs here: each law is the contract of an empty function.
 ghost use Rattle.event_play.specs.AlikeStates.{AlikeReplayAlike};
+ghost use Rattle.gpu_snapshot.specs.CutFiles.{CutLaw};
 ghost use Rattle.gpu_snapshot.specs.Laws.{StatesAreRead};
 
 /// Machines that agree in all but their words, and whose words leave the same pending, replay every capture alike, so
@@ -15,4 +16,11 @@ pub fn alike_replay_alike()
 /// events, whatever follows them.
 pub fn states_are_read()
     ensures { StatesAreRead }
+{}
+
+/// A file that cutting a capture writes is played as the machine behind the first events goes on with the others: what
+/// the whole capture writes is what is due after the first events, and then what the file writes, by taps that have heard
+/// their notes. It ends as the whole capture does.
+pub fn cut_files_go_on()
+    ensures { CutLaw }
 {}

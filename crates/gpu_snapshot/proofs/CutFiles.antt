@@ -1,0 +1,233 @@
+-- A file that cutting a capture writes, opened and played.
+use Rattle.std.proofs.Common.{◌≡◌, ◌≤◌, ◌+◌, ◌-◌, ◌*◌, ◌==◌, ◌++◌, List, [], ◌∷◌, ℕ, length, refl, ap, sym, subst, ◌∙◌}
+use Rattle.std.proofs.Common.{append_assoc, append-nil, length-append, arith, inl, inr}
+use Rattle.std.proofs.lemmas.Bool.{cases_Bool}
+use Rattle.px_num.specs.Height.{tall_height}
+use Rattle.gp0_words.specs.Items.{Rest}
+use Rattle.gp0_words.specs.declared.pending.Pending.{Pending}
+use Rattle.gp0_words.proofs.Resume.{list_of-leaves}
+use Rattle.gpu_capture.specs.Capture.{Captured, limit}
+use Rattle.gpu_capture.specs.Reader.{tag_due, capture_from}
+use Rattle.gpu_capture.specs.Written.{spelled_end, AllowsAll}
+use Rattle.gpu_capture.specs.declared.event.Event.{Event}
+use Rattle.gpu_capture.specs.declared.event.Stop.TheVariants.{End}
+use Rattle.gpu_capture.proofs.Steps.{at_word}
+use Rattle.gpu_capture.proofs.Written.{events_read}
+use Rattle.gpu_core.specs.Kept.{Kept}
+use Rattle.gpu_core.specs.Machine.{tall_state}
+use Rattle.vram_store.specs.Vram.{zeros, tall}
+use Rattle.event_play.specs.AlikeStates.{StandAlike, PlayAlike}
+use Rattle.event_play.specs.Out.{lines_of, Out}
+use Rattle.event_play.specs.Replay.{Tale, Played, Replay, from_state, raised, played_from}
+use Rattle.event_play.specs.Splits.{alone, with_past}
+use Rattle.event_play.specs.Step.{Machine, tall_machine}
+use Rattle.event_play.specs.Told.{told_notes}
+use Rattle.event_play.proofs.AlikeStates.{states-alike}
+use Rattle.event_play.proofs.Splits.{replays_split}
+use Rattle.snapshot_words.specs.Outline.{snapshot_head, snap_bytes}
+use Rattle.snapshot_words.specs.Reading.{Snapshot}
+use Rattle.snapshot_words.proofs.States.{state_read}
+use Rattle.capture_flat.specs.Out.{spell}
+use Rattle.capture_cut.specs.File.{cut_file, rig_bytes}
+use Rattle.capture_cut.specs.File.{snapshot as state_bytes}
+use Rattle.gpu_snapshot.specs.CutFiles.{IsCutWhole, LeadsTo, EndAlike, played_cut, PlaysLead, CutsAreWhole, GoesOn, WritesOn}
+use Rattle.gpu_snapshot.specs.CutFiles.{EndsOn, CutLaw}
+use Rattle.gpu_snapshot.specs.Laws.{snapshot_of, spelled, IsSpelledWhole}
+use Rattle.gpu_snapshot.specs.Opened.{Restored, opened, behind_head, opened_state}
+use Rattle.gpu_snapshot.specs.PlayAny.{PlayAny, played_opened, played_restored}
+use Rattle.gpu_snapshot.specs.Restored.{machine_in, version_behind, first_place}
+use Rattle.gpu_snapshot.proofs.Heads.{head_of_snapshot}
+use Rattle.gpu_snapshot.proofs.Openings.{opened_behind}
+use Rattle.gpu_snapshot.proofs.Profiles.{no_zeros}
+
+-- ---- the state
+
+-- bytes of a state
+abbrev bytes_in : Snapshot → List ℕ
+bytes_in s = snap_bytes s.outline s.m s.ram
+
+-- the place behind them
+abbrev behind : Snapshot → ℕ
+behind s = first_place + length (bytes_in s)
+
+pub spelled_opens : (s : Snapshot) (rest : List ℕ) → IsSpelledWhole s
+    → opened (spelled s ++ rest) ≡ Restored s (behind s) rest
+spelled_opens s rest is =
+    ap opened (append_assoc snapshot_head (bytes_in s) rest)
+    ∙ opened_behind snapshot_head (bytes_in s ++ rest) refl
+    ∙ ap (λ h. behind_head h (bytes_in s ++ rest)) head_of_snapshot
+    ∙ ap opened_state (state_read s.outline s.m s.ram first_place rest is.outline is.words is.memories)
+
+spelled_plays : (start : Tale) (s : Snapshot) (rest : List ℕ) → IsSpelledWhole s
+    → PlayAny start (spelled s ++ rest) ≡ played_restored s (behind s) rest
+unfolding PlayAny
+spelled_plays start s rest is = ap (played_opened start (spelled s ++ rest)) (spelled_opens s rest is)
+
+-- the words that a snapshot keeps leave what those of its machine leave
+pub restored_alike : (s : Machine) (played : ℕ) → IsSpelledWhole (snapshot_of s played)
+    → StandAlike (machine_in (snapshot_of s played)) s
+restored_alike s played is =
+    let kept : Pending → Kept = λ p. record { parts = s.gpu.parts; pending = p } in
+    let bounds = is.outline in
+    record {
+      gpu = ap kept (list_of-leaves (Rest s.gpu.words) bounds.pending);
+      ram = refl;
+      running = refl;
+    }
+
+-- ---- the records behind it
+
+version_known : (height : ℕ) → 2 ≤ version_behind height
+version_known height = elim (cases_Bool (height == tall_height)) [
+  | inl is ↦ rw is (omega arith)
+  | inr is ↦ rw is (omega arith)
+]
+
+abbrev said : (version : ℕ) → List Event → List ℕ → Captured
+said version later rest = record { version = version; events = later; ending = End; rest = rest }
+
+records_said : (version place : ℕ) (later : List Event) (rest : List ℕ) → 2 ≤ version → AllowsAll version later
+    → place + length (spell later ++ spelled_end) ≤ limit
+    → capture_from (tag_due version place) ((spell later ++ spelled_end) ++ rest) ≡ said version later rest
+records_said version place later rest known allowed fits =
+    at_word (tag_due version place) ((spell later ++ spelled_end) ++ rest) (omega (arith, known)) refl
+    ∙ events_read version later place rest allowed fits
+
+-- ---- the file
+
+file_is : (t : Tale) (later : List Event) (rest : List ℕ)
+    → cut_file t later ++ rest ≡ state_bytes t ++ ((spell later ++ spelled_end) ++ rest)
+file_is t later rest =
+    ap (λ bytes. bytes ++ rest) (append_assoc (state_bytes t) (spell later) spelled_end)
+    ∙ append_assoc (state_bytes t) (spell later ++ spelled_end) rest
+
+bytes_same : (t : Tale) → state_bytes t ≡ spelled (snapshot_of t.state t.played)
+unfolding rig_bytes
+bytes_same t = refl
+
+file_opens : (t : Tale) (later : List Event) (rest : List ℕ)
+    → cut_file t later ++ rest ≡ spelled (snapshot_of t.state t.played) ++ ((spell later ++ spelled_end) ++ rest)
+file_opens t later rest =
+    file_is t later rest ∙ ap (λ bytes. bytes ++ ((spell later ++ spelled_end) ++ rest)) (bytes_same t)
+
+head_long : (bytes : List ℕ) → length (snapshot_head ++ bytes) ≡ first_place + length bytes
+head_long bytes = length-append snapshot_head bytes
+
+-- the records end where the file does
+file_long : (t : Tale) (later : List Event)
+    → length (cut_file t later) ≡ behind (snapshot_of t.state t.played) + length (spell later ++ spelled_end)
+file_long t later =
+    let front = spelled (snapshot_of t.state t.played) in
+    let tail = spell later ++ spelled_end in
+    ap length (append_assoc (state_bytes t) (spell later) spelled_end ∙ ap (λ bytes. bytes ++ tail) (bytes_same t))
+    ∙ length-append front tail
+    ∙ ap (λ n. n + length tail) (head_long (bytes_in (snapshot_of t.state t.played)))
+
+file_plays : (start t : Tale) (later : List Event) (rest : List ℕ) → IsCutWhole t later
+    → played_cut start t later rest
+    ≡ played_from (from_state (machine_in (snapshot_of t.state t.played)) t.played)
+    (said (version_behind t.state.gpu.parts.regs.height) later rest)
+file_plays start t later rest is =
+    let s = snapshot_of t.state t.played in
+    let version = version_behind t.state.gpu.parts.regs.height in
+    let long = file_long t later in
+    let fits : behind s + length (spell later ++ spelled_end) ≤ limit = omega (arith, long, is.fits) in
+    ap (PlayAny start) (file_opens t later rest)
+    ∙ spelled_plays start s ((spell later ++ spelled_end) ++ rest) is.state
+    ∙ ap (played_from (from_state (machine_in s) t.played))
+    (records_said version (behind s) later rest (version_known t.state.gpu.parts.regs.height) is.allowed fits)
+
+-- ---- the profile
+
+tall_stays : (m : List ℕ) → length m ≡ 1024 * tall_height → tall m ≡ m
+unfolding tall
+tall_stays m long =
+    let none : 1024 * tall_height - length m ≡ 0 = omega (arith, long) in
+    ap (λ n. m ++ zeros n) none ∙ no_zeros m
+
+-- a machine that is tall stays as it is
+machine_stays : (s : Machine) → s.gpu.parts.regs.height ≡ tall_height → length s.gpu.parts.m ≡ 1024 * tall_height
+    → tall_machine s ≡ s
+unfolding tall_state
+machine_stays s high long =
+    let with_parts : List ℕ → ℕ → Machine = λ m height. record s {
+      gpu = record s.gpu { parts = record s.gpu.parts { m = m; regs = record s.gpu.parts.regs { height = height } } };
+    } in
+    ap (λ m. with_parts m tall_height) (tall_stays s.gpu.parts.m long) ∙ ap (with_parts s.gpu.parts.m) (sym high)
+
+-- the version of a machine's height asks for no other height
+raised_stays : (s : Machine) (played : ℕ) → length s.gpu.parts.m ≡ 1024 * s.gpu.parts.regs.height
+    → raised (from_state s played) (version_behind s.gpu.parts.regs.height) ≡ from_state s played
+raised_stays s played long = elim (cases_Bool (s.gpu.parts.regs.height == tall_height)) [
+  | inl is ↦
+      let high : s.gpu.parts.regs.height ≡ tall_height = grind (arith, is) in
+      rw is (ap (λ (m : Machine). from_state m played) (machine_stays s high (long ∙ ap (λ h. 1024 * h) high)))
+  | inr is ↦ rw is refl
+]
+
+-- ---- the law
+
+plays_lead : PlaysLead
+plays_lead first t events before now rig plays =
+    ap (λ all. Replay first all End []) (sym (append-nil events)) ∙ plays.replays [] End []
+
+-- what a version allows, later ones allow
+allowed_later : (later : List Event) (version : ℕ) → 2 ≤ version → AllowsAll 2 later → AllowsAll version later
+allowed_later [] version le allowed = tt
+allowed_later (event ∷ later) version le allowed =
+    let first = allowed.0 in (
+      record { known = omega (arith, first.known, le); event = first.event; words = first.words },
+      allowed_later later version le allowed.1,
+    )
+
+cuts_whole : CutsAreWhole
+cuts_whole n way before now cut state =
+    let height = way.tale.state.gpu.parts.regs.height in
+    record {
+      state = state;
+      allowed = allowed_later way.later (version_behind height) (version_known height) cut.allowed;
+      fits = cut.fits;
+    }
+
+goes_on : GoesOn
+goes_on start t later rest is =
+    let s = snapshot_of t.state t.played in
+    let version = version_behind t.state.gpu.parts.regs.height in
+    let c = said version later rest in
+    let same : PlayAlike (played_from (from_state (machine_in s) t.played) c)
+    (played_from (from_state t.state t.played) c) =
+    states-alike (machine_in s) t.state t.played c (restored_alike t.state t.played is.state) in
+    let FromFile : Played → Type 0 = λ r. PlayAlike r (played_from (from_state t.state t.played) c) in
+    let ToReplay : Tale → Type 0 = λ u. PlayAlike (played_cut start t later rest) (Replay u later End rest) in
+    let state = is.state in
+    let memories = state.memories in
+    subst ToReplay (raised_stays t.state t.played memories.cells)
+    (subst FromFile (sym (file_plays start t later rest is)) same)
+
+-- the whole replay goes on from the machine of the tale
+whole_is : (first t : Tale) (events later : List Event) (rest : List ℕ) → LeadsTo first events t
+    → Replay first (events ++ later) End rest ≡ with_past t (Replay (from_state t.state t.played) later End rest)
+whole_is first t events later rest leads =
+    let tale_is : (alone first events).tale ≡ t = ap (λ (r : Played). r.tale) leads in
+    replays_split.goes_on first events later End rest (ap (λ (r : Played). r.ending) leads)
+    ∙ ap (λ u. Replay u later End rest) tale_is
+    ∙ replays_split.played_on t later End rest
+
+writes_on : WritesOn
+writes_on mode heard start first t events later rest leads is =
+    let r = Replay (from_state t.state t.played) later End rest in
+    let same = goes_on start t later rest is in
+    ap (Out mode heard) (whole_is first t events later rest leads)
+    ∙ replays_split.out mode heard t r
+    ∙ ap (λ bytes. lines_of mode t ++ bytes) (sym (same.out mode (told_notes t.notes heard)))
+
+ends_on : EndsOn
+ends_on start first t events later rest leads is =
+    let same = goes_on start t later rest is in
+    let tale = same.tale in
+    let Ends : Played → Type 0 = λ q. EndAlike (played_cut start t later rest) q in
+    subst Ends (sym (whole_is first t events later rest leads))
+    (record { state = tale.state; played = tale.played; ending = same.ending; rest = same.rest })
+
+pub cut_files : CutLaw
+cut_files = record { leads = plays_lead; whole = cuts_whole; goes_on = goes_on; writes_on = writes_on; ends_on = ends_on }

@@ -1,0 +1,80 @@
+-- What the files say that cutting a capture writes (our own rule).
+use Rattle.std.specs.Prelude.{◌≡◌, ◌≤◌, ℕ, List, [], ◌++◌, length}
+use Rattle.gpu_capture.specs.Capture.{limit}
+use Rattle.gpu_capture.specs.Written.{AllowsAll}
+use Rattle.gpu_capture.specs.declared.event.Event.{Event}
+use Rattle.gpu_capture.specs.declared.event.Stop.TheVariants.{End}
+use Rattle.gpu_taps.specs.Tally.{Reading}
+use Rattle.event_play.specs.AlikeStates.{StandAlike, PlayAlike}
+use Rattle.event_play.specs.Out.{lines_of, Out}
+use Rattle.event_play.specs.Replay.{Tale, Played, Replay, from_state}
+use Rattle.event_play.specs.RigState.{RigState}
+use Rattle.event_play.specs.Splits.{alone}
+use Rattle.event_play.specs.Streams.{Streams}
+use Rattle.event_play.specs.Told.{told_notes}
+use Rattle.event_play.specs.declared.ending.Ending.TheVariants.{Done}
+use Rattle.event_play.specs.declared.ending.Mode.{Mode}
+use Rattle.capture_cut.specs.Cut.{Way, Plays, IsCut}
+use Rattle.capture_cut.specs.File.{cut_file}
+use Rattle.gpu_snapshot.specs.Laws.{snapshot_of, IsSpelledWhole}
+use Rattle.gpu_snapshot.specs.PlayAny.{PlayAny}
+use Rattle.gpu_snapshot.specs.Restored.{version_behind}
+
+-- The machine of a tale is within the bounds, the version of its height allows the events behind it, and the file of
+-- both is not too long.
+pub record IsCutWhole (t : Tale) (later : List Event) : Type 0 where
+  pub state : IsSpelledWhole (snapshot_of t.state t.played)
+  pub allowed : AllowsAll (version_behind t.state.gpu.parts.regs.height) later
+  pub fits : length (cut_file t later) ≤ limit
+
+-- how the file of a tale and of the events behind it is played, whatever bytes follow it; nothing of the tale that is
+-- handed in counts
+abbrev pub played_cut : (start t : Tale) → (later : List Event) → (rest : List ℕ) → Played
+played_cut start t later rest = PlayAny start (cut_file t later ++ rest)
+
+-- they ended alike, on alike machines, after as many events
+pub record EndAlike (r q : Played) : Type 0 where
+  pub state : StandAlike r.tale.state q.tale.state
+  pub played : r.tale.played ≡ q.tale.played
+  pub ending : r.ending ≡ q.ending
+  pub rest : r.rest ≡ q.rest
+
+-- A cut file plays its events as the machine of the tale would go on with them.
+abbrev pub GoesOn : Type 0
+GoesOn = (start t : Tale) (later : List Event) (rest : List ℕ) → IsCutWhole t later
+    → PlayAlike (played_cut start t later rest) (Replay (from_state t.state t.played) later End rest)
+
+-- these events have no fault, and lead to this tale
+abbrev pub LeadsTo : (first : Tale) → List Event → Tale → Type 0
+LeadsTo first events t = alone first events ≡ record { tale = t; ending = Done; rest = [] }
+
+-- What the whole replay writes is what is due after the first events, and then what the cut file writes, by taps that
+-- have heard the notes of the first events.
+abbrev pub WritesOn : Type 0
+WritesOn = (mode : Mode) (heard : List Reading) (start first t : Tale) (events later : List Event) (rest : List ℕ)
+    → LeadsTo first events t → IsCutWhole t later
+    → Out mode heard (Replay first (events ++ later) End rest)
+    ≡ lines_of mode t ++ Out mode (told_notes t.notes heard) (played_cut start t later rest)
+
+-- The whole replay and the cut file end alike: with the same ending, on alike machines, after as many events.
+abbrev pub EndsOn : Type 0
+EndsOn = (start first t : Tale) (events later : List Event) (rest : List ℕ) → LeadsTo first events t
+    → IsCutWhole t later → EndAlike (played_cut start t later rest) (Replay first (events ++ later) End rest)
+
+-- the events that cutting a capture plays have no fault, and lead to the tale whose file it writes
+abbrev pub PlaysLead : Type 0
+PlaysLead = (first t : Tale) (events : List Event) (before now : List Reading) (rig : RigState)
+    → Plays first events t before now rig → LeadsTo first events t
+
+-- what cutting a capture has written is whole, where the machine behind the first events is within the bounds
+abbrev pub CutsAreWhole : Type 0
+CutsAreWhole = (n : ℕ) (way : Way) (before now : Streams) → IsCut n way before now
+    → IsSpelledWhole (snapshot_of way.tale.state way.tale.played) → IsCutWhole way.tale way.later
+
+-- Files that are cut from captures go on as those do, write the rest of what they write, and end as they end.
+pub record CutLaw : Type 0 where
+  pub leads : PlaysLead
+  pub whole : CutsAreWhole
+  pub goes_on : GoesOn
+  pub writes_on : WritesOn
+  pub ends_on : EndsOn
