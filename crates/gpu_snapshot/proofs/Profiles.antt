@@ -2,6 +2,7 @@
 use Rattle.std.proofs.Common.{◌≡◌, ◌*◌, ◌-◌, ◌≤◌, ◌++◌, ℕ, List, length, refl, ap, sym, ◌∙◌, arith, append-nil}
 use Rattle.std.proofs.lemmas.List.{length-append, length-replicate}
 use Rattle.px_num.specs.Height.{tall_height, short_height}
+use Rattle.px_num.specs.Zeros as memory
 use Rattle.gpu_core.specs.Kept.{Kept}
 use Rattle.gpu_core.specs.Machine.{first_state, tall_state}
 use Rattle.ot_clear_dma.specs.Ram as ram
@@ -17,8 +18,8 @@ blank_long : length blank ≡ 1024 * short_height
 unfolding blank
 blank_long = zeros_long (1024 * short_height)
 
-ram_zeros_long : (n : ℕ) → length (ram.zeros n) ≡ n
-unfolding ram.zeros
+ram_zeros_long : (n : ℕ) → length (memory.zeros n) ≡ n
+unfolding memory.zeros
 ram_zeros_long n = length-replicate n 0
 
 pub first_words : length first_rig.ram ≡ 524288

@@ -6,7 +6,7 @@ use Rattle.std.proofs.lemmas.Fmt.{decimal_is_IsNumeral}
 use Rattle.event_play.specs.declared.ending.Mode.TheVariants.{Vram, Shot, Report, List as Listing, Play as Words}
 use Rattle.psxgpu_tool.specs.Command.{names_of, AreNames, IsCommand}
 use Rattle.psxgpu_tool.specs.declared.command.Command.{Command}
-use Rattle.psxgpu_tool.specs.declared.command.Command.TheVariants.{Plays, Flat, Slim, Demo, Help, Version}
+use Rattle.psxgpu_tool.specs.declared.command.Command.TheVariants.{Plays, Flat, Slim, Cut, Demo, Help, Version}
 
 -- the first and third letter of a name: no two commands have the same
 abbrev letters : List ℕ → ℕ
@@ -22,6 +22,7 @@ command_by given n =
     if given == letters (codes "report") then Plays Report else
     if given == letters (codes "flat") then Flat else
     if given == letters (codes "slim") then Slim else
+    if given == letters (codes "cut") then Cut n else
     if given == letters (codes "demo") then Demo n else
     if given == letters (codes "--help") then Help else
     Version
@@ -38,6 +39,7 @@ is_named (Plays Listing) is = refl
 is_named (Plays Report) is = refl
 is_named Flat is = refl
 is_named Slim is = refl
+is_named (Cut n) is = ap Cut (decimal_is_IsNumeral n (omega (arith, is.1))).1
 is_named (Demo n) is = ap Demo (decimal_is_IsNumeral n (omega (arith, is.1))).1
 is_named Help is = refl
 is_named Version is = refl

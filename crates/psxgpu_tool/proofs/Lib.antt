@@ -1,4 +1,5 @@
 pub mod Commands
+pub mod Cuts
 pub mod First
 pub mod Flats
 pub mod Generating

@@ -16,6 +16,10 @@ use Rattle.event_play.specs.declared.ending.Ending.{Ending}
 use Rattle.event_play.specs.declared.ending.Ending.TheVariants.{Done, Stopped, Faulted, NoPicture, WriteFailed}
 use Rattle.event_play.specs.declared.ending.Mode.{Mode}
 use Rattle.event_play.proofs.BoxCosts.{costs_small}
+use Rattle.capture_cut.specs.Cut.{EndsCut, IsEnding as IsCutEnding, MayReadFault as MayReadCut}
+use Rattle.capture_cut.specs.Cut.{MayWriteFault as MayWriteCut}
+use Rattle.capture_cut.specs.declared.ending.CutEnding.{CutEnding}
+use Rattle.capture_cut.specs.declared.ending.CutEnding.TheVariants as cut
 use Rattle.capture_flat.specs.Passing.{EndsFlat, IsEnding as IsFlatEnding, MayReadFault as MayReadFlat, MayWriteFault as MayWriteFlat}
 use Rattle.capture_flat.specs.declared.ending.FlatEnding.{FlatEnding}
 use Rattle.capture_flat.specs.declared.ending.FlatEnding.TheVariants as flat
@@ -24,11 +28,13 @@ use Rattle.capture_slim.specs.declared.ending.SlimEnding.{SlimEnding}
 use Rattle.capture_slim.specs.declared.ending.SlimEnding.TheVariants as slim
 use Rattle.px_num.specs.Height.{short_height}
 use Rattle.psxgpu_tool.specs.Command.{Names, IsUsage}
+use Rattle.psxgpu_tool.specs.CutRun.{CutRun}
 use Rattle.psxgpu_tool.specs.Demo.{Demo, demo_words}
 use Rattle.psxgpu_tool.specs.DemoOut.{demo_bytes, demo_tale, DemoOut, DemoCost, DemoBoxCost, cells_cost}
 use Rattle.psxgpu_tool.specs.First.{first, play_of, seen}
 use Rattle.psxgpu_tool.specs.FlatRun.{FlatRun}
 use Rattle.psxgpu_tool.specs.Line.{status_of, ending_line, ending_text, flat_status, flat_text, slim_status, slim_text, usage_line}
+use Rattle.psxgpu_tool.specs.Line.{cut_status, cut_text}
 use Rattle.psxgpu_tool.specs.Outside.{Outside, Says, HasFailed, HasFailedToRead, EndsTelling}
 use Rattle.psxgpu_tool.specs.PlayRun.{PlayRun}
 use Rattle.psxgpu_tool.specs.Run.{CommandRun, Declined, Runs, RunsAs}
@@ -36,10 +42,11 @@ use Rattle.psxgpu_tool.specs.SlimRun.{SlimRun}
 use Rattle.psxgpu_tool.specs.TellRun.{Tells}
 use Rattle.psxgpu_tool.specs.Words.{HavePlayed, whole_replay}
 use Rattle.psxgpu_tool.specs.declared.command.Command.{Command}
-use Rattle.psxgpu_tool.specs.declared.command.Command.TheVariants.{Plays, Flat, Slim, Demo as DemoOf}
+use Rattle.psxgpu_tool.specs.declared.command.Command.TheVariants.{Plays, Flat, Slim, Cut, Demo as DemoOf}
 use Rattle.psxgpu_tool.proofs.First.{first_stands, first_short}
 use Rattle.psxgpu_tool.proofs.Flats.{flat_three, flat_four, flat_whole, flat_complete}
 use Rattle.psxgpu_tool.proofs.Commands.{same_command}
+use Rattle.psxgpu_tool.proofs.Cuts.{cut_three, cut_four, cut_whole, cut_complete}
 use Rattle.psxgpu_tool.proofs.Slims.{slim_three, slim_four, slim_whole, slim_complete}
 use Rattle.psxgpu_tool.proofs.Told.{three_starved, four_cut, if_told, whole_run, refused_run, starved_run, cut_run, complete_run, cost_run, box_cost_run}
 
@@ -110,6 +117,19 @@ known_slim (slim.Stopped n (Truncated byte)) = known 2 (inr (inl refl))
 known_slim (slim.Stopped n (BadRecord byte word)) = known 2 (inr (inl refl))
 known_slim (slim.Stopped n (TooLong byte)) = known 2 (inr (inl refl))
 known_slim (slim.Stopped n (ReadFault byte)) = known 3 (inr (inr (inl refl)))
+
+known_cut : (ending : CutEnding) → IsKnown (cut_status ending)
+known_cut cut.Done = known 0 (inl refl)
+known_cut (cut.PastEnd n) = known 2 (inr (inl refl))
+known_cut (cut.Faulted n fault) = known 2 (inr (inl refl))
+known_cut (cut.TooLong n) = known 2 (inr (inl refl))
+known_cut (cut.WriteFailed n) = known 4 (inr (inr (inr refl)))
+known_cut (cut.Stopped n End) = known 2 (inr (inl refl))
+known_cut (cut.Stopped n (NotCapture byte)) = known 2 (inr (inl refl))
+known_cut (cut.Stopped n (Truncated byte)) = known 2 (inr (inl refl))
+known_cut (cut.Stopped n (BadRecord byte word)) = known 2 (inr (inl refl))
+known_cut (cut.Stopped n (TooLong byte)) = known 2 (inr (inl refl))
+known_cut (cut.Stopped n (ReadFault byte)) = known 3 (inr (inr (inl refl)))
 
 may_read : (ending : Ending) → status_of ending ≡ 3 → MayReadFault ending
 may_read ending three = let is = three_starved ending three in subst MayReadFault (sym is.1.1) tt
@@ -274,6 +294,42 @@ module _ (heard : List Reading) (before now : Outside) (ending : SlimEnding)
   slim_runs ends is_ending read_cause write_cause free =
       answers Slim heard before now (slim_status ending) (known_slim ending) silent
       (slim_run_of ends is_ending read_cause write_cause free)
+
+-- a capture that is cut
+module _ (n : ℕ) (small : n ≤ 4294967295) (heard heard_now : List Reading) (before now : Outside) (ending : CutEnding)
+    (says : Says before.err now.err (cut_text ending heard_now))
+    (silent : cut_status ending ≡ 0 → now.err ≡ before.err) where
+  cut_run_of : (rig : RigState) → EndsCut n first (seen heard before) (seen heard_now now) rig ending → IsCutEnding ending
+      → (MayReadCut ending → HasFailedToRead before.source now.source)
+      → (MayWriteCut ending → HasFailed before.out now.out)
+      → CutRun n heard before now (cut_status ending)
+  cut_run_of rig ends is_ending read_cause write_cause = record {
+    ends = inr (record {
+      ending = ending;
+      rig = rig;
+      told = heard_now;
+      ends = ends;
+      known = is_ending;
+      status_is = refl;
+      says = says;
+    });
+    whole = λ zero. if_told before.source.left _
+        (λ bytes told. cut_whole n small heard heard_now before now rig bytes told ending ends zero);
+    starved = λ three. read_cause (cut_three ending three);
+    cut = λ four. write_cause (cut_four ending four);
+    complete = λ read write. inr (if_told before.source.left _
+        (λ bytes told. cut_complete n small heard heard_now before now rig bytes told ending ends
+        (λ may. read (read_cause may)) (λ may. write (write_cause may))));
+  }
+
+  pub cut_runs : (rig : RigState) → EndsCut n first (seen heard before) (seen heard_now now) rig ending
+      → IsCutEnding ending
+      → (MayReadCut ending → HasFailedToRead before.source now.source)
+      → (MayWriteCut ending → HasFailed before.out now.out)
+      → CommandRun (Cut n) heard before now (cut_status ending)
+  cut_runs rig ends is_ending read_cause write_cause =
+      answers (Cut n) heard before now (cut_status ending) (known_cut ending) silent
+      (cut_run_of rig ends is_ending read_cause write_cause)
 
 -- nothing was played on a new rig
 pub nothing_played : (heard : List Reading) (steps : ℕ) (rig : RigState) → rig ≡ first_rig

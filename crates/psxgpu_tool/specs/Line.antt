@@ -7,6 +7,8 @@ use Rattle.gpu_capture.specs.declared.event.Stop.{Stop}
 use Rattle.gpu_capture.specs.declared.event.Stop.TheVariants.{End, NotCapture, Truncated, BadRecord, TooLong, ReadFault}
 use Rattle.capture_flat.specs.declared.ending.FlatEnding.{FlatEnding}
 use Rattle.capture_flat.specs.declared.ending.FlatEnding.TheVariants as flat
+use Rattle.capture_cut.specs.declared.ending.CutEnding.{CutEnding}
+use Rattle.capture_cut.specs.declared.ending.CutEnding.TheVariants as cut
 use Rattle.capture_slim.specs.declared.ending.SlimEnding.{SlimEnding}
 use Rattle.capture_slim.specs.declared.ending.SlimEnding.TheVariants as slim
 use Rattle.event_play.specs.declared.ending.Ending.{Ending}
@@ -127,3 +129,25 @@ slim_status (slim.WriteFailed event) = 4
 
 abbrev pub slim_text : SlimEnding → List Reading → List ℕ
 slim_text ending heard = slim_line ending ++ last_items (slim_status ending) heard
+
+-- ---- the same for a capture that is cut
+
+abbrev pub cut_line : CutEnding → List ℕ
+cut_line cut.Done = []
+cut_line (cut.PastEnd event) = event_line (codes "cut-past-end") event
+cut_line (cut.Stopped event stop) = stop_line event stop
+cut_line (cut.Faulted event fault) = fault_line event fault
+cut_line (cut.TooLong event) = event_line (codes "out-too-long") event
+cut_line (cut.WriteFailed event) = event_line (codes "write-fault") event
+
+abbrev pub cut_status : CutEnding → ℕ
+cut_status cut.Done = 0
+cut_status (cut.Stopped event (ReadFault byte)) = 3
+cut_status (cut.Stopped event stop) = 2
+cut_status (cut.PastEnd event) = 2
+cut_status (cut.Faulted event fault) = 2
+cut_status (cut.TooLong event) = 2
+cut_status (cut.WriteFailed event) = 4
+
+abbrev pub cut_text : CutEnding → List Reading → List ℕ
+cut_text ending heard = cut_line ending ++ last_items (cut_status ending) heard

@@ -3,6 +3,7 @@ use Rattle.std.specs.Prelude.{◌≡◌, ◌≤◌, ◌↔◌, ℕ, List, Vec, S
 use Rattle.std.specs.declared.alloc.Global.{Global}
 use Rattle.gpu_taps.specs.Tally.{Reading}
 use Rattle.psxgpu_tool.specs.Command.{Names, IsUsage}
+use Rattle.psxgpu_tool.specs.CutRun.{CutRun}
 use Rattle.psxgpu_tool.specs.FlatRun.{FlatRun}
 use Rattle.psxgpu_tool.specs.Line.{usage_line, memory_line}
 use Rattle.psxgpu_tool.specs.Outside.{Outside, Says}
@@ -11,13 +12,14 @@ use Rattle.psxgpu_tool.specs.SlimRun.{SlimRun}
 use Rattle.psxgpu_tool.specs.TellRun.{DemoRun, TextRun, Unread}
 use Rattle.psxgpu_tool.specs.declared.texts.TheConstants.{HELP, VERSION}
 use Rattle.psxgpu_tool.specs.declared.command.Command.{Command}
-use Rattle.psxgpu_tool.specs.declared.command.Command.TheVariants.{Plays, Flat, Slim, Demo, Help, Version}
+use Rattle.psxgpu_tool.specs.declared.command.Command.TheVariants.{Plays, Flat, Slim, Cut, Demo, Help, Version}
 
 -- what a run of a command does
 abbrev pub RunsAs : Command → (heard : List Reading) → (before now : Outside) → (status : ℕ) → Type 0
 RunsAs (Plays mode) heard before now status = PlayRun mode heard before now status
 RunsAs Flat heard before now status = FlatRun heard before now status
 RunsAs Slim heard before now status = SlimRun heard before now status
+RunsAs (Cut events) heard before now status = CutRun events heard before now status
 RunsAs (Demo packets) heard before now status = DemoRun packets heard before now status
 RunsAs Help heard before now status = TextRun HELP.now before now status
 RunsAs Version heard before now status = TextRun VERSION.now before now status

@@ -5,8 +5,10 @@ ghost use Rattle.packet_text.specs.Tap.{last_lines};
 ghost use Rattle.psxgpu_tool.specs.Line.{event_line, place_line, bad_record_line, too_long_line, list_loop_line};
 ghost use Rattle.psxgpu_tool.specs.Line.{fault_line, stop_line, ending_line, ending_text, last_items, status_of};
 ghost use Rattle.psxgpu_tool.specs.Line.{flat_line, flat_text, flat_status, slim_line, slim_text, slim_status};
+ghost use Rattle.psxgpu_tool.specs.Line.{cut_line, cut_text, cut_status};
 ghost use Rattle.psxgpu_tool.specs.Outside.{sink_side, Says};
 
+use capture_cut::CutEnding;
 use capture_flat::FlatEnding;
 use capture_slim::SlimEnding;
 use dev_io::{Failed, Sink, write_all, write_pieces};
@@ -57,6 +59,21 @@ pub fn end_slim<E: Sink, T: Listener>(err: &mut E, ending: SlimEnding, taps: &Ve
     let status = slim_status(ending);
     if status != 0 {
         let _ = write_slim_end(err, ending, taps);
+    }
+    status
+}
+
+/// The same for a run that cuts a capture.
+pub fn end_cut<E: Sink, T: Listener>(err: &mut E, ending: CutEnding, taps: &Vec<T>) -> u8
+    ensures status { result ≡ cut_status ending }
+    ensures says { Says (sink_side (E.held err.old) (E.faults err.old)) (sink_side (E.held err.new) (E.faults err.new))
+        (cut_text ending (map T.heard taps.now.items)) }
+    ensures silent { result ≡ 0 → sink_side (E.held err.new) (E.faults err.new)
+        ≡ sink_side (E.held err.old) (E.faults err.old) }
+{
+    let status = cut_status(ending);
+    if status != 0 {
+        let _ = write_cut_end(err, ending, taps);
     }
     status
 }
@@ -149,6 +166,35 @@ fn write_slim_end<E: Sink, T: Listener>(
     write_last_items(err, slim_status(ending), taps)
 }
 
+/// The exit status of an ending of a capture that is cut.
+fn cut_status(ending: CutEnding) -> u8
+    ensures { result ≡ cut_status ending }
+{
+    match ending {
+        CutEnding::Done => 0,
+        CutEnding::PastEnd { .. } => 2,
+        CutEnding::Stopped { stop, .. } => match stop {
+            Stop::ReadFault { .. } => 3,
+            _ => 2,
+        },
+        CutEnding::Faulted { .. } => 2,
+        CutEnding::TooLong { .. } => 2,
+        CutEnding::WriteFailed { .. } => 4,
+    }
+}
+
+/// Writes the line of an ending of a capture that is cut, and behind that of a refusal the last items.
+fn write_cut_end<E: Sink, T: Listener>(
+    err: &mut E,
+    ending: CutEnding,
+    taps: &Vec<T>,
+) -> Result<(), Failed>
+    ensures { Writes E.held E.faults err.old err.new (cut_text ending (map T.heard taps.now.items)) result }
+{
+    write_cut_ending(err, ending)?;
+    write_last_items(err, cut_status(ending), taps)
+}
+
 /// Writes the last items of every tap that keeps them, where the status is that of a refusal.
 fn write_last_items<E: Sink, T: Listener>(
     err: &mut E,
@@ -209,6 +255,20 @@ fn write_slim_ending<E: Sink>(err: &mut E, ending: SlimEnding) -> Result<(), Fai
         SlimEnding::NotFlat { event } => write_event(err, b"not-flat", event),
         SlimEnding::TooLong { event } => write_event(err, b"out-too-long", event),
         SlimEnding::WriteFailed { event } => write_event(err, b"write-fault", event),
+    }
+}
+
+/// Writes the line of an ending of a capture that is cut.
+fn write_cut_ending<E: Sink>(err: &mut E, ending: CutEnding) -> Result<(), Failed>
+    ensures { Writes E.held E.faults err.old err.new (cut_line ending) result }
+{
+    match ending {
+        CutEnding::Done => Ok(()),
+        CutEnding::PastEnd { event } => write_event(err, b"cut-past-end", event),
+        CutEnding::Stopped { event, stop } => write_stop(err, event, stop),
+        CutEnding::Faulted { event, fault } => write_fault(err, event, fault),
+        CutEnding::TooLong { event } => write_event(err, b"out-too-long", event),
+        CutEnding::WriteFailed { event } => write_event(err, b"write-fault", event),
     }
 }
 

@@ -1,13 +1,15 @@
 // The whole run of the program.
 ghost use Rattle.std.specs.Prelude.{◌≡◌, map};
+ghost use Rattle.psxgpu_tool.specs.Command.{IsCommand};
 ghost use Rattle.psxgpu_tool.specs.Line.{memory_line};
 ghost use Rattle.psxgpu_tool.specs.Outside.{outside, source_side, sink_side, Says, EndsTelling};
 ghost use Rattle.psxgpu_tool.specs.Run.{CommandRun, Runs};
 
 use crate::command::{Command, read_command};
 use crate::demo::{play_demo, tell_demo};
-use crate::line::{end, end_flat, end_slim, tell};
+use crate::line::{end, end_cut, end_flat, end_slim, tell};
 use crate::texts::{HELP, VERSION};
+use capture_cut::cut;
 use capture_flat::flat;
 use capture_slim::Slim;
 use dev_io::{Sink, Source, write_all};
@@ -57,6 +59,7 @@ fn run_command<S: Source, K: Sink, E: Sink, L: Ledger>(
     mut taps: Vec<Box<dyn Tap>>,
     steps: &mut Steps<L>,
 ) -> u8
+    requires { IsCommand command }
     ensures { CommandRun command (map ⟦<Box<dyn Tap> as Listener>⟧.heard taps.items)
         (outside (source_side (S.left source.old) (S.faults source.old))
         (sink_side (K.held out.old) (K.faults out.old)) (sink_side (E.held err.old) (E.faults err.old)) steps.old)
@@ -86,6 +89,13 @@ fn run_command<S: Source, K: Sink, E: Sink, L: Ledger>(
             Ok(mut rig) => {
                 let ending = flat(&mut rig, source, out, &mut taps, steps);
                 end_flat(err, ending, &taps)
+            }
+            Err(_) => tell_no_memory(err),
+        },
+        Command::Cut { events } => match Rig::new(alloc) {
+            Ok(mut rig) => {
+                let ending = cut(&mut rig, events, source, out, &mut taps, steps);
+                end_cut(err, ending, &taps)
             }
             Err(_) => tell_no_memory(err),
         },

@@ -2,6 +2,7 @@
 ghost use Rattle.std.specs.Prelude.{◌≡◌, ◌<◌};
 
 mod capture;
+mod cut;
 mod devices;
 mod dumps;
 mod flat;

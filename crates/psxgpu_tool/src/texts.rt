@@ -12,6 +12,7 @@ Plays a recorded list of PlayStation graphics events and writes what the command
   report     after the end, a line for each tap: its kind and its numbers
   flat       the capture of what it does at the ports, without main memory and DMA, as it is played
   slim       a flat capture without the drawing that a later fill covers unseen
+  cut N      a snapshot: the state behind the first N events, 1 to 4294967295, and the records of the others
   demo N     plays N packets of its own, 1 to 100000, and reads nothing: the taps, the status, and the sum of all cells
   --help     this text
   --version  the version of this program

@@ -1,8 +1,9 @@
-use Rattle.std.proofs.Common.{refl, ap, ◌∙◌}
+use Rattle.std.proofs.Common.{refl, ap, subst, ◌∙◌}
 use Rattle.event_play.specs.RigState.{RigState}
 use Rattle.event_play.specs.Step.{first_machine}
+use Rattle.psxgpu_tool.specs.Command.{IsCommand}
 use Rattle.psxgpu_tool.proofs.First.{first_stands}
-use Rattle.psxgpu_tool.proofs.Running.{plays_runs, demo_runs, flat_runs, slim_runs, nothing_played}
+use Rattle.psxgpu_tool.proofs.Running.{plays_runs, cut_runs, demo_runs, flat_runs, slim_runs, nothing_played}
 use Rattle.psxgpu_tool.proofs.run.run_command.Goals as goal
 
 pub returns-in-Ok : goal.returns-in-Ok
@@ -34,6 +35,15 @@ returns-in-Ok-new-2 g c =
 
 pub returns-in-Ok-new-3 : goal.returns-in-Ok-new-3
 returns-in-Ok-new-3 g c =
+    let most = (subst IsCommand c.in-Cut.is c.requires).1 in
+    rw (c.in-Cut.is, c.end_cut.ensures.status)
+    (cut_runs c.in-Cut.events most _ _ _ _ _ c.end_cut.ensures.says
+    (λ zero. c.end_cut.ensures.silent (c.end_cut.ensures.status ∙ zero)) c.cut-ending.new.rig
+    (c.cut-ending.ensures.ends first_machine (first_stands _ c.in-Ok-new-3.ensures)) c.cut-ending.ensures.known
+    c.cut-ending.ensures.read_cause c.cut-ending.ensures.write_cause)
+
+pub returns-in-Ok-new-4 : goal.returns-in-Ok-new-4
+returns-in-Ok-new-4 g c =
     rw (c.in-Slim.is, c.end_slim.ensures.status)
     (slim_runs _ _ _ _ c.end_slim.ensures.says
     (λ zero. c.end_slim.ensures.silent (c.end_slim.ensures.status ∙ zero))
