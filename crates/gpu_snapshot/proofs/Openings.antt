@@ -1,5 +1,5 @@
 -- A file that is opened.
-use Rattle.std.proofs.Common.{◌≡◌, ◌≤◌, ◌<◌, ◌+◌, ◌++◌, List, [], ◌∷◌, ℕ, suc, true, false, Option, None}
+use Rattle.std.proofs.Common.{◌≡◌, ◌≤◌, ◌<◌, ◌+◌, ◌++◌, List, [], ℕ, true, false, Option, None}
 use Rattle.std.proofs.Common.{Ok, length, take, drop, nat_lt, refl, ap, sym, ◌∙◌, arith, inl, inr, length-append}
 use Rattle.std.proofs.Common.{append_assoc}
 use Rattle.std.proofs.Math.Seq.{take-append_seam, drop-append_seam}
@@ -14,16 +14,16 @@ use Rattle.event_play.specs.Replay.{Tale, raised}
 use Rattle.event_play.specs.RigState.{RigState, first_rig, StandsFor}
 use Rattle.snapshot_words.specs.Outline.{snap_bytes}
 use Rattle.snapshot_words.specs.Reading.{Found, Whole, Short, Bad, Snapshot, state_from}
-use Rattle.snapshot_words.specs.Taking.{SaysFault}
+use Rattle.snapshot_words.specs.Taking.{SaysFault, IsShort, AreNeeded as AreNeededBy}
 use Rattle.snapshot_words.specs.declared.fault.SnapFault.{SnapFault}
 use Rattle.snapshot_words.specs.declared.fault.SnapFault.TheVariants as fault
+use Rattle.snapshot_words.proofs.Gathering.{part_shorter}
 use Rattle.gpu_snapshot.specs.Head.{file_head, TakesHead, StopsInHead, SaysNoHead}
 use Rattle.gpu_snapshot.specs.Intake.{intake}
 use Rattle.gpu_snapshot.specs.Opened.{BreaksOff, opened, behind_head, opened_state}
-use Rattle.gpu_snapshot.specs.Opening.{OpensCapture, OpensState, Refuses, SaysRefusal, AreNeeded, AreNeededFor, IsTooShort}
+use Rattle.gpu_snapshot.specs.Opening.{OpensCapture, OpensState, Refuses, SaysRefusal, AreNeeded, IsTooShort}
 use Rattle.gpu_snapshot.specs.Opening.{opening_cost}
-use Rattle.gpu_snapshot.specs.Restored.{Restores, StopsInState, IsShort, first_place, state_cost}
-use Rattle.gpu_snapshot.specs.Restored.{AreNeeded as AreNeededInState, AreNeededFor as AreNeededForState}
+use Rattle.gpu_snapshot.specs.Restored.{Restores, StopsInState, first_place, state_cost}
 use Rattle.gpu_snapshot.specs.declared.head.FileHead.TheVariants as head
 use Rattle.gpu_snapshot.proofs.Heads.{snapshot_is}
 
@@ -55,11 +55,6 @@ cost_of_state first bytes long is =
 
 -- ---- none too many
 
-part_shorter : (taken part more : List ℕ) → taken ≡ part ++ more → (more ≡ [] → ⊥) → length part < length taken
-part_shorter taken part [] is some = absurd (some refl)
-part_shorter taken part (x ∷ xs) is some =
-    let e : length taken ≡ length part + suc (length xs) = ap length is ∙ length-append part (x ∷ xs) in omega (arith, e)
-
 -- at most eight bytes of a head
 head_needed : (taken : List ℕ) → length taken ≤ 8 → AreNeeded taken
 head_needed taken few part more is some =
@@ -72,7 +67,8 @@ too_short (Whole s place rest) is = absurd is
 too_short (Bad place word) is = absurd is
 
 -- a head, and what is needed of a state
-state_needed : (first taken : List ℕ) → length first ≡ 8 → file_head first ≡ Ok head.Snapshot → AreNeededInState taken
+state_needed : (first taken : List ℕ) → length first ≡ 8 → file_head first ≡ Ok head.Snapshot
+    → AreNeededBy (state_from first_place) taken
     → AreNeeded (first ++ taken)
 state_needed first taken long head_is needed part more is some =
     elim (split first taken part more is) [
@@ -85,11 +81,6 @@ state_needed first taken long head_is needed part more is some =
           let short = part_shorter first part inside.0 inside.1 inside.2 in
           rw (opened_short part (omega (arith, short, long))) tt
     ]
-
-state_needed_for : (why : SnapFault) (first taken : List ℕ) → length first ≡ 8 → file_head first ≡ Ok head.Snapshot
-    → AreNeededForState why taken → AreNeededFor why (first ++ taken)
-state_needed_for (fault.Stop stop) first taken long head_is needed = state_needed first taken long head_is needed
-state_needed_for (fault.Bad byte word) first taken long head_is needed = tt
 
 -- ---- no head
 
@@ -187,7 +178,7 @@ pub refuses_state : (before mid now : Option (List ℕ)) (steps steps_now : ℕ)
 refuses_state before mid now steps steps_now why takes stops = record {
   taken = takes.taken ++ stops.taken;
   bytes = taken_on before mid now takes.taken stops.taken takes.bytes stops.bytes;
-  needed = state_needed_for why takes.taken stops.taken takes.long takes.is stops.needed;
+  needed = state_needed takes.taken stops.taken takes.long takes.is stops.needed;
   says = refused_state why takes.taken stops.taken now takes.long takes.is stops.says;
   cost = λ rest. rw (append_assoc takes.taken stops.taken rest, cost_of_state takes.taken (stops.taken ++ rest) takes.long takes.is)
       (stops.cost rest);

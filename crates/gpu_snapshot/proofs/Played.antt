@@ -242,6 +242,7 @@ module _ (mode : Mode) (s : Machine) (left mid held : Option (List ℕ)) (heard 
   refuses_any (fault.Bad byte word) refuses = record {
     taken = refuses.taken;
     bytes = refuses.bytes;
+    needed = refuses.needed;
     says = refuses.says;
     held = refl;
     heard = refl;

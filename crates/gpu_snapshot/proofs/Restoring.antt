@@ -16,14 +16,15 @@ use Rattle.event_play.specs.RigState.{RigState, Stands}
 use Rattle.snapshot_words.specs.Outline.{outline_words, snap_bytes, bytes_of}
 use Rattle.snapshot_words.specs.Reading.{Whole, Short, Bad, Snapshot, memories_from, outline_from}
 use Rattle.snapshot_words.specs.Reading.{state_from}
-use Rattle.snapshot_words.specs.Taking.{TakesOutline, Stops, SaysFault}
+use Rattle.snapshot_words.specs.Taking.{TakesOutline, Stops, SaysFault, AreNeeded}
 use Rattle.snapshot_words.specs.Values.{cell_words}
 use Rattle.snapshot_words.specs.declared.fault.SnapFault.{SnapFault}
 use Rattle.snapshot_words.specs.declared.fault.SnapFault.TheVariants as fault
 use Rattle.snapshot_words.specs.declared.outline.Outline.{Outline}
+use Rattle.snapshot_words.proofs.Chain.{short_then}
 use Rattle.gpu_snapshot.specs.Intake.{intake}
 use Rattle.gpu_snapshot.specs.Memories.{TakesMemories, LacksWords, SaysShort, with_memories}
-use Rattle.gpu_snapshot.specs.Restored.{Restores, StopsInState, HoldsOutline, AreNeededFor, rig_in, machine_in, first_place}
+use Rattle.gpu_snapshot.specs.Restored.{Restores, StopsInState, HoldsOutline, rig_in, machine_in, first_place}
 use Rattle.gpu_snapshot.specs.Restored.{reader_behind, version_behind, state_cost}
 use Rattle.gpu_snapshot.proofs.States.{state_lacks, whole_needed, short_needed}
 use Rattle.gpu_snapshot.proofs.MemoriesBack.{memories_back}
@@ -50,25 +51,19 @@ state_says (fault.Stop (NotCapture byte)) taken now says = absurd says
 state_says (fault.Stop (BadRecord byte word)) taken now says = absurd says
 state_says (fault.Stop (TooLong byte)) taken now says = absurd says
 
-needed_for : (why : SnapFault) (taken : List ℕ) (now : Option (List ℕ)) → SaysFault why (state_from first_place) taken now
-    → AreNeededFor why taken
-needed_for (fault.Bad byte word) taken now says = tt
-needed_for (fault.Stop (Truncated byte)) taken now says = short_needed taken byte says.0
-needed_for (fault.Stop (ReadFault byte)) taken now says = short_needed taken byte says
-needed_for (fault.Stop End) taken now says = absurd says
-needed_for (fault.Stop (NotCapture byte)) taken now says = absurd says
-needed_for (fault.Stop (BadRecord byte word)) taken now says = absurd says
-needed_for (fault.Stop (TooLong byte)) taken now says = absurd says
+outline_needed : (taken : List ℕ) → AreNeeded (outline_from first_place) taken → AreNeeded (state_from first_place) taken
+unfolding state_from
+outline_needed taken needed part more is some =
+    short_then (outline_from first_place part) memories_from (needed part more is some)
 
 pub stops_outline : (before now : Option (List ℕ)) (steps : ℕ) (why : SnapFault)
     → Stops (outline_from first_place) before now why → StopsInState (intake before steps) (intake now steps) why
 stops_outline before now steps why stops =
-    let says = state_says why stops.taken now stops.says in
     record {
       taken = stops.taken;
       bytes = stops.bytes;
-      needed = needed_for why stops.taken now says;
-      says = says;
+      needed = outline_needed stops.taken stops.needed;
+      says = state_says why stops.taken now stops.says;
       cost = λ rest. omega arith;
     }
 
@@ -95,12 +90,11 @@ pub stops_memories : (before mid now : Option (List ℕ)) (steps steps_now place
 stops_memories before mid now steps steps_now place o why takes lacks few =
     let front = bytes_of (outline_words o) in
     let is = state_lacks front lacks.taken o place (takes.says lacks.taken) lacks.few in
-    let says = short_says why (place + length lacks.taken) (front ++ lacks.taken) now lacks.says is in
     record {
       taken = front ++ lacks.taken;
       bytes = taken_on before mid now front lacks.taken takes.bytes lacks.bytes;
-      needed = needed_for why (front ++ lacks.taken) now says;
-      says = says;
+      needed = short_needed (front ++ lacks.taken) (place + length lacks.taken) is;
+      says = short_says why (place + length lacks.taken) (front ++ lacks.taken) now lacks.says is;
       cost = λ rest.
           let e = cost_is ((front ++ lacks.taken) ++ rest) (lacks.taken ++ rest) o place
           (rw (append_assoc front lacks.taken rest) (takes.says (lacks.taken ++ rest))) in

@@ -5,8 +5,9 @@ use Rattle.std.proofs.Common.{length-drop}
 use Rattle.std.proofs.lemmas.Bool.{cases_Bool}
 use Rattle.snapshot_words.specs.Reading.{Found, Whole, Short, Bad, Snapshot, outline_from, words_in}
 use Rattle.snapshot_words.specs.Reading.{memory_from, memories_from, state_from, ram_words}
+use Rattle.snapshot_words.specs.Taking.{IsShort, AreNeeded}
 use Rattle.snapshot_words.specs.declared.outline.Outline.{Outline}
-use Rattle.gpu_snapshot.specs.Restored.{IsShort, AreNeeded, first_place}
+use Rattle.gpu_snapshot.specs.Restored.{first_place}
 use Rattle.gpu_snapshot.proofs.Keeping.{Keeps, state_keeps}
 
 -- ---- none too many
@@ -37,13 +38,14 @@ whole_before (Short at) wider more value place keeps is some = tt
 whole_before (Bad at word) wider more value place keeps is some =
     let e : Bad at word ≡ Whole value place [] = sym keeps ∙ is in absurd cc
 
-pub short_needed : (taken : List ℕ) (place : ℕ) → state_from first_place taken ≡ Short place → AreNeeded taken
+pub short_needed : (taken : List ℕ) (place : ℕ) → state_from first_place taken ≡ Short place
+    → AreNeeded (state_from first_place) taken
 short_needed taken place is part more splits some =
     short_before (state_from first_place part) (state_from first_place (part ++ more)) more place
     (state_keeps first_place part more) (ap (state_from first_place) (sym splits) ∙ is)
 
 pub whole_needed : (taken : List ℕ) (s : Snapshot) (place : ℕ) → state_from first_place taken ≡ Whole s place []
-    → AreNeeded taken
+    → AreNeeded (state_from first_place) taken
 whole_needed taken s place is part more splits some =
     whole_before (state_from first_place part) (state_from first_place (part ++ more)) more s place
     (state_keeps first_place part more) (ap (state_from first_place) (sym splits) ∙ is) some

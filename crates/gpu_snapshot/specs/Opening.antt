@@ -75,15 +75,10 @@ SaysRefusal (fault.Stop (ReadFault byte)) taken now = opened taken ≡ BreaksOff
 SaysRefusal (fault.Stop stop) taken now = ⊥
 SaysRefusal (fault.Bad byte word) taken now = (rest : List ℕ) → opened (taken ++ rest) ≡ BadWord byte word
 
--- but for a word that may not stand at its place, none of the bytes is one too many
-abbrev pub AreNeededFor : SnapFault → List ℕ → Type 0
-AreNeededFor (fault.Stop stop) taken = AreNeeded taken
-AreNeededFor (fault.Bad byte word) taken = Unit {0}
-
--- bytes were taken, and the file is refused
+-- bytes were taken, none of them one too many, and the file is refused
 pub record Refuses (before now : Intake) (why : SnapFault) : Type 0 where
   pub taken : List ℕ
   pub bytes : before.left ≡ prepended taken now.left
-  pub needed : AreNeededFor why taken
+  pub needed : AreNeeded taken
   pub says : SaysRefusal why taken now.left
   pub cost : (rest : List ℕ) → now.steps ≤ before.steps + opening_cost (taken ++ rest)

@@ -17,7 +17,7 @@ use Rattle.snapshot_words.specs.Reading.{Snapshot}
 use Rattle.snapshot_words.specs.declared.fault.SnapFault.{SnapFault}
 use Rattle.snapshot_words.specs.declared.fault.SnapFault.TheVariants as fault
 use Rattle.gpu_snapshot.specs.Opened.{Opened, Captured, Restored, Unknown, BreaksOff, BadWord, opened}
-use Rattle.gpu_snapshot.specs.Opening.{opening_cost}
+use Rattle.gpu_snapshot.specs.Opening.{AreNeeded, opening_cost}
 use Rattle.gpu_snapshot.specs.Restored.{machine_in, version_behind}
 use Rattle.gpu_snapshot.specs.declared.ending.AnyEnding.{AnyEnding}
 use Rattle.gpu_snapshot.specs.declared.ending.AnyEnding.TheVariants as any
@@ -101,10 +101,12 @@ pub record PlaysAny (mode : Mode) (first : Tale) (before now : Streams) (ending 
   pub good : IsGood ending plays.taken
   pub cost : (rest : List ℕ) → opening ≤ opening_cost (plays.taken ++ rest)
 
--- This word of a state is bad, whatever follows the bytes taken. Nothing was played or written.
+-- This word of a state is bad, whatever follows the bytes taken, and none of them is one too many: a proper part of
+-- them breaks off in the head or the state. Nothing was played or written.
 pub record FindsBadWord (before now : Streams) (byte word : ℕ) : Type 0 where
   pub taken : List ℕ
   pub bytes : before.left ≡ prepended taken now.left
+  pub needed : AreNeeded taken
   pub says : (rest : List ℕ) → opened (taken ++ rest) ≡ BadWord byte word
   pub held : now.held ≡ before.held
   pub heard : now.heard ≡ before.heard

@@ -1,5 +1,5 @@
 -- What a rig and a reader are behind a state (our own rule).
-use Rattle.std.specs.Prelude.{◌≡◌, ◌≤◌, ℕ, ◌+◌, ◌*◌, List, [], ◌++◌, ◌==◌, if◌then◌else◌, None, length}
+use Rattle.std.specs.Prelude.{◌≡◌, ◌≤◌, ℕ, ◌+◌, ◌*◌, List, ◌++◌, ◌==◌, if◌then◌else◌, None, length}
 use Rattle.px_num.specs.Height.{tall_height}
 use Rattle.dev_io.specs.Device.{prepended}
 use Rattle.gpu_capture.specs.Reader.{tag_due}
@@ -11,9 +11,8 @@ use Rattle.event_play.specs.Step.{Machine}
 use Rattle.gpu_snapshot.specs.Intake.{Intake}
 use Rattle.snapshot_words.specs.Outline.{snap_bytes}
 use Rattle.snapshot_words.specs.Reading.{Found, Whole, Short, Bad, Snapshot, outline_from, state_from}
-use Rattle.snapshot_words.specs.Taking.{SaysFault}
+use Rattle.snapshot_words.specs.Taking.{SaysFault, AreNeeded}
 use Rattle.snapshot_words.specs.declared.fault.SnapFault.{SnapFault}
-use Rattle.snapshot_words.specs.declared.fault.SnapFault.TheVariants as fault
 use Rattle.snapshot_words.specs.declared.outline.Outline.{Outline}
 
 -- a state begins behind the head
@@ -64,21 +63,12 @@ rows_found (Bad place word) = 0
 unfoldable pub state_cost : (bytes : List ℕ) → ℕ
 state_cost bytes = 64 * rows_found (outline_from first_place bytes)
 
--- some bytes break off
-abbrev pub IsShort : {A : Type 0} → Found A → Type 0
-IsShort (Short place) = Unit {0}
-IsShort found = ⊥
-
--- none of these bytes of a state is one too many
-abbrev pub AreNeeded : List ℕ → Type 0
-AreNeeded taken = (part more : List ℕ) → taken ≡ part ++ more → (more ≡ [] → ⊥) → IsShort (state_from first_place part)
-
 -- The spelling of a state was taken, and no byte more. The rig is that state, and the reader stands behind it.
 pub record Restores (before now : Intake) (rig : RigState) (reader : ReaderState) : Type 0 where
   pub snapshot : Snapshot
   pub place : ℕ
   pub bytes : before.left ≡ prepended (snap_bytes snapshot.outline snapshot.m snapshot.ram) now.left
-  pub needed : AreNeeded (snap_bytes snapshot.outline snapshot.m snapshot.ram)
+  pub needed : AreNeeded (state_from first_place) (snap_bytes snapshot.outline snapshot.m snapshot.ram)
   pub says : (rest : List ℕ) → state_from first_place (snap_bytes snapshot.outline snapshot.m snapshot.ram ++ rest)
       ≡ Whole snapshot place rest
   pub rig_is : rig ≡ rig_in snapshot
@@ -88,15 +78,10 @@ pub record Restores (before now : Intake) (rig : RigState) (reader : ReaderState
   pub cost_is : (rest : List ℕ) → state_cost (snap_bytes snapshot.outline snapshot.m snapshot.ram ++ rest)
       ≡ 64 * snapshot.outline.regs.height
 
--- where a state breaks off, or the source fails, none of the bytes is one too many
-abbrev pub AreNeededFor : SnapFault → List ℕ → Type 0
-AreNeededFor (fault.Stop stop) taken = AreNeeded taken
-AreNeededFor (fault.Bad byte word) taken = Unit {0}
-
--- bytes were taken that are no state
+-- bytes were taken that are no state, and none too many
 pub record StopsInState (before now : Intake) (why : SnapFault) : Type 0 where
   pub taken : List ℕ
   pub bytes : before.left ≡ prepended taken now.left
-  pub needed : AreNeededFor why taken
+  pub needed : AreNeeded (state_from first_place) taken
   pub says : SaysFault why (state_from first_place) taken now.left
   pub cost : (rest : List ℕ) → now.steps ≤ before.steps + state_cost (taken ++ rest)

@@ -15,9 +15,9 @@ use Rattle.gpu_core.specs.Kept.{IsLinked}
 use Rattle.list_dma.specs.declared.run.Run.{Run}
 use Rattle.vram_copy.specs.declared.transfer.Transfer.{Transfer}
 use Rattle.snapshot_words.specs.Outline.{outline_words, bytes_of}
-use Rattle.snapshot_words.specs.Reading.{Found, Whole, found_then, section_from, outline_from}
+use Rattle.snapshot_words.specs.Reading.{Found, Whole, Short, Bad, found_then, section_from, outline_from}
 use Rattle.snapshot_words.specs.Reading.{registers_from, pending_from, store_from, run_from}
-use Rattle.snapshot_words.specs.Taking.{Takes, SaysFault, Stops, TakesOutline}
+use Rattle.snapshot_words.specs.Taking.{Takes, SaysFault, Stops, TakesOutline, IsShort, AreNeeded}
 use Rattle.snapshot_words.specs.Values.{front_words, height_in, played_in, pending_words, pending_in, load_in}
 use Rattle.snapshot_words.specs.Values.{store_words, store_in, run_words, run_in}
 use Rattle.snapshot_words.specs.declared.fault.SnapFault.{SnapFault}
@@ -26,11 +26,13 @@ use Rattle.snapshot_words.specs.declared.outline.Outline.{Outline}
 use Rattle.snapshot_words.specs.declared.section.Section.{Section}
 use Rattle.snapshot_words.specs.declared.section.Section.TheVariants as section
 use Rattle.snapshot_words.proofs.Back.{played_back, pending_back, load_back, store_back, run_back}
+use Rattle.snapshot_words.proofs.Gathering.{needed_on}
 
 -- The words so far of a state were taken. Whatever follows them, it goes on like this from the place behind them.
 pub record Came (first : ℕ) (before now : Option (List ℕ)) (place : ℕ) (got : List ℕ)
     (next : ℕ → List ℕ → Found Outline) : Type 0 where
   pub bytes : before ≡ prepended (bytes_of got) now
+  pub needed : AreNeeded (outline_from first) (bytes_of got)
   pub moved : place ≡ first + 4 * length got
   pub says : (rest : List ℕ) → outline_from first (bytes_of got ++ rest) ≡ next place rest
 
@@ -41,15 +43,29 @@ bytes_both a b = flat_map-append word_bytes a b
 abbrev pub part_then : Section → (List ℕ → ℕ → List ℕ → Found Outline) → ℕ → List ℕ → Found Outline
 part_then s next place bytes = found_then (section_from s [] place bytes) next
 
+pub short_then : {A B : Type 0} (found : Found A) (next : A → ℕ → List ℕ → Found B) → IsShort found
+    → IsShort (found_then found next)
+short_then (Whole value place rest) next short = absurd short
+short_then (Short place) next short = tt
+short_then (Bad place word) next short = absurd short
+
 -- ---- any part
 
 module _ (s : Section) (next : List ℕ → ℕ → List ℕ
     → Found Outline) (first : ℕ) (before mid now : Option (List ℕ)) (place : ℕ)
     (got : List ℕ) (came : Came first before mid place got (part_then s next)) where
+  needed_behind : (taken : List ℕ) → AreNeeded (section_from s [] place) taken
+      → AreNeeded (outline_from first) (bytes_of got ++ taken)
+  needed_behind taken needed =
+      needed_on (outline_from first) (bytes_of got) taken came.needed
+      (λ part more is some.
+      rw (came.says part) (short_then (section_from s [] place part) next (needed part more is some)))
+
   pub came_on : (behind : ℕ) (words : List ℕ) → Takes s mid now place behind words
       → Came first before now behind (got ++ words) (next words)
   came_on behind words takes = record {
     bytes = rw (bytes_both got words) (taken_on before mid now (bytes_of got) (bytes_of words) came.bytes takes.bytes);
+    needed = rw (bytes_both got words) (needed_behind (bytes_of words) takes.needed);
     moved = let a = length-append got words in let b = came.moved in let c = takes.moved in omega (arith, a, b, c);
     says = λ rest. rw (bytes_both got words, append_assoc (bytes_of got) (bytes_of words) rest)
         (came.says (bytes_of words ++ rest) ∙ ap (λ found. found_then found next) (takes.says rest));
@@ -73,18 +89,27 @@ module _ (s : Section) (next : List ℕ → ℕ → List ℕ
   came_stops why stops = record {
     taken = bytes_of got ++ stops.taken;
     bytes = taken_on before mid now (bytes_of got) stops.taken came.bytes stops.bytes;
+    needed = needed_behind stops.taken stops.needed;
     says = stops_says why stops.taken stops.says;
   }
 
 -- ---- the parts of a state
 
 module _ (first : ℕ) (before now : Option (List ℕ)) where
+  front_needed : (taken : List ℕ) → AreNeeded (section_from section.Front [] first) taken
+      → AreNeeded (outline_from first) taken
+  unfolding outline_from
+  front_needed taken needed part more is some =
+      short_then (section_from section.Front [] first part)
+      (λ words. registers_from (height_in words) (played_in words)) (needed part more is some)
+
   came_words : (place height played : ℕ) → Takes section.Front before now first place (front_words height played)
       → Came first before now place (front_words height played)
       (registers_from height (played_in (front_words height played)))
   unfolding outline_from
   came_words place height played takes = record {
     bytes = takes.bytes;
+    needed = front_needed (bytes_of (front_words height played)) takes.needed;
     moved = takes.moved;
     says = λ rest. ap (λ found. found_then found (λ words. registers_from (height_in words) (played_in words)))
         (takes.says rest);
@@ -113,8 +138,12 @@ module _ (first : ℕ) (before now : Option (List ℕ)) where
 
   pub front_stops : (why : SnapFault) → Stops (section_from section.Front [] first) before now why
       → Stops (outline_from first) before now why
-  front_stops why stops =
-      record { taken = stops.taken; bytes = stops.bytes; says = front_says why stops.taken stops.says }
+  front_stops why stops = record {
+    taken = stops.taken;
+    bytes = stops.bytes;
+    needed = front_needed stops.taken stops.needed;
+    says = front_says why stops.taken stops.says;
+  }
 
 -- behind the front
 abbrev pub with_registers : (height played : ℕ) → List ℕ → ℕ → List ℕ → Found Outline
@@ -189,6 +218,7 @@ pub outline_came : (first : ℕ) (before now : Option (List ℕ)) (place : ℕ) 
     → got ≡ outline_words o → Came first before now place got (Whole o) → TakesOutline before now first place o
 outline_came first before now place got o is came = record {
   bytes = rw (← is) came.bytes;
+  needed = rw (← is) came.needed;
   moved = rw (← is) came.moved;
   says = rw (← is) came.says;
 }

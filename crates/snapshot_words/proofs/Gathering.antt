@@ -1,19 +1,20 @@
 -- Parts of a state, word after word.
 use Rattle.std.proofs.Common.{◌≡◌, ◌<◌, ◌+◌, ◌-◌, ◌/◌, ◌%◌, ◌^◌, ◌++◌, ◌*◌, if◌then◌else◌, List, [], ◌∷◌, ℕ, Option}
 use Rattle.std.proofs.Common.{true, false, length, take, slice_index, refl, ap, sym, ◌∙◌, append_assoc, append-nil}
-use Rattle.std.proofs.Common.{arith, inl, inr}
+use Rattle.std.proofs.Common.{arith, inl, inr, suc, ◌≤◌, length-append}
 use Rattle.std.proofs.lemmas.Bool.{cases_lt}
 use Rattle.std.proofs.lemmas.List.{length_push, take-append-le, take_all, get_or_append_left, get_or-append_right}
 use Rattle.byteorder.specs.Endian.{little_number, little_bytes}
 use Rattle.dev_io.specs.Device.{prepended, Gives}
 use Rattle.dev_io.proofs.Parts.{prepended-nil, taken_on}
 use Rattle.gpu_capture.specs.declared.event.Stop.TheVariants.{End, NotCapture, BadRecord, TooLong, Truncated, ReadFault}
+use Rattle.gpu_capture.proofs.Steps.{split}
 use Rattle.snapshot_words.specs.Sections.{allows, wants, AreAllowed}
 use Rattle.byteorder.specs.Numbers.{little_number-reads_back}
 use Rattle.gpu_capture.specs.Written.{word_bytes}
 use Rattle.snapshot_words.specs.Outline.{bytes_of}
-use Rattle.snapshot_words.specs.Reading.{Whole, Short, Bad, section_from}
-use Rattle.snapshot_words.specs.Taking.{IsWord, EndsWord, SaysNoWord, Goes, Takes, SaysFault, Stops}
+use Rattle.snapshot_words.specs.Reading.{Found, Whole, Short, Bad, section_from}
+use Rattle.snapshot_words.specs.Taking.{IsWord, EndsWord, SaysNoWord, Goes, Takes, SaysFault, Stops, AreNeeded}
 use Rattle.snapshot_words.specs.declared.fault.SnapFault.{SnapFault}
 use Rattle.snapshot_words.specs.declared.fault.SnapFault.TheVariants as fault
 use Rattle.snapshot_words.specs.declared.section.Section.{Section}
@@ -78,17 +79,64 @@ pub bad_word : (s : Section) (got : List ℕ) (place word : ℕ) (rest : List �
     → word < 2 ^ 32 → section_from s got place (word_bytes word ++ rest) ≡ Bad place word
 bad_word s got place word rest due may fits = word_split s got place word rest due fits ∙ (rw may refl)
 
+-- ---- none too many
+
+pub part_shorter : (taken part more : List ℕ) → taken ≡ part ++ more → (more ≡ [] → ⊥) → length part < length taken
+part_shorter taken part [] is some = absurd (some refl)
+part_shorter taken part (x ∷ xs) is some =
+    let e : length taken ≡ length part + suc (length xs) = ap length is ∙ length-append part (x ∷ xs) in omega (arith, e)
+
+-- bytes, and others behind them
+pub needed_on : {A : Type 0} (found : List ℕ → Found A) (xs ys : List ℕ) → AreNeeded found xs
+    → AreNeeded (λ part. found (xs ++ part)) ys → AreNeeded found (xs ++ ys)
+needed_on found xs ys first next part more is some =
+    elim (split xs ys part more is) [
+      | inl behind ↦ rw behind.1 (next behind.0 more behind.2 some)
+      | inr inside ↦ first part inside.0 inside.1 inside.2
+    ]
+
+word_long : (word : ℕ) → length (word_bytes word) ≤ 4
+unfolding word_bytes
+word_long word = omega arith
+
+few_of_word : (why : SnapFault) (place : ℕ) (taken : List ℕ) (now : Option (List ℕ)) → SaysNoWord why place taken now
+    → length taken ≤ 4
+few_of_word (fault.Stop (Truncated byte)) place taken now says = omega (arith, says.0)
+few_of_word (fault.Stop (ReadFault byte)) place taken now says = omega (arith, says.0)
+few_of_word (fault.Stop End) place taken now says = absurd says
+few_of_word (fault.Stop (NotCapture byte)) place taken now says = absurd says
+few_of_word (fault.Stop (BadRecord byte word)) place taken now says = absurd says
+few_of_word (fault.Stop (TooLong byte)) place taken now says = absurd says
+few_of_word (fault.Bad byte word) place taken now says = absurd says
+
 -- ---- from word to word
 
 pub goes_start : (s : Section) (left : Option (List ℕ)) (place : ℕ) → Goes s left left place place []
-goes_start s left place = record { bytes = prepended-nil left; says = λ rest. refl }
+goes_start s left place = record {
+  bytes = prepended-nil left;
+  needed = λ part more is some. absurd (let short = part_shorter [] part more is some in omega (arith, short));
+  says = λ rest. refl;
+}
 
 module _ (s : Section) (before mid now : Option (List ℕ)) (first place : ℕ) (got : List ℕ)
     (goes : Goes s before mid first place got) where
+  short_says : (taken : List ℕ) → wants s got ≡ true → length taken < 4
+      → section_from s [] first ((bytes_of got) ++ taken) ≡ Short (place + length taken)
+  short_says taken due few = goes.says taken ∙ breaks_off s got place taken due few
+
+  -- at most the bytes of the next word
+  needed_next : (taken : List ℕ) → wants s got ≡ true → length taken ≤ 4
+      → AreNeeded (section_from s [] first) (bytes_of got ++ taken)
+  needed_next taken due few =
+      needed_on (section_from s [] first) (bytes_of got) taken goes.needed
+      (λ part more is some.
+      let short = part_shorter taken part more is some in rw (short_says part due (omega (arith, short, few))) tt)
+
   pub goes_on : (word : ℕ) → IsWord mid now word → wants s got ≡ true → allows s got word ≡ true
       → Goes s before now first (place + 4) (got ++ word ∷ [])
   goes_on word took due may = record {
     bytes = rw (bytes_on got word) (taken_on before mid now (bytes_of got) (word_bytes word) goes.bytes took.bytes);
+    needed = rw (bytes_on got word) (needed_next (word_bytes word) due (word_long word));
     says = λ rest. rw (bytes_on got word, append_assoc (bytes_of got) (word_bytes word) rest)
         (goes.says (word_bytes word ++ rest) ∙ next_word s got place word rest due may took.fits);
   }
@@ -98,13 +146,10 @@ module _ (s : Section) (before mid now : Option (List ℕ)) (first place : ℕ) 
   bad_stops word took due may = record {
     taken = bytes_of got ++ word_bytes word;
     bytes = taken_on before mid now (bytes_of got) (word_bytes word) goes.bytes took.bytes;
+    needed = needed_next (word_bytes word) due (word_long word);
     says = λ rest. rw (append_assoc (bytes_of got) (word_bytes word) rest)
         (goes.says (word_bytes word ++ rest) ∙ bad_word s got place word rest due may took.fits);
   }
-
-  short_says : (taken : List ℕ) → wants s got ≡ true → length taken < 4
-      → section_from s [] first ((bytes_of got) ++ taken) ≡ Short (place + length taken)
-  short_says taken due few = goes.says taken ∙ breaks_off s got place taken due few
 
   fault_says : (why : SnapFault) (taken : List ℕ) → wants s got ≡ true → SaysNoWord why place taken now
       → SaysFault why (section_from s [] first) ((bytes_of got) ++ taken) now
@@ -121,6 +166,7 @@ module _ (s : Section) (before mid now : Option (List ℕ)) (first place : ℕ) 
   no_word_stops why lack due = record {
     taken = (bytes_of got) ++ lack.taken;
     bytes = taken_on before mid now (bytes_of got) lack.taken goes.bytes lack.bytes;
+    needed = needed_next lack.taken due (few_of_word why place lack.taken now lack.says);
     says = fault_says why lack.taken due lack.says;
   }
 
@@ -129,6 +175,7 @@ pub goes_whole : (s : Section) (before now : Option (List ℕ)) (first place : �
     → Takes s before now first place got
 goes_whole s before now first place got goes moved full = record {
   bytes = goes.bytes;
+  needed = goes.needed;
   moved = moved;
   says = λ rest. goes.says rest ∙ whole_stays s got place rest full;
 }

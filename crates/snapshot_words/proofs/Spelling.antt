@@ -4,21 +4,14 @@ use Rattle.gp1_status.specs.Words.{words_of}
 use Rattle.gpu_capture.specs.Whole.{AreWords}
 use Rattle.snapshot_words.specs.Outline.{IsOutline, outline_words, bytes_of}
 use Rattle.snapshot_words.specs.Reading.{Whole, outline_from}
-use Rattle.snapshot_words.specs.Sections.{IsWhole}
-use Rattle.snapshot_words.specs.Taking.{Takes, TakesOutline}
+use Rattle.snapshot_words.specs.Taking.{TakesOutline}
 use Rattle.snapshot_words.specs.Values.{front_words, pending_words, store_words, run_words}
 use Rattle.snapshot_words.specs.declared.outline.Outline.{Outline}
-use Rattle.snapshot_words.specs.declared.section.Section.{Section}
 use Rattle.snapshot_words.specs.declared.section.Section.TheVariants as section
 use Rattle.snapshot_words.proofs.Chain.{all_came}
-use Rattle.snapshot_words.proofs.ReadBack.{read_back}
+use Rattle.snapshot_words.proofs.ReadBack.{whole_takes}
 use Rattle.snapshot_words.proofs.Wholes.{words_left_part, words_right_part, height_few, front_whole, registers_whole}
 use Rattle.snapshot_words.proofs.Wholes.{pending_whole, store_whole, run_whole}
-
--- a whole part is taken from bytes that nobody tells
-whole_takes : (s : Section) (words : List ℕ) (first : ℕ) → IsWhole s words
-    → Takes s None None first (first + 4 * length words) words
-whole_takes s words first is = record { bytes = refl; moved = refl; says = λ rest. read_back s words rest first is }
 
 abbrev outline_front : Outline → List ℕ
 outline_front o = front_words o.regs.height o.played

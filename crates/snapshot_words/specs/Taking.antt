@@ -53,25 +53,38 @@ SaysFault (fault.Stop (Truncated byte)) found taken now = (found taken ≡ Short
 SaysFault (fault.Stop (ReadFault byte)) found taken now = found taken ≡ Short byte
 SaysFault (fault.Stop other) found taken now = ⊥
 
--- bytes were taken that say this fault
+-- some bytes break off
+abbrev pub IsShort : {A : Type 0} → Found A → Type 0
+IsShort (Short place) = Unit {0}
+IsShort found = ⊥
+
+-- none of these bytes is one too many: a proper part of them breaks off
+abbrev pub AreNeeded : {A : Type 0} → (List ℕ → Found A) → List ℕ → Type 0
+AreNeeded found taken = (part more : List ℕ) → taken ≡ part ++ more → (more ≡ [] → ⊥) → IsShort (found part)
+
+-- bytes were taken that say this fault, and none too many
 pub record Stops {A : Type 0} (found : List ℕ → Found A) (before now : Option (List ℕ)) (why : SnapFault) : Type 0 where
   pub taken : List ℕ
   pub bytes : before ≡ prepended taken now
+  pub needed : AreNeeded found taken
   pub says : SaysFault why found taken now
 
 -- The words so far of a part were taken. Whatever follows, it goes on from them at the place behind them.
 pub record Goes (s : Section) (before now : Option (List ℕ)) (first place : ℕ) (got : List ℕ) : Type 0 where
   pub bytes : before ≡ prepended (bytes_of got) now
+  pub needed : AreNeeded (section_from s [] first) (bytes_of got)
   pub says : (rest : List ℕ) → section_from s [] first (bytes_of got ++ rest) ≡ section_from s got place rest
 
 -- the words of a whole part were taken
 pub record Takes (s : Section) (before now : Option (List ℕ)) (first place : ℕ) (words : List ℕ) : Type 0 where
   pub bytes : before ≡ prepended (bytes_of words) now
+  pub needed : AreNeeded (section_from s [] first) (bytes_of words)
   pub moved : place ≡ first + 4 * length words
   pub says : (rest : List ℕ) → section_from s [] first (bytes_of words ++ rest) ≡ Whole words place rest
 
 -- the words of a state but for its memories were taken, and no byte more
 pub record TakesOutline (before now : Option (List ℕ)) (first place : ℕ) (o : Outline) : Type 0 where
   pub bytes : before ≡ prepended (bytes_of (outline_words o)) now
+  pub needed : AreNeeded (outline_from first) (bytes_of (outline_words o))
   pub moved : place ≡ first + 4 * length (outline_words o)
   pub says : (rest : List ℕ) → outline_from first (bytes_of (outline_words o) ++ rest) ≡ Whole o place rest
