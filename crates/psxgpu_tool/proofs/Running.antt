@@ -7,7 +7,6 @@ use Rattle.gpu_core.specs.Kept.{Kept, kept_of}
 use Rattle.gpu_core.specs.Machine.{State}
 use Rattle.gpu_taps.specs.Tally.{Reading}
 use Rattle.event_play.specs.Causes.{MayReadFault, MayWriteFault}
-use Rattle.event_play.specs.Playing.{EndsPlay}
 use Rattle.event_play.specs.Replay.{Tale, Played, next_number}
 use Rattle.event_play.specs.RigState.{RigState, first_rig}
 use Rattle.event_play.specs.Streams.{without_sink}
@@ -26,12 +25,16 @@ use Rattle.capture_flat.specs.declared.ending.FlatEnding.TheVariants as flat
 use Rattle.capture_slim.specs.Passing.{EndsSlim, IsEnding as IsSlimEnding, MayReadFault as MayReadSlim, MayWriteFault as MayWriteSlim, streams as slim_streams}
 use Rattle.capture_slim.specs.declared.ending.SlimEnding.{SlimEnding}
 use Rattle.capture_slim.specs.declared.ending.SlimEnding.TheVariants as slim
+use Rattle.gpu_snapshot.specs.PlayAny.{AnyMayReadFault, AnyMayWriteFault, EndsAny, FindsBadWord, PlaysAny}
+use Rattle.gpu_snapshot.specs.declared.ending.AnyEnding.{AnyEnding}
+use Rattle.gpu_snapshot.specs.declared.ending.AnyEnding.TheVariants as any
 use Rattle.px_num.specs.Height.{short_height}
+use Rattle.psxgpu_tool.specs.Line.{any_status, any_text}
 use Rattle.psxgpu_tool.specs.Command.{Names, IsUsage}
 use Rattle.psxgpu_tool.specs.CutRun.{CutRun}
 use Rattle.psxgpu_tool.specs.Demo.{Demo, demo_words}
 use Rattle.psxgpu_tool.specs.DemoOut.{demo_bytes, demo_tale, DemoOut, DemoCost, DemoBoxCost, cells_cost}
-use Rattle.psxgpu_tool.specs.First.{first, play_of, seen}
+use Rattle.psxgpu_tool.specs.First.{first, seen}
 use Rattle.psxgpu_tool.specs.FlatRun.{FlatRun}
 use Rattle.psxgpu_tool.specs.Line.{status_of, ending_line, ending_text, flat_status, flat_text, slim_status, slim_text, usage_line}
 use Rattle.psxgpu_tool.specs.Line.{cut_status, cut_text}
@@ -48,7 +51,8 @@ use Rattle.psxgpu_tool.proofs.Flats.{flat_three, flat_four, flat_whole, flat_com
 use Rattle.psxgpu_tool.proofs.Commands.{same_command}
 use Rattle.psxgpu_tool.proofs.Cuts.{cut_three, cut_four, cut_whole, cut_complete}
 use Rattle.psxgpu_tool.proofs.Slims.{slim_three, slim_four, slim_whole, slim_complete}
-use Rattle.psxgpu_tool.proofs.Told.{three_starved, four_cut, if_told, whole_run, refused_run, starved_run, cut_run, complete_run, cost_run, box_cost_run}
+use Rattle.psxgpu_tool.proofs.Told.{three_starved, four_cut, if_told, whole_run, refused_run, starved_run, blocked_run, complete_run, cost_run}
+use Rattle.psxgpu_tool.proofs.Told.{box_cost_run, bad_refused, bad_complete, bad_cost}
 
 -- the statuses of endings
 pub record IsKnown (status : ℕ) : Type 0 where
@@ -93,6 +97,10 @@ known_ending (Stopped n (Truncated byte)) = known 2 (inr (inl refl))
 known_ending (Stopped n (BadRecord byte word)) = known 2 (inr (inl refl))
 known_ending (Stopped n (TooLong byte)) = known 2 (inr (inl refl))
 known_ending (Stopped n (ReadFault byte)) = known 3 (inr (inr (inl refl)))
+
+known_any : (ending : AnyEnding) → IsKnown (any_status ending)
+known_any (any.Played ending) = known_ending ending
+known_any (any.BadSnapshot byte word) = known 2 (inr (inl refl))
 
 known_flat : (ending : FlatEnding) → IsKnown (flat_status ending)
 known_flat flat.Done = known 0 (inl refl)
@@ -151,47 +159,82 @@ answers command heard before now status known silent does = record {
   few = known.few;
 }
 
-module _ (heard heard_now : List Reading) (before now : Outside) (ending : Ending)
-    (says : Says before.err now.err (ending_text ending heard_now))
-    (silent : status_of ending ≡ 0 → now.err ≡ before.err) where
-  -- a capture that is played
-  play_run : (mode : Mode) (rig : RigState) → EndsPlay mode play_of (seen heard before) (seen heard_now now) rig ending
+-- a capture or a snapshot that is played
+module _ (heard heard_now : List Reading) (before now : Outside) where
+  play_run : (mode : Mode) (ending : Ending) → PlaysAny mode first (seen heard before) (seen heard_now now) ending
+      → Says before.err now.err (ending_text ending heard_now)
       → (MayReadFault ending → HasFailedToRead before.source now.source)
       → (MayWriteFault ending → HasFailed before.out now.out)
       → PlayRun mode heard before now (status_of ending)
-  play_run mode rig ends read_cause write_cause = record {
-    whole = λ zero. if_told before.source.left _
-        (λ bytes told. whole_run mode heard heard_now before now rig bytes told ending ends zero);
+  play_run mode ending played says read_cause write_cause =
+      record {
+        whole = λ zero. if_told before.source.left _
+            (λ bytes told. whole_run mode heard heard_now before now played.opening played.rig bytes told ending
+            (played.plays, played.good) zero);
+        refused = λ two. if_told before.source.left _ (λ bytes told.
+            refused_run mode heard heard_now before now played.opening played.rig bytes told ending
+            (played.plays, played.good) two says);
+        starved = λ three. (
+          read_cause (may_read ending three),
+          if_told before.source.left _ (λ bytes told.
+              starved_run mode heard heard_now before now played.opening played.rig bytes told ending
+              (played.plays, played.good) three says),
+        );
+        cut = λ four. (
+          write_cause (may_write ending four),
+          if_told before.source.left _ (λ bytes told.
+              blocked_run mode heard heard_now before now played.opening played.rig bytes told ending
+              played.plays four says),
+        );
+        complete = λ read write. inr (if_told before.source.left _ (λ bytes told.
+            complete_run mode heard heard_now before now played.opening played.rig bytes told ending
+            (played.plays, played.good) (λ may. read (read_cause may)) (λ may. write (write_cause may))));
+        cost = if_told before.source.left _ (λ bytes told.
+            cost_run mode heard heard_now before now played.opening played.rig bytes told ending
+            played.plays played.cost);
+        box_cost = if_told before.source.left _ (λ bytes told.
+            box_cost_run mode heard heard_now before now played.opening played.rig bytes told ending
+            played.plays played.cost);
+      }
+
+  bad_run : (mode : Mode) (byte word : ℕ) → FindsBadWord (seen heard before) (seen heard_now now) byte word
+      → Says before.err now.err (any_text (any.BadSnapshot byte word) heard_now) → PlayRun mode heard before now 2
+  bad_run mode byte word finds says = record {
+    whole = λ zero. absurd (omega (arith, zero));
     refused = λ two. if_told before.source.left _
-        (λ bytes told. refused_run mode heard heard_now before now rig bytes told ending ends two says);
-    starved = λ three. (
-      read_cause (may_read ending three),
-      if_told before.source.left _
-          (λ bytes told. starved_run mode heard heard_now before now rig bytes told ending ends three says),
-    );
-    cut = λ four. (
-      write_cause (may_write ending four),
-      if_told before.source.left _
-          (λ bytes told. cut_run mode heard heard_now before now rig bytes told ending ends four says),
-    );
+        (λ bytes told. bad_refused mode heard heard_now before now bytes told byte word finds says);
+    starved = λ three. absurd (omega (arith, three));
+    cut = λ four. absurd (omega (arith, four));
     complete = λ read write. inr (if_told before.source.left _
-        (λ bytes told. complete_run mode heard heard_now before now rig bytes told ending ends
-        (λ may. read (read_cause may)) (λ may. write (write_cause may))));
+        (λ bytes told. bad_complete mode heard heard_now before now bytes told byte word finds));
     cost = if_told before.source.left _
-        (λ bytes told. cost_run mode heard heard_now before now rig bytes told ending ends);
+        (λ bytes told. bad_cost mode heard heard_now before now bytes told byte word finds _);
     box_cost = if_told before.source.left _
-        (λ bytes told. box_cost_run mode heard heard_now before now rig bytes told ending ends);
+        (λ bytes told. bad_cost mode heard heard_now before now bytes told byte word finds _);
   }
 
-  pub plays_runs : (mode : Mode) (rig : RigState)
-      → EndsPlay mode play_of (seen heard before) (seen heard_now now) rig ending
-      → (MayReadFault ending → HasFailedToRead before.source now.source)
-      → (MayWriteFault ending → HasFailed before.out now.out)
-      → CommandRun (Plays mode) heard before now (status_of ending)
-  plays_runs mode rig ends read_cause write_cause =
-      answers (Plays mode) heard before now (status_of ending) (known_ending ending) silent
-      (play_run mode rig ends read_cause write_cause)
+  file_run : (mode : Mode) (ending : AnyEnding) → EndsAny mode first (seen heard before) (seen heard_now now) ending
+      → Says before.err now.err (any_text ending heard_now)
+      → (AnyMayReadFault ending → HasFailedToRead before.source now.source)
+      → (AnyMayWriteFault ending → HasFailed before.out now.out)
+      → PlayRun mode heard before now (any_status ending)
+  file_run mode (any.Played ending) ends says read_cause write_cause =
+      play_run mode ending ends says read_cause write_cause
+  file_run mode (any.BadSnapshot byte word) ends says read_cause write_cause = bad_run mode byte word ends says
 
+  pub plays_runs : (ending : AnyEnding) → Says before.err now.err (any_text ending heard_now)
+      → (any_status ending ≡ 0 → now.err ≡ before.err)
+      → (mode : Mode) → EndsAny mode first (seen heard before) (seen heard_now now) ending
+      → (AnyMayReadFault ending → HasFailedToRead before.source now.source)
+      → (AnyMayWriteFault ending → HasFailed before.out now.out)
+      → CommandRun (Plays mode) heard before now (any_status ending)
+  plays_runs ending says silent mode ends read_cause write_cause =
+      answers (Plays mode) heard before now (any_status ending) (known_any ending) silent
+      (file_run mode ending ends says read_cause write_cause)
+
+module _ (heard heard_now : List Reading) (before now : Outside) (ending : Ending)
+    (says : Says before.err now.err (ending_text ending heard_now))
+    (silent : status_of ending ≡ 0 → now.err ≡ before.err) where
   -- what was to be told was, or a part of it
   tells : (bytes : List ℕ) (event : ℕ) (e : Ending) → EndsTelling bytes event before.out now.out e
       → Says before.err now.err (ending_text e heard_now)

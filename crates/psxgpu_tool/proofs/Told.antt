@@ -7,16 +7,23 @@ use Rattle.gpu_taps.specs.Tally.{Reading}
 use Rattle.event_play.specs.Causes.{MayReadFault, MayWriteFault}
 use Rattle.event_play.specs.Out.{lines_of, unless_lacking, ending_under, finals_at, Out, OutCost, OutBoxCost}
 use Rattle.event_play.specs.Playing.{EndsPlay, whole}
-use Rattle.event_play.specs.Replay.{Tale, Played}
+use Rattle.event_play.specs.Replay.{Tale, Played, next_number}
 use Rattle.event_play.specs.RigState.{RigState}
 use Rattle.event_play.specs.Told.{told_notes}
 use Rattle.event_play.specs.declared.ending.Ending.{Ending}
 use Rattle.event_play.specs.declared.ending.Ending.TheVariants.{Done, Stopped, Faulted, NoPicture, WriteFailed}
 use Rattle.event_play.specs.declared.ending.Mode.{Mode}
-use Rattle.psxgpu_tool.specs.First.{play_of, seen}
-use Rattle.psxgpu_tool.specs.Line.{status_of, ending_line, ending_text}
+use Rattle.gpu_snapshot.specs.Opened.{Opened, Captured, Restored, Unknown, BreaksOff, BadWord, opened}
+use Rattle.gpu_snapshot.specs.Opening.{opening_cost}
+use Rattle.gpu_snapshot.specs.PlayAny.{PlayAny, FindsBadWord, HasNoBadWord, IsGood, any_ending, played_opened, spent}
+use Rattle.gpu_snapshot.specs.declared.ending.AnyEnding.{AnyEnding}
+use Rattle.gpu_snapshot.specs.declared.ending.AnyEnding.TheVariants as any
+use Rattle.dev_io.proofs.Appended.{appended-nil}
+use Rattle.event_play.proofs.Grows.{lines-none}
+use Rattle.psxgpu_tool.specs.First.{file_ending, first, play_file, seen}
+use Rattle.psxgpu_tool.specs.Line.{status_of, ending_line, ending_text, any_status, any_text}
 use Rattle.psxgpu_tool.specs.Outside.{Outside, Says}
-use Rattle.psxgpu_tool.specs.PlayRun.{WholeRun, RefusedRun, StarvedRun, BlockedRun}
+use Rattle.psxgpu_tool.specs.PlayRun.{WholeRun, RefusedRun, StarvedRun, BlockedRun, AreNeededFor}
 
 -- ---- endings
 
@@ -151,86 +158,104 @@ if_told (Some bytes) P fact = fact bytes refl
 pub record EndsCaptured (mode : Mode) (heard : List Reading) (bytes taken rest : List ℕ) (before now : Outside)
     (t : Tale) (ending : Ending)
     : Type 0 where
-  pub ends : ending_under mode (play_of bytes) ≡ ending
-  pub tale : (play_of bytes).tale ≡ t
-  pub held : now.out.held ≡ appended before.out.held (Out mode heard (play_of bytes))
-  pub decides : ((more : List ℕ) → ending_under mode (play_of (taken ++ more)) ≡ ending) ⊎ (rest ≡ [])
+  pub ends : ending_under mode (play_file bytes) ≡ ending
+  pub tale : (play_file bytes).tale ≡ t
+  pub held : now.out.held ≡ appended before.out.held (Out mode heard (play_file bytes))
+  pub decides : ((more : List ℕ) → ending_under mode (play_file (taken ++ more)) ≡ ending) ⊎ (rest ≡ [])
 
-module _ (mode : Mode) (heard heard_now : List Reading) (before now : Outside) (rig : RigState) (bytes : List ℕ)
-    (told : before.source.left ≡ Some bytes) where
+-- a file with no bad word ends as it is played
+good_any : (found : Opened) (ending : Ending) → HasNoBadWord found → any_ending found ending ≡ any.Played ending
+good_any (Captured version rest) ending good = refl
+good_any (Restored s place rest) ending good = refl
+good_any (Unknown place rest) ending good = refl
+good_any (BreaksOff place) ending good = refl
+good_any (BadWord place word) ending good = absurd good
+
+file_by : (mode : Mode) (bytes : List ℕ) (ending : Ending) → HasNoBadWord (opened bytes)
+    → ending_under mode (play_file bytes) ≡ ending → file_ending mode bytes ≡ any.Played ending
+file_by mode bytes ending good is =
+    good_any (opened bytes) (ending_under mode (play_file bytes)) good ∙ ap any.Played is
+
+-- it ended so as a file
+pub record EndsFile (mode : Mode) (bytes : List ℕ) (ending : Ending) (taken rest : List ℕ) : Type 0 where
+  pub ends : file_ending mode bytes ≡ any.Played ending
+  pub decides : ((more : List ℕ) → file_ending mode (taken ++ more) ≡ any.Played ending) ⊎ (rest ≡ [])
+
+module _ (mode : Mode) (heard heard_now : List Reading) (before now : Outside) (opening : ℕ) (rig : RigState)
+    (bytes : List ℕ) (told : before.source.left ≡ Some bytes) where
   abbrev Ends : Ending → Type 0
-  Ends ending = EndsPlay mode play_of (seen heard before) (seen heard_now now) rig ending
+  Ends ending = EndsPlay mode play_file (spent (seen heard before) opening) (seen heard_now now) rig ending
 
   taken_of : (ending : Ending) (ends : Ends ending) → IsCut bytes ends.taken now.source.left
   taken_of ending ends = cut bytes ends.taken now.source.left (sym told ∙ ends.bytes)
 
   -- a replay with these parts
-  captured_by : (ending : Ending) (taken rest : List ℕ) (t : Tale) → (play_of bytes).tale ≡ t
-      → (play_of bytes).ending ≡ ending → IsNotDone ending
+  captured_by : (ending : Ending) (taken rest : List ℕ) (t : Tale) → (play_file bytes).tale ≡ t
+      → (play_file bytes).ending ≡ ending → IsNotDone ending
       → now.out.held ≡ appended before.out.held (lines_of mode t)
-      → ((more : List ℕ) → ending_under mode (play_of (taken ++ more)) ≡ ending) ⊎ (rest ≡ [])
+      → ((more : List ℕ) → ending_under mode (play_file (taken ++ more)) ≡ ending) ⊎ (rest ≡ [])
       → EndsCaptured mode heard bytes taken rest before now t ending
   captured_by ending taken rest t tale is other held decides =
-      let ends = stays_under mode (play_of bytes) ending is other in
+      let ends = stays_under mode (play_file bytes) ending is other in
       record {
         ends = ends;
         tale = tale;
-        held = held ∙ ap (appended before.out.held) (lines_are mode heard (play_of bytes) t ending tale ends other);
+        held = held ∙ ap (appended before.out.held) (lines_are mode heard (play_file bytes) t ending tale ends other);
         decides = decides;
       }
 
   -- a stop that the bytes taken decide
   stopped : (taken rest : List ℕ) (t : Tale) (ending : Ending) → bytes ≡ taken ++ rest
-      → ((rest : List ℕ) → play_of (taken ++ rest) ≡ record { tale = t; ending = ending; rest = rest })
+      → ((rest : List ℕ) → play_file (taken ++ rest) ≡ record { tale = t; ending = ending; rest = rest })
       → IsNotDone ending
       → now.out.held ≡ appended before.out.held (lines_of mode t)
       → EndsCaptured mode heard bytes taken rest before now t ending
   stopped taken rest t ending all says other held =
-      let is : play_of bytes ≡ record { tale = t; ending = ending; rest = rest } = ap play_of all ∙ says rest in
+      let is : play_file bytes ≡ record { tale = t; ending = ending; rest = rest } = ap play_file all ∙ says rest in
       captured_by ending taken rest t (ap (λ (r : Played). r.tale) is) (ap (λ (r : Played). r.ending) is) other held
-      (inl (λ more. stays_under mode (play_of (taken ++ more)) ending
+      (inl (λ more. stays_under mode (play_file (taken ++ more)) ending
       (ap (λ (r : Played). r.ending) (says more)) other))
 
   captured : (ending : Ending) (ends : Ends ending) → (MayReadFault ending → ⊥) → (MayWriteFault ending → ⊥)
       → EndsCaptured mode heard bytes ends.taken (taken_of ending ends).rest before now ends.tale ending
   captured Done ends read write =
       let is_cut = taken_of Done ends in
-      let is : play_of bytes ≡ whole ends.tale is_cut.rest = ap play_of is_cut.all ∙ ends.says.0 is_cut.rest in
-      let done : ending_under mode (play_of bytes) ≡ Done = ap (ending_under mode) is ∙ ends.says.1 in
-      let tale : (play_of bytes).tale ≡ ends.tale = ap (λ (r : Played). r.tale) is in
+      let is : play_file bytes ≡ whole ends.tale is_cut.rest = ap play_file is_cut.all ∙ ends.says.0 is_cut.rest in
+      let done : ending_under mode (play_file bytes) ≡ Done = ap (ending_under mode) is ∙ ends.says.1 in
+      let tale : (play_file bytes).tale ≡ ends.tale = ap (λ (r : Played). r.tale) is in
       record {
         ends = done;
         tale = tale;
         held = ends.says.2 ∙ ap (appended before.out.held)
-            (sym (out_is mode heard (play_of bytes) ends.tale Done tale done));
+            (sym (out_is mode heard (play_file bytes) ends.tale Done tale done));
         decides = inl (λ more. ap (ending_under mode) (ends.says.0 more) ∙ ends.says.1);
       }
   captured (NoPicture number) ends read write =
       let is_cut = taken_of (NoPicture number) ends in
-      let is : play_of bytes ≡ whole ends.tale is_cut.rest = ap play_of is_cut.all ∙ ends.says.0 is_cut.rest in
-      let none : ending_under mode (play_of bytes) ≡ NoPicture number = ap (ending_under mode) is ∙ ends.says.1 in
-      let tale : (play_of bytes).tale ≡ ends.tale = ap (λ (r : Played). r.tale) is in
+      let is : play_file bytes ≡ whole ends.tale is_cut.rest = ap play_file is_cut.all ∙ ends.says.0 is_cut.rest in
+      let none : ending_under mode (play_file bytes) ≡ NoPicture number = ap (ending_under mode) is ∙ ends.says.1 in
+      let tale : (play_file bytes).tale ≡ ends.tale = ap (λ (r : Played). r.tale) is in
       record {
         ends = none;
         tale = tale;
         held = ends.says.2 ∙ ap (appended before.out.held)
-            (lines_are mode heard (play_of bytes) ends.tale (NoPicture number) tale none tt);
+            (lines_are mode heard (play_file bytes) ends.tale (NoPicture number) tale none tt);
         decides = inl (λ more. ap (ending_under mode) (ends.says.0 more) ∙ ends.says.1);
       }
   captured (WriteFailed number) ends read write = absurd (write tt)
   captured (Faulted number fault) ends read write =
       let is_cut = taken_of (Faulted number fault) ends in
-      let same = ap play_of is_cut.all in
+      let same = ap play_file is_cut.all in
       captured_by (Faulted number fault) ends.taken is_cut.rest ends.tale
       (ap (λ (r : Played). r.tale) same ∙ (ends.says.0 is_cut.rest).0)
       (ap (λ (r : Played). r.ending) same ∙ (ends.says.0 is_cut.rest).1) tt ends.says.1
-      (inl (λ more. stays_under mode (play_of (ends.taken ++ more)) (Faulted number fault) (ends.says.0 more).1 tt))
+      (inl (λ more. stays_under mode (play_file (ends.taken ++ more)) (Faulted number fault) (ends.says.0 more).1 tt))
   captured (Stopped number (ReadFault byte)) ends read write = absurd (read tt)
   captured (Stopped number (Truncated byte)) ends read write =
       let is_cut = taken_of (Stopped number (Truncated byte)) ends in
       let none = none_left now.source.left is_cut.rest is_cut.left_is ends.says.2 in
-      let is : play_of bytes ≡ record { tale = ends.tale; ending = Stopped number (Truncated byte); rest = [] } =
-      ap play_of (all_taken bytes ends.taken is_cut.rest is_cut.all none) ∙ ends.says.0
+      let is : play_file bytes ≡ record { tale = ends.tale; ending = Stopped number (Truncated byte); rest = [] } =
+      ap play_file (all_taken bytes ends.taken is_cut.rest is_cut.all none) ∙ ends.says.0
       in
       captured_by (Stopped number (Truncated byte)) ends.taken is_cut.rest ends.tale
       (ap (λ (r : Played). r.tale) is) (ap (λ (r : Played). r.ending) is) tt ends.says.1 (inr none)
@@ -256,55 +281,110 @@ module _ (mode : Mode) (heard heard_now : List Reading) (before now : Outside) (
   last_of (Faulted number fault) ends write = ends.is_last
   last_of (WriteFailed number) ends write = absurd (write tt)
 
-  pub whole_run : (ending : Ending) → Ends ending → status_of ending ≡ 0 → WholeRun mode heard bytes before now
-  whole_run ending ends zero =
-      let done = subst Ends (zero_done ending zero) ends in
-      let is_cut = taken_of Done done in
-      let is : play_of bytes ≡ whole done.tale is_cut.rest = ap play_of is_cut.all ∙ done.says.0 is_cut.rest in
-      let captured = captured Done done (λ may. may) (λ may. may) in
+  -- ---- with what opening says
+
+  -- no word of a state is bad, whatever follows the bytes taken
+  good_all : (ending : Ending) (ends : Ends ending) → ((rest : List ℕ) → HasNoBadWord (opened (ends.taken ++ rest)))
+      → (MayReadFault ending → ⊥) → (MayWriteFault ending → ⊥)
+      → EndsFile mode bytes ending ends.taken (taken_of ending ends).rest
+  good_all ending ends good read write =
+      let is_cut = taken_of ending ends in
+      let captured = captured ending ends read write in
+      let all = subst (λ (xs : List ℕ). HasNoBadWord (opened xs)) (sym is_cut.all) (good is_cut.rest) in
       record {
-        ending = captured.ends;
-        left = is_cut.left_is
-            ∙ ap (λ (r : Played). Some r.rest) (sym is);
-        held = captured.held;
+        ends = file_by mode bytes ending all captured.ends;
+        decides = elim captured.decides [
+          | inl decides ↦ inl (λ more. file_by mode (ends.taken ++ more) ending (good more) (decides more))
+          | inr none ↦ inr none
+        ];
       }
 
-  pub refused_run : (ending : Ending) → Ends ending → status_of ending ≡ 2
-      → Says before.err now.err (ending_text ending heard_now)
-      → RefusedRun mode heard bytes before now
-  refused_run ending ends two says =
+  file_ends : (ending : Ending) (ends : Ends ending) → IsGood ending ends.taken → (MayReadFault ending → ⊥)
+      → (MayWriteFault ending → ⊥) → EndsFile mode bytes ending ends.taken (taken_of ending ends).rest
+  file_ends (Stopped number (ReadFault byte)) ends good read write = absurd (read tt)
+  file_ends (Stopped number (Truncated byte)) ends good read write =
+      let is_cut = taken_of (Stopped number (Truncated byte)) ends in
+      let none = none_left now.source.left is_cut.rest is_cut.left_is ends.says.2 in
+      let all = subst (λ (xs : List ℕ). HasNoBadWord (opened xs))
+      (sym (all_taken bytes ends.taken is_cut.rest is_cut.all none)) good in
+      record {
+        ends = file_by mode bytes (Stopped number (Truncated byte)) all
+            (captured (Stopped number (Truncated byte)) ends read write).ends;
+        decides = inr none;
+      }
+  file_ends (Stopped number End) ends good read write = good_all (Stopped number End) ends good read write
+  file_ends (Stopped number (NotCapture byte)) ends good read write =
+      good_all (Stopped number (NotCapture byte)) ends good read write
+  file_ends (Stopped number (BadRecord byte word)) ends good read write =
+      good_all (Stopped number (BadRecord byte word)) ends good read write
+  file_ends (Stopped number (TooLong byte)) ends good read write =
+      good_all (Stopped number (TooLong byte)) ends good read write
+  file_ends Done ends good read write = good_all Done ends good read write
+  file_ends (NoPicture number) ends good read write = good_all (NoPicture number) ends good read write
+  file_ends (Faulted number fault) ends good read write = good_all (Faulted number fault) ends good read write
+  file_ends (WriteFailed number) ends good read write = absurd (write tt)
+
+  -- ---- the statuses
+
+  -- an ending of which no bad word is known
+  abbrev Good : Ending → Type 0
+  Good ending = (ends : Ends ending) × IsGood ending ends.taken
+
+  whole_by : Good Done → WholeRun mode heard bytes before now
+  whole_by both =
+      let ends = both.0 in
+      let is_cut = taken_of Done ends in
+      let is : play_file bytes ≡ whole ends.tale is_cut.rest = ap play_file is_cut.all ∙ ends.says.0 is_cut.rest in
+      record {
+        ending = (file_ends Done ends both.1 (λ may. may) (λ may. may)).ends;
+        left = is_cut.left_is ∙ ap (λ (r : Played). Some r.rest) (sym is);
+        held = (captured Done ends (λ may. may) (λ may. may)).held;
+      }
+
+  pub whole_run : (ending : Ending) → Good ending → status_of ending ≡ 0 → WholeRun mode heard bytes before now
+  whole_run ending good zero = whole_by (subst Good (zero_done ending zero) good)
+
+  pub refused_run : (ending : Ending) → Good ending → status_of ending ≡ 2
+      → Says before.err now.err (ending_text ending heard_now) → RefusedRun mode heard bytes before now
+  refused_run ending both two says =
+      let ends = both.0 in
+      let read : MayReadFault ending → ⊥ = λ may. let three = read_three ending may in omega (arith, two, three) in
       let write : MayWriteFault ending → ⊥ = λ may. let four = write_four ending may in omega (arith, two, four) in
       let is_cut = taken_of ending ends in
-      let captured = captured ending ends (λ may. let three = read_three ending may in omega (arith, two, three)) write in
-      let notes = ends.heard ∙ ap (λ (t : Tale). told_notes t.notes heard) (last_of ending ends write ∙ sym captured.tale) in
-      let text : ending_text ending heard_now ≡ ending_text (ending_under mode (play_of bytes)) (told_notes (play_of bytes).tale.notes heard) =
+      let captured = captured ending ends read write in
+      let file = file_ends ending ends both.1 read write in
+      let notes = ends.heard
+      ∙ ap (λ (t : Tale). told_notes t.notes heard) (last_of ending ends write ∙ sym captured.tale) in
+      let text : ending_text ending heard_now
+      ≡ any_text (file_ending mode bytes) (told_notes (play_file bytes).tale.notes heard) =
       ap (ending_text ending) notes
-      ∙ ap (λ (e : Ending). ending_text e (told_notes (play_of bytes).tale.notes heard)) (sym captured.ends)
+      ∙ ap (λ (e : AnyEnding). any_text e (told_notes (play_file bytes).tale.notes heard)) (sym file.ends)
       in
       record {
-        status = ap status_of captured.ends ∙ two;
+        status = ap any_status file.ends ∙ two;
         held = captured.held;
         decided = record {
           taken = ends.taken;
           rest = is_cut.rest;
           all = is_cut.all;
           left = is_cut.left_is;
-          needed = ends.needed;
-          decides = elim captured.decides [
-            | inl decides ↦ inl
-                (λ more. decides more ∙ sym captured.ends)
+          needed = subst (λ (e : AnyEnding). AreNeededFor e ends.taken) (sym file.ends) ends.needed;
+          decides = elim file.decides [
+            | inl decides ↦ inl (λ more. decides more ∙ sym file.ends)
             | inr none ↦ inr none
           ];
         };
         says = subst (Says before.err now.err) text says;
       }
 
-  starved_by : (number byte : ℕ) → Ends (Stopped number (ReadFault byte))
+  starved_by : (number byte : ℕ) → Good (Stopped number (ReadFault byte))
       → Says before.err now.err (ending_line (Stopped number (ReadFault byte))) → StarvedRun mode heard bytes before now
-  starved_by number byte ends says =
+  starved_by number byte both says =
+      let ends = both.0 in
       let is_cut = taken_of (Stopped number (ReadFault byte)) ends in
       let is = ends.says.0 in
-      let short : (play_of ends.taken).ending ≡ Stopped number (Truncated byte) = ap (λ (r : Played). r.ending) is in
+      let short = stays_under mode (play_file ends.taken) (Stopped number (Truncated byte))
+      (ap (λ (r : Played). r.ending) is) tt in
       record {
         taken = ends.taken;
         rest = is_cut.rest;
@@ -312,25 +392,23 @@ module _ (mode : Mode) (heard heard_now : List Reading) (before now : Outside) (
         left = is_cut.left_is;
         event = number;
         byte = byte;
-        ending = short;
+        ending = file_by mode ends.taken (Stopped number (Truncated byte)) both.1 short;
         held = ends.says.1 ∙ ap (appended before.out.held)
-            (lines_are mode heard (play_of ends.taken) ends.tale (Stopped number (Truncated byte))
-            (ap (λ (r : Played). r.tale) is)
-            (stays_under mode (play_of ends.taken) (Stopped number (Truncated byte)) short tt) tt);
+            (lines_are mode heard (play_file ends.taken) ends.tale (Stopped number (Truncated byte))
+            (ap (λ (r : Played). r.tale) is) short tt);
         says = says;
       }
 
-  pub starved_run : (ending : Ending) → Ends ending → status_of ending ≡ 3
-      → Says before.err now.err (ending_text ending heard_now)
-      → StarvedRun mode heard bytes before now
-  starved_run ending ends three says =
+  pub starved_run : (ending : Ending) → Good ending → status_of ending ≡ 3
+      → Says before.err now.err (ending_text ending heard_now) → StarvedRun mode heard bytes before now
+  starved_run ending good three says =
       let is = three_starved ending three in
       let text = subst (λ (e : Ending). Says before.err now.err (ending_text e heard_now)) is.1.1 says in
-      starved_by is.0 is.1.0 (subst Ends is.1.1 ends) (rw append-nil at text)
+      starved_by is.0 is.1.0 (subst Good is.1.1 good) (rw append-nil at text)
 
-  cut_by : (number : ℕ) → Ends (WriteFailed number) → Says before.err now.err (ending_line (WriteFailed number))
-      → BlockedRun mode heard bytes before now
-  cut_by number ends says =
+  blocked_by : (number : ℕ) → Ends (WriteFailed number)
+      → Says before.err now.err (ending_line (WriteFailed number)) → BlockedRun mode heard bytes before now
+  blocked_by number ends says =
       let is_cut = taken_of (WriteFailed number) ends in
       let lacks = ends.says in
       record {
@@ -352,20 +430,100 @@ module _ (mode : Mode) (heard heard_now : List Reading) (before now : Outside) (
         says = says;
       }
 
-  pub cut_run : (ending : Ending) → Ends ending → status_of ending ≡ 4
-      → Says before.err now.err (ending_text ending heard_now)
-      → BlockedRun mode heard bytes before now
-  cut_run ending ends four says =
+  pub blocked_run : (ending : Ending) → Ends ending → status_of ending ≡ 4
+      → Says before.err now.err (ending_text ending heard_now) → BlockedRun mode heard bytes before now
+  blocked_run ending ends four says =
       let is = four_cut ending four in
       let text = subst (λ (e : Ending). Says before.err now.err (ending_text e heard_now)) is.1 says in
-      cut_by is.0 (subst Ends is.1 ends) (rw append-nil at text)
+      blocked_by is.0 (subst Ends is.1 ends) (rw append-nil at text)
 
-  pub complete_run : (ending : Ending) → Ends ending → (MayReadFault ending → ⊥) → (MayWriteFault ending → ⊥)
-      → status_of ending ≡ status_of (ending_under mode (play_of bytes))
-  complete_run ending ends read write = sym (ap status_of (captured ending ends read write).ends)
+  pub complete_run : (ending : Ending) → Good ending → (MayReadFault ending → ⊥) → (MayWriteFault ending → ⊥)
+      → status_of ending ≡ any_status (file_ending mode bytes)
+  complete_run ending both read write = sym (ap any_status (file_ends ending both.0 both.1 read write).ends)
 
-  pub cost_run : (ending : Ending) → Ends ending → now.steps ≤ before.steps + OutCost mode (play_of bytes)
-  cost_run ending ends = let is_cut = taken_of ending ends in rw is_cut.all (ends.cost is_cut.rest)
+  -- the store steps of opening are within those of all bytes
+  opened_within : (ending : Ending) (ends : Ends ending)
+      → ((rest : List ℕ) → opening ≤ opening_cost (ends.taken ++ rest)) → opening ≤ opening_cost bytes
+  opened_within ending ends cost = let is_cut = taken_of ending ends in rw is_cut.all (cost is_cut.rest)
 
-  pub box_cost_run : (ending : Ending) → Ends ending → now.steps ≤ before.steps + OutBoxCost mode (play_of bytes)
-  box_cost_run ending ends = let is_cut = taken_of ending ends in rw is_cut.all (ends.box_cost is_cut.rest)
+  pub cost_run : (ending : Ending) (ends : Ends ending)
+      → ((rest : List ℕ) → opening ≤ opening_cost (ends.taken ++ rest))
+      → now.steps ≤ before.steps + opening_cost bytes + OutCost mode (play_file bytes)
+  cost_run ending ends cost =
+      let is_cut = taken_of ending ends in
+      let played : now.steps ≤ before.steps + opening + OutCost mode (play_file bytes) =
+      rw is_cut.all (ends.cost is_cut.rest)
+      in
+      let first = opened_within ending ends cost in
+      omega (arith, played, first)
+
+  pub box_cost_run : (ending : Ending) (ends : Ends ending)
+      → ((rest : List ℕ) → opening ≤ opening_cost (ends.taken ++ rest))
+      → now.steps ≤ before.steps + opening_cost bytes + OutBoxCost mode (play_file bytes)
+  box_cost_run ending ends cost =
+      let is_cut = taken_of ending ends in
+      let played : now.steps ≤ before.steps + opening + OutBoxCost mode (play_file bytes) =
+      rw is_cut.all (ends.box_cost is_cut.rest)
+      in
+      let first = opened_within ending ends cost in
+      omega (arith, played, first)
+
+-- ---- a bad word of a state
+
+module _ (mode : Mode) (heard heard_now : List Reading) (before now : Outside) (bytes : List ℕ)
+    (told : before.source.left ≡ Some bytes) (byte word : ℕ)
+    (finds : FindsBadWord (seen heard before) (seen heard_now now) byte word) where
+  part : IsCut bytes finds.taken now.source.left
+  part = cut bytes finds.taken now.source.left (sym told ∙ finds.bytes)
+
+  bad_found : opened bytes ≡ BadWord byte word
+  bad_found = ap opened part.all ∙ finds.says part.rest
+
+  bad_ending : (xs : List ℕ) → opened xs ≡ BadWord byte word → file_ending mode xs ≡ any.BadSnapshot byte word
+  bad_ending xs found = ap (λ (found : Opened). any_ending found (ending_under mode (play_file xs))) found
+
+  -- nothing was played
+  bad_played : play_file bytes ≡ played_opened first bytes (BadWord byte word)
+  unfolding PlayAny
+  bad_played = ap (played_opened first bytes) bad_found
+
+  bad_nothing : Out mode heard (play_file bytes) ≡ []
+  bad_nothing =
+      let ending = Stopped (next_number first.played) (BadRecord byte word) in
+      let tale : (play_file bytes).tale ≡ first = ap (λ (r : Played). r.tale) bad_played in
+      let is = stays_under mode (play_file bytes) ending (ap (λ (r : Played). r.ending) bad_played) tt in
+      sym (lines_are mode heard (play_file bytes) first ending tale is tt) ∙ lines-none mode
+
+  pub bad_refused : Says before.err now.err (any_text (any.BadSnapshot byte word) heard_now)
+      → RefusedRun mode heard bytes before now
+  bad_refused says =
+      let ends = bad_ending bytes bad_found in
+      let notes : told_notes (play_file bytes).tale.notes heard ≡ heard =
+      ap (λ (r : Played). told_notes r.tale.notes heard) bad_played
+      in
+      let text : any_text (any.BadSnapshot byte word) heard_now
+      ≡ any_text (file_ending mode bytes) (told_notes (play_file bytes).tale.notes heard) =
+      ap (any_text (any.BadSnapshot byte word)) (finds.heard ∙ sym notes)
+      ∙ ap (λ (e : AnyEnding). any_text e (told_notes (play_file bytes).tale.notes heard)) (sym ends)
+      in
+      record {
+        status = ap any_status ends;
+        held = finds.held ∙ sym (appended-nil before.out.held) ∙ ap (appended before.out.held) (sym bad_nothing);
+        decided = record {
+          taken = finds.taken;
+          rest = part.rest;
+          all = part.all;
+          left = part.left_is;
+          needed = subst (λ (e : AnyEnding). AreNeededFor e finds.taken) (sym ends) tt;
+          decides = inl (λ more. bad_ending (finds.taken ++ more) (finds.says more) ∙ sym ends);
+        };
+        says = subst (Says before.err now.err) text says;
+      }
+
+  pub bad_complete : 2 ≡ any_status (file_ending mode bytes)
+  bad_complete = sym (ap any_status (bad_ending bytes bad_found))
+
+  pub bad_cost : (cost : ℕ) → now.steps ≤ before.steps + opening_cost bytes + cost
+  bad_cost cost =
+      let spent : now.steps ≤ before.steps + opening_cost bytes = rw part.all (finds.cost part.rest) in
+      omega (arith, spent)

@@ -11,6 +11,8 @@ use Rattle.capture_cut.specs.declared.ending.CutEnding.{CutEnding}
 use Rattle.capture_cut.specs.declared.ending.CutEnding.TheVariants as cut
 use Rattle.capture_slim.specs.declared.ending.SlimEnding.{SlimEnding}
 use Rattle.capture_slim.specs.declared.ending.SlimEnding.TheVariants as slim
+use Rattle.gpu_snapshot.specs.declared.ending.AnyEnding.{AnyEnding}
+use Rattle.gpu_snapshot.specs.declared.ending.AnyEnding.TheVariants as any
 use Rattle.event_play.specs.declared.ending.Ending.{Ending}
 use Rattle.event_play.specs.declared.ending.Ending.TheVariants.{Done, Stopped, Faulted, NoPicture, WriteFailed}
 use Rattle.event_play.specs.declared.fault.EventFault.{EventFault}
@@ -32,11 +34,11 @@ place_line name event byte =
     codes "psxgpu: " ++ (name ++ (codes " at event "
     ++ (decimal event ++ (codes " byte " ++ (decimal byte ++ codes "\n")))))
 
--- psxgpu: bad-record at event N byte B word W
-unfoldable pub bad_record_line : (event byte word : ℕ) → List ℕ
-bad_record_line event byte word =
-    codes "psxgpu: bad-record at event " ++ (decimal event
-    ++ (codes " byte " ++ (decimal byte ++ (codes " word " ++ (word_text word ++ codes "\n")))))
+-- psxgpu: NAME at event N byte B word W
+unfoldable pub word_line : (name : List ℕ) → (event byte word : ℕ) → List ℕ
+word_line name event byte word =
+    codes "psxgpu: " ++ (name ++ (codes " at event " ++ (decimal event
+    ++ (codes " byte " ++ (decimal byte ++ (codes " word " ++ (word_text word ++ codes "\n")))))))
 
 -- psxgpu: dma-too-long at event N words W
 unfoldable pub too_long_line : (event words : ℕ) → List ℕ
@@ -52,7 +54,7 @@ abbrev pub stop_line : (event : ℕ) → Stop → List ℕ
 stop_line event End = []
 stop_line event (NotCapture byte) = place_line (codes "not-capture") event byte
 stop_line event (Truncated byte) = place_line (codes "truncated") event byte
-stop_line event (BadRecord byte word) = bad_record_line event byte word
+stop_line event (BadRecord byte word) = word_line (codes "bad-record") event byte word
 stop_line event (TooLong byte) = place_line (codes "too-long") event byte
 stop_line event (ReadFault byte) = place_line (codes "read-fault") event byte
 
@@ -89,6 +91,19 @@ last_items status heard = if status == 2 then flat_map last_lines heard else []
 -- all that is told of an ending, by what the taps say then
 abbrev pub ending_text : Ending → List Reading → List ℕ
 ending_text ending heard = ending_line ending ++ last_items (status_of ending) heard
+
+-- ---- the same for a capture or a snapshot
+
+abbrev pub any_line : AnyEnding → List ℕ
+any_line (any.Played ending) = ending_line ending
+any_line (any.BadSnapshot byte word) = word_line (codes "bad-snapshot") 1 byte word
+
+abbrev pub any_status : AnyEnding → ℕ
+any_status (any.Played ending) = status_of ending
+any_status (any.BadSnapshot byte word) = 2
+
+abbrev pub any_text : AnyEnding → List Reading → List ℕ
+any_text ending heard = any_line ending ++ last_items (any_status ending) heard
 
 -- ---- the same for a flat capture
 

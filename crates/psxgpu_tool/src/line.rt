@@ -2,7 +2,8 @@
 ghost use Rattle.std.specs.Prelude.{◌≡◌, codes, flat_map, map};
 ghost use Rattle.dev_io.specs.Device.{Writes};
 ghost use Rattle.packet_text.specs.Tap.{last_lines};
-ghost use Rattle.psxgpu_tool.specs.Line.{event_line, place_line, bad_record_line, too_long_line, list_loop_line};
+ghost use Rattle.psxgpu_tool.specs.Line.{event_line, place_line, word_line, too_long_line, list_loop_line};
+ghost use Rattle.psxgpu_tool.specs.Line.{any_line, any_text, any_status};
 ghost use Rattle.psxgpu_tool.specs.Line.{fault_line, stop_line, ending_line, ending_text, last_items, status_of};
 ghost use Rattle.psxgpu_tool.specs.Line.{flat_line, flat_text, flat_status, slim_line, slim_text, slim_status};
 ghost use Rattle.psxgpu_tool.specs.Line.{cut_line, cut_text, cut_status};
@@ -14,6 +15,7 @@ use capture_slim::SlimEnding;
 use dev_io::{Failed, Sink, write_all, write_pieces};
 use event_play::{Ending, EventFault};
 use gpu_capture::Stop;
+use gpu_snapshot::AnyEnding;
 use gpu_taps::Listener;
 use itoa::Buffer;
 use packet_text::{address_digits, decimal_text, hex_digits, write_last};
@@ -30,6 +32,21 @@ pub fn end<E: Sink, T: Listener>(err: &mut E, ending: Ending, taps: &Vec<T>) -> 
     let status = status_of(ending);
     if status != 0 {
         let _ = write_end(err, ending, taps);
+    }
+    status
+}
+
+/// The same for a run that plays a capture or a snapshot.
+pub fn end_any<E: Sink, T: Listener>(err: &mut E, ending: AnyEnding, taps: &Vec<T>) -> u8
+    ensures status { result ≡ any_status ending }
+    ensures says { Says (sink_side (E.held err.old) (E.faults err.old)) (sink_side (E.held err.new) (E.faults err.new))
+        (any_text ending (map T.heard taps.now.items)) }
+    ensures silent { result ≡ 0 → sink_side (E.held err.new) (E.faults err.new)
+        ≡ sink_side (E.held err.old) (E.faults err.old) }
+{
+    let status = any_status(ending);
+    if status != 0 {
+        let _ = write_any_end(err, ending, taps);
     }
     status
 }
@@ -108,6 +125,28 @@ fn write_end<E: Sink, T: Listener>(err: &mut E, ending: Ending, taps: &Vec<T>) -
 {
     write_ending(err, ending)?;
     write_last_items(err, status_of(ending), taps)
+}
+
+/// The exit status of an ending of a capture or a snapshot.
+fn any_status(ending: AnyEnding) -> u8
+    ensures { result ≡ any_status ending }
+{
+    match ending {
+        AnyEnding::Played { ending } => status_of(ending),
+        AnyEnding::BadSnapshot { .. } => 2,
+    }
+}
+
+/// Writes the line of an ending of a capture or a snapshot, and behind that of a refusal the last items.
+fn write_any_end<E: Sink, T: Listener>(
+    err: &mut E,
+    ending: AnyEnding,
+    taps: &Vec<T>,
+) -> Result<(), Failed>
+    ensures { Writes E.held E.faults err.old err.new (any_text ending (map T.heard taps.now.items)) result }
+{
+    write_any_ending(err, ending)?;
+    write_last_items(err, any_status(ending), taps)
 }
 
 /// The exit status of an ending of a flat capture.
@@ -232,6 +271,16 @@ fn write_ending<E: Sink>(err: &mut E, ending: Ending) -> Result<(), Failed>
     }
 }
 
+/// Writes the line of an ending of a capture or a snapshot.
+fn write_any_ending<E: Sink>(err: &mut E, ending: AnyEnding) -> Result<(), Failed>
+    ensures { Writes E.held E.faults err.old err.new (any_line ending) result }
+{
+    match ending {
+        AnyEnding::Played { ending } => write_ending(err, ending),
+        AnyEnding::BadSnapshot { byte, word } => write_word(err, b"bad-snapshot", 1, byte, word),
+    }
+}
+
 /// Writes the line of an ending of a flat capture.
 fn write_flat_ending<E: Sink>(err: &mut E, ending: FlatEnding) -> Result<(), Failed>
     ensures { Writes E.held E.faults err.old err.new (flat_line ending) result }
@@ -278,7 +327,7 @@ fn write_stop<E: Sink>(err: &mut E, event: u64, stop: Stop) -> Result<(), Failed
     match stop {
         Stop::NotCapture { byte } => write_place(err, b"not-capture", event, byte),
         Stop::Truncated { byte } => write_place(err, b"truncated", event, byte),
-        Stop::BadRecord { byte, word } => write_bad_record(err, event, byte, word),
+        Stop::BadRecord { byte, word } => write_word(err, b"bad-record", event, byte, word),
         Stop::TooLong { byte } => write_place(err, b"too-long", event, byte),
         Stop::ReadFault { byte } => write_place(err, b"read-fault", event, byte),
         Stop::End => Ok(()),
@@ -320,9 +369,15 @@ fn write_place<E: Sink>(err: &mut E, name: &[u8], event: u64, byte: u32) -> Resu
     )
 }
 
-#[tactic(auto, unfolding(crate::specs::Line::bad_record_line))]
-fn write_bad_record<E: Sink>(err: &mut E, event: u64, byte: u32, word: u32) -> Result<(), Failed>
-    ensures { Writes E.held E.faults err.old err.new (bad_record_line event byte word) result }
+#[tactic(auto, unfolding(crate::specs::Line::word_line))]
+fn write_word<E: Sink>(
+    err: &mut E,
+    name: &[u8],
+    event: u64,
+    byte: u32,
+    word: u32,
+) -> Result<(), Failed>
+    ensures { Writes E.held E.faults err.old err.new (word_line name.now event byte word) result }
 {
     let mut number = Buffer::new();
     let n = decimal_text(&mut number, event);
@@ -332,7 +387,9 @@ fn write_bad_record<E: Sink>(err: &mut E, event: u64, byte: u32, word: u32) -> R
     write_pieces(
         err,
         &[
-            b"psxgpu: bad-record at event ",
+            b"psxgpu: ",
+            name,
+            b" at event ",
             n,
             b" byte ",
             b,

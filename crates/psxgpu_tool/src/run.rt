@@ -7,13 +7,14 @@ ghost use Rattle.psxgpu_tool.specs.Run.{CommandRun, Runs};
 
 use crate::command::{Command, read_command};
 use crate::demo::{play_demo, tell_demo};
-use crate::line::{end, end_cut, end_flat, end_slim, tell};
+use crate::line::{end, end_any, end_cut, end_flat, end_slim, tell};
 use crate::texts::{HELP, VERSION};
 use capture_cut::cut;
 use capture_flat::flat;
 use capture_slim::Slim;
 use dev_io::{Sink, Source, write_all};
 use event_play::{Ending, Rig};
+use gpu_snapshot::play_any;
 use gpu_taps::{Listener, Tap};
 use std::alloc::Global;
 use std::sync::ledger::Ledger;
@@ -71,9 +72,9 @@ fn run_command<S: Source, K: Sink, E: Sink, L: Ledger>(
         Command::Help => end(err, tell_text(HELP, out), &taps),
         Command::Version => end(err, tell_text(VERSION, out), &taps),
         Command::Plays { mode } => match Rig::new(alloc) {
-            Ok(mut rig) => {
-                let ending = rig.play(source, out, mode, &mut taps, steps);
-                end(err, ending, &taps)
+            Ok(rig) => {
+                let ending = play_any(rig, source, out, mode, &mut taps, steps);
+                end_any(err, ending, &taps)
             }
             Err(_) => tell_no_memory(err),
         },

@@ -24,28 +24,70 @@ fn stands_at(bytes: &[u8], place: usize, want: &[u8]) -> bool {
     }
 }
 
-#[test]
-fn a_snapshot_is_the_state_and_the_rest(rt: HostRuntime) -> Result<(), Fail> {
-    let alloc = rt.alloc();
+// The snapshot behind three events of the triangle.
+fn snapshot(alloc: Global) -> Result<Vec<u8>, Fail> {
     let mut source = MemSource::new(capture(alloc, b"PSXGPUC1", TRIANGLE)?);
     let mut out = MemSink::new(alloc, LEN)?;
     let mut err = MemSink::new(alloc, LINES)?;
-    assert_eq!(rt;
-        status_over(alloc, "cut 3", &mut source, &mut out, &mut err)?,
-        0
-    );
-    assert_eq!(rt; out.bytes().len(), LEN);
-    assert!(rt; stands_at(out.bytes(), 0, b"PSXGPUS1\0\x02\0\0\x03\0\0\0\0\0\0\0"));
+    status_over(alloc, "cut 3", &mut source, &mut out, &mut err)?;
+    Ok(out.bytes().to_vec(alloc)?)
+}
+
+#[test]
+fn a_snapshot_is_the_state_and_the_rest(rt: HostRuntime) -> Result<(), Fail> {
+    let alloc = rt.alloc();
+    let bytes = snapshot(alloc)?;
+    assert_eq!(rt; bytes.len(), LEN);
+    assert!(rt; stands_at(&bytes, 0, b"PSXGPUS1\0\x02\0\0\x03\0\0\0\0\0\0\0"));
     // One word of a packet is pending, and nothing is stored or runs.
     assert!(rt;
         stands_at(
-            out.bytes(),
+            &bytes,
             72,
             b"\x01\0\0\0\x01\0\0\0\xff\xff\xff\x20\0\0\0\0\0\0\0\0"
         )
     );
     let rest = capture(alloc, b"", "gp0 0, gp0 8, gp0 80000, stat")?;
-    assert!(rt; stands_at(out.bytes(), REST, &rest));
+    assert!(rt; stands_at(&bytes, REST, &rest));
+    Ok(())
+}
+
+// Whether a command goes on from these bytes as it should.
+fn goes_on(alloc: Global, words: &str, bytes: Vec<u8>, want: &[u8]) -> Result<bool, Fail> {
+    let mut source = MemSource::new(bytes);
+    let mut out = MemSink::new(alloc, LEN)?;
+    let mut err = MemSink::new(alloc, LINES)?;
+    let status = status_over(alloc, words, &mut source, &mut out, &mut err)?;
+    Ok(status == 0 && out.bytes() == want && err.bytes().len() == 0)
+}
+
+#[test]
+fn a_snapshot_is_played_on(rt: HostRuntime) -> Result<(), Fail> {
+    let alloc = rt.alloc();
+    assert!(rt;
+        goes_on(
+            alloc,
+            "play",
+            snapshot(alloc)?,
+            b"14802000\nstatus 14802000\n"
+        )?
+    );
+    assert!(rt;
+        goes_on(
+            alloc,
+            "list",
+            snapshot(alloc)?,
+            b"6 polygon 20ffffff 0 0 8 8\n"
+        )?
+    );
+    let mut source = MemSource::new(capture(alloc, b"PSXGPUC1", TRIANGLE)?);
+    let mut out = MemSink::new(alloc, LEN)?;
+    let mut err = MemSink::new(alloc, LINES)?;
+    assert_eq!(rt;
+        status_over(alloc, "vram", &mut source, &mut out, &mut err)?,
+        0
+    );
+    assert!(rt; goes_on(alloc, "vram", snapshot(alloc)?, out.bytes())?);
     Ok(())
 }
 
@@ -85,6 +127,37 @@ const SNAPSHOT: Case = Case {
     err: "psxgpu: not-capture at event 1 byte 6\n",
     ..PAST_END
 };
+
+/// A snapshot whose height is no height, and one that breaks off in its state.
+const BAD_HEIGHT: Case = Case {
+    words: "vram",
+    records: "word 201",
+    err: "psxgpu: bad-snapshot at event 1 byte 8 word 00000201\n",
+    ..PAST_END
+};
+
+const SHORT: Case = Case {
+    words: "play",
+    records: "word 200",
+    err: "psxgpu: truncated at event 1 byte 16\n",
+    ..PAST_END
+};
+
+/// A head that no command knows.
+const UNKNOWN: Case = Case {
+    words: "report",
+    err: "psxgpu: not-capture at event 1 byte 7\n",
+    ..PAST_END
+};
+
+#[test]
+fn what_is_no_snapshot(rt: HostRuntime) -> Result<(), Fail> {
+    let alloc = rt.alloc();
+    assert!(rt; is_met(alloc, b"PSXGPUS1", &BAD_HEIGHT)?);
+    assert!(rt; is_met(alloc, b"PSXGPUS1", &SHORT)?);
+    assert!(rt; is_met(alloc, b"PSXGPUS9", &UNKNOWN)?);
+    Ok(())
+}
 
 #[test]
 fn what_is_not_cut(rt: HostRuntime) -> Result<(), Fail> {

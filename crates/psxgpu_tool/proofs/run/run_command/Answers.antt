@@ -8,13 +8,11 @@ use Rattle.psxgpu_tool.proofs.run.run_command.Goals as goal
 
 pub returns-in-Ok : goal.returns-in-Ok
 returns-in-Ok g c =
-    let none = ap (λ (r : RigState). r.played) c.in-Ok.ensures in
-    let ends = c.play-ending.ensures.ends first_machine (first_stands _ c.in-Ok.ensures) in
-    rw (c.in-Plays.is, c.end-in-Ok.ensures.status)
-    (plays_runs _ _ _ _ _ c.end-in-Ok.ensures.says
-    (λ zero. c.end-in-Ok.ensures.silent (c.end-in-Ok.ensures.status ∙ zero))
-    c.in-Plays.mode c.play-ending.new.self (rw none at ends)
-    c.play-ending.ensures.read_cause c.play-ending.ensures.write_cause)
+    rw (c.in-Plays.is, c.end_any.ensures.status)
+    (plays_runs _ _ _ _ _ c.end_any.ensures.says
+    (λ zero. c.end_any.ensures.silent (c.end_any.ensures.status ∙ zero)) c.in-Plays.mode
+    (c.play_any-ending.ensures.ends first_machine (first_stands _ refl))
+    c.play_any-ending.ensures.read_cause c.play_any-ending.ensures.write_cause)
 
 pub returns-in-Ok-new : goal.returns-in-Ok-new
 returns-in-Ok-new g c =
