@@ -35,7 +35,7 @@ use Rattle.gpu_snapshot.specs.Opened.{Opened, Captured as IsCapture, Restored, U
 use Rattle.gpu_snapshot.specs.Opened.{opened_state}
 use Rattle.gpu_snapshot.specs.Opening.{OpensCapture, OpensState, Refuses, AreNeeded, IsTooShort, opening_cost}
 use Rattle.gpu_snapshot.specs.PlayAny.{PlayAny, played_opened, EndsAny, PlaysAny, IsGood, HasNoBadWord}
-use Rattle.gpu_snapshot.specs.PlayAny.{any_ending_of}
+use Rattle.gpu_snapshot.specs.PlayAny.{FindsBadWord, unplayed, any_ending_of}
 use Rattle.gpu_snapshot.specs.Restored.{machine_in, version_behind}
 use Rattle.gpu_snapshot.specs.declared.head.FileHead.{FileHead}
 use Rattle.gpu_snapshot.specs.declared.head.FileHead.TheVariants as head
@@ -262,3 +262,16 @@ module _ (mode : Mode) (s : Machine) (left mid held : Option (List ℕ)) (heard 
   refuses_any (fault.Stop End) refuses = absurd refuses.says
   refuses_any (fault.Stop (BadRecord byte word)) refuses = absurd refuses.says
   refuses_any (fault.Stop (TooLong byte)) refuses = absurd refuses.says
+
+-- ---- a bad word
+
+-- none of the bytes taken is one too many, from whatever tale they are played
+pub finds_needed : (first : Tale) (before now : Streams) (byte word : ℕ) (finds : FindsBadWord before now byte word)
+    → AreAllNeeded (PlayAny first) finds.taken
+finds_needed first _ _ byte word finds = all_needed first finds.taken finds.needed
+
+-- nothing is played, whatever follows them
+pub finds_unplayed : (first : Tale) (before now : Streams) (byte word : ℕ) (finds : FindsBadWord before now byte word)
+    (rest : List ℕ) → PlayAny first (finds.taken ++ rest) ≡ unplayed first (BadRecord byte word) []
+finds_unplayed first _ _ byte word finds rest =
+    play_by first (finds.taken ++ rest) (BadWord byte word) (finds.says rest)

@@ -84,7 +84,8 @@ bad_word s got place word rest due may fits = word_split s got place word rest d
 pub part_shorter : (taken part more : List ℕ) → taken ≡ part ++ more → (more ≡ [] → ⊥) → length part < length taken
 part_shorter taken part [] is some = absurd (some refl)
 part_shorter taken part (x ∷ xs) is some =
-    let e : length taken ≡ length part + suc (length xs) = ap length is ∙ length-append part (x ∷ xs) in omega (arith, e)
+    let e : length taken ≡ length part + suc (length xs) = ap length is ∙ length-append part (x ∷ xs) in
+    omega (arith, e)
 
 -- bytes, and others behind them
 pub needed_on : {A : Type 0} (found : List ℕ → Found A) (xs ys : List ℕ) → AreNeeded found xs
