@@ -1,5 +1,5 @@
 -- The state behind the first events.
-use Rattle.std.proofs.Common.{◌≡◌, ◌≤◌, inl, ◌+◌, ◌++◌, ℕ, List, [], Option, length, refl, ap, sym, subst, ◌∙◌}
+use Rattle.std.proofs.Common.{◌≡◌, ◌≤◌, ◌<◌, ◌^◌, inl, ◌+◌, ◌++◌, ℕ, List, [], Option, length, refl, ap, sym, subst, ◌∙◌}
 use Rattle.std.proofs.Common.{append-nil, arith}
 use Rattle.dev_io.specs.Device.{appended, AppendsPart}
 use Rattle.gpu_capture.specs.Capture.{limit}
@@ -13,12 +13,12 @@ use Rattle.gpu_core.specs.Kept.{Kept}
 use Rattle.list_dma.specs.declared.run.Run.{Run}
 use Rattle.capture_cut.specs.Came.{Came, HasRead, PlaysFirst}
 use Rattle.capture_cut.specs.Cut.{Way, EndsCut}
-use Rattle.capture_cut.specs.File.{begun, rig_bytes, rig_of, snapshot}
+use Rattle.capture_cut.specs.File.{begun, rig_bytes, rig_of, snapshot, IsWritable}
 use Rattle.capture_cut.specs.declared.ending.CutEnding.TheVariants.{WriteFailed}
 use Rattle.capture_cut.proofs.Reading.{reads_to}
 
 -- a rig that stands for a tale is what a tale keeps
-of_parts : (rig : RigState) (gpu : Kept) (ram : List ℕ) (running : Run) (played : ℕ) → gpu ≡ rig.gpu → ram ≡ rig.ram
+pub of_parts : (rig : RigState) (gpu : Kept) (ram : List ℕ) (running : Run) (played : ℕ) → gpu ≡ rig.gpu → ram ≡ rig.ram
     → running ≡ rig.running → played ≡ rig.played
     → ◌≡◌ {A = RigState} (record { gpu = gpu; ram = ram; running = running; played = played }) rig
 of_parts rig gpu ram running played a b c d = rw (a, b, c, d) refl
@@ -56,13 +56,17 @@ module _ (n : ℕ) (start : Tale) (before now : Streams) (rig : RigState) (p : P
   spent = spent_on before.steps now.steps steps at.tale.cost (dump_cost rig.gpu.parts.m) _ at.cost cost
       (ap (λ (k : Kept). dump_cost k.parts.m) (sym at.plays.stands.state.gpu))
 
+  -- so few events were played
+  few : n < 2 ^ 32 → rig.played < 2 ^ 63
+  few small = omega (arith, small, at.many, at.plays.counts, at.plays.stands.played)
+
   -- nothing is written behind the state yet
   bare : begun at.tale [] ≡ rig_bytes rig
   bare = append-nil (snapshot at.tale) ∙ same
 
   pub state_written : (size : ℕ) → held ≡ appended now.held (rig_bytes rig) → size ≡ length (rig_bytes rig)
-      → size + 4 ≤ limit → Came n start before after rig p size n
-  state_written size writes is fits = record {
+      → size + 4 ≤ limit → (rig.played < 2 ^ 63 → IsWritable rig) → n < 2 ^ 32 → Came n start before after rig p size n
+  state_written size writes is fits bounds small = record {
     way = way;
     all = at.many;
     count_is = rw none_later (sym at.many);
@@ -75,6 +79,7 @@ module _ (n : ℕ) (start : Tale) (before now : Streams) (rig : RigState) (p : P
     fits = fits;
     cost = spent;
     small = at.small;
+    writable = subst IsWritable (sym (rig_is rig at.tale at.plays.stands)) (bounds (few small));
     allowed = tt;
   }
 

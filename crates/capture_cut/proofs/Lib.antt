@@ -1,5 +1,6 @@
 pub mod Cutting
 pub mod Early
+pub mod Fitting
 pub mod Playing
 pub mod Reading
 pub mod Records

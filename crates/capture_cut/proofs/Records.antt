@@ -125,6 +125,7 @@ module _ (n : ℕ) (start : Tale) (before now : Streams) (rig : RigState) (old n
       fits = writes.fits;
       cost = at.cost;
       small = at.small;
+      writable = at.writable;
       allowed = allows_append 2 at.way.later (event ∷ []) at.allowed (allows, tt);
     }
 
@@ -185,6 +186,7 @@ module _ (n : ℕ) (start : Tale) (before now : Streams) (rig : RigState) (old n
           all = at.all;
           stops = subst P end.0 behind;
           held = wrote_on before.held now.held held (begun at.way.tale at.way.later) spelled_end at.held end.1;
+          writable = at.writable;
           allowed = at.allowed;
           fits = let a = file_length at.way.tale at.way.later in omega (arith, a, at.size_is, at.fits);
         })

@@ -16,7 +16,7 @@ use Rattle.event_play.specs.Stepping.{HasStepped}
 use Rattle.event_play.specs.Streams.{Outlets, Streams}
 use Rattle.capture_flat.specs.Passing.{AreNeeded}
 use Rattle.capture_cut.specs.Cut.{Way, events_of, Plays}
-use Rattle.capture_cut.specs.File.{begun}
+use Rattle.capture_cut.specs.File.{begun, rig_of, IsWritable}
 use Rattle.capture_cut.specs.declared.ending.CutEnding.{CutEnding}
 use Rattle.capture_cut.specs.declared.ending.CutEnding.TheVariants.{Done, PastEnd, Stopped, Faulted, TooLong}
 use Rattle.capture_cut.specs.declared.ending.CutEnding.TheVariants.{WriteFailed}
@@ -94,6 +94,7 @@ pub record Came (n : ℕ) (start : Tale) (before now : Streams) (rig : RigState)
   pub fits : size + 4 ≤ limit
   pub cost : now.steps ≤ before.steps + way.tale.cost + dump_cost way.tale.state.gpu.parts.m
   pub small : way.tale.cost ≤ way.tale.box_cost
+  pub writable : IsWritable (rig_of way.tale)
   pub allowed : AllowsAll 2 way.later
 
 -- the record of an event was written behind so many bytes, with room for an End record

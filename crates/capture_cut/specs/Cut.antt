@@ -17,7 +17,7 @@ use Rattle.event_play.specs.Streams.{Streams}
 use Rattle.event_play.specs.Told.{told_notes}
 use Rattle.event_play.specs.declared.fault.EventFault.{EventFault}
 use Rattle.capture_flat.specs.Passing.{Way as Read, AreNeeded, AreNeededToEnd, SaysFirst, SaysStop}
-use Rattle.capture_cut.specs.File.{snapshot, begun, cut_file}
+use Rattle.capture_cut.specs.File.{snapshot, begun, cut_file, rig_of, IsWritable}
 use Rattle.capture_cut.specs.declared.ending.CutEnding.{CutEnding}
 use Rattle.capture_cut.specs.declared.ending.CutEnding.TheVariants.{Done, PastEnd, Stopped, Faulted, TooLong}
 use Rattle.capture_cut.specs.declared.ending.CutEnding.TheVariants.{WriteFailed}
@@ -69,12 +69,13 @@ pub record IsInOrder (n : ℕ) (way : Way) : Type 0 where
 
 -- ---- the endings
 
--- The first n events were played, all others were read, and all is written. The others can be written: their records
--- are known from version 2 on.
+-- The first n events were played, all others were read, and all is written. The state and the others can be written:
+-- its values are within their bounds, and the records of the others are known from version 2 on.
 pub record IsCut (n : ℕ) (way : Way) (before now : Streams) : Type 0 where
   pub all : length way.played ≡ n
   pub stops : StopsBehind way End now.left
   pub held : now.held ≡ appended before.held (cut_file way.tale way.later)
+  pub writable : IsWritable (rig_of way.tale)
   pub allowed : AllowsAll 2 way.later
   pub fits : length (cut_file way.tale way.later) ≤ limit
 

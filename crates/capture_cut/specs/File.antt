@@ -1,12 +1,13 @@
 -- What is written of a capture that is cut (our own rule): the state behind its first events, then the records of the
 -- others, and an End record.
 use Rattle.std.specs.Prelude.{ℕ, List, ◌++◌}
+use Rattle.gpu_capture.specs.Whole.{AreWords}
 use Rattle.gpu_capture.specs.Written.{spelled_end}
 use Rattle.gpu_capture.specs.declared.event.Event.{Event}
 use Rattle.gpu_core.specs.Kept.{kept_of}
 use Rattle.event_play.specs.Replay.{Tale}
 use Rattle.event_play.specs.RigState.{RigState}
-use Rattle.snapshot_words.specs.Outline.{snap_bytes, snapshot_head}
+use Rattle.snapshot_words.specs.Outline.{snap_bytes, snapshot_head, outline_words, IsOutline, AreMemories}
 use Rattle.snapshot_words.specs.declared.outline.Outline.{Outline}
 use Rattle.capture_flat.specs.Out.{spell}
 
@@ -24,6 +25,12 @@ outline_of rig = record {
 -- the head of a snapshot and the state of a rig; no proof computes them
 unfoldable pub rig_bytes : RigState → List ℕ
 rig_bytes rig = snapshot_head ++ snap_bytes (outline_of rig) rig.gpu.parts.m rig.ram
+
+-- The state of a rig is within the bounds, and its values fit their words.
+pub record IsWritable (rig : RigState) : Type 0 where
+  pub outline : IsOutline (outline_of rig)
+  pub words : AreWords (outline_words (outline_of rig))
+  pub memories : AreMemories (outline_of rig) rig.gpu.parts.m rig.ram
 
 -- what a rig keeps that played a tale
 abbrev pub rig_of : Tale → RigState

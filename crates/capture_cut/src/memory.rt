@@ -1,11 +1,11 @@
 // The two memories of a state, word by word.
-ghost use Rattle.std.specs.Prelude.{◌≡◌, ◌≤◌, ◌<◌, ◌+◌, ◌*◌, ◌^◌, length, take, drop};
+ghost use Rattle.std.specs.Prelude.{◌≡◌, ◌≤◌, ◌<◌, ◌+◌, ◌*◌, ◌^◌, ℕ, length, take, drop, slice_index, OnOk};
 ghost use Rattle.dev_io.specs.Device.{Writes};
 ghost use Rattle.gpu_capture.specs.Written.{word_bytes};
 ghost use Rattle.ot_clear_dma.specs.Ram.{memory_words};
 ghost use Rattle.picture_out.specs.Dump.{dump_cost};
 ghost use Rattle.vram_store.specs.Vram.{height_of};
-ghost use Rattle.snapshot_words.specs.Outline.{bytes_of};
+ghost use Rattle.snapshot_words.specs.Outline.{bytes_of, AreCells};
 ghost use Rattle.snapshot_words.specs.Values.{cell_words};
 
 use dev_io::{Failed, Sink, write_all};
@@ -20,6 +20,7 @@ pub(crate) fn write_cells<K: Sink, L: Ledger>(
     steps: &mut Steps<L>,
 ) -> Result<(), Failed>
     ensures writes { Writes K.held K.faults out.old out.new (bytes_of (cell_words vram.now)) result }
+    ensures cells { OnOk result (AreCells vram.now) }
     ensures cost { steps.new ≤ steps.old + dump_cost vram.now }
 {
     for y in 0..vram.height() {
@@ -62,15 +63,24 @@ pub(crate) fn ram_size(ram: &Ram) -> u32
 fn row_words<L: Ledger>(vram: &Vram, y: u16, steps: &mut Steps<L>) -> [u32; 512]
     requires { y < height_of vram.now }
     ensures words { result ≡ cell_words (take 1024 (drop (1024 * y) vram.now)) }
+    ensures cells { AreCells (take 1024 (drop (1024 * y) vram.now)) }
     ensures cost { steps.new ≡ steps.old + 64 }
 {
     let mut words = [0u32; 512];
     for k in 0..64 {
         let lanes = vram.load16(16 * k, y, 16, steps).to_array();
+        keep_cells(&lanes);
         let at = 8 * k as usize;
         put_lanes(&lanes, &mut words[at..at + 8]);
     }
     words
+}
+
+// Each cell has 16 bits. It does nothing.
+fn keep_cells(cells: &[u16])
+    ensures { (k : ℕ) → slice_index cells.now k < 2 ^ 16 }
+{
+    let _ = cells.len();
 }
 
 // Sixteen cells as eight words.

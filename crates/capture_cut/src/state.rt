@@ -1,10 +1,10 @@
 // The state of a machine is written.
-ghost use Rattle.std.specs.Prelude.{◌≡◌, ◌≤◌, ◌<◌, ◌+◌, ◌*◌, ◌^◌, ◌++◌, length};
+ghost use Rattle.std.specs.Prelude.{◌≡◌, ◌≤◌, ◌<◌, ◌+◌, ◌*◌, ◌^◌, ◌++◌, length, OnOk};
 ghost use Rattle.dev_io.specs.Device.{Writes};
 ghost use Rattle.gp0_words.specs.Next.{IsPending};
 ghost use Rattle.gp1_status.specs.Registers.{KeepsWidths};
 ghost use Rattle.picture_out.specs.Dump.{dump_cost};
-ghost use Rattle.snapshot_words.specs.Outline.{bytes_of, outline_words, snapshot_head};
+ghost use Rattle.snapshot_words.specs.Outline.{bytes_of, outline_words, snapshot_head, AreCells};
 ghost use Rattle.snapshot_words.specs.Values.{cell_words, load_words, pending_words, run_words, store_words};
 ghost use Rattle.capture_cut.specs.File.{outline_of, rig_bytes};
 
@@ -26,6 +26,7 @@ pub(crate) fn write_state<K: Sink, L: Ledger>(
     steps: &mut Steps<L>,
 ) -> Result<(), Failed>
     ensures writes { Writes K.held K.faults out.old out.new (rig_bytes rig.now) result }
+    ensures cells { OnOk result (AreCells rig.now.gpu.parts.m) }
     ensures cost { steps.new ≤ steps.old + dump_cost rig.now.gpu.parts.m }
 {
     write_front(&outline_of(rig), out)?;
@@ -57,6 +58,7 @@ fn write_memories<K: Sink, L: Ledger>(
 ) -> Result<(), Failed>
     ensures writes { Writes K.held K.faults out.old out.new
         (bytes_of (cell_words rig.now.gpu.parts.m) ++ bytes_of rig.now.ram) result }
+    ensures cells { OnOk result (AreCells rig.now.gpu.parts.m) }
     ensures cost { steps.new ≤ steps.old + dump_cost rig.now.gpu.parts.m }
 {
     write_cells(rig.gpu().vram(), out, steps)?;
@@ -90,8 +92,8 @@ fn copied(regs: &Regs) -> Regs
     }
 }
 
-// Each register is as wide as it is. It does nothing.
-fn keep_widths(regs: &Regs)
+/// Each register is as wide as it is. It does nothing.
+pub(crate) fn keep_widths(regs: &Regs)
     ensures widths { KeepsWidths regs.now }
     ensures held { regs.now.held < 2 ^ 32 }
 {

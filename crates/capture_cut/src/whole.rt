@@ -7,6 +7,7 @@ ghost use Rattle.event_play.specs.Step.{Machine};
 ghost use Rattle.event_play.specs.Streams.{streams};
 ghost use Rattle.capture_cut.specs.Cut.{EndsCut, IsEnding, MayReadFault, MayWriteFault};
 
+use crate::bounds::keep_bounds;
 use crate::ending::CutEnding;
 use crate::first::play_first;
 use crate::rest::write_rest;
@@ -48,7 +49,10 @@ pub fn cut<S: Source, K: Sink, T: Listener, L: Ledger>(
         Err(ending) => return ending,
     };
     match write_state(rig, out, steps) {
-        Ok(()) => write_rest(&mut reader, source, state_size(rig), n, out),
+        Ok(()) => {
+            keep_bounds(rig);
+            write_rest(&mut reader, source, state_size(rig), n, out)
+        }
         Err(_) => CutEnding::WriteFailed {
             event: u64::from(n),
         },
