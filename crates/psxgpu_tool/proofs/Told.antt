@@ -17,13 +17,14 @@ use Rattle.gpu_snapshot.specs.Opened.{Opened, Captured, Restored, Unknown, Break
 use Rattle.gpu_snapshot.specs.Opening.{opening_cost}
 use Rattle.gpu_snapshot.specs.PlayAny.{PlayAny, FindsBadWord, HasNoBadWord, IsGood, any_ending, played_opened, spent}
 use Rattle.gpu_snapshot.specs.declared.ending.AnyEnding.{AnyEnding}
+use Rattle.gpu_snapshot.proofs.Played.{finds_needed}
 use Rattle.gpu_snapshot.specs.declared.ending.AnyEnding.TheVariants as any
 use Rattle.dev_io.proofs.Appended.{appended-nil}
 use Rattle.event_play.proofs.Grows.{lines-none}
 use Rattle.psxgpu_tool.specs.First.{file_ending, first, play_file, seen}
 use Rattle.psxgpu_tool.specs.Line.{status_of, ending_line, ending_text, any_status, any_text}
 use Rattle.psxgpu_tool.specs.Outside.{Outside, Says}
-use Rattle.psxgpu_tool.specs.PlayRun.{WholeRun, RefusedRun, StarvedRun, BlockedRun, AreNeededFor}
+use Rattle.psxgpu_tool.specs.PlayRun.{WholeRun, RefusedRun, StarvedRun, BlockedRun}
 
 -- ---- endings
 
@@ -368,7 +369,7 @@ module _ (mode : Mode) (heard heard_now : List Reading) (before now : Outside) (
           rest = is_cut.rest;
           all = is_cut.all;
           left = is_cut.left_is;
-          needed = subst (λ (e : AnyEnding). AreNeededFor e ends.taken) (sym file.ends) ends.needed;
+          needed = ends.needed;
           decides = elim file.decides [
             | inl decides ↦ inl (λ more. decides more ∙ sym file.ends)
             | inr none ↦ inr none
@@ -514,7 +515,7 @@ module _ (mode : Mode) (heard heard_now : List Reading) (before now : Outside) (
           rest = part.rest;
           all = part.all;
           left = part.left_is;
-          needed = subst (λ (e : AnyEnding). AreNeededFor e finds.taken) (sym ends) tt;
+          needed = finds_needed first _ _ byte word finds;
           decides = inl (λ more. bad_ending (finds.taken ++ more) (finds.says more) ∙ sym ends);
         };
         says = subst (Says before.err now.err) text says;

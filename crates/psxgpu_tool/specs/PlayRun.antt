@@ -1,5 +1,5 @@
--- What a run says that plays a capture or a snapshot, by its mode and by what the taps said when they were handed in. Where the bytes
--- of its source aren't told, nothing can be said of them.
+-- What a run says that plays a capture or a snapshot, by its mode and by what the taps said when they were handed in.
+-- Where the bytes of its source aren't told, nothing can be said of them.
 use Rattle.std.specs.Prelude.{◌≡◌, ◌≤◌, ◌+◌, ◌++◌, ◌⊎◌, ℕ, List, [], IfSome, Some}
 use Rattle.dev_io.specs.Device.{appended}
 use Rattle.gpu_capture.specs.declared.event.Stop.TheVariants.{Truncated, ReadFault}
@@ -12,13 +12,12 @@ use Rattle.event_play.specs.declared.ending.Ending.TheVariants.{Done, Stopped, W
 use Rattle.event_play.specs.declared.ending.Mode.{Mode}
 use Rattle.psxgpu_tool.specs.First.{file_ending, play_file, seen}
 use Rattle.gpu_snapshot.specs.Opening.{opening_cost}
-use Rattle.gpu_snapshot.specs.declared.ending.AnyEnding.{AnyEnding}
-use Rattle.gpu_snapshot.specs.declared.ending.AnyEnding.TheVariants.{Played, BadSnapshot}
+use Rattle.gpu_snapshot.specs.declared.ending.AnyEnding.TheVariants.{Played}
 use Rattle.psxgpu_tool.specs.Line.{ending_line, any_status, any_text}
 use Rattle.psxgpu_tool.specs.Outside.{Outside, Says, HasFailed, HasFailedToRead}
 
--- status 0: the capture is whole, or the records behind the state of the snapshot are, for a picture there is one, those bytes are left that stand behind the End, and all
--- that there is to write was written
+-- status 0: the capture is whole, or the records behind the state of the snapshot are; for a picture there is one; those
+-- bytes are left that stand behind the End, and all that there is to write was written
 pub record WholeRun (mode : Mode) (heard : List Reading) (bytes : List ℕ) (before now : Outside) : Type 0 where
   pub ending : file_ending mode bytes ≡ Played Done
   pub left : now.source.left ≡ Some (play_file bytes).rest
@@ -27,23 +26,18 @@ pub record WholeRun (mode : Mode) (heard : List Reading) (bytes : List ℕ) (bef
 abbrev pub Whole : Mode → List Reading → (before now : Outside) → Type 0
 Whole mode heard before now = IfSome before.source.left (λ bytes. WholeRun mode heard bytes before now)
 
--- none of the bytes taken is one too many, unless they have a bad word of a state
-abbrev pub AreNeededFor : AnyEnding → List ℕ → Type 0
-AreNeededFor (Played ending) taken = AreAllNeeded play_file taken
-AreNeededFor (BadSnapshot byte word) taken = Unit {0}
-
 -- the bytes taken decide the ending, whatever follows them, or there are no others; and none of them is one too many
 pub record Decided (mode : Mode) (bytes : List ℕ) (now : Outside) : Type 0 where
   pub taken : List ℕ
   pub rest : List ℕ
   pub all : bytes ≡ taken ++ rest
   pub left : now.source.left ≡ Some rest
-  pub needed : AreNeededFor (file_ending mode bytes) taken
+  pub needed : AreAllNeeded play_file taken
   pub decides : ((more : List ℕ) → file_ending mode (taken ++ more) ≡ file_ending mode bytes)
       ⊎ (rest ≡ [])
 
--- status 2: the capture, the state of the snapshot, or one of the events, is refused. All that was due before was written, and err says why and
--- where, and then the last items.
+-- status 2: the capture, the state of the snapshot, or one of the events, is refused. All that was due before was
+-- written, and err says why and where, and then the last items.
 pub record RefusedRun (mode : Mode) (heard : List Reading) (bytes : List ℕ) (before now : Outside) : Type 0 where
   pub status : any_status (file_ending mode bytes) ≡ 2
   pub held : now.out.held ≡ appended before.out.held (Out mode heard (play_file bytes))
