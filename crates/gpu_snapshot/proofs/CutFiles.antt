@@ -181,10 +181,11 @@ allowed_later (event ∷ later) version le allowed =
     )
 
 cuts_whole : CutsAreWhole
-cuts_whole n way before now cut state =
+cuts_whole n way before now cut =
     let height = way.tale.state.gpu.parts.regs.height in
+    let state = cut.writable in
     record {
-      state = state;
+      state = record { outline = state.outline; words = state.words; memories = state.memories };
       allowed = allowed_later way.later (version_behind height) (version_known height) cut.allowed;
       fits = cut.fits;
     }

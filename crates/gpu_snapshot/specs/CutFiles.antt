@@ -66,10 +66,9 @@ abbrev pub PlaysLead : Type 0
 PlaysLead = (first t : Tale) (events : List Event) (before now : List Reading) (rig : RigState)
     → Plays first events t before now rig → LeadsTo first events t
 
--- what cutting a capture has written is whole, where the machine behind the first events is within the bounds
+-- what cutting a capture has written is whole
 abbrev pub CutsAreWhole : Type 0
-CutsAreWhole = (n : ℕ) (way : Way) (before now : Streams) → IsCut n way before now
-    → IsSpelledWhole (snapshot_of way.tale.state way.tale.played) → IsCutWhole way.tale way.later
+CutsAreWhole = (n : ℕ) (way : Way) (before now : Streams) → IsCut n way before now → IsCutWhole way.tale way.later
 
 -- Files that are cut from captures go on as those do, write the rest of what they write, and end as they end.
 pub record CutLaw : Type 0 where
