@@ -14,17 +14,19 @@ use Rattle.event_play.specs.Playing.{whole}
 use Rattle.event_play.specs.Replay.{Tale, Played, Replay, after_event, told_on, go_on, next_number, raised}
 use Rattle.event_play.specs.RigState.{RigState}
 use Rattle.event_play.specs.Step.{Step, StepCost, StepBoxCost}
+use Rattle.event_play.specs.Streams.{Streams}
 use Rattle.event_play.specs.declared.ending.Ending.{Ending}
 use Rattle.event_play.specs.declared.ending.Ending.TheVariants as play
 use Rattle.event_play.specs.declared.fault.EventFault.{EventFault}
 use Rattle.capture_flat.specs.Out.{spell}
 use Rattle.capture_flat.proofs.Pieces.{spell-append}
-use Rattle.capture_cut.specs.Cut.{Way, Plays, events_of, EndsCut, MayReadFault, MayWriteFault}
+use Rattle.capture_cut.specs.Cut.{Way, Plays, events_of, EndsCut, IsCut, MayReadFault, MayWriteFault}
 use Rattle.capture_cut.specs.File.{snapshot, begun, cut_file}
 use Rattle.capture_cut.specs.declared.ending.CutEnding.{CutEnding}
 use Rattle.capture_cut.specs.declared.ending.CutEnding.TheVariants.{Done, PastEnd, Stopped, Faulted, TooLong, WriteFailed}
-use Rattle.psxgpu_tool.specs.CutRun.{play_first, cut_of, IsCuttable, CutWhole, EndsAsCut}
-use Rattle.psxgpu_tool.specs.First.{first, seen}
+use Rattle.gpu_snapshot.proofs.CutFiles.{cut_files}
+use Rattle.psxgpu_tool.specs.CutRun.{play_first, play_whole, cut_of, GoesOnAs, IsCuttable, CutWhole, EndsAsCut}
+use Rattle.psxgpu_tool.specs.First.{first, play_file, seen}
 use Rattle.psxgpu_tool.specs.Line.{cut_status}
 use Rattle.psxgpu_tool.specs.Outside.{Outside}
 use Rattle.psxgpu_tool.proofs.Told.{IsCut as IsPart, cut, none_left, all_taken}
@@ -123,6 +125,21 @@ module _ (n : ℕ) (way : Way) (heard heard_now : List Reading) (rig : RigState)
         ∙ ap (λ r. go_on r (λ next. Replay next more End [])
         (λ fault. record { tale = way.tale; ending = play.Faulted (next_number way.tale.played) fault; rest = [] })) after)
 
+-- the file of a capture that was cut goes on where it was cut
+cut_goes_on : (n : ℕ) (way : Way) (was now : Streams) (heard heard_now : List Reading) (rig : RigState)
+    → Plays (raised first way.version) way.played way.tale heard heard_now rig → IsCut n way was now
+    → GoesOnAs way.tale (λ rest. Replay (raised first way.version) (events_of way) End rest)
+    (λ rest. play_file (cut_file way.tale way.later ++ rest))
+cut_goes_on n way was now heard heard_now rig plays is =
+    let leads = cut_files.leads (raised first way.version) way.tale way.played heard heard_now rig plays in
+    let whole = cut_files.whole n way was now is in
+    record {
+      writes = λ mode heard rest.
+          cut_files.writes_on mode heard first (raised first way.version) way.tale way.played way.later rest leads whole;
+      ends = λ rest.
+          cut_files.ends_on first (raised first way.version) way.tale way.played way.later rest leads whole;
+    }
+
 -- the first of a list that is longer, beyond a part of it
 first_beyond : (xs : List Event) (y : Event) (ys : List Event) (n : ℕ) → length xs < n
     → (more : List Event) × (take n ((xs ++ y ∷ []) ++ ys) ≡ xs ++ y ∷ more)
@@ -155,6 +172,12 @@ module _ (n : ℕ) (small : n ≤ 4294967295) (heard heard_now : List Reading) (
       let size = length-append way.played way.later in
       let many = ap length events in
       let all = ends.says.all in
+      let Whole : Captured → Type 0 = λ c. GoesOnAs way.tale (play_whole c)
+      (λ rest. play_file (cut_file way.tale way.later ++ rest)) in
+      let Was : Played → Type 0 = λ r. GoesOnAs r.tale (play_whole (capture bytes))
+      (λ rest. play_file (cut_file way.tale way.later ++ rest)) in
+      let File : List ℕ → Type 0 = λ xs. GoesOnAs (play_first n (capture bytes)).tale (play_whole (capture bytes))
+      (λ rest. play_file (xs ++ rest)) in
       record {
         cuttable = record {
           ending = ap (λ (c : Captured). c.ending) captured;
@@ -164,6 +187,8 @@ module _ (n : ℕ) (small : n ≤ 4294967295) (heard heard_now : List Reading) (
         };
         left = is_part.left_is ∙ ap (λ (c : Captured). Some c.rest) (sym captured);
         held = ends.says.held ∙ ap (appended before.out.held) (sym file);
+        goes_on = subst File (sym file) (subst Was (sym played) (subst Whole (sym captured)
+            (cut_goes_on n way (seen heard before) (seen heard_now now) heard heard_now rig ends.plays ends.says)));
         cost = rw played ends.cost;
         box_cost = rw played ends.box_cost;
       }

@@ -1,18 +1,22 @@
 -- What a run says that cuts a capture behind its first n events. Where the bytes of its source aren't told, only its
 -- ending is said.
-use Rattle.std.specs.Prelude.{◌≡◌, ◌≤◌, ◌+◌, ◌⊎◌, ℕ, List, [], IfSome, Some, length, take, drop}
+use Rattle.std.specs.Prelude.{◌≡◌, ◌≤◌, ◌+◌, ◌++◌, ◌⊎◌, ℕ, List, [], IfSome, Some, length, take, drop}
 use Rattle.dev_io.specs.Device.{appended}
 use Rattle.gpu_capture.specs.Capture.{Captured, capture, limit}
 use Rattle.gpu_capture.specs.declared.event.Stop.TheVariants.{End}
 use Rattle.gpu_taps.specs.Tally.{Reading}
 use Rattle.picture_out.specs.Dump.{dump_cost}
+use Rattle.event_play.specs.Out.{lines_of, Out}
 use Rattle.event_play.specs.Replay.{Played, Replay, Tale, raised}
 use Rattle.event_play.specs.RigState.{RigState}
+use Rattle.event_play.specs.Told.{told_notes}
 use Rattle.event_play.specs.declared.ending.Ending.TheVariants.{Done}
+use Rattle.event_play.specs.declared.ending.Mode.{Mode}
 use Rattle.capture_cut.specs.Cut.{EndsCut, IsEnding}
 use Rattle.capture_cut.specs.File.{cut_file}
 use Rattle.capture_cut.specs.declared.ending.CutEnding.{CutEnding}
-use Rattle.psxgpu_tool.specs.First.{first, seen}
+use Rattle.gpu_snapshot.specs.CutFiles.{EndAlike}
+use Rattle.psxgpu_tool.specs.First.{first, play_file, seen}
 use Rattle.psxgpu_tool.specs.Line.{cut_status, cut_text}
 use Rattle.psxgpu_tool.specs.Outside.{Outside, Says, HasFailed, HasFailedToRead}
 
@@ -36,11 +40,28 @@ pub record IsCuttable (n : ℕ) (captured : Captured) : Type 0 where
 abbrev pub IsWithin : (cost : ℕ) → Tale → (before now : Outside) → Type 0
 IsWithin cost t before now = now.steps ≤ before.steps + cost + dump_cost t.state.gpu.parts.m
 
--- status 0: the capture can be cut, those bytes are left that stand behind its End, and it was cut
+-- the whole capture, where these bytes stand behind it
+abbrev pub play_whole : Captured → (rest : List ℕ) → Played
+play_whole captured rest = Replay (raised first captured.version) captured.events captured.ending rest
+
+-- A file goes on where a capture was cut, whatever bytes stand behind it: what the whole capture writes is what was
+-- due, and then what the file writes, by taps that have heard the first events. Both end alike.
+pub record GoesOnAs (was : Tale) (whole file : (rest : List ℕ) → Played) : Type 0 where
+  pub writes : (mode : Mode) (heard : List Reading) (rest : List ℕ)
+      → Out mode heard (whole rest) ≡ lines_of mode was ++ Out mode (told_notes was.notes heard) (file rest)
+  pub ends : (rest : List ℕ) → EndAlike (file rest) (whole rest)
+
+-- the file of a capture that was cut, where these bytes stand behind it
+abbrev pub play_cut : (n : ℕ) → Captured → (rest : List ℕ) → Played
+play_cut n captured rest = play_file (cut_of n captured ++ rest)
+
+-- status 0: the capture can be cut, those bytes are left that stand behind its End, and it was cut; the file goes on
+-- where it was cut
 pub record CutWhole (n : ℕ) (bytes : List ℕ) (before now : Outside) : Type 0 where
   pub cuttable : IsCuttable n (capture bytes)
   pub left : now.source.left ≡ Some (capture bytes).rest
   pub held : now.out.held ≡ appended before.out.held (cut_of n (capture bytes))
+  pub goes_on : GoesOnAs (play_first n (capture bytes)).tale (play_whole (capture bytes)) (play_cut n (capture bytes))
   pub cost : IsWithin (play_first n (capture bytes)).tale.cost (play_first n (capture bytes)).tale before now
   pub box_cost : IsWithin (play_first n (capture bytes)).tale.box_cost (play_first n (capture bytes)).tale before now
 
