@@ -1,6 +1,6 @@
 -- The state behind the first events.
-use Rattle.std.proofs.Common.{◌≡◌, ◌≤◌, ◌<◌, ◌^◌, inl, ◌+◌, ◌++◌, ℕ, List, [], Option, length, refl, ap, sym, subst, ◌∙◌}
-use Rattle.std.proofs.Common.{append-nil, arith}
+use Rattle.std.proofs.Common.{◌≡◌, ◌≤◌, ◌<◌, ◌^◌, inl, ◌+◌, ◌++◌, ℕ, List, [], Option, length, refl, ap, sym, subst}
+use Rattle.std.proofs.Common.{◌∙◌, append-nil, arith}
 use Rattle.dev_io.specs.Device.{appended, AppendsPart}
 use Rattle.gpu_capture.specs.Capture.{limit}
 use Rattle.gpu_capture.specs.declared.event.Event.{Event}

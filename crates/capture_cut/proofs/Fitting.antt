@@ -159,7 +159,8 @@ job_fits height job tall is =
     let w = is.w in
     let h = is.h in
     let more = is.more in
-    (omega (arith, x), (omega (arith, y, tall), (omega (arith, w), (omega (arith, h), (omega (arith, more, most), tt)))))
+    let count : job.at < 2 ^ 32 = omega (arith, more, most) in
+    (omega (arith, x), (omega (arith, y, tall), (omega (arith, w), (omega (arith, h), (count, tt)))))
 
 first_most : (w : ℕ) → first_len_of w ≤ 12
 first_most w = grind (arith, nat_tests)

@@ -17,7 +17,8 @@ returns c =
     let IsBelow : Registers → Type 0 = λ r. r.held < 2 ^ 32 in
     let IsTied : Pending → Type 0 = λ p. IsLinked p gpu.parts.load in
     let Fits : Pending → Type 0 = λ p. AreWords (pending_words p None) in
-    λ few. subst IsWritable (of_parts c.args.rig.now _ _ _ _ c.gpu-gpu.ensures c.ram-ram.ensures c.running.ensures.value refl)
+    λ few. subst IsWritable
+    (of_parts c.args.rig.now _ _ _ _ c.gpu-gpu.ensures c.ram-ram.ensures c.running.ensures.value refl)
     (rig_writable
     (record { gpu = gpu; ram = c.ram-ram.result.now; running = c.running.result; played = c.args.rig.now.played }) few
     (subst KeepsWidths c.regs.ensures c.keep_widths.ensures.widths)
