@@ -1,5 +1,6 @@
 -- A walk that meets no address again has no more nodes than there are addresses, and ends.
-use Rattle.std.proofs.Common.{◌≡◌, ℕ, zero, suc, ◌+◌, ◌*◌, ◌^◌, ◌<◌, ◌≤◌, List, [], ◌∷◌, length, map, Bool, true, false, eqb, refl, sym, ap, arith, inl, inr, true≢false}
+use Rattle.std.proofs.Common.{◌≡◌, ℕ, zero, suc, ◌+◌, ◌*◌, ◌^◌, ◌<◌, ◌≤◌, List, [], ◌∷◌, length, map, Bool, true, false}
+use Rattle.std.proofs.Common.{eqb, refl, sym, ap, arith, inl, inr, true≢false}
 use Rattle.std.specs.Prelude.{None, ◌==◌}
 use Rattle.std.specs.List.{list_any, IsDistinct, AllByRecursion, range_with_len}
 use Rattle.std.specs.Cmp.{nat_eq_equiv}
@@ -25,7 +26,8 @@ in_addresses : (m place : ℕ) → place < m → list_any (◌==◌ (place * 4))
 unfolding addresses
 in_addresses m place below =
     list_any_at (◌==◌ (place * 4)) (map (λ p. p * 4) (range_with_len 0 m)) place 0 (rw length-map-range_with_len below)
-    (rw (get_or-map-range_with_len (λ p. p * 4) 0 m place place 0 below (omega arith)) (eq-eqb (place * 4) (place * 4) refl))
+    (rw (get_or-map-range_with_len (λ p. p * 4) 0 m place place 0 below (omega arith))
+    (eq-eqb (place * 4) (place * 4) refl))
 
 none_passes : (p : ℕ → Bool) (xs : List ℕ) → list_any p xs ≡ false → AllByRecursion (λ y. p y ≡ false) xs
 none_passes p [] none = tt
@@ -53,25 +55,30 @@ bounded ram addresses seen address (suc n) all within distinct none = elim (case
         absurd (none-some _ (sym bad))
     | inr new ↦
         let none2 = rw (on, new) at none in
-        let within2 : (q : ℕ) → list_any (◌==◌ q) (cut address ∷ seen) ≡ true → list_any (◌==◌ q) addresses ≡ true = λ q is.
+        let within2 : (q : ℕ) → list_any (◌==◌ q) (cut address ∷ seen) ≡ true → list_any (◌==◌ q) addresses
+        ≡ true = λ q is.
         elim (cases_Bool (q == cut address)) [
           | inl same ↦ rw (eqb-true q (cut address) same) (all address)
           | inr other ↦ within q (rw other at is)
         ] in
         let distinct2 = IsDistinct-cons eqb (cut address) seen (none_passes _ _ new) distinct in
-        let rest = bounded ram addresses (cut address ∷ seen) (next_of ram (cut address)) n all within2 distinct2 none2 in
+        let rest = bounded ram addresses (cut address ∷ seen) (next_of ram (cut address)) n all within2 distinct2
+        none2 in
         rw on (omega (arith, rest))
   ]
 ]
 
-pub walk_ends : (ram : List ℕ) (start n m : ℕ) → repeat_after [] (chain ram start n) ≡ None → 2 ^ 19 ≤ m → length (chain ram start n) ≤ m
+pub walk_ends : (ram : List ℕ) (start n m : ℕ) → repeat_after [] (chain ram start n) ≡ None → 2 ^ 19 ≤ m
+    → length (chain ram start n) ≤ m
 unfolding IsDistinct
 walk_ends ram start n m none large =
-    let b = bounded ram (addresses m) [] start n (λ a. in_addresses m (place_of a) (omega (arith, large))) (λ q is. absurd (true≢false (sym is))) tt none in
+    let b = bounded ram (addresses m) [] start n (λ a. in_addresses m (place_of a) (omega (arith, large)))
+    (λ q is. absurd (true≢false (sym is))) tt none in
     omega (arith, b, length-addresses m)
 
 -- a chain that has ended stays as it is
-pub chain_stays : (ram : List ℕ) (start n m : ℕ) → length (chain ram start n) < n → n ≤ m → chain ram start m ≡ chain ram start n
+pub chain_stays : (ram : List ℕ) (start n m : ℕ) → length (chain ram start n) < n → n ≤ m → chain ram start m
+    ≡ chain ram start n
 unfolding chain
 chain_stays ram start zero m short most = absurd (omega (arith, short))
 chain_stays ram start (suc n) zero short most = absurd (omega (arith, most))
@@ -79,5 +86,6 @@ chain_stays ram start (suc n) (suc m) short most = elim (cases_Bool (is_end star
   | inl end ↦ rw end refl
   | inr on ↦
       let short2 = rw on at short in
-      rw on (ap (λ nodes. cut start ∷ nodes) (chain_stays ram (next_of ram (cut start)) n m (omega (arith, short2)) (omega (arith, most))))
+      rw on (ap (λ nodes. cut start ∷ nodes)
+      (chain_stays ram (next_of ram (cut start)) n m (omega (arith, short2)) (omega (arith, most))))
 ]

@@ -22,17 +22,20 @@ iff_trans f g = (λ p. g.0 (f.0 p), λ r. f.1 (g.1 r))
 
 -- the chunk's first cell is one of the strip's, whose first column is given, or the strip's first cell is one of the chunk's
 abbrev pub MeetsStrip : ℕ → Strip → Cell → ℕ → Type 0
-MeetsStrip first strip target n = (strip.y ≡ target.y) × (0 < strip.n) × (((target.x + 1024 - first) % 1024 < strip.n) ⊎ ((target.x ≤ first) × (first < target.x + n)))
+MeetsStrip first strip target n = (strip.y ≡ target.y) × (0 < strip.n)
+    × (((target.x + 1024 - first) % 1024 < strip.n) ⊎ ((target.x ≤ first) × (first < target.x + n)))
 
 -- columns in common, none of them the chunk's first: then the strip begins within the chunk
-beyond : (s first count to n k i : ℕ) → first ≡ s % 1024 → to + n ≤ 1024 → k < count → i < n → (s + k) % 1024 ≡ to + i → count ≤ (to + 1024 - first) % 1024 → (to ≤ first) × (first < to + n)
+beyond : (s first count to n k i : ℕ) → first ≡ s % 1024 → to + n ≤ 1024 → k < count → i < n → (s + k) % 1024 ≡ to + i
+    → count ≤ (to + 1024 - first) % 1024 → (to ≤ first) × (first < to + n)
 beyond s first count to n k i a b c d e f = (omega arith, omega arith)
 
 -- the column of the chunk's first cell, counted from the strip's first
 within : (s first to : ℕ) → first ≡ s % 1024 → to < 1024 → (s + (to + 1024 - first) % 1024) % 1024 ≡ to
 within s first to a b = omega arith
 
-pub strip_places : (strip : Strip) (target : Cell) (n : ℕ) → 1 ≤ n → target.x + n ≤ 1024 → MeetsStrip (strip.x % 1024) strip target n ↔ HasStripHazard strip target n
+pub strip_places : (strip : Strip) (target : Cell) (n : ℕ) → 1 ≤ n → target.x + n ≤ 1024
+    → MeetsStrip (strip.x % 1024) strip target n ↔ HasStripHazard strip target n
 strip_places strip target n some room = (to, from)
   where
     to : MeetsStrip (strip.x % 1024) strip target n → HasStripHazard strip target n
@@ -42,7 +45,8 @@ strip_places strip target n some room = (to, from)
         less,
         (0, omega arith, (within strip.x (strip.x % 1024) target.x refl (omega arith) ∙ sym (add-zero target.x), h.0)),
       )
-      | inr begins ↦ (0, h.1, (strip.x % 1024 - target.x, omega (arith, begins.0, begins.1), (omega (arith, begins.0), h.0)))
+      | inr begins ↦
+          (0, h.1, (strip.x % 1024 - target.x, omega (arith, begins.0, begins.1), (omega (arith, begins.0), h.0)))
     ]
 
     from : HasStripHazard strip target n → MeetsStrip (strip.x % 1024) strip target n

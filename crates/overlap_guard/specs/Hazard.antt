@@ -1,6 +1,7 @@
 -- When a chunk reads what it writes itself (our own rule: every pixel reads video memory as it is then).
 -- A chunk is n cells of one row, and its lane i writes the cell i columns to the right of the target.
-use Rattle.std.specs.Prelude.{ℕ, ◌+◌, ◌%◌, ◌<◌, ◌≡◌, ◌⊎◌, List, length, slice_index_or, Option, None, Some, Bool, false, ◌&&◌, ◌||◌, ◌==◌}
+use Rattle.std.specs.Prelude.{ℕ, ◌+◌, ◌%◌, ◌<◌, ◌≡◌, ◌⊎◌, List, length, slice_index_or, Option, None, Some, Bool, false}
+use Rattle.std.specs.Prelude.{◌&&◌, ◌||◌, ◌==◌}
 use Rattle.std.specs.Option.{MatchOption}
 use Rattle.std.specs.List.{list_any, range_with_len}
 use Rattle.px_num.specs.declared.shape.Cell.{Cell}
@@ -40,7 +41,8 @@ HasStripHazard strip target n = (k : ℕ) × (k < strip.n) × WrittenBefore targ
 
 -- textured chunks: a texel or, where there is one, the palette
 abbrev pub HasTextureHazard : List Cell → Option Strip → Cell → ℕ → Type 0
-HasTextureHazard texels clut target n = HasTexelHazard texels target ⊎ MatchOption clut ⊥ (λ strip. HasStripHazard strip target n)
+HasTextureHazard texels clut target n = HasTexelHazard texels target ⊎ MatchOption clut ⊥
+    (λ strip. HasStripHazard strip target n)
 
 -- ---- the same as tests that compute, pair by pair
 

@@ -14,14 +14,16 @@ returns-then-ends c =
 pub returns-then-contains : goal.returns-then-contains
 returns-then-contains c =
     let on = sym c.ends.ensures ∙ c.if-ends.false in
-    let mark : is_marked c.loop-count.marks (place_of c.loop-count.address) ≡ true = rw c.cut-node.ensures.place at (sym c.contains.ensures ∙ c.if-contains.true) in
+    let mark : is_marked c.loop-count.marks (place_of c.loop-count.address) ≡ true = rw c.cut-node.ensures.place at
+    (sym c.contains.ensures ∙ c.if-contains.true) in
     let loops = met _ _ _ _ _ _ _ c.loop-count.invariant c.loop-count-test.true on mark in
     rw c.cut-node.ensures.value loops
 
 pub loop-count-preserved : goal.loop-count-preserved
 loop-count-preserved c =
     let on = sym c.ends.ensures ∙ c.if-ends.false in
-    let mark : is_marked c.loop-count.marks (place_of c.loop-count.address) ≡ false = rw c.cut-node.ensures.place at (sym c.contains.ensures ∙ c.if-contains.false) in
+    let mark : is_marked c.loop-count.marks (place_of c.loop-count.address) ≡ false = rw c.cut-node.ensures.place at
+    (sym c.contains.ensures ∙ c.if-contains.false) in
     let here = rw c.cut-node.ensures.place at c.insert.ensures.marked in
     let others = rw c.cut-node.ensures.place at c.insert.ensures.others in
     rw (c.next_address-address.ensures, c.cut-node.ensures.value)

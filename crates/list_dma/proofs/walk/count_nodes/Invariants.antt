@@ -5,4 +5,5 @@ use Rattle.list_dma.proofs.walk.count_nodes.Given as goal
 
 abbrev pub invariant-loop-count : goal.invariant-loop-count
 invariant-loop-count l =
-    IsOnWay l.ram l.marks l.address (l.limit - l.count) l.count (repeat_after [] (chain l.ram l.start l.limit)) (length (chain l.ram l.start l.limit))
+    IsOnWay l.ram l.marks l.address (l.limit - l.count) l.count (repeat_after [] (chain l.ram l.start l.limit))
+    (length (chain l.ram l.start l.limit))

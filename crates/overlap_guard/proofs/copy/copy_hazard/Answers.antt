@@ -7,4 +7,5 @@ returns-clause-pairs c = iff_trans c.trails.ensures (trails_iff c.args.from c.ar
 
 pub returns-clause-value : goal.returns-clause-value
 returns-clause-value c =
-    same_bool _ _ (iff_trans c.trails.ensures (trails_iff c.args.from c.args.to c.args.n)) (copy_iff c.args.from c.args.to c.args.n)
+    same_bool _ _ (iff_trans c.trails.ensures (trails_iff c.args.from c.args.to c.args.n))
+    (copy_iff c.args.from c.args.to c.args.n)

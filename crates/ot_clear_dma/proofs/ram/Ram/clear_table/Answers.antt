@@ -9,4 +9,5 @@ returns-clause-table c =
     let last : c.loop-k.k ≡ c.args.n - 1 = omega arith in
     let is : c.put-2.new.self ≡ cleared_table c.args.self.now c.args.madr c.args.n =
     c.put-2.ensures.words ∙ rw (c.below-2.ensures, c.loop-k.invariant, last) refl in
-    rw is (table c.args.self.now c.args.madr c.args.n c.requires.some c.requires.most (sym (ap length is) ∙ c.put-2.ensures.long))
+    rw is (table c.args.self.now c.args.madr c.args.n c.requires.some c.requires.most
+    (sym (ap length is) ∙ c.put-2.ensures.long))
