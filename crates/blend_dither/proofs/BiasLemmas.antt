@@ -1,5 +1,6 @@
 -- Lanes of dither offsets, four added to each.
-use Rattle.std.proofs.Common.{◌≡◌, ℕ, ◌<◌, List, length, get_or, replicate, map, Fits, w16, ℤ, pos, ◌+ℤ◌, ◌≤ℤ◌, to_z, of_z, SFits, T, ap, ◌∙◌, arith}
+use Rattle.std.proofs.Common.{◌≡◌, ℕ, ◌<◌, List, length, get_or, replicate, map, Fits, w16, ℤ, pos, ◌+ℤ◌, ◌≤ℤ◌, to_z}
+use Rattle.std.proofs.Common.{of_z, SFits, T, ap, ◌∙◌, arith}
 use lib.IntN.{nat_abs}
 use borrow.Author.Differences.{up}
 use lib.Signed.{non_neg, yes_non_neg, pos-nat_abs}
@@ -55,7 +56,8 @@ raised_casts s small =
 
 -- ---- sixteen lanes
 
-module _ (shifts : List ℤ) (long : length shifts ≡ 16) (small : (i : ℕ) → i < 16 → IsShift (get_or shifts i (pos 0))) where
+module _ (shifts : List ℤ) (long : length shifts ≡ 16)
+    (small : (i : ℕ) → i < 16 → IsShift (get_or shifts i (pos 0))) where
   at_bits : (i : ℕ) → i < 16 → get_or (bits shifts) i 0 ≡ of_z w16 (get_or shifts i (pos 0))
   at_bits i lt = get_or-map (of_z w16) shifts i (pos 0) 0 (omega arith)
 
@@ -68,7 +70,8 @@ module _ (shifts : List ℤ) (long : length shifts ≡ 16) (small : (i : ℕ) �
       each2 SumFits (bits shifts) (replicate 16 4) long_bits
       (λ i lt.
       let below : i < 16 = omega arith in
-      rw (at_bits i below, get_or-replicate {A = ℕ} 16 i 4 0 below) (raised_fits (get_or shifts i (pos 0)) (small i below)))
+      rw (at_bits i below, get_or-replicate {A = ℕ} 16 i 4 0 below)
+      (raised_fits (get_or shifts i (pos 0)) (small i below)))
 
   at_raised : (i : ℕ) → i < 16 → get_or (sums shifts) i 0 ≡ raised (of_z w16 (get_or shifts i (pos 0)))
   at_raised i lt = at_splat sum (bits shifts) 4 long_bits i lt ∙ ap raised (at_bits i lt)

@@ -2,7 +2,8 @@
 -- exact whole numbers of modulation and of blending are our own rule).
 -- A colour has red in bits 0 to 7, green in 8 to 15 and blue in 16 to 23. A halfword has red in bits 0 to 4,
 -- green in 5 to 9, blue in 10 to 14 and the mask bit in 15.
-use Rattle.std.specs.Prelude.{ℕ, suc, ◌+◌, ◌-◌, ◌*◌, ◌/◌, ◌%◌, ◌^◌, min, Bool, if◌then◌else◌, ◌||◌, ◌==◌, ℤ, pos, negsuc, ◌≤ℤ◌, List, [], ◌∷◌, slice_index_or}
+use Rattle.std.specs.Prelude.{ℕ, suc, ◌+◌, ◌-◌, ◌*◌, ◌/◌, ◌%◌, ◌^◌, min, Bool, if◌then◌else◌, ◌||◌, ◌==◌, ℤ, pos}
+use Rattle.std.specs.Prelude.{negsuc, ◌≤ℤ◌, List, [], ◌∷◌, slice_index_or}
 
 -- the dither offsets of a block of four rows of four cells, row after row
 abbrev pub dither_offsets : List ℤ
@@ -70,7 +71,8 @@ modulated_channel t c s = shifted_channel (8 * t * c / 128) s / 8
 -- a texel under three channels of eight bits
 abbrev pub modulated_of : ℕ → ℕ → ℕ → ℕ → ℤ → ℕ
 modulated_of t r g b s =
-    packed (modulated_channel (red5_of t) r s) (modulated_channel (green5_of t) g s) (modulated_channel (blue5_of t) b s)
+    packed (modulated_channel (red5_of t) r s) (modulated_channel (green5_of t) g s)
+    (modulated_channel (blue5_of t) b s)
 
 -- ---- blending
 
@@ -85,7 +87,8 @@ blended_channel mode b f =
 -- a pixel over a cell
 abbrev pub blended_of : ℕ → ℕ → ℕ → ℕ
 blended_of mode b f =
-    packed (blended_channel mode (red5_of b) (red5_of f)) (blended_channel mode (green5_of b) (green5_of f)) (blended_channel mode (blue5_of b) (blue5_of f))
+    packed (blended_channel mode (red5_of b) (red5_of f)) (blended_channel mode (green5_of b) (green5_of f))
+    (blended_channel mode (blue5_of b) (blue5_of f))
 
 -- ---- packing
 

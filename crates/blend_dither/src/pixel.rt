@@ -1,6 +1,8 @@
 // The colour of one pixel.
 ghost use Rattle.std.specs.Prelude.{◌≡◌, ◌≤◌, ◌<◌, ◌^◌, slice_index_or, pos};
-ghost use Rattle.blend_dither.specs.Color.{dither_offset, dither_offsets, IsShift, tone_of, tone_channel, shifted_channel, red_of, green_of, blue_of, modulated_of, modulated_channel, blended_of, blended_channel, packed, packed_pixel};
+ghost use Rattle.blend_dither.specs.Color.{dither_offset, dither_offsets, IsShift, tone_of, tone_channel};
+ghost use Rattle.blend_dither.specs.Color.{shifted_channel, red_of, green_of, blue_of, modulated_of, modulated_channel};
+ghost use Rattle.blend_dither.specs.Color.{blended_of, blended_channel, packed, packed_pixel};
 
 // The offsets of a block of four rows of four cells, row after row.
 const DITHER: [i8; 16] = [-4, 0, -3, 1, 2, -2, 3, -1, -3, 1, -4, 0, 3, -1, 2, -2];

@@ -1,5 +1,6 @@
 // The colours of sixteen pixels at once.
-ghost use Rattle.std.specs.Prelude.{◌≡◌, ◌≤◌, ◌<◌, ◌+◌, ◌-◌, ◌/◌, ◌*◌, ◌^◌, min, length, slice_index, slice_index_or, pos};
+ghost use Rattle.std.specs.Prelude.{◌≡◌, ◌≤◌, ◌<◌, ◌+◌, ◌-◌, ◌/◌, ◌*◌, ◌^◌, min, length, slice_index, slice_index_or};
+ghost use Rattle.std.specs.Prelude.{pos};
 ghost use Rattle.px_num.specs.Lanes.{EachLane};
 ghost use Rattle.blend_dither.specs.Color.{IsShift, tone_of, packed, modulated_of, blended_of, blended_channel};
 

@@ -228,7 +228,7 @@ outline_fits o tall few registers load store running pending =
     (run_fits o.run running)
 
 pub rig_writable : (rig : RigState) → rig.played < 2 ^ 63 → KeepsWidths rig.gpu.parts.regs
-    → rig.gpu.parts.regs.held < 2 ^ 32 → IsPending rig.gpu.pending → IsLinked rig.gpu.pending rig.gpu.parts.load
+    → rig.gpu.parts.regs.latch < 2 ^ 32 → IsPending rig.gpu.pending → IsLinked rig.gpu.pending rig.gpu.parts.load
     → IsOpen rig.gpu.parts.regs.height rig.gpu.parts.load → IsOpen rig.gpu.parts.regs.height rig.gpu.parts.store
     → IsRun rig.running → AreWords (pending_words rig.gpu.pending None)
     → length rig.gpu.parts.m ≡ 1024 * rig.gpu.parts.regs.height → AreCells rig.gpu.parts.m

@@ -100,7 +100,7 @@ pub(crate) fn keep_widths(regs: &Regs)
     let _ = (regs.height(), regs.e1(), regs.window(), regs.top_left());
     let _ = (regs.bottom_right(), regs.offset(), regs.mask());
     let _ = (regs.direction(), regs.start(), regs.hrange());
-    let _ = (regs.vrange(), regs.mode(), regs.held());
+    let _ = (regs.vrange(), regs.mode(), regs.latch_word());
 }
 
 // How many bytes the head and a state but for its memories have.

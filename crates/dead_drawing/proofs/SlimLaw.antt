@@ -147,25 +147,25 @@ control_stays words c d idle =
 -- ---- dropping one packet
 
 -- the area of a packet hangs on no latch
-area_latch : (r : Registers) (held : ℕ) (what : Packet) → area_of (record r { held = held }) what ≡ area_of r what
+area_latch : (r : Registers) (latch : ℕ) (what : Packet) → area_of (record r { latch = latch }) what ≡ area_of r what
 unfolding area_of polygon_area triangle_box segment_box rectangle_box extent_at placed drawing_area
-area_latch r held (packet.Poly four a b c d shaded textured semi raw clut page) = refl
-area_latch r held (packet.Segment a b semi) = refl
-area_latch r held (packet.Rect x y w h color textured semi raw u v clut) = refl
-area_latch r held (packet.Fill color x y w h) = refl
-area_latch r held (packet.Copy from to w h) = refl
-area_latch r held (packet.Load x y w h) = refl
-area_latch r held (packet.Store x y w h) = refl
-area_latch r held (packet.Pixels word) = refl
-area_latch r held (packet.Env index value) = refl
-area_latch r held packet.Irq = refl
-area_latch r held packet.Nop = refl
-area_latch r held packet.Finish = refl
+area_latch r latch (packet.Poly four a b c d shaded textured semi raw clut page) = refl
+area_latch r latch (packet.Segment a b semi) = refl
+area_latch r latch (packet.Rect x y w h color textured semi raw u v clut) = refl
+area_latch r latch (packet.Fill color x y w h) = refl
+area_latch r latch (packet.Copy from to w h) = refl
+area_latch r latch (packet.Load x y w h) = refl
+area_latch r latch (packet.Store x y w h) = refl
+area_latch r latch (packet.Pixels word) = refl
+area_latch r latch (packet.Env index value) = refl
+area_latch r latch packet.Irq = refl
+area_latch r latch packet.Nop = refl
+area_latch r latch packet.Finish = refl
 
-area_held : (r now : Registers) (words : List ℕ) → now ≡ record r { held = now.held }
+area_but_latch : (r now : Registers) (words : List ℕ) → now ≡ record r { latch = now.latch }
     → area_of now (whole_of now.height words) ≡ area_of r (whole_of r.height words)
-area_held r now words e =
-    ap (λ (q : Registers). area_of q (whole_of q.height words)) e ∙ area_latch r now.held (whole_of r.height words)
+area_but_latch r now words e =
+    ap (λ (q : Registers). area_of q (whole_of q.height words)) e ∙ area_latch r now.latch (whole_of r.height words)
 
 -- what hides a packet follows it at once, or nothing has to
 pub record IsGoneBefore (s : State) (words : List ℕ) (behind : List Event) : Type 0 where
@@ -206,7 +206,7 @@ pub front_gone : (c : Control) (s : State) (events : List Event) (words : List �
 front_gone c s events words shown tracks long front dead =
     let behind = drop (length words) events in
     let area : area_of s.parts.regs (whole_of s.parts.regs.height words) ≡ area_of c.regs
-    (whole_of c.regs.height words) = area_held c.regs s.parts.regs words tracks.regs in
+    (whole_of c.regs.height words) = area_but_latch c.regs s.parts.regs words tracks.regs in
     let u = hidden_by c s words behind (window_events + 1 - length words)
     (area_of c.regs (whole_of c.regs.height words)) area (run_tracks (map event.Gp0 words) c s tracks) dead in
     let idle : Rest s.words ≡ pending.Idle = tracks.pending ∙ front.idle in

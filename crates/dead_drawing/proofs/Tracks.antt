@@ -21,52 +21,52 @@ use Rattle.dead_drawing.specs.Run.{after, run}
 use Rattle.dead_drawing.proofs.Events.{new_is}
 
 -- registers that are the same but for the latch
-abbrev pub IsButHeld : Registers → Registers → Type 0
-IsButHeld r now = now ≡ record r { held = now.held }
+abbrev pub IsButLatch : Registers → Registers → Type 0
+IsButLatch r now = now ≡ record r { latch = now.latch }
 
 pub record Tracks (c : Control) (s : State) : Type 0 where
-  pub regs : IsButHeld c.regs s.parts.regs
+  pub regs : IsButLatch c.regs s.parts.regs
   pub pending : Rest s.words ≡ c.pending
 
-held_cond : (b : Bool) (q q_now r r_now : Registers) → IsButHeld q q_now → IsButHeld r r_now
-    → IsButHeld (cond b q r) (cond b q_now r_now)
+held_cond : (b : Bool) (q q_now r r_now : Registers) → IsButLatch q q_now → IsButLatch r r_now
+    → IsButLatch (cond b q r) (cond b q_now r_now)
 held_cond true q q_now r r_now e f = e
 held_cond false q q_now r r_now e f = f
 
 -- ---- packets
 
-env_held : (r : Registers) (held index value : ℕ)
-    → IsButHeld (env_of r index value) (env_of (record r { held = held }) index value)
-env_held r held index value =
+env_latch : (r : Registers) (latch index value : ℕ)
+    → IsButLatch (env_of r index value) (env_of (record r { latch = latch }) index value)
+env_latch r latch index value =
     held_cond (index == 1) _ _ _ _ refl
     (held_cond (index == 2) _ _ _ _ refl
     (held_cond (index == 3) _ _ _ _ refl
     (held_cond (index == 4) _ _ _ _ refl (held_cond (index == 5) _ _ _ _ refl refl))))
 
-page_held : (r : Registers) (held : ℕ) (textured : Bool) (page : ℕ)
-    → IsButHeld (with_page r textured page) (with_page (record r { held = held }) textured page)
-page_held r held true page = refl
-page_held r held false page = refl
+page_latch : (r : Registers) (latch : ℕ) (textured : Bool) (page : ℕ)
+    → IsButLatch (with_page r textured page) (with_page (record r { latch = latch }) textured page)
+page_latch r latch true page = refl
+page_latch r latch false page = refl
 
-after_held : (r : Registers) (held : ℕ) (what : Packet)
-    → IsButHeld (regs_after r what) (regs_after (record r { held = held }) what)
-after_held r held (packet.Env index value) = env_held r held index value
-after_held r held packet.Irq = refl
-after_held r held (packet.Poly four a b c d shaded textured semi raw clut page) = page_held r held textured page
-after_held r held (packet.Segment a b semi) = refl
-after_held r held (packet.Rect x y w h color textured semi raw u v clut) = refl
-after_held r held (packet.Fill color x y w h) = refl
-after_held r held (packet.Copy from to w h) = refl
-after_held r held (packet.Load x y w h) = refl
-after_held r held (packet.Store x y w h) = refl
-after_held r held (packet.Pixels word) = refl
-after_held r held packet.Nop = refl
-after_held r held packet.Finish = refl
+after_latch : (r : Registers) (latch : ℕ) (what : Packet)
+    → IsButLatch (regs_after r what) (regs_after (record r { latch = latch }) what)
+after_latch r latch (packet.Env index value) = env_latch r latch index value
+after_latch r latch packet.Irq = refl
+after_latch r latch (packet.Poly four a b c d shaded textured semi raw clut page) = page_latch r latch textured page
+after_latch r latch (packet.Segment a b semi) = refl
+after_latch r latch (packet.Rect x y w h color textured semi raw u v clut) = refl
+after_latch r latch (packet.Fill color x y w h) = refl
+after_latch r latch (packet.Copy from to w h) = refl
+after_latch r latch (packet.Load x y w h) = refl
+after_latch r latch (packet.Store x y w h) = refl
+after_latch r latch (packet.Pixels word) = refl
+after_latch r latch packet.Nop = refl
+after_latch r latch packet.Finish = refl
 
-by_held : (r : Registers) (held : ℕ) (item : Option Item)
-    → IsButHeld (regs_by r item) (regs_by (record r { held = held }) item)
-by_held r held None = refl
-by_held r held (Some item) = after_held r held (packet_of r.height item)
+by_latch : (r : Registers) (latch : ℕ) (item : Option Item)
+    → IsButLatch (regs_by r item) (regs_by (record r { latch = latch }) item)
+by_latch r latch None = refl
+by_latch r latch (Some item) = after_latch r latch (packet_of r.height item)
 
 pixels_regs : (p : Parts) (job : Option Transfer) (word : ℕ) → (with_pixels p job word).regs ≡ p.regs
 pixels_regs p None word = refl
@@ -96,20 +96,20 @@ unfolding controlled Feed
 feed_tracks c s word h =
     let same : new_item s.words word ≡ next_item c.pending word = new_is s.words word
     ∙ ap (λ (p : Pending). next_item p word) h.pending in
-    let now : (after_item s.parts (new_item s.words word)).regs ≡ regs_by (record c.regs { held = s.parts.regs.held })
+    let now : (after_item s.parts (new_item s.words word)).regs ≡ regs_by (record c.regs { latch = s.parts.regs.latch })
     (next_item c.pending word) =
     ap (λ (item : Option Item). (after_item s.parts item).regs) same ∙ item_regs s.parts (next_item c.pending word)
     ∙ ap (λ (r : Registers). regs_by r (next_item c.pending word)) h.regs in
     record {
-      regs = subst (IsButHeld (regs_by c.regs (next_item c.pending word))) (sym now)
-          (by_held c.regs s.parts.regs.held (next_item c.pending word));
+      regs = subst (IsButLatch (regs_by c.regs (next_item c.pending word))) (sym now)
+          (by_latch c.regs s.parts.regs.latch (next_item c.pending word));
       pending = Rest-push s.words word ∙ ap (λ (p : Pending). next_pending p word) h.pending;
     }
 
 -- ---- the other events
 
-gp1_held : (r : Registers) (held word : ℕ) → IsButHeld (gp1_of r word) (gp1_of (record r { held = held }) word)
-gp1_held r held word =
+gp1_latch : (r : Registers) (latch word : ℕ) → IsButLatch (gp1_of r word) (gp1_of (record r { latch = latch }) word)
+gp1_latch r latch word =
     held_cond (opcode_of word == 0x00) _ _ _ _ refl
     (held_cond (opcode_of word == 0x02) _ _ _ _ refl
     (held_cond (opcode_of word == 0x03) _ _ _ _ refl
@@ -126,9 +126,9 @@ gp1_tracks : (c : Control) (s : State) (word : ℕ) → Tracks c s → Tracks (c
 unfolding controlled Gp1 Rest
 gp1_tracks c s word h = by_test (is_clearing word)
   where
-    regs : IsButHeld (gp1_of c.regs word) (gp1_of s.parts.regs word)
-    regs = subst (λ (r : Registers). IsButHeld (gp1_of c.regs word) (gp1_of r word)) (sym h.regs)
-        (gp1_held c.regs s.parts.regs.held word)
+    regs : IsButLatch (gp1_of c.regs word) (gp1_of s.parts.regs word)
+    regs = subst (λ (r : Registers). IsButLatch (gp1_of c.regs word) (gp1_of r word)) (sym h.regs)
+        (gp1_latch c.regs s.parts.regs.latch word)
 
     by_test : (b : Bool) → Tracks (record { regs = gp1_of c.regs word; pending = cond b pending.Idle c.pending })
         (cond b (record { parts = cleared (record s.parts { regs = gp1_of s.parts.regs word }); words = [] })
@@ -136,17 +136,17 @@ gp1_tracks c s word h = by_test (is_clearing word)
     by_test true = record { regs = regs; pending = refl }
     by_test false = record { regs = regs; pending = h.pending }
 
-taken_held : (r : Registers) (p : Parts) (job : Option Transfer) → IsButHeld r p.regs
-    → IsButHeld r (taken_from p job).parts.regs
-taken_held r p None e = e
-taken_held r p (Some job) e = ap (λ (q : Registers). record q { held = (taken_from p (Some job)).word }) e
+taken_latch : (r : Registers) (p : Parts) (job : Option Transfer) → IsButLatch r p.regs
+    → IsButLatch r (taken_from p job).parts.regs
+taken_latch r p None e = e
+taken_latch r p (Some job) e = ap (λ (q : Registers). record q { latch = (taken_from p (Some job)).word }) e
 
 pub event_tracks : (c : Control) (s : State) (e : Event) → Tracks c s → Tracks (controlled c e) (after s e)
 unfolding controlled after Take
 event_tracks c s (event.Gp0 word) h = feed_tracks c s word h
 event_tracks c s (event.Gp1 word) h = gp1_tracks c s word h
-event_tracks c s event.Read h = record { regs = taken_held c.regs s.parts s.parts.store h.regs; pending = h.pending }
-event_tracks c s event.Skip h = record { regs = taken_held c.regs s.parts s.parts.store h.regs; pending = h.pending }
+event_tracks c s event.Read h = record { regs = taken_latch c.regs s.parts s.parts.store h.regs; pending = h.pending }
+event_tracks c s event.Skip h = record { regs = taken_latch c.regs s.parts s.parts.store h.regs; pending = h.pending }
 event_tracks c s event.Stat h = h
 event_tracks c s (event.Ram address word) h = h
 event_tracks c s (event.Dma channel madr bcr chcr) h = h

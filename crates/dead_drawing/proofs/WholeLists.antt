@@ -3,10 +3,11 @@ use Rattle.std.proofs.Common.{◌≡◌, ◌%◌, ◌==◌, ◌-◌, ◌*◌, �
 use Rattle.std.proofs.Common.{◌∙◌, arith}
 use Rattle.std.proofs.lemmas.List.{length-append, length-replicate}
 use Rattle.px_num.specs.Height.{tall_height}
+use Rattle.px_num.specs.Zeros.{zeros}
 use Rattle.gp0_words.specs.Items.{Rest}
 use Rattle.gpu_capture.specs.declared.event.Event.{Event}
 use Rattle.gpu_core.specs.Machine.{State, first_state, tall_state}
-use Rattle.vram_store.specs.Vram.{blank, zeros, tall, rows_behind}
+use Rattle.vram_store.specs.Vram.{blank, tall, rows_behind}
 use Rattle.event_play.specs.Ports.{AreAtPorts}
 use Rattle.event_play.specs.Replay.{from_state, tall_version}
 use Rattle.event_play.specs.Step.{Machine, first_machine, tall_machine}

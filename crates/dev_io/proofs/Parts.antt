@@ -13,7 +13,8 @@ pub prepended-nil : (left : Option (List ℕ)) → left ≡ prepended [] left
 prepended-nil None = refl
 prepended-nil (Some left) = refl
 
-pub prepended-prepended : (xs ys : List ℕ) (left : Option (List ℕ)) → prepended xs (prepended ys left) ≡ prepended (xs ++ ys) left
+pub prepended-prepended : (xs ys : List ℕ) (left : Option (List ℕ)) → prepended xs (prepended ys left)
+    ≡ prepended (xs ++ ys) left
 prepended-prepended xs ys None = refl
 prepended-prepended xs ys (Some left) = ap Some (sym (append_assoc xs ys left))
 
@@ -47,12 +48,14 @@ gives_on before now new buf part i n k le first next = record {
 -- ---- written
 
 -- a sink that took a part of some bytes took a part of more bytes, after those before them
-pub part_after : (before mid now : Option (List ℕ)) (xs ys zs : List ℕ) → mid ≡ appended before xs → AppendsPart mid now ys
+pub part_after : (before mid now : Option (List ℕ)) (xs ys zs : List ℕ) → mid ≡ appended before xs
+    → AppendsPart mid now ys
     → AppendsPart before now (xs ++ (ys ++ zs))
 part_after before mid now xs ys zs was part = record {
   count = length xs + part.count;
   part = let a = length-append xs (ys ++ zs) in let b = length-append ys zs in omega (arith, a, b, part.part);
-  held = part.held ∙ ap (λ held. appended held (take part.count ys)) was ∙ appended-appended before xs (take part.count ys)
+  held = part.held ∙ ap (λ held. appended held (take part.count ys)) was
+      ∙ appended-appended before xs (take part.count ys)
       ∙ ap (appended before) (sym (take-append-add xs (ys ++ zs) part.count
       ∙ ap (λ ws. xs ++ ws) (take-append-le part.count ys zs (omega (arith, part.part)))));
 }
@@ -67,8 +70,10 @@ split_at f (x ∷ xs) (suc i) d lt =
     rw e (ap (λ ys. f x ++ ys) (split_at f xs i d (omega (arith, lt)))
     ∙ sym (append_assoc (f x) (flat_map f (take i xs)) (f (get_or xs i d) ++ flat_map f (drop (i + 1) xs))))
 
-pub piece_part : {X : Type 0} (f : X → List ℕ) (before mid now : Option (List ℕ)) (xs : List X) (i : ℕ) (d : X) → i < length xs
-    → mid ≡ appended before (flat_map f (take i xs)) → AppendsPart mid now (f (get_or xs i d)) → AppendsPart before now (flat_map f xs)
+pub piece_part : {X : Type 0} (f : X → List ℕ) (before mid now : Option (List ℕ)) (xs : List X) (i : ℕ) (d : X)
+    → i < length xs
+    → mid ≡ appended before (flat_map f (take i xs)) → AppendsPart mid now (f (get_or xs i d))
+    → AppendsPart before now (flat_map f xs)
 piece_part f before mid now xs i d lt was part =
     rw (split_at f xs i d lt)
     (part_after before mid now (flat_map f (take i xs)) (f (get_or xs i d)) (flat_map f (drop (i + 1) xs)) was part)

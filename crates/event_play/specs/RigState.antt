@@ -5,7 +5,7 @@ use Rattle.gpu_core.specs.Kept.{Kept, kept_of}
 use Rattle.gpu_core.specs.Machine.{State, first_state}
 use Rattle.list_dma.specs.declared.run.Run.{Run}
 use Rattle.list_dma.specs.declared.run.Run.TheVariants as run
-use Rattle.ot_clear_dma.specs.Ram.{blank}
+use Rattle.ot_clear_dma.specs.Ram.{first_memory}
 use Rattle.event_play.specs.Replay.{Tale}
 use Rattle.event_play.specs.Step.{Machine}
 
@@ -17,7 +17,7 @@ pub record RigState : Type 0 where
 
 -- a new rig
 abbrev pub first_rig : RigState
-first_rig = record { gpu = kept_of first_state; ram = blank; running = run.Idle; played = 0 }
+first_rig = record { gpu = kept_of first_state; ram = first_memory; running = run.Idle; played = 0 }
 
 -- a rig stands for each machine that agrees with it
 pub record Stands (rig : RigState) (s : Machine) : Type 0 where

@@ -8,7 +8,7 @@ use Rattle.list_dma.specs.Node.{node_words}
 use Rattle.list_dma.specs.Walk.{list_words}
 use Rattle.list_dma.specs.declared.run.Run.{Run}
 use Rattle.list_dma.specs.declared.run.Run.TheVariants as run
-use Rattle.ot_clear_dma.specs.Ram.{set, blank}
+use Rattle.ot_clear_dma.specs.Ram.{set, first_memory}
 use Rattle.ot_clear_dma.specs.Table.{cleared_table}
 use Rattle.event_play.specs.Block.{block_words}
 use Rattle.event_play.specs.Fed.{fed, fed_notes, fed_cost, fed_box_cost}
@@ -28,7 +28,7 @@ pub record Machine : Type 0 where
 
 -- zeros everywhere, the registers after a reset, and nothing that runs
 unfoldable pub first_machine : Machine
-first_machine = record { gpu = first_state; ram = blank; running = run.Idle }
+first_machine = record { gpu = first_state; ram = first_memory; running = run.Idle }
 
 -- with the rows of the tall profile in video memory; all else stays
 abbrev pub tall_machine : Machine → Machine

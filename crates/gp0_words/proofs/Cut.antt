@@ -9,7 +9,7 @@ use Rattle.std.proofs.lemmas.Nat.{mul-le}
 use Rattle.gp0_words.specs.Kinds.{opcode_of, polygon_len_of, line_kind_of, kind_of, start_len, is_end, is_set}
 use Rattle.gp0_words.specs.Sizes.{data_words_of}
 use Rattle.gp0_words.specs.Items.{flat_joints, flat_need, flat_rest, shaded_joints, shaded_need, shaded_rest, tail_items, tail_need, tail_rest, packet_items, packet_need, packet_rest, items_from, rest_from, Items, Rest}
-use Rattle.gp0_words.specs.Next.{next_pending, next_item, pending_behind, collected_pending, collected_item, IsPending}
+use Rattle.gp0_words.specs.Next.{next_pending, next_item, pending_after, collected_pending, collected_item, IsPending}
 use Rattle.gp0_words.specs.declared.kind.Kind.{Kind}
 use Rattle.gp0_words.specs.declared.kind.Kind.TheVariants.{Plain, Load, Polyline}
 use Rattle.gp0_words.specs.declared.item.Item.TheVariants.{Pixels}
@@ -127,7 +127,7 @@ tail_items-none Load start = rw (take_all {A = ℕ} (data_words_of (slice_index 
 tail_items-none (Polyline true) start = refl
 tail_items-none (Polyline false) start = refl
 
-tail_rest-none : (k : Kind) (start : List ℕ) → cond (nat_lt 0 (tail_need k start [])) (tail_rest k start []) pending.Idle ≡ pending_behind k start
+tail_rest-none : (k : Kind) (start : List ℕ) → cond (nat_lt 0 (tail_need k start [])) (tail_rest k start []) pending.Idle ≡ pending_after k start
 tail_rest-none (Plain n) start = refl
 tail_rest-none Load start = grind (arith, nat_tests, data_words_of-positive (slice_index start 2))
 tail_rest-none (Polyline true) start = refl
@@ -318,20 +318,20 @@ data_words_of-most size =
     let most : (w + 1) * (h + 1) ≤ 1024 * 512 = mul-le (w + 1) (h + 1) 1024 512 (omega arith) (omega arith) in
     omega arith
 
-pending_behind-kept : (k : Kind) (words : List ℕ) → k ≡ kind_of (slice_index words 0) → IsPending (pending_behind k words)
-pending_behind-kept (Plain n) words is = tt
-pending_behind-kept Load words is = (data_words_of-positive (slice_index words 2), data_words_of-most (slice_index words 2))
-pending_behind-kept (Polyline true) words is =
+pending_after-kept : (k : Kind) (words : List ℕ) → k ≡ kind_of (slice_index words 0) → IsPending (pending_after k words)
+pending_after-kept (Plain n) words is = tt
+pending_after-kept Load words is = (data_words_of-positive (slice_index words 2), data_words_of-most (slice_index words 2))
+pending_after-kept (Polyline true) words is =
     let shaded : is_set (slice_index words 0) 28 ≡ true = rw (← is) at (kind_of-is (slice_index words 0)) in
     (sym is ∙ ap Polyline (sym shaded), λ e. cc)
-pending_behind-kept (Polyline false) words is =
+pending_after-kept (Polyline false) words is =
     let flat : is_set (slice_index words 0) 28 ≡ false = rw (← is) at (kind_of-is (slice_index words 0)) in
     (sym is ∙ ap Polyline (sym flat), λ e. refl)
 
 collected_pending-kept : (k : Kind) (words : List ℕ) → 0 < length words → k ≡ kind_of (slice_index words 0) → IsPending (collected_pending k words)
 collected_pending-kept k words some is =
-    cond_both (nat_lt (length words) (start_len k)) (pending.Packet words) (pending_behind k words) IsPending
-    (λ e. (some, rw (← is) (ltb-true _ _ e))) (λ e. pending_behind-kept k words is)
+    cond_both (nat_lt (length words) (start_len k)) (pending.Packet words) (pending_after k words) IsPending
+    (λ e. (some, rw (← is) (ltb-true _ _ e))) (λ e. pending_after-kept k words is)
 
 pub next_pending-kept : (h : Pending) (x : ℕ) → IsPending h → IsPending (next_pending h x)
 next_pending-kept pending.Idle x kept = collected_pending-kept (kind_of x) (x ∷ []) (omega arith) refl

@@ -11,18 +11,18 @@ use Rattle.gp0_words.specs.declared.pending.Pending.{Pending}
 use Rattle.gp0_words.specs.declared.pending.Pending.TheVariants as pending
 
 -- what is pending behind the whole first item of a packet
-abbrev pub pending_behind : Kind → List ℕ → Pending
-pending_behind (Plain n) words = pending.Idle
-pending_behind Load words = pending.Pixels (data_words_of (slice_index words 2))
-pending_behind (Polyline true) words =
+abbrev pub pending_after : Kind → List ℕ → Pending
+pending_after (Plain n) words = pending.Idle
+pending_after Load words = pending.Pixels (data_words_of (slice_index words 2))
+pending_after (Polyline true) words =
     pending.Poly (slice_index words 0) (slice_index words 2) (slice_index words 3) None
-pending_behind (Polyline false) words =
+pending_after (Polyline false) words =
     pending.Poly (slice_index words 0) (slice_index words 0) (slice_index words 2) None
 
 -- the first words of a packet, which may be its whole first item
 abbrev pub collected_pending : Kind → List ℕ → Pending
 collected_pending kind words =
-    if nat_lt (length words) (start_len kind) then pending.Packet words else pending_behind kind words
+    if nat_lt (length words) (start_len kind) then pending.Packet words else pending_after kind words
 
 abbrev pub collected_item : Kind → List ℕ → Option Item
 collected_item kind words = if nat_lt (length words) (start_len kind) then None else Some (Whole words)

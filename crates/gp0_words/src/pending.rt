@@ -3,7 +3,7 @@ ghost use Rattle.std.specs.Prelude.{◌≡◌, ◌<◌, ◌≤◌, ◌+◌, ℕ,
 ghost use Rattle.gp0_words.specs.Kinds.{kind_of, start_len, first_len_of};
 ghost use Rattle.gp0_words.specs.Skipped.{behind_pixels};
 ghost use Rattle.gp0_words.specs.Next.{wanted, next_pending, next_item, IsPending};
-ghost use Rattle.gp0_words.specs.Next.{pending_behind, collected_pending, collected_item};
+ghost use Rattle.gp0_words.specs.Next.{pending_after, collected_pending, collected_item};
 
 use crate::item::Item;
 use crate::kind::{Kind, ends_polyline, first_len, read_kind, start_count};
@@ -45,7 +45,7 @@ pub enum Pending {
 /// What is pending behind the whole first item of a packet.
 fn pending_after(kind: Kind, words: &[u32]) -> Pending
     requires { start_len kind ≤ length words.now }
-    ensures { result ≡ pending_behind kind words.now }
+    ensures { result ≡ pending_after kind words.now }
 {
     match kind {
         Kind::Plain { .. } => Pending::Idle,

@@ -18,6 +18,6 @@ registers_of r =
       hrange = r.hrange;
       vrange = r.vrange;
       mode = r.mode;
-      held = r.held;
+      latch = r.latch;
       height = r.height;
     }

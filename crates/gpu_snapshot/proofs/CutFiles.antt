@@ -15,7 +15,8 @@ use Rattle.gpu_capture.proofs.Steps.{at_word}
 use Rattle.gpu_capture.proofs.Written.{events_read}
 use Rattle.gpu_core.specs.Kept.{Kept}
 use Rattle.gpu_core.specs.Machine.{tall_state}
-use Rattle.vram_store.specs.Vram.{zeros, tall}
+use Rattle.px_num.specs.Zeros.{zeros}
+use Rattle.vram_store.specs.Vram.{tall}
 use Rattle.event_play.specs.AlikeStates.{StandAlike, PlayAlike}
 use Rattle.event_play.specs.Out.{lines_of, Out}
 use Rattle.event_play.specs.Replay.{Tale, Played, Replay, from_state, raised, played_from}

@@ -2,11 +2,11 @@
 use Rattle.std.proofs.Common.{◌≡◌, ◌*◌, ◌-◌, ◌≤◌, ◌++◌, ℕ, List, length, refl, ap, sym, ◌∙◌, arith, append-nil}
 use Rattle.std.proofs.lemmas.List.{length-append, length-replicate}
 use Rattle.px_num.specs.Height.{tall_height, short_height}
-use Rattle.px_num.specs.Zeros as memory
+use Rattle.px_num.specs.Zeros.{zeros}
 use Rattle.gpu_core.specs.Kept.{Kept}
 use Rattle.gpu_core.specs.Machine.{first_state, tall_state}
 use Rattle.ot_clear_dma.specs.Ram as ram
-use Rattle.vram_store.specs.Vram.{blank, zeros, tall, rows_behind}
+use Rattle.vram_store.specs.Vram.{blank, tall, rows_behind}
 use Rattle.event_play.specs.RigState.{RigState, first_rig, Stands}
 use Rattle.event_play.specs.Step.{Machine, first_machine, tall_machine}
 
@@ -18,13 +18,9 @@ blank_long : length blank ≡ 1024 * short_height
 unfolding blank
 blank_long = zeros_long (1024 * short_height)
 
-ram_zeros_long : (n : ℕ) → length (memory.zeros n) ≡ n
-unfolding memory.zeros
-ram_zeros_long n = length-replicate n 0
-
 pub first_words : length first_rig.ram ≡ 524288
-unfolding ram.blank
-first_words = ram_zeros_long 524288
+unfolding ram.first_memory
+first_words = zeros_long 524288
 
 pub first_rows : length first_rig.gpu.parts.m ≡ 1024 * short_height
 unfolding first_state

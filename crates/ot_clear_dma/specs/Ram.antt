@@ -7,8 +7,8 @@ abbrev pub memory_words : ℕ
 memory_words = 524288
 
 -- the first memory (our own rule: it starts as zeros)
-unfoldable pub blank : List ℕ
-blank = zeros memory_words
+unfoldable pub first_memory : List ℕ
+first_memory = zeros memory_words
 
 -- the place of the word that an address names: bits 0 and 1 and those from 21 on do not count (our own rule)
 abbrev pub place_of : ℕ → ℕ

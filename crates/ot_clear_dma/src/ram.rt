@@ -1,6 +1,7 @@
 // The words of main memory.
-ghost use Rattle.std.specs.Prelude.{◌≡◌, ◌≤◌, ◌<◌, ◌+◌, ◌*◌, ◌/◌, ◌%◌, ◌^◌, ℕ, List, length, vec_len, slice_index, IfOk};
-ghost use Rattle.ot_clear_dma.specs.Ram.{word_at, set, place_of, memory_words, blank, cut};
+ghost use Rattle.std.specs.Prelude.{◌≡◌, ◌≤◌, ◌<◌, ◌+◌, ◌*◌, ◌/◌, ◌%◌, ◌^◌, ℕ, List, length, vec_len, slice_index};
+ghost use Rattle.std.specs.Prelude.{IfOk};
+ghost use Rattle.ot_clear_dma.specs.Ram.{word_at, set, place_of, memory_words, first_memory, cut};
 ghost use Rattle.px_num.specs.Zeros.{zeros};
 ghost use Rattle.ot_clear_dma.specs.Table.{below, cleared_table, IsOrderingTable};
 
@@ -72,9 +73,9 @@ fn fit(words: &[u32])
 
 impl Ram {
     /// Memory in which every word is 0. Refused where memory of the machine runs out.
-    #[tactic(auto, unfolding(crate::specs::Ram::blank))]
+    #[tactic(auto, unfolding(crate::specs::Ram::first_memory))]
     pub fn new(alloc: Global) -> Result<Self, OutOfMemory>
-        ensures words { IfOk result (λ ram. ram ≡ blank) }
+        ensures words { IfOk result (λ ram. ram ≡ first_memory) }
         ensures long { IfOk result (λ ram. length ram ≡ memory_words) }
     {
         let words = zeroed(alloc, MEMORY_WORDS as usize)?;

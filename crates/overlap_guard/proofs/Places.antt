@@ -20,7 +20,8 @@ iff_trans f g = (λ p. g.0 (f.0 p), λ r. f.1 (g.1 r))
 
 -- ---- strips, which wrap, and chunks, which do not
 
--- the chunk's first cell is one of the strip's, whose first column is given, or the strip's first cell is one of the chunk's
+-- the chunk's first cell is one of the strip's, whose first column is given, or the strip's first cell is one of the
+-- chunk's
 abbrev pub MeetsStrip : ℕ → Strip → Cell → ℕ → Type 0
 MeetsStrip first strip target n = (strip.y ≡ target.y) × (0 < strip.n)
     × (((target.x + 1024 - first) % 1024 < strip.n) ⊎ ((target.x ≤ first) × (first < target.x + n)))

@@ -1,7 +1,8 @@
 // Textures and their palettes.
 ghost use Rattle.std.specs.Prelude.{◌≡◌, ◌+◌, ◌-◌, ◌%◌, ◌≤◌, ◌<◌, ◌⊎◌, ◌↔◌, IsTrue, length};
 ghost use Rattle.std.specs.Option.{MatchOption};
-ghost use Rattle.overlap_guard.specs.Hazard.{WrittenBefore, HasTexelHazard, HasStripHazard, HasTextureHazard, has_texture_hazard};
+ghost use Rattle.overlap_guard.specs.Hazard.{WrittenBefore, HasTexelHazard, HasStripHazard, HasTextureHazard};
+ghost use Rattle.overlap_guard.specs.Hazard.{has_texture_hazard};
 
 use px_num::{Cell, Strip};
 
@@ -76,7 +77,8 @@ fn strip_hazard(strip: Strip, to: Cell, n: u8) -> bool
     strip_meets(strip.x % 1024, strip, to, n)
 }
 
-// Whether the chunk's first cell is one of the strip's, which begins in this column, or the strip's first cell one of the chunk's.
+// Whether the chunk's first cell is one of the strip's, which begins in this column, or the strip's first cell one of
+// the chunk's.
 fn strip_meets(first: u16, strip: Strip, to: Cell, n: u8) -> bool
     requires first { first < 1024 }
     requires target { to.x + n ≤ 1024 }

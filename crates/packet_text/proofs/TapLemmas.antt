@@ -11,7 +11,8 @@ numbers_next numbers i number lt is = rw (drop_more numbers i 0 lt, is) refl
 
 -- the next item and those behind it
 pub items_next : (numbers : List ℕ) (item event class head : ℕ) → 3 * item + 3 ≤ length numbers
-    → event ≡ slice_index numbers (3 * item) → class ≡ slice_index numbers (3 * item + 1) → head ≡ slice_index numbers (3 * item + 2)
+    → event ≡ slice_index numbers (3 * item) → class ≡ slice_index numbers (3 * item + 1)
+    → head ≡ slice_index numbers (3 * item + 2)
     → item_lines (drop (3 * item) numbers) ≡ item_line event class head ++ item_lines (drop (3 * (item + 1)) numbers)
 items_next numbers item event class head le is_event is_class is_head =
     let second : 3 * item + 1 + 1 ≡ 3 * item + 2 = omega arith in

@@ -41,7 +41,8 @@ row_on m bytes y row =
 
 -- the rows before one of them, it, and those after it
 pub dump_three : (m : List ℕ) (y : ℕ)
-    → dump m ≡ dump (take (1024 * y) m) ++ (dump (slice_range m (1024 * y) (1024 * y + 1024)) ++ dump (drop 1024 (drop (1024 * y) m)))
+    → dump m ≡ dump (take (1024 * y) m) ++
+    (dump (slice_range m (1024 * y) (1024 * y + 1024)) ++ dump (drop 1024 (drop (1024 * y) m)))
 dump_three m y =
     rw (row_is m y)
     (ap dump (sym (take-append-drop (1024 * y) m)) ∙ flat_map-append cell_bytes (take (1024 * y) m) (drop (1024 * y) m)
@@ -49,5 +50,6 @@ dump_three m y =
     (ap dump (sym (take-append-drop 1024 (drop (1024 * y) m)))
     ∙ flat_map-append cell_bytes (take 1024 (drop (1024 * y) m)) (drop 1024 (drop (1024 * y) m))))
 
-pub length_put_mid : (xs ys : List ℕ) (a k : ℕ) → a + k ≤ length xs → length ys ≡ k → length (put_mid a k xs ys) ≡ length xs
+pub length_put_mid : (xs ys : List ℕ) (a k : ℕ) → a + k ≤ length xs → length ys ≡ k → length (put_mid a k xs ys)
+    ≡ length xs
 length_put_mid xs ys a k le long = grind (arith, common_steps)

@@ -15,17 +15,20 @@ pixels_split m shown first n (suc rest) all is =
     let e : all ≡ suc (n + rest) = omega (arith, is) in
     let a : first + (n + rest) ≡ first + n + rest = omega arith in
     rw (e, a, pixels_split m shown first n rest (n + rest) refl)
-    (append_assoc (pixels_from m shown first n) (pixels_from m shown (first + n) rest) (numbered_pixel m shown (first + n + rest)))
+    (append_assoc (pixels_from m shown first n) (pixels_from m shown (first + n) rest)
+    (numbered_pixel m shown (first + n + rest)))
 
 -- the next pixels, which are the first of so many bytes, and those behind them
-pub pixels_next : (m : List ℕ) (shown : DisplayArea) (done n all : ℕ) (bytes : List ℕ) → n ≤ all - done → bytes ≡ pixels_from m shown done n
+pub pixels_next : (m : List ℕ) (shown : DisplayArea) (done n all : ℕ) (bytes : List ℕ) → n ≤ all - done
+    → bytes ≡ pixels_from m shown done n
     → pixels_from m shown done (all - done) ≡ bytes ++ pixels_from m shown (done + n) (all - (done + n))
 pixels_next m shown done n all bytes le is =
     let e : all - done ≡ n + (all - (done + n)) = omega (arith, le) in
     rw is (pixels_split m shown done n (all - (done + n)) (all - done) e)
 
 -- the steps of some pixels more
-pub cost_more : (before mid now done n cells : ℕ) → mid ≡ before + done * cells → now ≡ mid + n * cells → now ≡ before + (done + n) * cells
+pub cost_more : (before mid now done n cells : ℕ) → mid ≡ before + done * cells → now ≡ mid + n * cells
+    → now ≡ before + (done + n) * cells
 cost_more before mid now done n cells so_far more =
     let e : (done + n) * cells ≡ done * cells + n * cells = add-mul done n cells in
     omega (arith, so_far, more, e)

@@ -3,16 +3,21 @@ use Rattle.std.proofs.Common.{◌≡◌, ◌+◌, ◌<◌, ℕ, zero, suc, refl,
 use Rattle.px_num.specs.Fold.{each_below}
 
 -- one step more
-pub each_below-next : {A : Type 0} (step : ℕ → A → A) (n : ℕ) (a : A) → each_below step (n + 1) a ≡ step n (each_below step n a)
+pub each_below-next : {A : Type 0} (step : ℕ → A → A) (n : ℕ) (a : A) → each_below step (n + 1) a
+    ≡ step n (each_below step n a)
 each_below-next step n a = rw (add-one n) refl
 
 -- n steps, and then those from n on
-pub each_below-add : {A : Type 0} (step : ℕ → A → A) (n k : ℕ) (a : A) → each_below step (n + k) a ≡ each_below (λ i. step (n + i)) k (each_below step n a)
+pub each_below-add : {A : Type 0} (step : ℕ → A → A) (n k : ℕ) (a : A) → each_below step (n + k) a
+    ≡ each_below (λ i. step (n + i)) k (each_below step n a)
 each_below-add step n zero a = let e : n + zero ≡ n = omega arith in rw e refl
-each_below-add step n (suc k) a = let e : n + suc k ≡ suc (n + k) = omega arith in rw e (ap (step (n + k)) (each_below-add step n k a))
+each_below-add step n (suc k) a = let e : n + suc k ≡ suc (n + k) = omega arith in
+    rw e (ap (step (n + k)) (each_below-add step n k a))
 
 -- steps that do the same
-pub each_below-same : {A : Type 0} (f g : ℕ → A → A) (n : ℕ) (a : A) → ((i : ℕ) (x : A) → i < n → f i x ≡ g i x) → each_below f n a ≡ each_below g n a
+pub each_below-same : {A : Type 0} (f g : ℕ → A → A) (n : ℕ) (a : A) → ((i : ℕ) (x : A) → i < n → f i x ≡ g i x)
+    → each_below f n a ≡ each_below g n a
 each_below-same f g zero a same = refl
 each_below-same f g (suc n) a same =
-    same n (each_below f n a) (omega arith) ∙ ap (g n) (each_below-same f g n a (λ i x lt. same i x (omega (arith, lt))))
+    same n (each_below f n a) (omega arith)
+    ∙ ap (g n) (each_below-same f g n a (λ i x lt. same i x (omega (arith, lt))))

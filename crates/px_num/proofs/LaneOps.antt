@@ -1,10 +1,12 @@
 -- What an operation on vectors of sixteen lanes does to one lane.
-use Rattle.std.proofs.Common.{◌≡◌, ℕ, suc, ◌+◌, ◌-◌, ◌%◌, ◌^◌, ◌<◌, min, List, [], ◌∷◌, Bool, false, cond, ltb, length, get_or, replicate, Fits, w16, refl, ap, ◌∙◌, arith}
+use Rattle.std.proofs.Common.{◌≡◌, ℕ, suc, ◌+◌, ◌-◌, ◌%◌, ◌^◌, ◌<◌, min, List, [], ◌∷◌, Bool, false, cond, ltb, length}
+use Rattle.std.proofs.Common.{get_or, replicate, Fits, w16, refl, ap, ◌∙◌, arith}
 use Rattle.std.proofs.lemmas.Bool.Decides.{nat_tests}
 use lib.Lanes.{zip2, Each1, Each2, sel_l}
 use Rattle.std.proofs.lemmas.Simd.{get_or-zip2, length-zip2, get_or-replicate, Each1-get_or, length-sel_l, get_or-sel_l}
 
-pub each2 : (R : ℕ → ℕ → Type 0) (xs ys : List ℕ) → length xs ≡ length ys → ((i : ℕ) → i < length xs → R (get_or xs i 0) (get_or ys i 0)) → Each2 R xs ys
+pub each2 : (R : ℕ → ℕ → Type 0) (xs ys : List ℕ) → length xs ≡ length ys
+    → ((i : ℕ) → i < length xs → R (get_or xs i 0) (get_or ys i 0)) → Each2 R xs ys
 each2 R [] ys e f = tt
 each2 R (x ∷ xs) [] e f = absurd (omega arith)
 each2 R (x ∷ xs) (y ∷ ys) e f = (f 0 (omega arith), each2 R xs ys (omega arith) (λ i lt. f (suc i) (omega arith)))
@@ -27,7 +29,8 @@ module _ (a b : List ℕ) (long_a : length a ≡ 16) (long_b : length b ≡ 16) 
       let long = long_test t in
       length-sel_l (zip2 t a b) a b (omega arith) (omega arith) ∙ long
 
-  pub at_select : (t : ℕ → ℕ → Bool) (i : ℕ) → i < 16 → get_or (sel_l (zip2 t a b) a b) i 0 ≡ cond (t (get_or a i 0) (get_or b i 0)) (get_or a i 0) (get_or b i 0)
+  pub at_select : (t : ℕ → ℕ → Bool) (i : ℕ) → i < 16 → get_or (sel_l (zip2 t a b) a b) i 0
+      ≡ cond (t (get_or a i 0) (get_or b i 0)) (get_or a i 0) (get_or b i 0)
   at_select t i lt =
       let long = long_test t in
       get_or-sel_l (zip2 t a b) a b i 0 (omega arith) (omega arith) (omega arith)
@@ -38,7 +41,8 @@ module _ (a b : List ℕ) (long_a : length a ≡ 16) (long_b : length b ≡ 16) 
       let long = long_test t in
       length-sel_l (zip2 t a b) b a (omega arith) (omega arith) ∙ long
 
-  pub at_select_turned : (t : ℕ → ℕ → Bool) (i : ℕ) → i < 16 → get_or (sel_l (zip2 t a b) b a) i 0 ≡ cond (t (get_or a i 0) (get_or b i 0)) (get_or b i 0) (get_or a i 0)
+  pub at_select_turned : (t : ℕ → ℕ → Bool) (i : ℕ) → i < 16 → get_or (sel_l (zip2 t a b) b a) i 0
+      ≡ cond (t (get_or a i 0) (get_or b i 0)) (get_or b i 0) (get_or a i 0)
   at_select_turned t i lt =
       let long = long_test t in
       get_or-sel_l (zip2 t a b) b a i 0 (omega arith) (omega arith) (omega arith)
@@ -47,8 +51,10 @@ module _ (a b : List ℕ) (long_a : length a ≡ 16) (long_b : length b ≡ 16) 
 pub long_splat : (f : ℕ → ℕ → ℕ) (a : List ℕ) (n : ℕ) → length a ≡ 16 → length (zip2 f a (replicate 16 n)) ≡ 16
 long_splat f a n long = long_zip a (replicate 16 n) long refl f
 
-pub at_splat : (f : ℕ → ℕ → ℕ) (a : List ℕ) (n : ℕ) → length a ≡ 16 → (i : ℕ) → i < 16 → get_or (zip2 f a (replicate 16 n)) i 0 ≡ f (get_or a i 0) n
-at_splat f a n long i lt = at_zip a (replicate 16 n) long refl f i lt ∙ ap (f (get_or a i 0)) (get_or-replicate 16 i n 0 lt)
+pub at_splat : (f : ℕ → ℕ → ℕ) (a : List ℕ) (n : ℕ) → length a ≡ 16 → (i : ℕ) → i < 16
+    → get_or (zip2 f a (replicate 16 n)) i 0 ≡ f (get_or a i 0) n
+at_splat f a n long i lt = at_zip a (replicate 16 n) long refl f i lt
+    ∙ ap (f (get_or a i 0)) (get_or-replicate 16 i n 0 lt)
 
 pub smaller_is : (m n : ℕ) → cond (ltb m n) m n ≡ min m n
 smaller_is m n = grind (arith, nat_tests)

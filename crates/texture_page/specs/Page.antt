@@ -1,5 +1,6 @@
--- Where a texel and its palette entry stand (psx-spx, "GPU Rendering Attributes": texpage and clut attributes; "GPU Video
--- Memory (VRAM)": texture bitmaps and palettes; GP0(E2h) "Texture Window setting"). That columns wrap at 1024 is our own rule.
+-- Where a texel and its palette entry stand (psx-spx, "GPU Rendering Attributes": texpage and clut attributes; "GPU
+-- Video Memory (VRAM)": texture bitmaps and palettes; GP0(E2h) "Texture Window setting"). That columns wrap at 1024 is
+-- our own rule.
 use Rattle.std.specs.Prelude.{ℕ, ◌+◌, ◌-◌, ◌*◌, ◌/◌, ◌%◌, ◌^◌, ◌≤◌, ◌==◌, if◌then◌else◌}
 use Rattle.std.specs.Int.RustNames.{bit_and, bit_or}
 use Rattle.px_num.specs.declared.shape.Cell.{Cell}
@@ -19,7 +20,8 @@ pub record IsWindow (window : Window) : Type 0 where
   pub off_x : window.off_x ≤ 31
   pub off_y : window.off_y ≤ 31
 
--- a coordinate of eight bits under one direction of the window: the bits of the mask, in steps of 8, are those of the offset
+-- a coordinate of eight bits under one direction of the window: the bits of the mask, in steps of 8, are those of the
+-- offset
 unfoldable pub windowed : ℕ → ℕ → ℕ → ℕ
 windowed mask off u = bit_or (bit_and u (255 - mask * 8)) (bit_and off mask * 8)
 

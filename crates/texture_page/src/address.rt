@@ -1,6 +1,7 @@
 // Addresses of texels and of palette entries.
 ghost use Rattle.std.specs.Prelude.{◌≡◌, ◌≤◌, ◌<◌, ◌+◌};
-ghost use Rattle.texture_page.specs.Page.{IsPage, IsWindow, windowed, column, texel_place, index_in, index_at, clut_place};
+ghost use Rattle.texture_page.specs.Page.{IsPage, IsWindow, windowed, column, texel_place, index_in, index_at};
+ghost use Rattle.texture_page.specs.Page.{clut_place};
 
 use crate::{Page, Window};
 use px_num::Cell;

@@ -1,12 +1,14 @@
 -- The steps of a row, chunk by chunk.
-use Rattle.std.proofs.Common.{◌≡◌, ◌<◌, ◌≤◌, cond, eqb, inl, inr, ◌+◌, ◌*◌, ◌-◌, ◌%◌, ◌/◌, List, length, ℕ, zero, suc, true, false, min, arith, refl, ap, sym, ◌∙◌, add-zero}
+use Rattle.std.proofs.Common.{◌≡◌, ◌<◌, ◌≤◌, cond, eqb, inl, inr, ◌+◌, ◌*◌, ◌-◌, ◌%◌, ◌/◌, List, length, ℕ, zero, suc}
+use Rattle.std.proofs.Common.{true, false, min, arith, refl, ap, sym, ◌∙◌, add-zero}
 use Rattle.std.proofs.lemmas.Bool.{cases_lt, cases_eq, eqb-true, eq-eqb}
 use Rattle.std.proofs.lemmas.Bool.Decides.{nat_tests}
 use Rattle.px_num.specs.declared.shape.Cell.{Cell}
 use Rattle.px_num.proofs.FoldLemmas.{each_below-next}
 use Rattle.vram_store.specs.Vram.{height_of}
 use Rattle.vram_copy.specs.Rect.{beside, right}
-use Rattle.vram_copy.specs.Costs.{since_cut, begins_chunk, chunk_len, chunk_at, chunk_cost, piece_len, piece_cost, cell_cost, cost_below, row_cost, rows_cost, copy_cost}
+use Rattle.vram_copy.specs.Costs.{since_cut, begins_chunk, chunk_len, chunk_at, chunk_cost, piece_len, piece_cost}
+use Rattle.vram_copy.specs.Costs.{cell_cost, cost_below, row_cost, rows_cost, copy_cost}
 use Rattle.vram_copy.proofs.CopyLemmas.{shifted_hazard}
 use Rattle.overlap_guard.specs.Hazard.{has_copy_hazard}
 
@@ -33,11 +35,13 @@ unfolding begins_chunk
 begins_no s t i some = grind (arith, nat_tests)
 
 -- sixteen cells on, or where a side wraps, the distance is a multiple of sixteen again
-sixteen_on : (a b i n left : ℕ) → min i (min (a % 1024) (b % 1024)) % 16 ≡ 0 → n ≡ chunk_len (a % 1024) (b % 1024) left → n < left
+sixteen_on : (a b i n left : ℕ) → min i (min (a % 1024) (b % 1024)) % 16 ≡ 0 → n ≡ chunk_len (a % 1024) (b % 1024) left
+    → n < left
     → min (i + n) (min ((a + n) % 1024) ((b + n) % 1024)) % 16 ≡ 0
 sixteen_on a b i n left whole size more = elim (cases_lt (a % 1024 + n) 1024) [
   | inl room_a ↦ elim (cases_lt (b % 1024 + n) 1024) [
-    | inl room_b ↦ let all : n ≡ 16 = omega (arith, size, more, room_a, room_b) in rw (since_more a b i n room_a room_b) (omega (arith, whole, all))
+    | inl room_b ↦ let all : n ≡ 16 = omega (arith, size, more, room_a, room_b) in
+        rw (since_more a b i n room_a room_b) (omega (arith, whole, all))
     | inr over ↦ let e : (b + n) % 1024 ≡ 0 = omega (arith, size, over) in rw e (omega arith)
   ]
   | inr over ↦ let e : (a + n) % 1024 ≡ 0 = omega (arith, size, over) in rw e (omega arith)
@@ -88,10 +92,12 @@ module _ (s t : Cell) (w i n : ℕ) (begun : begins_chunk s t i ≡ true) (size 
       let before = spent k (omega (arith, le)) in
       let none = cost_none (i + suc k) (inside (suc k) (omega arith) le) in
       let more = each_below-next (λ j sum. sum + cell_cost s t w j) (i + suc k) 0 in
-      ap (cost_below s t w) next ∙ more ∙ ap (λ c. cost_below s t w (i + suc k) + c) none ∙ add-zero (cost_below s t w (i + suc k)) ∙ before
+      ap (cost_below s t w) next ∙ more ∙ ap (λ c. cost_below s t w (i + suc k) + c) none
+      ∙ add-zero (cost_below s t w (i + suc k)) ∙ before
 
   pub chunk_spent : 1 ≤ n → cost_below s t w (i + n) ≡ cost_below s t w i + chunk_cost (right s i) (right t i) n
-  chunk_spent some = let e : n ≡ suc (n - 1) = omega arith in ap (λ k. cost_below s t w (i + k)) e ∙ spent (n - 1) (omega (arith, some))
+  chunk_spent some = let e : n ≡ suc (n - 1) = omega arith in ap (λ k. cost_below s t w (i + k)) e
+      ∙ spent (n - 1) (omega (arith, some))
 
 pub first_begins : (s t : Cell) → begins_chunk s t 0 ≡ true
 first_begins s t = begins_yes s t 0 (omega arith)
@@ -106,7 +112,8 @@ free_cost : (s t : Cell) (k : ℕ) → has_copy_hazard s t k ≡ false → chunk
 unfolding chunk_cost
 free_cost s t k free = ap (λ b. cond b (3 * k) 3) free
 
-piece_next : (s t : Cell) (done k : ℕ) → done % 16 ≡ 0 → 1 ≤ k → k ≤ 16 → piece_cost s t (done + k) ≡ piece_cost s t done + chunk_cost s t k
+piece_next : (s t : Cell) (done k : ℕ) → done % 16 ≡ 0 → 1 ≤ k → k ≤ 16 → piece_cost s t (done + k)
+    ≡ piece_cost s t done + chunk_cost s t k
 piece_next s t done k whole some most = elim (cases_lt k 16) [
   | inl less ↦
       let quotient : (done + k) / 16 ≡ done / 16 = omega (arith, whole, less) in
@@ -121,18 +128,21 @@ piece_next s t done k whole some most = elim (cases_lt k 16) [
 ]
 
 -- a chunk more of a piece
-pub piece_spent : (s t source target : Cell) (done k start now new : ℕ) → source ≡ beside s done → target ≡ beside t done
+pub piece_spent : (s t source target : Cell) (done k start now new : ℕ) → source ≡ beside s done
+    → target ≡ beside t done
     → done % 16 ≡ 0 → 1 ≤ k → k ≤ 16 → now ≤ start + piece_cost s t done → new ≤ now + chunk_cost source target k
     → new ≤ start + piece_cost s t (done + k)
 piece_spent s t source target done k start now new at_s at_t whole some most so_far step =
     let price : chunk_cost source target k ≡ chunk_cost s t k =
-    ap (λ (cell : Cell). chunk_cost cell target k) at_s ∙ ap (λ (cell : Cell). chunk_cost (beside s done) cell k) at_t ∙ shifted_cost s t done k in
+    ap (λ (cell : Cell). chunk_cost cell target k) at_s ∙ ap (λ (cell : Cell). chunk_cost (beside s done) cell k) at_t
+    ∙ shifted_cost s t done k in
     let sum = piece_next s t done k whole some most in
     omega (arith, price, sum, so_far, step)
 
 -- a chunk that was moved at once
 pub free_spent : (s t source target : Cell) (done k start now new : ℕ) → source ≡ beside s done → target ≡ beside t done
-    → has_copy_hazard source target k ≡ false → done % 16 ≡ 0 → 1 ≤ k → k ≤ 16 → now ≤ start + piece_cost s t done → new ≤ now + 3
+    → has_copy_hazard source target k ≡ false → done % 16 ≡ 0 → 1 ≤ k → k ≤ 16 → now ≤ start + piece_cost s t done
+    → new ≤ now + 3
     → new ≤ start + piece_cost s t (done + k)
 free_spent s t source target done k start now new at_s at_t free whole some most so_far step =
     let price = free_cost source target k free in
@@ -184,7 +194,8 @@ module _ (s t : Cell) (w i n : ℕ) (size : n ≡ piece_len ((s.x + i) % 1024) (
     | inl none ↦ let e : n ≡ 16 * (n / 16) = omega (arith, none) in rw e (chunks_spent (n / 16) (omega arith) begun)
     | inr some ↦
         let e : n ≡ 16 * (n / 16) + n % 16 = omega arith in
-        rw e (step (16 * (n / 16)) (n % 16) (chunks_spent (n / 16) (omega arith) begun) (omega arith) (omega (arith, some)) (omega arith))
+        rw e (step (16 * (n / 16)) (n % 16) (chunks_spent (n / 16) (omega arith) begun) (omega arith)
+        (omega (arith, some)) (omega arith))
   ]
 
 -- a piece more of a row
@@ -202,7 +213,8 @@ module _ (s t source target : Cell) (w done n : ℕ) (at_s : source ≡ right s 
       → new ≤ start + cost_below s t w (done + n)
   row_spent start now new so_far step =
       let price : piece_cost source target n ≡ piece_cost (right s done) (right t done) n =
-      ap (λ (cell : Cell). piece_cost cell target n) at_s ∙ ap (λ (cell : Cell). piece_cost (right s done) cell n) at_t in
+      ap (λ (cell : Cell). piece_cost cell target n) at_s
+      ∙ ap (λ (cell : Cell). piece_cost (right s done) cell n) at_t in
       let sum = piece.spent in
       omega (arith, price, sum, so_far, step)
 

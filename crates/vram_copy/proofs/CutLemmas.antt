@@ -1,5 +1,6 @@
 -- How a copied row is cut, and what its chunks come to.
-use Rattle.std.proofs.Common.{◌≡◌, ◌<◌, ◌≤◌, inl, inr, ◌+◌, ◌*◌, ◌-◌, ◌%◌, ◌/◌, ℕ, zero, suc, Bool, true, false, cond, arith, subst, refl}
+use Rattle.std.proofs.Common.{◌≡◌, ◌<◌, ◌≤◌, inl, inr, ◌+◌, ◌*◌, ◌-◌, ◌%◌, ◌/◌, ℕ, zero, suc, Bool, true, false, cond}
+use Rattle.std.proofs.Common.{arith, subst, refl}
 use Rattle.std.proofs.lemmas.Bool.{cases_lt}
 use Rattle.px_num.specs.declared.shape.Cell.{Cell}
 use Rattle.overlap_guard.specs.Hazard.{has_copy_hazard}
@@ -66,15 +67,18 @@ chunk_most s t n some = pick (has_copy_hazard s t n)
     pick true = omega arith
     pick false = omega (arith, some)
 
-from_most : (most : ℕ) (s t : Cell) (w i : ℕ) → i ≤ w → (i < w → begins_chunk s t i ≡ true) → w - i ≤ most → cost_below s t w i ≤ 3 * i → cost_below s t w w ≤ 3 * w
-from_most zero s t w i le begun few so_far = let e : i ≡ w = omega arith in subst (λ (n : ℕ). cost_below s t w n ≤ 3 * n) e so_far
+from_most : (most : ℕ) (s t : Cell) (w i : ℕ) → i ≤ w → (i < w → begins_chunk s t i ≡ true) → w - i ≤ most
+    → cost_below s t w i ≤ 3 * i → cost_below s t w w ≤ 3 * w
+from_most zero s t w i le begun few so_far = let e : i ≡ w = omega arith in
+    subst (λ (n : ℕ). cost_below s t w n ≤ 3 * n) e so_far
 from_most (suc most) s t w i le begun few so_far = elim (cases_lt i w) [
   | inl lt ↦
       let n : ℕ = chunk_at s t w i in
       let chunk = chunk_is s t w i lt (begun lt) in
       let step = chunk_spent s t w i n (begun lt) refl chunk.some in
       let price = chunk_most (right s i) (right t i) n chunk.some in
-      from_most most s t w (i + n) chunk.in_row chunk.next (omega (arith, few, chunk.some)) (omega (arith, step, price, so_far))
+      from_most most s t w (i + n) chunk.in_row chunk.next (omega (arith, few, chunk.some))
+      (omega (arith, step, price, so_far))
   | inr past ↦ let e : i ≡ w = omega (arith, le, past) in subst (λ (n : ℕ). cost_below s t w n ≤ 3 * n) e so_far
 ]
 
@@ -102,7 +106,8 @@ copies_small height s t w h =
 
 pub fills_small : FillCostLaw
 fills_small w zero = omega arith
-fills_small w (suc h) = let others = fills_small w h in let one : w / 16 ≤ 4 * w = omega arith in grind (arith, others, one)
+fills_small w (suc h) = let others = fills_small w h in let one : w / 16 ≤ 4 * w = omega arith in
+    grind (arith, others, one)
 
 -- ---- some copies
 

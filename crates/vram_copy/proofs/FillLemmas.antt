@@ -1,5 +1,6 @@
 -- Sixteen cells set at once are sixteen cells set one after another.
-use Rattle.std.proofs.Common.{◌≡◌, ◌+◌, ◌*◌, ◌/◌, ◌%◌, ℕ, List, Some, length, get_or, slice_set, replicate, arith, refl, ap, sym, ◌∙◌}
+use Rattle.std.proofs.Common.{◌≡◌, ◌+◌, ◌*◌, ◌/◌, ◌%◌, ℕ, List, Some, length, get_or, slice_set, replicate, arith, refl}
+use Rattle.std.proofs.Common.{ap, sym, ◌∙◌}
 use Rattle.std.proofs.lemmas.Simd.{get_or-replicate}
 use Rattle.px_num.specs.Fold.{each_below}
 use Rattle.px_num.proofs.FoldLemmas.{each_below-add, each_below-same}
@@ -19,21 +20,27 @@ set_over cell color = rw (kept_untested 0 cell refl, forced_off 0 color refl) re
 set_lane : (cell color j h : ℕ) → j ≡ 1 → h ≡ color → IsLane (written_over 0 cell (Some color)) j h
 set_lane cell color j h one same = rw (set_over cell color) (one, same)
 
-draws_set : (color start j : ℕ) (m : List ℕ) → draw_lane (λ i cells. Some color) 0 start j m ≡ slice_set m (start + j) color
+draws_set : (color start j : ℕ) (m : List ℕ) → draw_lane (λ i cells. Some color) 0 start j m
+    ≡ slice_set m (start + j) color
 draws_set color start j m = rw (set_over (get_or m (start + j) 0) color) refl
 
 -- n cells of a row from a place on
 abbrev pub run_of : List ℕ → ℕ → ℕ → ℕ → List ℕ
 run_of m start color n = each_below (λ i cells. slice_set cells (start + i) color) n m
 
-pub stored_run : (old new : List ℕ) (start color : ℕ) → IsStored old start 16 (replicate 16 color) 65535 new → new ≡ run_of old start color 16
+pub stored_run : (old new : List ℕ) (start color : ℕ) → IsStored old start 16 (replicate 16 color) 65535 new
+    → new ≡ run_of old start color 16
 unfolding drawn_lanes
 stored_run old new start color stored =
     chunk_law (λ i cells. Some color) 0 start 16 old (replicate 16 color) new 65535
     (record { blind = λ j lt now apart. refl })
-    (record { lane = λ j lt. set_lane (get_or old (start + j) 0) color _ _ (ones j lt) (get_or-replicate 16 j color 0 lt) })
+    (record {
+      lane = λ j lt. set_lane (get_or old (start + j) 0) color _ _ (ones j lt)
+          (get_or-replicate 16 j color 0 lt);
+    })
     stored
-    ∙ each_below-same (draw_lane (λ i cells. Some color) 0 start) (λ i cells. slice_set cells (start + i) color) 16 old (λ i cells lt. draws_set color start i cells)
+    ∙ each_below-same (draw_lane (λ i cells. Some color) 0 start) (λ i cells. slice_set cells (start + i) color) 16 old
+    (λ i cells lt. draws_set color start i cells)
 
 -- sixteen cells more of a row
 pub row_chunk : (m old new : List ℕ) (x y k color : ℕ) → x % 16 ≡ 0
@@ -43,9 +50,11 @@ row_chunk m old new x y k color whole so_far ran =
     let e : 16 * (k + 1) ≡ 16 * k + 16 = omega arith in
     rw e (ran ∙ ap (λ cells. run_of cells (1024 * y + (x + 16 * k) % 1024) color 16) so_far
     ∙ sym (each_below-add (λ i cells. set cells ((x + i) % 1024) y color) (16 * k) 16 m
-    ∙ each_below-same (λ i cells. set cells ((x + (16 * k + i)) % 1024) y color) (λ i cells. slice_set cells (1024 * y + (x + 16 * k) % 1024 + i) color)
+    ∙ each_below-same (λ i cells. set cells ((x + (16 * k + i)) % 1024) y color)
+    (λ i cells. slice_set cells (1024 * y + (x + 16 * k) % 1024 + i) color)
     16 (filled_row m x y (16 * k) color)
-    (λ i cells lt. let at : 1024 * y + (x + (16 * k + i)) % 1024 ≡ 1024 * y + (x + 16 * k) % 1024 + i = omega arith in ap (λ n. slice_set cells n color) at)))
+    (λ i cells lt. let at : 1024 * y + (x + (16 * k + i)) % 1024 ≡ 1024 * y + (x + 16 * k) % 1024 + i = omega arith in
+    ap (λ n. slice_set cells n color) at)))
 
 -- all rows, at the height that video memory has
 pub filled_is_whole : (height : ℕ) (m new : List ℕ) (x y w j h color : ℕ) → length m ≡ 1024 * height
@@ -53,4 +62,5 @@ pub filled_is_whole : (height : ℕ) (m new : List ℕ) (x y w j h color : ℕ) 
 unfolding Fill
 filled_is_whole height m new x y w j h color long so_far all =
     let e : height ≡ length m / 1024 = omega arith in
-    so_far ∙ ap (λ rows. filled_rows rows m x y w j color) e ∙ ap (λ k. filled_rows (length m / 1024) m x y w k color) all
+    so_far ∙ ap (λ rows. filled_rows rows m x y w j color) e
+    ∙ ap (λ k. filled_rows (length m / 1024) m x y w k color) all

@@ -26,7 +26,8 @@ one_left n at some last = omega arith
 no_more : (n : ℕ) → n + 0 ≡ n
 no_more n = omega arith
 
-pub store_two : (height : ℕ) (m : List ℕ) (job : Transfer) (word low high : ℕ) (first second : Cell) → height ≡ height_of m
+pub store_two : (height : ℕ) (m : List ℕ) (job : Transfer) (word low high : ℕ) (first second : Cell)
+    → height ≡ height_of m
     → first ≡ pixel_cell height job job.at → second ≡ pixel_cell height job (job.at + 1)
     → low ≡ at m first.x first.y → job.at + 1 < job.w * job.h → high ≡ at m second.x second.y
     → word ≡ low + high * 2 ^ 16 → word ≡ StoreWord m job
@@ -46,7 +47,8 @@ store_one height m job word low first rows e lows some last joined =
 
 -- two pixels on
 pub two_on : (width at : ℕ) (first second third : Place) → IsPlace width first at
-    → ((i : ℕ) → IsPlace width first i → IsPlace width second (i + 1)) → ((i : ℕ) → IsPlace width second i → IsPlace width third (i + 1))
+    → ((i : ℕ) → IsPlace width first i → IsPlace width second (i + 1))
+    → ((i : ℕ) → IsPlace width second i → IsPlace width third (i + 1))
     → IsPlace width third (at + 2)
 two_on width at first second third is one two =
     let same : at + 1 + 1 ≡ at + 2 = omega arith in

@@ -1,6 +1,7 @@
 -- Rectangles that are loaded or stored by words of two pixels (psx-spx, GP0(A0h) "Copy Rectangle (CPU to VRAM)"
 -- and GP0(C0h) "Copy Rectangle (VRAM to CPU)").
-use Rattle.std.specs.Prelude.{ℕ, List, [], ◌∷◌, Option, Some, None, ◌+◌, ◌-◌, ◌*◌, ◌/◌, ◌%◌, ◌^◌, nat_lt, if◌then◌else◌, min}
+use Rattle.std.specs.Prelude.{ℕ, List, [], ◌∷◌, Option, Some, None, ◌+◌, ◌-◌, ◌*◌, ◌/◌, ◌%◌, ◌^◌, nat_lt, if◌then◌else◌}
+use Rattle.std.specs.Prelude.{min}
 use Rattle.std.specs.Prelude.{slice_index}
 use Rattle.px_num.specs.Fold.{each_below}
 use Rattle.px_num.specs.declared.shape.Cell.{Cell}

@@ -1,5 +1,6 @@
 -- The lanes' numbers and bits, and a choice between two vectors.
-use Rattle.std.proofs.Common.{◌≡◌, ℕ, zero, suc, ◌+◌, ◌*◌, ◌/◌, ◌%◌, ◌^◌, ◌<◌, List, Bool, false, cond, eqb, length, get_or, ◌∙◌, arith}
+use Rattle.std.proofs.Common.{◌≡◌, ℕ, zero, suc, ◌+◌, ◌*◌, ◌/◌, ◌%◌, ◌^◌, ◌<◌, List, Bool, false, cond, eqb, length}
+use Rattle.std.proofs.Common.{get_or, ◌∙◌, arith}
 use lib.Bits.{bit_and}
 use lib.Lanes.{sel_l, zip2}
 use Rattle.std.proofs.lemmas.Bool.Decides.{nat_tests}
@@ -7,7 +8,8 @@ use Rattle.std.proofs.lemmas.Nat.{and_block, and_mask, and_le_r}
 use Rattle.std.proofs.lemmas.Simd.{length-sel_l, get_or-sel_l, length-zip2, get_or-zip2}
 use Rattle.vram_store.specs.Vram.{bit}
 
-module _ (ms : List Bool) (a b : List ℕ) (long_m : length ms ≡ 16) (long_a : length a ≡ 16) (long_b : length b ≡ 16) where
+module _ (ms : List Bool) (a b : List ℕ) (long_m : length ms ≡ 16) (long_a : length a ≡ 16)
+    (long_b : length b ≡ 16) where
   pub long_choice : length (sel_l ms a b) ≡ 16
   long_choice = length-sel_l ms a b (omega arith) (omega arith) ∙ long_m
 

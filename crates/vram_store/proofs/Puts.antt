@@ -1,11 +1,13 @@
 -- Sixteen cells that are put, of which some are as they were.
-use Rattle.std.proofs.Common.{◌≡◌, ◌<◌, ◌≤◌, inl, inr, ℕ, List, ◌+◌, ◌-◌, cond, ltb, eqb, length, get_or, arith, refl, ◌∙◌}
+use Rattle.std.proofs.Common.{◌≡◌, ◌<◌, ◌≤◌, inl, inr, ℕ, List, ◌+◌, ◌-◌, cond, ltb, eqb, length, get_or, arith, refl}
+use Rattle.std.proofs.Common.{◌∙◌}
 use Rattle.std.proofs.lemmas.Bool.{cases_lt}
 use Rattle.std.proofs.lemmas.Bool.Decides.{nat_tests}
 use Rattle.vram_store.specs.Vram.{IsLoaded, IsStored, IsPut, bit}
 use Rattle.vram_store.proofs.Ones.{ones}
 
-pub put_all : (old lanes new : List ℕ) (start : ℕ) → start + 16 ≤ length old → IsPut old start lanes new → IsStored old start 16 lanes 65535 new
+pub put_all : (old lanes new : List ℕ) (start : ℕ) → start + 16 ≤ length old → IsPut old start lanes new
+    → IsStored old start 16 lanes 65535 new
 put_all old lanes new start room put = record {
   count = put.count;
   in_cells = room;
@@ -14,12 +16,15 @@ put_all old lanes new start room put = record {
   others = put.others;
 }
 
-module _ (old lanes loaded chosen result new : List ℕ) (start n mask : ℕ) (few : n ≤ 16) (room : start + 16 ≤ length old)
+module _ (old lanes loaded chosen result new : List ℕ) (start n mask : ℕ) (few : n ≤ 16)
+    (room : start + 16 ≤ length old)
     (load : IsLoaded old start 16 loaded)
     (choice : (i : ℕ) → i < 16 → get_or chosen i 0 ≡ cond (eqb (bit mask i) 1) (get_or lanes i 0) (get_or loaded i 0))
     (first : (i : ℕ) → i < 16 → get_or result i 0 ≡ cond (ltb i n) (get_or chosen i 0) (get_or loaded i 0))
     (put : IsPut old start result new) where
-  at_lane : (j : ℕ) → j < 16 → get_or new (start + j) 0 ≡ cond (ltb j n) (cond (eqb (bit mask j) 1) (get_or lanes j 0) (get_or old (start + j) 0)) (get_or old (start + j) 0)
+  at_lane : (j : ℕ) → j < 16 → get_or new (start + j) 0
+      ≡ cond (ltb j n) (cond (eqb (bit mask j) 1) (get_or lanes j 0) (get_or old (start + j) 0))
+      (get_or old (start + j) 0)
   at_lane j lt = put.written j lt ∙ first j lt ∙ rw (choice j lt) (rw (load.cells j lt) refl)
 
   behind : (k : ℕ) → start + n ≤ k → get_or new k 0 ≡ get_or old k 0

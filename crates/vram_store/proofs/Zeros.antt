@@ -1,7 +1,8 @@
 -- Rows of zeros that grow cell by cell.
-use Rattle.std.proofs.Common.{◌≡◌, ◌≤◌, ◌+◌, ◌-◌, ◌++◌, List, [], ◌∷◌, ℕ, zero, suc, refl, ap, sym, ◌∙◌, append_assoc, arith}
+use Rattle.std.proofs.Common.{◌≡◌, ◌≤◌, ◌+◌, ◌-◌, ◌++◌, List, [], ◌∷◌, ℕ, zero, suc, refl, ap, sym, ◌∙◌, append_assoc}
+use Rattle.std.proofs.Common.{arith}
 use Rattle.std.proofs.lemmas.List.{append-nil}
-use Rattle.vram_store.specs.Vram.{zeros}
+use Rattle.px_num.specs.Zeros.{zeros}
 
 zeros-none : zeros 0 ≡ []
 unfolding zeros

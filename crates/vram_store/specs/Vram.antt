@@ -1,6 +1,8 @@
 -- Video memory as the list of its cells, row by row (psx-spx, "GPU Video Memory (VRAM)").
-use Rattle.std.specs.Prelude.{◌≡◌, ◌≢◌, ◌<◌, ◌≤◌, ◌/◌, ◌%◌, ◌^◌, ◌⊎◌, ℕ, List, ◌++◌, ◌+◌, ◌-◌, ◌*◌, length, slice_index, slice_set, replicate}
+use Rattle.std.specs.Prelude.{◌≡◌, ◌≢◌, ◌<◌, ◌≤◌, ◌/◌, ◌%◌, ◌^◌, ◌⊎◌, ℕ, List, ◌++◌, ◌+◌, ◌-◌, ◌*◌, length, slice_index}
+use Rattle.std.specs.Prelude.{slice_set}
 use Rattle.px_num.specs.Height.{short_height, tall_height}
+use Rattle.px_num.specs.Zeros.{zeros}
 
 -- how many rows of 1024 cells there are
 abbrev pub height_of : List ℕ → ℕ
@@ -13,10 +15,6 @@ at m x y = slice_index m (1024 * y + x)
 -- the cells with one of them changed
 abbrev pub set : List ℕ → ℕ → ℕ → ℕ → List ℕ
 set m x y h = slice_set m (1024 * y + x) h
-
--- so many cells, each of them 0; no proof computes it
-unfoldable pub zeros : ℕ → List ℕ
-zeros n = replicate n 0
 
 -- the first video memory (our own rule: it starts as zeros)
 unfoldable pub blank : List ℕ

@@ -1,7 +1,7 @@
 // The cells, and the four accesses that count.
 ghost use Rattle.std.specs.Prelude.{◌≡◌, ◌≤◌, ◌<◌, ◌+◌, ◌*◌, ◌++◌, ◌-◌, ℕ, List, length, vec_len, vec_capacity, IfOk};
 ghost use Rattle.px_num.specs.Height.{IsHeight, tall_height};
-ghost use Rattle.vram_store.specs.Vram.{at, height_of, set, zeros, blank, tall, IsLoaded, IsStored};
+ghost use Rattle.vram_store.specs.Vram.{at, height_of, set, blank, tall, IsLoaded, IsStored};
 
 use crate::steps::Steps;
 use crate::whole::{first_lanes, load_whole, masked_lanes, store_whole};
@@ -36,7 +36,7 @@ impl Model for Vram {
 }
 
 // Cells of zeros with room for more. Both numbers are variables here, so that no proof computes the list.
-#[tactic(auto, unfolding(crate::specs::Vram::zeros))]
+#[tactic(auto, unfolding(px_num::specs::Zeros::zeros))]
 fn zeroed(alloc: Global, n: usize, room: usize) -> Result<Vec<u16>, AllocError>
     requires { n ≤ room }
     ensures items { IfOk result (λ v. v.items ≡ zeros n) }

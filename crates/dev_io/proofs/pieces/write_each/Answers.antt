@@ -8,7 +8,8 @@ returns-in_err-write_all g c =
     let p = err_from_is_err_and c.from_residual.result c.from_residual.ensures.1 in
     rw (p.1) (record {
       ok = search rules;
-      failed = piece_part (λ piece. piece.now) _ _ _ _ _ _ c.loop-piece-test.true c.loop-piece.invariant.held c.in_err-write_all.ensures.failed;
+      failed = piece_part (λ piece. piece.now) _ _ _ _ _ _ c.loop-piece-test.true c.loop-piece.invariant.held
+          c.in_err-write_all.ensures.failed;
       cause = omega (arith, c.in_err-write_all.ensures.cause, c.loop-piece.invariant.faults);
       faults = omega (arith, c.in_err-write_all.ensures.faults, c.loop-piece.invariant.faults);
     })

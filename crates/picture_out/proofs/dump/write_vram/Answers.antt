@@ -12,6 +12,7 @@ returns-in_err-write_all-clause-writes g c =
 
 pub loop-y-preserved : goal.loop-y-preserved
 loop-y-preserved g c = record {
-  wrote = rw (row_on _ _ _ c.row_bytes-bytes.ensures.bytes) (wrote_on _ _ _ _ _ _ _ _ c.loop-y.invariant.wrote c.in_ok-write_all.ensures);
+  wrote = rw (row_on _ _ _ c.row_bytes-bytes.ensures.bytes)
+      (wrote_on _ _ _ _ _ _ _ _ c.loop-y.invariant.wrote c.in_ok-write_all.ensures);
   cost = omega (arith, c.loop-y.invariant.cost, c.row_bytes-bytes.ensures.cost);
 }

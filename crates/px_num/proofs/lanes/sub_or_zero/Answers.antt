@@ -24,4 +24,5 @@ returns-clause-value c i lt =
     ap (λ ms. get_or (zip2 wrap (sel_l ms b a) b) i 0) (tops_compared w16 ltb a b)
     ∙ at_zip (larger a b) b (long_select_turned a b c.requires.0 c.requires.1 ltb) c.requires.1 wrap i lt
     ∙ ap (λ m. wrap m (get_or b i 0)) (at_select_turned a b c.requires.0 c.requires.1 ltb i lt)
-    ∙ sub_saturated (get_or a i 0) (get_or b i 0) (below_word a i c.requires.0 lt c.fits-a.1) (below_word b i c.requires.1 lt c.fits-b.1)
+    ∙ sub_saturated (get_or a i 0) (get_or b i 0) (below_word a i c.requires.0 lt c.fits-a.1)
+    (below_word b i c.requires.1 lt c.fits-b.1)

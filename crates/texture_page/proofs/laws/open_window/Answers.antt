@@ -9,4 +9,5 @@ unfolding windowed
 returns c off u low =
     let none : off % 2 ^ 0 * 8 ≡ 0 = omega arith in
     let all : u % 2 ^ 8 ≡ u = omega arith in
-    ap (bit_or (bit_and u 255)) (ap (λ n. n * 8) (and_mask off 0) ∙ none) ∙ or_zero_r (bit_and u 255) ∙ and_mask u 8 ∙ all
+    ap (bit_or (bit_and u 255)) (ap (λ n. n * 8) (and_mask off 0) ∙ none) ∙ or_zero_r (bit_and u 255) ∙ and_mask u 8
+    ∙ all

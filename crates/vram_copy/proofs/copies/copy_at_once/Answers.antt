@@ -5,10 +5,12 @@ use Rattle.vram_copy.proofs.copies.copy_at_once.Goals as goal
 
 pub returns-clause-cells : goal.returns-clause-cells
 returns-clause-cells g c =
-    run_at_once c.args.vram.now c.store16.new.self c.args.mask c.args.from c.args.to c.args.n c.force_lanes-lanes.result c.open_cells-open.result
+    run_at_once c.args.vram.now c.store16.new.self c.args.mask c.args.from c.args.to c.args.n
+    c.force_lanes-lanes.result c.open_cells-open.result
     (free_of c.args.from c.args.to c.args.n c.requires.free) c.requires.source_in.0 c.requires.target_in.0
     (record {
-      colors = λ j lt. c.force_lanes-lanes.ensures.value j (omega (arith, lt, c.requires.count.1)) ∙ ap (forced c.args.mask) (c.load16-colors.ensures.lanes.cells j lt);
+      colors = λ j lt. c.force_lanes-lanes.ensures.value j (omega (arith, lt, c.requires.count.1))
+          ∙ ap (forced c.args.mask) (c.load16-colors.ensures.lanes.cells j lt);
       open_cells = c.open_cells-open.ensures.bits;
     })
     c.store16.ensures.cells

@@ -12,4 +12,5 @@ returns-then-tests-clause-bits g c j lt =
 pub returns-else-tests-clause-bits : goal.returns-else-tests-clause-bits
 returns-else-tests-clause-bits g c j lt =
     ones j (omega (arith, lt, c.requires.count.1))
-    ∙ open_untested c.args.mask (get_or c.args.vram.now (1024 * c.args.to.y + c.args.to.x + j) 0) (sym c.tests.ensures ∙ c.if-tests.false)
+    ∙ open_untested c.args.mask (get_or c.args.vram.now (1024 * c.args.to.y + c.args.to.x + j) 0)
+    (sym c.tests.ensures ∙ c.if-tests.false)

@@ -7,4 +7,5 @@ pub returns-else-tests-clause-cells : goal.returns-else-tests-clause-cells
 returns-else-tests-clause-cells g c =
     c.put.ensures.cells
     ∙ ap (set c.args.vram.now c.args.to.x c.args.to.y) c.force.ensures
-    ∙ sym (plot_untested c.args.vram.now c.args.mask c.args.to.x c.args.to.y c.args.color (sym c.tests.ensures ∙ c.if-tests.false))
+    ∙ sym (plot_untested c.args.vram.now c.args.mask c.args.to.x c.args.to.y c.args.color
+    (sym c.tests.ensures ∙ c.if-tests.false))

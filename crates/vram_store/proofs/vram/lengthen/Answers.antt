@@ -13,7 +13,8 @@ pub loop-i-preserved : goal.loop-i-preserved
 loop-i-preserved c =
     let pushed = rw c.in-Ok.is at c.push.ensures.items in
     record {
-      items = pushed ∙ ap (λ xs. xs ++ 0 ∷ []) c.loop-i.invariant.items ∙ one_behind _ _ _ (omega (arith, c.loop-i.auto.i));
+      items = pushed ∙ ap (λ xs. xs ++ 0 ∷ []) c.loop-i.invariant.items
+          ∙ one_behind _ _ _ (omega (arith, c.loop-i.auto.i));
       len = rw c.in-Ok.is at c.push.ensures.len ∙ omega arith;
       room = omega (arith, c.push.ensures.capacity);
     }

@@ -1,5 +1,5 @@
 use Rattle.std.proofs.Common.{◌≡◌, ◌≤◌, ◌++◌, ◌-◌, vec_len, vec_capacity}
-use Rattle.vram_store.specs.Vram.{zeros}
+use Rattle.px_num.specs.Zeros.{zeros}
 use Rattle.vram_store.proofs.vram.lengthen.Given as goal
 
 abbrev pub invariant-loop-i : goal.invariant-loop-i
