@@ -1,4 +1,5 @@
-//! Snapshots of a machine, and captures: one of either is opened, and played.
+//! Snapshots of a machine, and captures: one of either is opened, and played. What cuts a capture into a snapshot is
+//! passed on from `capture_cut`.
 #![tactic(auto)]
 
 mod cells;
@@ -13,6 +14,7 @@ mod play;
 mod profile;
 mod restore;
 
+pub use capture_cut::{CutEnding, cut};
 pub use ending::AnyEnding;
 pub use head::FileHead;
 pub use opening::open;
