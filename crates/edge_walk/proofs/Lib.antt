@@ -8,4 +8,5 @@ pub mod NearLemmas
 pub mod PlaneLemmas
 pub mod RowLemmas
 pub mod SpanLemmas
+pub mod SlopeLemmas
 pub mod WalkLemmas

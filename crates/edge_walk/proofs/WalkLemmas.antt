@@ -1,57 +1,25 @@
 -- Edges from row to row.
-use Rattle.std.proofs.Common.{ℕ, ◌+◌, ◌-◌, ◌*◌, ◌%◌, ◌^◌, ◌≤◌, ◌<◌, ◌≡◌, ℤ, pos, ◌+ℤ◌, ◌-ℤ◌, ◌*ℤ◌, ◌≤ℤ◌, ◌↔◌, Bool, true, false, cond, IsTrue, int_lt, unsigned_abs, refl, ap, ◌∙◌, arith}
-use Rattle.std.specs.Int.{int_min, int_max}
-use Rattle.std.proofs.Math.Nat.{mul-le-mul_right, le-mul_of_pos_right}
+use Rattle.std.proofs.Common.{ℕ, ◌+◌, ◌-◌, ◌/◌, ◌%◌, ◌^◌, ◌≤◌, ◌<◌, ◌≡◌, ℤ, pos, ◌+ℤ◌, ◌-ℤ◌, ◌*ℤ◌, ◌≤ℤ◌, ◌<ℤ◌, ◌↔◌, Bool, true, false, cond, IsTrue, ◌&&◌, int_lt, unsigned_abs, FitsSigned, w32, refl, arith}
+use Rattle.std.specs.Int.{int_max, int_min}
 use Rattle.std.proofs.lemmas.Int.{ints, clamps, unsigned_abs-mul}
 use Rattle.std.proofs.lemmas.Nat.{mul-le}
 use Rattle.px_num.proofs.Ring.{at, add, sub, mul, same}
-use Rattle.px_num.specs.Floor.{IsFloor}
 use Rattle.px_num.specs.declared.shape.Box2.{Box2}
 use Rattle.px_num.specs.declared.shape.Vertex.{Vertex}
+use Rattle.edge_walk.specs.declared.side.Ends.{Ends}
 use Rattle.edge_walk.specs.declared.side.Side.{Side}
-use Rattle.edge_walk.specs.declared.side.Bound.{Bound}
-use Rattle.edge_walk.specs.declared.side.Bound.TheVariants.{AtMost, AtLeast, Level}
+use Rattle.edge_walk.specs.declared.slope.Bound.{Bound}
+use Rattle.edge_walk.specs.declared.slope.Bound.TheVariants.{AtMost, AtLeast}
+use Rattle.edge_walk.specs.declared.walk.RowWalk.{RowWalk}
 use Rattle.edge_walk.specs.Extent.{bounding_box}
-use Rattle.edge_walk.specs.Row.{IsBetween, least_value}
-use Rattle.edge_walk.specs.Triangle.{Corners, corners, doubled_area, oriented, is_on_side, is_kept_edge, IsNear, IsSmall}
-use Rattle.edge_walk.specs.Walk.{IsBoundOf, IsSide, HasRows}
-use Rattle.edge_walk.proofs.RowLemmas.{narrow_left, narrow_right, narrow_none, narrow_all, on_side_iff, swap_iff}
+use Rattle.edge_walk.specs.Row.{IsBetween, IsInBox, IsRowSpan, least_value}
+use Rattle.edge_walk.specs.Triangle.{Corners, corners, doubled_area, oriented, is_inside, is_within, is_on_side, is_kept_edge, IsNear, IsSmall}
+use Rattle.edge_walk.specs.Walk.{in_parts, raised_column, spare, AreRows, HasRows, IsBounded, IsSide, IsWithin}
+use Rattle.edge_walk.proofs.InBox.{inside-in_box}
+use Rattle.edge_walk.proofs.RowLemmas.{both_true, on_side_iff}
+use Rattle.edge_walk.proofs.SpanLemmas.{span_is, none_is}
 
 -- ---- one row further
-
--- a quotient that is raised by b, once less
-lowered : (t r w b size : ℕ) → r < size → t * size + r ≡ w + b * size → (b ≤ t) × ((t - b) * size + r ≡ w)
-lowered t r w b size lt e = (enough, (let parts : t * size ≡ (t - b) * size + b * size = let whole : t ≡ (t - b) + b = omega (arith, enough) in ap (λ z. z * size) whole ∙ omega arith in omega (arith, e, parts)))
-  where
-    enough : b ≤ t
-    enough = by_less t b (λ less. let more = mul-le-mul_right size less in absurd (omega (arith, e, more, lt)))
-      where
-        by_less : (t b : ℕ) → (t + 1 ≤ b → ⊥) → b ≤ t
-        by_less t b h = grind arith
-
--- the quotient and the rest in the next row, which carry where k is 1
-record IsMoved (whole rest size w : ℕ) : Type 0 where
-  less : rest < size
-  is : whole * size + rest ≡ w
-
-further : (whole rest raised more size w k : ℕ) → rest < size → more < size → size ≤ 511 → w < 2 ^ 32 → (whole * size + rest) + (raised * size + more) ≡ w + 2 ^ 20 * size
-    → k ≤ 1 → k * size ≤ rest + more → rest + more < (k + 1) * size
-    → IsMoved ((whole + raised + k + (2 ^ 32 - 2 ^ 20)) % 2 ^ 32) (rest + more - k * size) size w
-further whole rest raised more size w k a b most small e one low high =
-    let rest_less : rest + more - k * size < size = omega (arith, low, high) in
-    let back : (rest + more - k * size) + k * size ≡ rest + more = omega (arith, low) in
-    let all : (whole + raised + k) * size + (rest + more - k * size) ≡ w + 2 ^ 20 * size = omega (arith, e, back) in
-    let down_ = lowered (whole + raised + k) (rest + more - k * size) w (2 ^ 20) size rest_less all in
-    let some : 0 < size = omega (arith, a) in
-    let bound = le-mul_of_pos_right (whole + raised + k - 2 ^ 20) some in
-    let below : whole + raised + k - 2 ^ 20 < 2 ^ 32 = omega (arith, bound, down_.1, small) in
-    let same_whole : (whole + raised + k + (2 ^ 32 - 2 ^ 20)) % 2 ^ 32 ≡ whole + raised + k - 2 ^ 20 = omega (arith, down_.0, below) in
-    record { less = rest_less; is = ap (λ z. z * size + (rest + more - k * size)) same_whole ∙ down_.1 }
-
-size_bound : (b : Bound) (fall : ℤ) (size : ℕ) → IsBoundOf b fall size → unsigned_abs fall ≤ 511 → size ≤ 511
-size_bound AtMost fall size h le = omega (arith, ints, h, le)
-size_bound AtLeast fall size h le = omega (arith, ints, h, le)
-size_bound Level fall size h le = omega (arith, h.1)
 
 least_bound : (k : Bool) → unsigned_abs (cond k (pos 0) (pos 1)) ≤ 1
 least_bound true = omega (arith, ints)
@@ -60,92 +28,116 @@ least_bound false = omega (arith, ints)
 pub product_small : (a b : ℤ) → unsigned_abs a ≤ 1023 → unsigned_abs b ≤ 512 → unsigned_abs (a *ℤ b) ≤ 523776
 product_small a b g h = rw unsigned_abs-mul (mul-le (unsigned_abs a) (unsigned_abs b) 1023 512 g h)
 
+pub far_small : (a b : ℤ) → unsigned_abs a ≤ 2 ^ 20 → unsigned_abs b ≤ 2 ^ 41 → unsigned_abs (a *ℤ b) ≤ 2 ^ 61
+far_small a b g h = rw unsigned_abs-mul (mul-le (unsigned_abs a) (unsigned_abs b) (2 ^ 20) (2 ^ 41) g h)
+
+pub spare_small : (p q : Vertex) (y : ℤ) → IsNear p q → unsigned_abs (y -ℤ p.y) ≤ 512 → unsigned_abs (spare p q y) < 2 ^ 20
+spare_small p q y near reach =
+    let product = product_small (q.x -ℤ p.x) (y -ℤ p.y) (omega (arith, ints, near.across)) reach in
+    let least = least_bound (is_kept_edge p q) in
+    omega (arith, ints, product, least)
+
 one_more : (a y p : ℤ) → a *ℤ ((y +ℤ pos 1) -ℤ p) ≡ (a *ℤ (y -ℤ p) +ℤ a)
 one_more a y p = same (mul (at a) (sub (add (at y) (at (pos 1))) (at p))) (add (mul (at a) (sub (at y) (at p))) (at a)) (omega arith)
 
-module _ (p q : Vertex) (y : ℤ) (s : Side) (near : IsNear p q) (reach : unsigned_abs ((y +ℤ pos 1) -ℤ p.y) ≤ 512) (h : IsSide p q y s) where
-  -- what the quotient and the rest stand for in the next row
-  next_value : ℤ
-  next_value = (q.x -ℤ p.x) *ℤ ((y +ℤ pos 1) -ℤ p.y) -ℤ least_value p q +ℤ pos (2 ^ 20 * s.size)
+spare_more : (p q : Vertex) (y : ℤ) → spare p q (y +ℤ pos 1) ≡ (spare p q y +ℤ (q.x -ℤ p.x))
+spare_more p q y = let more = one_more (q.x -ℤ p.x) y p.y in omega (arith, ints, more)
 
-  pub size_small : s.size ≤ 511
-  size_small = size_bound s.bound (q.y -ℤ p.y) s.size h.bound (omega (arith, ints, near.down))
+grown : (a b d c : ℤ) → b ≡ (a +ℤ d) → b *ℤ c ≡ (a *ℤ c +ℤ d *ℤ c)
+grown a b d c e = rw e (same (mul (add (at a) (at d)) (at c)) (add (mul (at a) (at c)) (mul (at d) (at c))) (omega arith))
 
-  record IsNext (w : ℕ) : Type 0 where
-    is : pos w ≡ next_value
-    small : w < 2 ^ 32
-    sum : (s.whole * s.size + s.rest) + (h.raised * s.size + s.more) ≡ w + 2 ^ 20 * s.size
+-- what wraps, at a number that does not
+stepped : (held by raised next : ℕ) (start far step far' slack : ℤ) → pos held ≡ (start +ℤ (far +ℤ slack)) → pos raised ≡ (step +ℤ pos (2 ^ 62)) → by ≡ (raised + (2 ^ 64 - 2 ^ 62)) % 2 ^ 64
+    → next ≡ (held + by) % 2 ^ 64 → far' ≡ (far +ℤ step) → pos 0 ≤ℤ (start +ℤ (far' +ℤ slack)) → (start +ℤ (far' +ℤ slack)) <ℤ pos (2 ^ 63) → pos next ≡ (start +ℤ (far' +ℤ slack))
+stepped held by raised next start far step far' slack is step_is by_is next_is more low high = omega (arith, ints, is, step_is, by_is, next_is, more, low, high)
 
-  next_is : IsNext (unsigned_abs next_value)
-  unfolding next_value
-  next_is =
-      let product = product_small (q.x -ℤ p.x) ((y +ℤ pos 1) -ℤ p.y) (omega (arith, ints, near.across)) reach in
-      let least = least_bound (is_kept_edge p q) in
-      let most = size_small in
-      let more = one_more (q.x -ℤ p.x) y p.y in
-      let is_next : pos (unsigned_abs ((q.x -ℤ p.x) *ℤ ((y +ℤ pos 1) -ℤ p.y) -ℤ least_value p q +ℤ pos (2 ^ 20 * s.size))) ≡ ((q.x -ℤ p.x) *ℤ ((y +ℤ pos 1) -ℤ p.y) -ℤ least_value p q +ℤ pos (2 ^ 20 * s.size)) =
-      omega (arith, ints, product, least, h.rest) in record {
-        is = is_next;
-        small = omega (arith, ints, product, least, most);
-        sum = omega (arith, ints, h.value, h.step, more, is_next);
-      }
+pub in_reach : (origin p far slack : ℤ) → unsigned_abs (origin -ℤ p) ≤ 1023 → unsigned_abs far ≤ 2 ^ 61 → unsigned_abs slack ≤ 2 ^ 40
+    → (pos 0 ≤ℤ (in_parts origin p +ℤ (far +ℤ slack))) × ((in_parts origin p +ℤ (far +ℤ slack)) <ℤ pos (2 ^ 63))
+in_reach origin p far slack start small least = (omega (arith, ints, start, small, least), omega (arith, ints, start, small, least))
 
-  carried : (k : ℕ) → k ≤ 1 → k * s.size ≤ s.rest + s.more → s.rest + s.more < (k + 1) * s.size → IsMoved ((s.whole + h.raised + k + (2 ^ 32 - 2 ^ 20)) % 2 ^ 32) (s.rest + s.more - k * s.size) s.size (unsigned_abs next_value)
-  carried k one low high =
-      let w = next_is in
-      further s.whole s.rest h.raised s.more s.size (unsigned_abs next_value) k h.rest h.more size_small w.small w.sum one low high
+-- what is held of an edge where it is made
+pub record IsPlaced (start_held far_held : ℕ) (is : ℤ) : Type 0 where
+  pub enough : 2 ^ 62 ≤ start_held + far_held
+  pub fits : start_held + far_held < 2 ^ 64
+  pub value : pos (start_held + far_held - 2 ^ 62) ≡ is
 
-  pub moved_with : (start : ℤ) (whole rest k : ℕ) → k ≤ 1 → k * s.size ≤ s.rest + s.more → s.rest + s.more < (k + 1) * s.size
-      → start ≡ s.start → whole ≡ (s.whole + h.raised + k + (2 ^ 32 - 2 ^ 20)) % 2 ^ 32 → rest ≡ s.rest + s.more - k * s.size
-      → IsSide p q (y +ℤ pos 1) (record { bound = s.bound; start = start; whole = whole; rest = rest; by = s.by; more = s.more; size = s.size })
-  unfolding next_value
-  moved_with start whole rest k one low high start_is whole_is rest_is =
-      let m = carried k one low high in
-      let w = next_is in record {
-        bound = h.bound;
-        start = start_is ∙ h.start;
-        rest = rw rest_is m.less;
-        value = rw (whole_is, rest_is) (ap pos m.is ∙ w.is);
-        raised = h.raised;
-        by = h.by;
-        more = h.more;
-        step = h.step;
-      }
+pub placed : (start_held far_held : ℕ) (start far slack : ℤ) → pos start_held ≡ start → pos far_held ≡ (far +ℤ slack +ℤ pos (2 ^ 62)) → pos 0 ≤ℤ (start +ℤ (far +ℤ slack)) → (start +ℤ (far +ℤ slack)) <ℤ pos (2 ^ 63)
+    → IsPlaced start_held far_held (start +ℤ (far +ℤ slack))
+placed start_held far_held start far slack is far_is low high = record {
+  enough = omega (arith, ints, is, far_is, low);
+  fits = omega (arith, ints, is, far_is, high);
+  value = omega (arith, ints, is, far_is, low);
+}
+
+pub moved_with : (p q : Vertex) (origin y : ℤ) (s : Side) (next : ℕ) → IsNear p q → unsigned_abs ((y +ℤ pos 1) -ℤ p.y) ≤ 512 → IsSide p q origin y s → next ≡ (s.at + s.by) % 2 ^ 64
+    → IsSide p q origin (y +ℤ pos 1) (record { bound = s.bound; at = next; by = s.by })
+moved_with p q origin y s next near reach h next_is =
+    let small = spare_small p q (y +ℤ pos 1) near reach in
+    let far = far_small (spare p q (y +ℤ pos 1)) h.slope.scale (omega (arith, small)) h.is_slope.scale in
+    let reached = in_reach origin p.x (spare p q (y +ℤ pos 1) *ℤ h.slope.scale) h.slope.slack h.start far h.is_slope.slack in record {
+      slope = h.slope;
+      is_slope = h.is_slope;
+      bound = h.bound;
+      start = h.start;
+      at = stepped s.at s.by h.raised next (in_parts origin p.x) (spare p q y *ℤ h.slope.scale) ((q.x -ℤ p.x) *ℤ h.slope.scale) (spare p q (y +ℤ pos 1) *ℤ h.slope.scale) h.slope.slack
+          h.at h.step h.by next_is (grown (spare p q y) (spare p q (y +ℤ pos 1)) (q.x -ℤ p.x) h.slope.scale (spare_more p q y)) reached.0 reached.1;
+      raised = h.raised;
+      by = h.by;
+      step = h.step;
+    }
 
 -- ---- the columns of a row
 
-raised_floor : (whole rest size : ℕ) (value : ℤ) → rest < size → pos (whole * size + rest) ≡ (value +ℤ pos (2 ^ 20 * size)) → IsFloor (pos whole -ℤ pos (2 ^ 20)) value (pos size)
-raised_floor whole rest size value less is =
-    let product = same (mul (sub (at (pos whole)) (at (pos (2 ^ 20)))) (at (pos size))) (sub (at (pos (whole * size))) (at (pos (2 ^ 20 * size)))) (omega arith) in
-    let more = same (mul (add (sub (at (pos whole)) (at (pos (2 ^ 20)))) (at (pos 1))) (at (pos size))) (add (sub (at (pos (whole * size))) (at (pos (2 ^ 20 * size)))) (at (pos size))) (omega arith) in
-    record { reached = omega (arith, ints, product, is); next = omega (arith, ints, more, is, less) }
+turned : (least value product : ℤ) → (least ≤ℤ (value -ℤ product)) ↔ (product ≤ℤ (value -ℤ least))
+turned least value product = (λ h. omega (arith, ints, h), λ h. omega (arith, ints, h))
 
-module _ (p q : Vertex) (x y : ℤ) (s : Side) (low high : ℤ) (h : IsSide p q y s) where
-  value : ℤ
-  value = (q.x -ℤ p.x) *ℤ (y -ℤ p.y)
+shifted : (b : Bound) (start far k from x : ℤ) → from ≡ (start +ℤ far) → x ≡ (start +ℤ k) → IsBounded b far k ↔ IsBounded b from x
+shifted AtMost start far k from x is_from is_x = (λ h. omega (arith, ints, is_from, is_x, h), λ h. omega (arith, ints, is_from, is_x, h))
+shifted AtLeast start far k from x is_from is_x = (λ h. omega (arith, ints, is_from, is_x, h), λ h. omega (arith, ints, is_from, is_x, h))
 
-  floor : IsFloor (pos s.whole -ℤ pos (2 ^ 20)) ((q.x -ℤ p.x) *ℤ (y -ℤ p.y) -ℤ least_value p q) (pos s.size)
-  floor = raised_floor s.whole s.rest s.size _ h.rest h.value
+parts_apart : (origin p x : ℤ) → in_parts origin x ≡ (in_parts origin p +ℤ (x -ℤ p) *ℤ pos (2 ^ 30))
+parts_apart origin p x = same (add (mul (sub (at x) (at origin)) (at (pos (2 ^ 30)))) (at (pos (2 ^ 62)))) (add (add (mul (sub (at p) (at origin)) (at (pos (2 ^ 30)))) (at (pos (2 ^ 62)))) (mul (sub (at x) (at p)) (at (pos (2 ^ 30))))) (omega arith)
 
-  pub at_most : pos s.size ≡ (q.y -ℤ p.y) → (high' : ℤ) → high' ≡ int_min high (s.start +ℤ (pos s.whole -ℤ pos (2 ^ 20))) → (IsBetween low high x × IsTrue (is_on_side p q x y)) ↔ IsBetween low high' x
-  at_most fall high' high_is =
-      swap_iff (narrow_left low high low high' x (least_value p q) ((q.x -ℤ p.x) *ℤ (y -ℤ p.y)) (q.y -ℤ p.y) p.x (pos s.whole -ℤ pos (2 ^ 20)) (omega (arith, ints, fall, h.rest)) (rw (← fall) floor) refl (high_is ∙ ap (λ z. int_min high (z +ℤ (pos s.whole -ℤ pos (2 ^ 20)))) h.start)) (on_side_iff p q x y)
+-- an edge leaves the columns of the cells on its inner side
+pub bounded : (p q : Vertex) (origin x y : ℤ) (s : Side) → IsSide p q origin y s → unsigned_abs (x -ℤ p.x) ≤ 1023 → IsTrue (is_on_side p q x y) ↔ IsBounded s.bound (pos s.at) (in_parts origin x)
+bounded p q origin x y s h near =
+    let on = on_side_iff p q x y in
+    let turn = turned (least_value p q) ((q.x -ℤ p.x) *ℤ (y -ℤ p.y)) ((q.y -ℤ p.y) *ℤ (x -ℤ p.x)) in
+    let solved = h.is_slope.solves (x -ℤ p.x) (spare p q y) near in
+    let shift = shifted h.slope.bound (in_parts origin p.x) (spare p q y *ℤ h.slope.scale +ℤ h.slope.slack) ((x -ℤ p.x) *ℤ pos (2 ^ 30)) (pos s.at) (in_parts origin x) h.at (parts_apart origin p.x x) in
+    rw h.bound (λ t. shift.0 (solved.0 (turn.0 (on.0 t))), λ b. on.1 (turn.1 (solved.1 (shift.1 b))))
 
-  pub at_least : pos s.size ≡ (pos 0 -ℤ (q.y -ℤ p.y)) → (low' : ℤ) → low' ≡ int_max low (s.start -ℤ (pos s.whole -ℤ pos (2 ^ 20))) → (IsBetween low high x × IsTrue (is_on_side p q x y)) ↔ IsBetween low' high x
-  at_least fall low' low_is =
-      swap_iff (narrow_right low high low' high x (least_value p q) ((q.x -ℤ p.x) *ℤ (y -ℤ p.y)) (q.y -ℤ p.y) p.x (pos s.whole -ℤ pos (2 ^ 20)) (omega (arith, ints, fall, h.rest)) (rw (← fall) floor) (low_is ∙ ap (λ z. int_max low (z -ℤ (pos s.whole -ℤ pos (2 ^ 20)))) h.start) refl) (on_side_iff p q x y)
+within_ends : (ends : Ends) (origin x : ℤ) → IsWithin ends (in_parts origin x) ↔ IsBetween (pos (ends.low / 2 ^ 30)) (pos (ends.high / 2 ^ 30)) (raised_column origin x)
+within_ends ends origin x = (λ h. (omega (arith, ints, h.0), omega (arith, ints, h.1)), λ h. (omega (arith, ints, h.0), omega (arith, ints, h.1)))
 
-  pub level_none : (q.y -ℤ p.y) ≡ pos 0 → s.size ≡ 1 → s.whole < 2 ^ 20 → (IsBetween low high x × IsTrue (is_on_side p q x y)) ↔ IsBetween (pos 1) (pos 0) x
-  level_none fall one less =
-      let is = rw one at h.value in
-      swap_iff (narrow_none low high x (least_value p q) ((q.x -ℤ p.x) *ℤ (y -ℤ p.y)) (q.y -ℤ p.y) p.x fall (omega (arith, ints, is, less, h.rest, one))) (on_side_iff p q x y)
+-- ---- columns and rows that a triangle has are near its vertices
 
-  pub level_all : (q.y -ℤ p.y) ≡ pos 0 → s.size ≡ 1 → 2 ^ 20 ≤ s.whole → (IsBetween low high x × IsTrue (is_on_side p q x y)) ↔ IsBetween low high x
-  level_all fall one enough =
-      let is = rw one at h.value in
-      swap_iff (narrow_all low high x (least_value p q) ((q.x -ℤ p.x) *ℤ (y -ℤ p.y)) (q.y -ℤ p.y) p.x fall (omega (arith, ints, is, enough))) (on_side_iff p q x y)
+pub record AreAcross (t : Corners) (x : ℤ) : Type 0 where
+  pub first : unsigned_abs (x -ℤ t.first.x) ≤ 1023
+  pub second : unsigned_abs (x -ℤ t.second.x) ≤ 1023
+  pub third : unsigned_abs (x -ℤ t.third.x) ≤ 1023
 
--- ---- rows that a triangle has are near its vertices
+across_by_turn : (t : Corners) (x : ℤ) (turned : Bool) → IsSmall (cond turned (corners t.first t.third t.second) t) → (bounding_box t).x1 ≤ℤ x → x ≤ℤ (bounding_box t).x2
+    → AreAcross (cond turned (corners t.first t.third t.second) t) x
+unfolding bounding_box
+across_by_turn t x true small low high = record {
+  first = omega (arith, ints, clamps, small.one.across, small.two.across, small.three.across, low, high);
+  second = omega (arith, ints, clamps, small.one.across, small.two.across, small.three.across, low, high);
+  third = omega (arith, ints, clamps, small.one.across, small.two.across, small.three.across, low, high);
+}
+across_by_turn t x false small low high = record {
+  first = omega (arith, ints, clamps, small.one.across, small.two.across, small.three.across, low, high);
+  second = omega (arith, ints, clamps, small.one.across, small.two.across, small.three.across, low, high);
+  third = omega (arith, ints, clamps, small.one.across, small.two.across, small.three.across, low, high);
+}
+
+pub across : (t : Corners) (x : ℤ) → IsSmall (oriented t) → (bounding_box t).x1 ≤ℤ x → x ≤ℤ (bounding_box t).x2 → AreAcross (oriented t) x
+unfolding oriented
+across t x small low high = across_by_turn t x (int_lt (doubled_area t) (pos 0)) small low high
+
+pub in_order : (t : Corners) → (bounding_box t).x1 ≤ℤ (bounding_box t).x2
+unfolding bounding_box
+in_order t = omega (arith, ints, clamps)
 
 pub record AreReached (t : Corners) (y : ℤ) : Type 0 where
   pub first : unsigned_abs (y -ℤ t.first.y) ≤ 512
@@ -169,3 +161,109 @@ by_turn t clip y false small box above below = record {
 pub reached : (t : Corners) (clip : Box2) (y : ℤ) → IsSmall (oriented t) → HasRows t clip → clip.y1 ≤ℤ y → y ≤ℤ (clip.y2 +ℤ pos 1) → AreReached (oriented t) y
 unfolding oriented
 reached t clip y small box above below = by_turn t clip y (int_lt (doubled_area t) (pos 0)) small box above below
+
+-- ---- what the edges leave of a row
+
+low_end : (low : ℕ) (origin from x : ℤ) → pos low ≡ in_parts origin from → IsBounded AtLeast (pos low) (in_parts origin x) ↔ (from ≤ℤ x)
+low_end low origin from x is = (λ h. omega (arith, ints, is, h), λ h. omega (arith, ints, is, h))
+
+high_end : (high : ℕ) (origin last x : ℤ) → pos high ≡ in_parts origin last → IsBounded AtMost (pos high) (in_parts origin x) ↔ (x ≤ℤ last)
+high_end high origin last x is = (λ h. omega (arith, ints, is, h), λ h. omega (arith, ints, is, h))
+
+greater_of : (a b x : ℤ) → (int_max a b ≤ℤ x) ↔ ((a ≤ℤ x) × (b ≤ℤ x))
+greater_of a b x = (λ h. (omega (arith, ints, clamps, h), omega (arith, ints, clamps, h)), λ h. omega (arith, ints, clamps, h.0, h.1))
+
+lesser_of : (a b x : ℤ) → (x ≤ℤ int_min a b) ↔ ((x ≤ℤ a) × (x ≤ℤ b))
+lesser_of a b x = (λ h. (omega (arith, ints, clamps, h), omega (arith, ints, clamps, h)), λ h. omega (arith, ints, clamps, h.0, h.1))
+
+module _ (t : Corners) (clip : Box2) (x y : ℤ) (rows : RowWalk) (h : AreRows t clip y rows) where
+  own_columns : IsWithin rows.ends (in_parts rows.origin x) ↔ (IsBetween clip.x1 clip.x2 x × IsBetween (bounding_box t).x1 (bounding_box t).x2 x)
+  own_columns =
+      let low = low_end rows.ends.low rows.origin (int_max clip.x1 (bounding_box t).x1) x h.low in
+      let high = high_end rows.ends.high rows.origin (int_min clip.x2 (bounding_box t).x2) x h.high in
+      let least = greater_of clip.x1 (bounding_box t).x1 x in
+      let most = lesser_of clip.x2 (bounding_box t).x2 x in (
+        λ w. let l = least.0 (low.0 w.0) in let m = most.0 (high.0 w.1) in ((l.0, m.0), (l.1, m.1)),
+        λ b. (low.1 (least.1 (b.0.0, b.1.0)), high.1 (most.1 (b.0.1, b.1.1))),
+      )
+
+  on_sides : (u : Corners) → IsTrue (is_within u x y) ↔ (IsTrue (is_on_side u.first u.second x y) × IsTrue (is_on_side u.second u.third x y) × IsTrue (is_on_side u.third u.first x y))
+  unfolding is_within
+  on_sides u =
+      let outer = both_true (is_on_side u.first u.second x y && is_on_side u.second u.third x y) (is_on_side u.third u.first x y) in
+      let inner = both_true (is_on_side u.first u.second x y) (is_on_side u.second u.third x y) in
+      (λ t. let o = outer.0 t in let i = inner.0 o.0 in (i.0, i.1, o.1), λ s. outer.1 (inner.1 (s.0, s.1), s.2))
+
+  module _ (ends : Ends) (left : (v : ℤ) → (IsWithin rows.ends v × IsBounded rows.first.bound (pos rows.first.at) v × IsBounded rows.second.bound (pos rows.second.at) v × IsBounded rows.third.bound (pos rows.third.at) v) ↔ IsWithin ends v) where
+    first_bound : AreAcross (oriented t) x → IsTrue (is_on_side (oriented t).first (oriented t).second x y) ↔ IsBounded rows.first.bound (pos rows.first.at) (in_parts rows.origin x)
+    first_bound near = bounded (oriented t).first (oriented t).second rows.origin x y rows.first h.first near.first
+
+    second_bound : AreAcross (oriented t) x → IsTrue (is_on_side (oriented t).second (oriented t).third x y) ↔ IsBounded rows.second.bound (pos rows.second.at) (in_parts rows.origin x)
+    second_bound near = bounded (oriented t).second (oriented t).third rows.origin x y rows.second h.second near.second
+
+    third_bound : AreAcross (oriented t) x → IsTrue (is_on_side (oriented t).third (oriented t).first x y) ↔ IsBounded rows.third.bound (pos rows.third.at) (in_parts rows.origin x)
+    third_bound near = bounded (oriented t).third (oriented t).first rows.origin x y rows.third h.third near.third
+
+    to : (IsBetween clip.x1 clip.x2 x × IsTrue (is_inside t x y)) → IsWithin ends (in_parts rows.origin x)
+    to i =
+        let b = inside-in_box t x y h.drawn i.1 in
+        let near = across t x h.small b.0.0 b.0.1 in
+        let on = (on_sides (oriented t)).0 i.1 in
+        (left (in_parts rows.origin x)).0 (own_columns.1 (i.0, b.0), (first_bound near).0 on.0, (second_bound near).0 on.1, (third_bound near).0 on.2)
+
+    from : IsWithin ends (in_parts rows.origin x) → (IsBetween clip.x1 clip.x2 x × IsTrue (is_inside t x y))
+    from w =
+        let parts = (left (in_parts rows.origin x)).1 w in
+        let own = own_columns.0 parts.0 in
+        let near = across t x h.small own.1.0 own.1.1 in
+        (own.0, (on_sides (oriented t)).1 ((first_bound near).1 parts.1, (second_bound near).1 parts.2, (third_bound near).1 parts.3))
+
+    pub columns_are : (IsBetween clip.x1 clip.x2 x × IsTrue (is_inside t x y)) ↔ IsBetween (pos (ends.low / 2 ^ 30)) (pos (ends.high / 2 ^ 30)) (raised_column rows.origin x)
+    columns_are = let w = within_ends ends rows.origin x in (λ i. w.0 (to i), λ b. from (w.1 b))
+
+-- ---- the span of a row
+
+wide : (t : Corners) → IsSmall t → (bounding_box t).x2 ≤ℤ ((bounding_box t).x1 +ℤ pos 1023)
+unfolding bounding_box
+wide t small = omega (arith, ints, clamps, small.one.across, small.two.across, small.three.across)
+
+back : (origin : ℤ) (raised : ℕ) → pos raised ≡ raised_column origin ((pos raised -ℤ pos (2 ^ 32)) +ℤ origin)
+back origin raised = same (at (pos raised)) (add (sub (add (sub (at (pos raised)) (at (pos (2 ^ 32)))) (at origin)) (at origin)) (at (pos (2 ^ 32)))) (omega arith)
+
+unraised : (origin : ℤ) (low high : ℕ) (x : ℤ)
+    → IsBetween (pos low) (pos high) (raised_column origin x) ↔ IsBetween ((pos low -ℤ pos (2 ^ 32)) +ℤ origin) ((pos high -ℤ pos (2 ^ 32)) +ℤ origin) x
+unraised origin low high x = (λ b. (omega (arith, ints, b.0), omega (arith, ints, b.1)), λ b. (omega (arith, ints, b.0), omega (arith, ints, b.1)))
+
+-- what a column that is held raised is
+abbrev pub Lowers : ℤ → ℕ → ℤ → Type 0
+Lowers origin raised column = (x : ℤ) → FitsSigned w32 x → origin ≤ℤ x → x ≤ℤ (origin +ℤ pos 1023) → pos raised ≡ raised_column origin x → column ≡ x
+
+module _ (t : Corners) (clip : Box2) (y : ℤ) (rows : RowWalk) (h : AreRows t clip y rows) (low high : ℕ)
+    (cells : (x : ℤ) → (IsBetween clip.x1 clip.x2 x × IsTrue (is_inside t x y)) ↔ IsBetween (pos low) (pos high) (raised_column rows.origin x)) where
+  abbrev from_origin : ℕ → ℤ
+  from_origin raised = (pos raised -ℤ pos (2 ^ 32)) +ℤ rows.origin
+
+  plain_cells : (x : ℤ) → (IsBetween clip.x1 clip.x2 x × IsTrue (is_inside t x y)) ↔ IsBetween (from_origin low) (from_origin high) x
+  plain_cells x = (
+    λ i. (unraised rows.origin low high x).0 ((cells x).0 i),
+    λ b. (cells x).1 ((unraised rows.origin low high x).1 b),
+  )
+
+  lowered : (raised : ℕ) (column : ℤ) → IsBetween (from_origin low) (from_origin high) (from_origin raised) → Lowers rows.origin raised column → column ≡ from_origin raised
+  lowered raised column between lowers =
+      let inside = (plain_cells (from_origin raised)).1 between in
+      let own = inside-in_box t (from_origin raised) y h.drawn inside.1 in
+      let most = wide t h.drawn.small in
+      let left_fits = h.left_fits in
+      let right_fits = h.right_fits in
+      lowers (from_origin raised) (omega (arith, ints, own.0.0, own.0.1, left_fits, right_fits)) (omega (arith, ints, own.0.0, h.origin)) (omega (arith, ints, own.0.1, h.origin, most)) (back rows.origin raised)
+
+  pub span_of : low ≤ high → y ≤ℤ clip.y2 → (first last : ℤ) → Lowers rows.origin low first → Lowers rows.origin high last → IsRowSpan t y clip first last
+  span_of order more first last to_first to_last =
+      let ordered : from_origin low ≤ℤ from_origin high = omega (arith, ints, order) in
+      let first_is = lowered low first (omega (arith, ints), ordered) to_first in
+      let last_is = lowered high last (ordered, omega (arith, ints)) to_last in
+      rw (first_is, last_is) (span_is t y clip.x1 clip.x2 (from_origin low) (from_origin high) clip refl refl (λ x. is_inside t x y) (λ x. refl) plain_cells ordered h.above more)
+
+  pub none_of : high < low → (x : ℤ) → IsInBox clip x y → is_inside t x y ≡ false
+  none_of empty = none_is t y clip.x1 clip.x2 (from_origin low) (from_origin high) clip refl refl (λ x. is_inside t x y) (λ x. refl) plain_cells (omega (arith, ints, empty))

@@ -1,33 +1,57 @@
 -- The rows of a triangle from top to bottom (our own rule).
-use Rattle.std.specs.Prelude.{ℕ, ◌+◌, ◌-◌, ◌*◌, ◌%◌, ◌^◌, ◌<◌, ◌≡◌, ℤ, pos, ◌+ℤ◌, ◌-ℤ◌, ◌*ℤ◌, ◌≤ℤ◌}
+use Rattle.std.specs.Prelude.{ℕ, ◌+◌, ◌-◌, ◌%◌, ◌^◌, ◌≤◌, ◌≡◌, ◌↔◌, ℤ, pos, ◌+ℤ◌, ◌-ℤ◌, ◌*ℤ◌, ◌≤ℤ◌, ◌<ℤ◌, unsigned_abs, FitsSigned}
+use Rattle.std.specs.Int.{int_max, int_min, w32}
 use Rattle.px_num.specs.declared.shape.Box2.{Box2}
 use Rattle.px_num.specs.declared.shape.Vertex.{Vertex}
+use Rattle.edge_walk.specs.declared.side.Ends.{Ends}
 use Rattle.edge_walk.specs.declared.side.Side.{Side}
-use Rattle.edge_walk.specs.declared.side.Bound.{Bound}
-use Rattle.edge_walk.specs.declared.side.Bound.TheVariants.{AtMost, AtLeast, Level}
+use Rattle.edge_walk.specs.declared.slope.Slope.{Slope}
+use Rattle.edge_walk.specs.declared.slope.Bound.{Bound}
+use Rattle.edge_walk.specs.declared.slope.Bound.TheVariants.{AtMost, AtLeast}
 use Rattle.edge_walk.specs.declared.walk.RowWalk.{RowWalk}
 use Rattle.edge_walk.specs.Extent.{bounding_box}
 use Rattle.edge_walk.specs.Row.{least_value}
-use Rattle.edge_walk.specs.Triangle.{Corners, IsSmall, oriented}
+use Rattle.edge_walk.specs.Triangle.{Corners, IsDrawn, IsSmall, oriented}
 
--- how an edge that falls by so many rows bounds the columns, and what its values are divided by
-abbrev pub IsBoundOf : Bound → ℤ → ℕ → Type 0
-IsBoundOf AtMost fall size = pos size ≡ fall
-IsBoundOf AtLeast fall size = pos size ≡ (pos 0 -ℤ fall)
-IsBoundOf Level fall size = (fall ≡ pos 0) × (size ≡ 1)
+-- a column in parts of 2^30, counted from an origin and raised, so that none lies below 0
+abbrev pub in_parts : ℤ → ℤ → ℤ
+in_parts origin x = (x -ℤ origin) *ℤ pos (2 ^ 30) +ℤ pos (2 ^ 62)
 
--- the edge from p to q in row y: how much its value at p's column is above the least one, as a quotient and a rest, and
--- how these go from row to row. The quotients are raised by 2^20
-pub record IsSide (p q : Vertex) (y : ℤ) (s : Side) : Type 0 where
-  pub bound : IsBoundOf s.bound (q.y -ℤ p.y) s.size
-  pub start : s.start ≡ p.x
-  pub rest : s.rest < s.size
-  pub value : pos (s.whole * s.size + s.rest)
-      ≡ (((q.x -ℤ p.x) *ℤ (y -ℤ p.y) -ℤ least_value p q) +ℤ pos (2 ^ 20 * s.size))
+-- a column counted from an origin, whole and raised
+abbrev pub raised_column : ℤ → ℤ → ℤ
+raised_column origin x = (x -ℤ origin) +ℤ pos (2 ^ 32)
+
+-- a column is one that an edge leaves which stands at `at`, all in parts: one at least as great begins less than a column before it
+abbrev pub IsBounded : Bound → ℤ → ℤ → Type 0
+IsBounded AtMost at x = x ≤ℤ at
+IsBounded AtLeast at x = at <ℤ (x +ℤ pos (2 ^ 30))
+
+-- a column lies between two ends, all in parts
+abbrev pub IsWithin : Ends → ℤ → Type 0
+IsWithin ends x = IsBounded AtLeast (pos ends.low) x × IsBounded AtMost (pos ends.high) x
+
+-- an edge that falls by so many rows leaves the columns that its slope says: of those up to 1023 away from its first vertex,
+-- the ones over which its value falls by w or less
+pub record IsSlope (fall : ℤ) (slope : Slope) : Type 0 where
+  pub solves : (k w : ℤ) → unsigned_abs k ≤ 1023
+      → ((fall *ℤ k) ≤ℤ w) ↔ IsBounded slope.bound (w *ℤ slope.scale +ℤ slope.slack) (k *ℤ pos (2 ^ 30))
+  pub scale : unsigned_abs slope.scale ≤ 2 ^ 41
+  pub slack : unsigned_abs slope.slack ≤ 2 ^ 40
+
+-- how much the value of the edge from p to q is above the least one in row y, at p's column
+abbrev pub spare : Vertex → Vertex → ℤ → ℤ
+spare p q y = (q.x -ℤ p.x) *ℤ (y -ℤ p.y) -ℤ least_value p q
+
+-- the edge from p to q in row y, its columns counted from an origin
+pub record IsSide (p q : Vertex) (origin y : ℤ) (s : Side) : Type 0 where
+  pub slope : Slope
+  pub is_slope : IsSlope (q.y -ℤ p.y) slope
+  pub bound : s.bound ≡ slope.bound
+  pub start : unsigned_abs (origin -ℤ p.x) ≤ 1023
+  pub at : pos s.at ≡ (in_parts origin p.x +ℤ (spare p q y *ℤ slope.scale +ℤ slope.slack))
   pub raised : ℕ
-  pub by : s.by ≡ (raised + (2 ^ 32 - 2 ^ 20)) % 2 ^ 32
-  pub more : s.more < s.size
-  pub step : pos (raised * s.size + s.more) ≡ ((q.x -ℤ p.x) +ℤ pos (2 ^ 20 * s.size))
+  pub by : s.by ≡ (raised + (2 ^ 64 - 2 ^ 62)) % 2 ^ 64
+  pub step : pos raised ≡ ((q.x -ℤ p.x) *ℤ slope.scale +ℤ pos (2 ^ 62))
 
 -- a box whose rows are rows of the triangle's own box
 pub record HasRows (t : Corners) (clip : Box2) : Type 0 where
@@ -41,8 +65,12 @@ pub record AreRows (t : Corners) (clip : Box2) (y : ℤ) (rows : RowWalk) : Type
   pub box : HasRows t clip
   pub above : clip.y1 ≤ℤ y
   pub below : y ≤ℤ (clip.y2 +ℤ pos 1)
-  pub left : rows.x1 ≡ clip.x1
-  pub right : rows.x2 ≡ clip.x2
-  pub first : IsSide (oriented t).first (oriented t).second y rows.first
-  pub second : IsSide (oriented t).second (oriented t).third y rows.second
-  pub third : IsSide (oriented t).third (oriented t).first y rows.third
+  pub drawn : IsDrawn t
+  pub origin : rows.origin ≡ (bounding_box t).x1
+  pub left_fits : FitsSigned w32 (bounding_box t).x1
+  pub right_fits : FitsSigned w32 (bounding_box t).x2
+  pub low : pos rows.ends.low ≡ in_parts rows.origin (int_max clip.x1 (bounding_box t).x1)
+  pub high : pos rows.ends.high ≡ in_parts rows.origin (int_min clip.x2 (bounding_box t).x2)
+  pub first : IsSide (oriented t).first (oriented t).second rows.origin y rows.first
+  pub second : IsSide (oriented t).second (oriented t).third rows.origin y rows.second
+  pub third : IsSide (oriented t).third (oriented t).first rows.origin y rows.third

@@ -13,6 +13,7 @@ mod mix;
 mod plane;
 mod rows;
 mod side;
+mod slope;
 mod triangle;
 mod walk;
 

@@ -1,206 +1,112 @@
 // An edge from row to row.
-ghost use Rattle.std.specs.Prelude.{◌≡◌, ◌+◌, ◌*◌, ◌^◌, ◌≤◌, ◌<◌, ◌↔◌, IsTrue};
+ghost use Rattle.std.specs.Prelude.{◌≡◌, ◌+◌, ◌*◌, ◌^◌, ◌≤◌, ◌<◌, ◌↔◌};
 ghost use Rattle.std.specs.Prelude.{ℤ, pos, ◌+ℤ◌, ◌-ℤ◌, ◌*ℤ◌, ◌≤ℤ◌, unsigned_abs};
+ghost use Rattle.std.specs.Int.{int_max, int_min};
 ghost use Rattle.px_num.specs.declared.shape.Vertex.{Vertex};
-ghost use Rattle.edge_walk.specs.Row.{IsBetween};
-ghost use Rattle.edge_walk.specs.Triangle.{IsNear, is_on_side};
-ghost use Rattle.edge_walk.specs.Walk.{IsBoundOf, IsSide};
+ghost use Rattle.edge_walk.specs.Triangle.{IsNear};
+ghost use Rattle.edge_walk.specs.Walk.{in_parts, IsBounded, IsSide, IsWithin};
 
 use crate::edge::difference;
-use crate::rows::{Limits, edge_row};
-use px_num::Vertex;
-
-/// How an edge bounds the columns of a row.
-#[derive(Clone, Copy)]
-pub(crate) enum Bound {
-    /// They are at most its own.
-    AtMost,
-    /// They are at least its own.
-    AtLeast,
-    /// It is level: they are all or none.
-    Level,
-}
+use crate::rows::edge_row;
+use crate::slope::{Bound, Slope, slope_of};
+use px_num::{Box2, Vertex};
 
 /// An edge in one row, and how it goes to the next.
 #[derive(Clone, Copy)]
 pub(crate) struct Side {
     bound: Bound,
-    // the column of its first vertex
-    start: i32,
-    // how far from there its own column lies: a quotient, raised, and its rest
-    whole: u32,
-    rest: u32,
-    // by how much both grow from row to row
-    by: u32,
-    more: u32,
-    // what is divided by: the rows between its vertices
-    size: u32,
+    // its own column, in parts of a column
+    at: u64,
+    // by how much that grows from row to row, and wraps
+    by: u64,
 }
 
-// Quotients are held so much greater than they are, so that none lies below 0.
-const RAISE: u32 = 0x10_0000;
-
-/// A quotient, raised by 2^20, and its rest.
+/// Where the columns of a row begin and end, in parts of a column.
 #[derive(Clone, Copy)]
-struct Quotient {
-    whole: u32,
-    rest: u32,
+pub(crate) struct Ends {
+    pub(crate) low: u64,
+    pub(crate) high: u64,
 }
 
-/// A column.
-#[derive(Clone, Copy)]
-struct Column {
-    x: i64,
-}
+// What is held is so much greater than it is, so that nothing lies below 0.
+const RAISE: i64 = 1 << 62;
 
-/// How an edge bounds the columns, and what its values are divided by.
-#[derive(Clone, Copy)]
-struct Shape {
-    bound: Bound,
-    size: u32,
-}
-
-// How an edge that falls by so many rows bounds the columns, and what its values are divided by.
+/// A column in parts of a column, counted from an origin.
 #[inline(always)]
-fn shape_of(fall: i64) -> Shape
-    requires { unsigned_abs fall ≤ 511 }
-    ensures bound { IsBoundOf result.bound fall result.size }
-    ensures some { 1 ≤ result.size }
-    ensures most { result.size ≤ 511 }
+pub(crate) fn in_parts(x: i32, origin: i32) -> u64
+    ensures { pos result ≡ in_parts origin x }
 {
-    if fall > 0 {
-        Shape {
-            bound: Bound::AtMost,
-            size: fall as u32,
-        }
-    } else if fall < 0 {
-        Shape {
-            bound: Bound::AtLeast,
-            size: -fall as u32,
-        }
-    } else {
-        Shape {
-            bound: Bound::Level,
-            size: 1,
+    ((x as i64 - origin as i64 + 0x1_0000_0000) as u64) << 30
+}
+
+impl Ends {
+    /// The columns that two boxes have in common, counted from the first of the second one.
+    #[inline(always)]
+    pub(crate) fn of(clip: &Box2, own: &Box2) -> Ends
+        ensures low { pos result.low ≡ in_parts own.now.x1 (int_max clip.now.x1 own.now.x1) }
+        ensures high { pos result.high ≡ in_parts own.now.x1 (int_min clip.now.x2 own.now.x2) }
+    {
+        Ends {
+            low: in_parts(clip.x1.max(own.x1), own.x1),
+            high: in_parts(clip.x2.min(own.x2), own.x1),
         }
     }
 }
 
-// A number that is divided by a size, so that its quotient is raised.
+// How far a value moves the column of an edge, raised.
 #[inline(always)]
-fn raised(value: i64, size: u32) -> u32
+fn raised(value: i64, scale: i64, slack: i64) -> u64
     requires value { unsigned_abs value < 2 ^ 20 }
-    requires some { 1 ≤ size }
-    requires most { size ≤ 511 }
-    ensures { pos result ≡ (value +ℤ pos (2 ^ 20 * size)) }
+    requires scale { unsigned_abs scale ≤ 2 ^ 41 }
+    requires slack { unsigned_abs slack ≤ 2 ^ 40 }
+    ensures { pos result ≡ (value *ℤ scale +ℤ slack +ℤ pos (2 ^ 62)) }
 {
-    (value + RAISE as i64 * size as i64) as u32
-}
-
-#[inline(always)]
-fn divided(value: i64, size: u32) -> Quotient
-    requires value { unsigned_abs value < 2 ^ 20 }
-    requires some { 1 ≤ size }
-    requires most { size ≤ 511 }
-    ensures value { pos (result.whole * size + result.rest) ≡ (value +ℤ pos (2 ^ 20 * size)) }
-    ensures rest { result.rest < size }
-{
-    let raised = raised(value, size);
-    Quotient {
-        whole: raised / size,
-        rest: raised % size,
-    }
+    (value * scale + slack + RAISE) as u64
 }
 
 impl Side {
-    /// The edge from p to q in row y.
+    /// The edge from p to q in row y, its columns counted from an origin.
     #[inline(always)]
-    pub(crate) fn at(p: &Vertex, q: &Vertex, y: i32) -> Side
+    pub(crate) fn at(p: &Vertex, q: &Vertex, origin: i32, y: i32) -> Side
         requires near { IsNear p.now q.now }
         requires reach { unsigned_abs (y -ℤ p.now.y) ≤ 512 }
-        ensures { IsSide p.now q.now y result }
+        requires origin { unsigned_abs (origin -ℤ p.now.x) ≤ 1023 }
+        ensures { IsSide p.now q.now origin y result }
     {
         let row = edge_row(p, q, y);
-        let shape = shape_of(row.down);
-        let here = divided(row.value - row.least, shape.size);
-        let step = divided(difference(q.x, p.x), shape.size);
+        let slope = slope_of(row.down);
+        let far = raised(row.value - row.least, slope.scale, slope.slack);
+        let step = raised(difference(q.x, p.x), slope.scale, 0);
         Side {
-            bound: shape.bound,
-            start: p.x,
-            whole: here.whole,
-            rest: here.rest,
-            by: step.whole.wrapping_sub(RAISE),
-            more: step.rest,
-            size: shape.size,
+            bound: slope.bound,
+            at: in_parts(p.x, origin) + far - RAISE as u64,
+            by: step.wrapping_sub(RAISE as u64),
         }
     }
 
-    /// The same edge in the next row.
+    /// On to the next row.
     #[inline(always)]
-    pub(crate) fn moved(&self) -> Side
-        ensures { (p q : Vertex) (y : ℤ) → IsNear p q → unsigned_abs ((y +ℤ pos 1) -ℤ p.y) ≤ 512
-            → IsSide p q y self.now → IsSide p q (y +ℤ pos 1) result }
+    pub(crate) fn step(&mut self)
+        ensures { (p q : Vertex) (origin y : ℤ) → IsNear p q → unsigned_abs ((y +ℤ pos 1) -ℤ p.y) ≤ 512
+            → IsSide p q origin y self.old → IsSide p q origin (y +ℤ pos 1) self.new }
     {
-        let whole = self.whole.wrapping_add(self.by);
-        let rest = self.rest.wrapping_add(self.more);
-        if rest >= self.size {
-            Side {
-                whole: whole.wrapping_add(1),
-                rest: rest - self.size,
-                ..*self
-            }
-        } else {
-            Side {
-                whole,
-                rest,
-                ..*self
-            }
-        }
+        self.at = self.at.wrapping_add(self.by);
     }
 
-    // The last column of an edge that the columns are at most.
+    /// The part of the columns that the edge leaves.
     #[inline(always)]
-    fn last(&self) -> Column
-        ensures { result.x ≡ self.now.start +ℤ (pos self.now.whole -ℤ pos (2 ^ 20)) }
-    {
-        Column {
-            x: self.start as i64 + (self.whole as i64 - RAISE as i64),
-        }
-    }
-
-    // The first column of an edge that the columns are at least.
-    #[inline(always)]
-    fn first(&self) -> Column
-        ensures { result.x ≡ self.now.start -ℤ (pos self.now.whole -ℤ pos (2 ^ 20)) }
-    {
-        Column {
-            x: self.start as i64 - (self.whole as i64 - RAISE as i64),
-        }
-    }
-
-    /// The part of the limits on the inner side of the edge.
-    #[inline(always)]
-    pub(crate) fn narrowed(&self, limits: Limits) -> Limits
-        ensures cells { (p q : Vertex) (x y : ℤ) → IsSide p q y self.now
-            → (IsBetween limits.low limits.high x × IsTrue (is_on_side p q x y)) ↔ IsBetween result.low result.high x }
-        ensures within { result.low ≤ℤ result.high → (limits.low ≤ℤ result.low) × (result.high ≤ℤ limits.high) }
+    pub(crate) fn narrowed(&self, ends: Ends) -> Ends
+        ensures { (x : ℤ) → (IsWithin ends x × IsBounded self.now.bound (pos self.now.at) x) ↔ IsWithin result x }
     {
         match self.bound {
-            Bound::AtMost => Limits {
-                low: limits.low,
-                high: limits.high.min(self.last().x),
+            Bound::AtMost => Ends {
+                low: ends.low,
+                high: ends.high.min(self.at),
             },
-            Bound::AtLeast => Limits {
-                low: limits.low.max(self.first().x),
-                high: limits.high,
+            Bound::AtLeast => Ends {
+                low: ends.low.max(self.at),
+                high: ends.high,
             },
-            Bound::Level => {
-                if self.whole < RAISE {
-                    Limits { low: 1, high: 0 }
-                } else {
-                    limits
-                }
-            }
         }
     }
 }

@@ -6,7 +6,7 @@ use crate::line::{RowLine, keep_first};
 use crate::mix::{attribute, mixed, row_mix, weights_at};
 use crate::plane::Plane;
 use crate::rows::{Limits, row_limits};
-use crate::side::Side;
+use crate::side::{Ends, Side};
 use crate::walk::RowWalk;
 use px_num::{Box2, Vertex};
 use std::marker::Model;
@@ -150,12 +150,13 @@ impl Tri {
         ensures { AreRows self.now clip.now clip.now.y1 result }
     {
         let t = self.upright();
+        let own = self.bounds();
         RowWalk {
-            x1: clip.x1,
-            x2: clip.x2,
-            first: Side::at(&t.a, &t.b, clip.y1),
-            second: Side::at(&t.b, &t.c, clip.y1),
-            third: Side::at(&t.c, &t.a, clip.y1),
+            origin: own.x1,
+            ends: Ends::of(clip, &own),
+            first: Side::at(&t.a, &t.b, own.x1, clip.y1),
+            second: Side::at(&t.b, &t.c, own.x1, clip.y1),
+            third: Side::at(&t.c, &t.a, own.x1, clip.y1),
         }
     }
 

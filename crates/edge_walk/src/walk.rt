@@ -1,49 +1,93 @@
 // The rows of a triangle from top to bottom.
-ghost use Rattle.std.specs.Prelude.{◌≡◌, ◌↔◌, ℤ, pos, ◌+ℤ◌, ◌≤ℤ◌, IsTrue, MatchOption, false, FitsSigned};
+ghost use Rattle.std.specs.Prelude.{◌≡◌, ◌≤◌, ◌^◌, ◌↔◌, ℤ, pos, ◌+ℤ◌, ◌-ℤ◌, ◌≤ℤ◌, IsTrue, MatchOption, false, FitsSigned};
 ghost use Rattle.std.specs.Int.{w32};
 ghost use Rattle.px_num.specs.declared.shape.Box2.{Box2};
 ghost use Rattle.edge_walk.specs.Row.{IsBetween, IsInBox, IsRowSpan};
 ghost use Rattle.edge_walk.specs.Triangle.{Corners, is_inside};
-ghost use Rattle.edge_walk.specs.Walk.{AreRows};
+ghost use Rattle.edge_walk.specs.Walk.{AreRows, IsBounded, IsWithin, raised_column};
 
-use crate::rows::Limits;
-use crate::side::Side;
+use crate::side::{Ends, Side};
 
 /// A walk over the rows of a triangle in a box.
 #[derive(Clone, Copy)]
 pub struct RowWalk {
-    pub(crate) x1: i32,
-    pub(crate) x2: i32,
+    // the column from which columns are counted: the triangle's first
+    pub(crate) origin: i32,
+    // the columns that the box and the triangle's own have in common
+    pub(crate) ends: Ends,
     pub(crate) first: Side,
     pub(crate) second: Side,
     pub(crate) third: Side,
 }
 
+// Columns of a row, raised.
+#[derive(Clone, Copy)]
+struct Columns {
+    low: u64,
+    high: u64,
+}
+
 impl RowWalk {
-    // The columns of the row that the triangle has in the box.
+    // What the edges leave of the columns.
     #[inline(always)]
-    fn limits(&self) -> Limits
-        ensures cells { (t : Corners) (clip : Box2) (x y : ℤ) → AreRows t clip y self.now
-            → (IsBetween clip.x1 clip.x2 x × IsTrue (is_inside t x y)) ↔ IsBetween result.low result.high x }
-        ensures fits { result.low ≤ℤ result.high → FitsSigned w32 result.low × FitsSigned w32 result.high }
+    fn left(&self) -> Ends
+        ensures { (x : ℤ) → (IsWithin self.now.ends x
+            × IsBounded self.now.first.bound (pos self.now.first.at) x
+            × IsBounded self.now.second.bound (pos self.now.second.at) x
+            × IsBounded self.now.third.bound (pos self.now.third.at) x) ↔ IsWithin result x }
     {
-        let first = self.first.narrowed(Limits::of(self.x1, self.x2));
+        let first = self.first.narrowed(self.ends);
         let second = self.second.narrowed(first);
         self.third.narrowed(second)
     }
 
-    // The same walk, one row further.
+    // The columns of the row that the triangle has in the box.
     #[inline(always)]
-    fn moved(&self) -> RowWalk
-        ensures { (t : Corners) (clip : Box2) (y : ℤ)
-            → AreRows t clip y self.now → y ≤ℤ clip.y2 → AreRows t clip (y +ℤ pos 1) result }
+    fn columns(&self) -> Columns
+        ensures { (t : Corners) (clip : Box2) (x y : ℤ) → AreRows t clip y self.now
+            → (IsBetween clip.x1 clip.x2 x × IsTrue (is_inside t x y))
+            ↔ IsBetween (pos result.low) (pos result.high) (raised_column self.now.origin x) }
     {
-        RowWalk {
-            x1: self.x1,
-            x2: self.x2,
-            first: self.first.moved(),
-            second: self.second.moved(),
-            third: self.third.moved(),
+        let ends = self.left();
+        Columns {
+            low: ends.low >> 30,
+            high: ends.high >> 30,
+        }
+    }
+
+    // A column of the triangle that is raised, as it is.
+    #[inline(always)]
+    fn column(&self, raised: u64) -> i32
+        ensures { (x : ℤ) → FitsSigned w32 x → self.now.origin ≤ℤ x → x ≤ℤ (self.now.origin +ℤ pos 1023)
+            → pos raised ≡ raised_column self.now.origin x → result ≡ x }
+    {
+        self.origin.wrapping_add((raised & 0x3ff) as i32)
+    }
+
+    // On to the next row.
+    #[inline(always)]
+    fn step(&mut self)
+        ensures { (t : Corners) (clip : Box2) (y : ℤ)
+            → AreRows t clip y self.old → y ≤ℤ clip.y2 → AreRows t clip (y +ℤ pos 1) self.new }
+    {
+        self.first.step();
+        self.second.step();
+        self.third.step();
+    }
+
+    // The columns from the first to the last one, or none.
+    #[inline(always)]
+    fn found(&self, columns: &Columns) -> Option<(i32, i32)>
+        ensures { (t : Corners) (clip : Box2) (y : ℤ) → AreRows t clip y self.now → y ≤ℤ clip.y2
+            → ((x : ℤ) → (IsBetween clip.x1 clip.x2 x × IsTrue (is_inside t x y))
+            ↔ IsBetween (pos columns.now.low) (pos columns.now.high) (raised_column self.now.origin x))
+            → MatchOption result ((x : ℤ) → IsInBox clip x y → is_inside t x y ≡ false)
+            (λ span. IsRowSpan t y clip span.0 span.1) }
+    {
+        if columns.low <= columns.high {
+            Some((self.column(columns.low), self.column(columns.high)))
+        } else {
+            None
         }
     }
 
@@ -56,12 +100,9 @@ impl RowWalk {
         ensures next { (t : Corners) (clip : Box2) (y : ℤ)
             → AreRows t clip y self.old → y ≤ℤ clip.y2 → AreRows t clip (y +ℤ pos 1) self.new }
     {
-        let limits = self.limits();
-        *self = self.moved();
-        if limits.low <= limits.high {
-            Some((limits.low as i32, limits.high as i32))
-        } else {
-            None
-        }
+        let columns = self.columns();
+        let found = self.found(&columns);
+        self.step();
+        found
     }
 }

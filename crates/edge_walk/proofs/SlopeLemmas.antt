@@ -1,0 +1,94 @@
+-- Columns that an edge bounds, solved by multiplying.
+use Rattle.std.proofs.Common.{ℕ, ◌+◌, ◌-◌, ◌*◌, ◌^◌, ◌≤◌, ◌<◌, ◌≡◌, ℤ, pos, ◌+ℤ◌, ◌-ℤ◌, ◌*ℤ◌, ◌≤ℤ◌, ◌<ℤ◌, ◌↔◌, unsigned_abs, ap, ◌∙◌, arith}
+use Rattle.std.proofs.Math.Nat.{mul-le-mul_left}
+use Rattle.std.proofs.lemmas.Int.{ints, by_lt_z, unsigned_abs-mul}
+use Rattle.std.proofs.lemmas.Nat.{mul-le}
+use Rattle.px_num.proofs.Ring.{at, add, sub, mul, same}
+use Rattle.edge_walk.specs.declared.slope.Bound.TheVariants.{AtMost, AtLeast}
+use Rattle.edge_walk.specs.Walk.{IsSlope}
+use Rattle.edge_walk.proofs.RowLemmas.{mul_mono}
+
+-- a product p with k that a scale s makes k columns and a bit more, against w
+within : (p k w s bit : ℤ) → p ≡ (k +ℤ bit) → p ≤ℤ w → unsigned_abs bit ≤ 522753 → k ≤ℤ (w +ℤ pos (2 ^ 19))
+within p k w s bit is h small = omega (arith, ints, is, h, small)
+
+beyond : (p k w s bit : ℤ) → p ≡ (k +ℤ bit) → (w +ℤ s) ≤ℤ p → pos 2101256 ≤ℤ s → unsigned_abs bit ≤ 522753 → (w +ℤ pos (2 ^ 19)) <ℤ k
+beyond p k w s bit is h steep small = omega (arith, ints, is, h, steep, small)
+
+module _ (rows scale : ℕ) (some : 1 ≤ rows) (most : rows ≤ 511) (enough : 2 ^ 30 ≤ scale * rows) (close : scale * rows < 2 ^ 30 + rows) where
+  over : ℕ
+  over = scale * rows - 2 ^ 30
+
+  over_is : scale * rows ≡ 2 ^ 30 + over
+  unfolding over
+  over_is = omega (arith, enough)
+
+  over_small : over ≤ 511
+  over_small = let is = over_is in omega (arith, is, close, most)
+
+  steep : 2101256 ≤ scale
+  steep = omega (arith, enough, mul-le-mul_left scale most)
+
+  bit_small : (k : ℤ) → unsigned_abs k ≤ 1023 → unsigned_abs (pos over *ℤ k) ≤ 522753
+  bit_small k near = rw unsigned_abs-mul (mul-le over (unsigned_abs k) 511 1023 over_small near)
+
+  product_is : (k : ℤ) → (pos rows *ℤ k) *ℤ pos scale ≡ (k *ℤ pos (2 ^ 30) +ℤ pos over *ℤ k)
+  product_is k =
+      same (mul (mul (at (pos rows)) (at k)) (at (pos scale))) (mul (at (pos (scale * rows))) (at k)) (omega arith)
+      ∙ ap (λ n. pos n *ℤ k) over_is
+      ∙ same (mul (at (pos (2 ^ 30 + over))) (at k)) (add (mul (at k) (at (pos (2 ^ 30)))) (mul (at (pos over)) (at k))) (omega arith)
+
+  one_more : (w : ℤ) → (w +ℤ pos 1) *ℤ pos scale ≡ (w *ℤ pos scale +ℤ pos scale)
+  one_more w = same (mul (add (at w) (at (pos 1))) (at (pos scale))) (add (mul (at w) (at (pos scale))) (at (pos scale))) (omega arith)
+
+  above : pos 0 <ℤ pos scale
+  above = let least = steep in omega (arith, ints, least)
+
+  falls : (k w : ℤ) → unsigned_abs k ≤ 1023 → ((pos rows *ℤ k) ≤ℤ w) ↔ ((k *ℤ pos (2 ^ 30)) ≤ℤ (w *ℤ pos scale +ℤ pos (2 ^ 19)))
+  falls k w near = (to, from)
+    where
+      to : (pos rows *ℤ k) ≤ℤ w → (k *ℤ pos (2 ^ 30)) ≤ℤ (w *ℤ pos scale +ℤ pos (2 ^ 19))
+      to h = within ((pos rows *ℤ k) *ℤ pos scale) (k *ℤ pos (2 ^ 30)) (w *ℤ pos scale) (pos scale) (pos over *ℤ k) (product_is k) (mul_mono (pos scale) (pos rows *ℤ k) w above h) (bit_small k near)
+
+      out : w <ℤ (pos rows *ℤ k) → (w *ℤ pos scale +ℤ pos (2 ^ 19)) <ℤ (k *ℤ pos (2 ^ 30))
+      out less =
+          let m = mul_mono (pos scale) (w +ℤ pos 1) (pos rows *ℤ k) above (omega (arith, ints, less)) in
+          let least = steep in
+          beyond ((pos rows *ℤ k) *ℤ pos scale) (k *ℤ pos (2 ^ 30)) (w *ℤ pos scale) (pos scale) (pos over *ℤ k) (product_is k) (rw one_more at m) (omega (arith, ints, least)) (bit_small k near)
+
+      from : (k *ℤ pos (2 ^ 30)) ≤ℤ (w *ℤ pos scale +ℤ pos (2 ^ 19)) → (pos rows *ℤ k) ≤ℤ w
+      from h = by_lt_z w (pos rows *ℤ k) (λ less. let far = out less in absurd (omega (arith, ints, far, h))) (λ le. le)
+
+  rises : (k w : ℤ) → unsigned_abs k ≤ 1023 → (((pos 0 -ℤ pos rows) *ℤ k) ≤ℤ w) ↔ ((w *ℤ (pos 0 -ℤ pos scale) +ℤ pos (2 ^ 30 - 2 ^ 19 - 1)) <ℤ (k *ℤ pos (2 ^ 30) +ℤ pos (2 ^ 30)))
+  rises k w near =
+      let turned = falls (pos 0 -ℤ k) w (omega (arith, ints, near)) in
+      let product : (pos 0 -ℤ pos rows) *ℤ k ≡ pos rows *ℤ (pos 0 -ℤ k) = same (mul (sub (at (pos 0)) (at (pos rows))) (at k)) (mul (at (pos rows)) (sub (at (pos 0)) (at k))) (omega arith) in
+      let far : w *ℤ (pos 0 -ℤ pos scale) ≡ (pos 0 -ℤ w *ℤ pos scale) = same (mul (at w) (sub (at (pos 0)) (at (pos scale)))) (sub (at (pos 0)) (mul (at w) (at (pos scale)))) (omega arith) in
+      let parts : (pos 0 -ℤ k) *ℤ pos (2 ^ 30) ≡ (pos 0 -ℤ k *ℤ pos (2 ^ 30)) = same (mul (sub (at (pos 0)) (at k)) (at (pos (2 ^ 30)))) (sub (at (pos 0)) (mul (at k) (at (pos (2 ^ 30))))) (omega arith) in (
+        λ h. let t = turned.0 (rw (← product) h) in opened (w *ℤ pos scale) (k *ℤ pos (2 ^ 30)) _ _ far parts t,
+        λ h. rw product (turned.1 (closed (w *ℤ pos scale) (k *ℤ pos (2 ^ 30)) _ _ far parts h)),
+      )
+    where
+      opened : (a b n m : ℤ) → n ≡ (pos 0 -ℤ a) → m ≡ (pos 0 -ℤ b) → m ≤ℤ (a +ℤ pos (2 ^ 19)) → (n +ℤ pos (2 ^ 30 - 2 ^ 19 - 1)) <ℤ (b +ℤ pos (2 ^ 30))
+      opened a b n m is_n is_m h = omega (arith, ints, is_n, is_m, h)
+
+      closed : (a b n m : ℤ) → n ≡ (pos 0 -ℤ a) → m ≡ (pos 0 -ℤ b) → (n +ℤ pos (2 ^ 30 - 2 ^ 19 - 1)) <ℤ (b +ℤ pos (2 ^ 30)) → m ≤ℤ (a +ℤ pos (2 ^ 19))
+      closed a b n m is_n is_m h = omega (arith, ints, is_n, is_m, h)
+
+  pub falling_is : (by : ℤ) → by ≡ pos scale → scale ≤ 2 ^ 30 → IsSlope (pos rows) (record { bound = AtMost; scale = by; slack = pos (2 ^ 19) })
+  falling_is by is small = rw is (record { solves = falls; scale = omega (arith, ints, small); slack = omega (arith, ints) })
+
+  pub rising_is : (by : ℤ) → by ≡ (pos 0 -ℤ pos scale) → scale ≤ 2 ^ 30 → IsSlope (pos 0 -ℤ pos rows) (record { bound = AtLeast; scale = by; slack = pos (2 ^ 30 - 2 ^ 19 - 1) })
+  rising_is by is small = rw is (record { solves = rises; scale = omega (arith, ints, small); slack = omega (arith, ints) })
+
+no_fall : (k : ℤ) → pos 0 *ℤ k ≡ pos 0
+no_fall k = same (mul (at (pos 0)) (at k)) (at (pos 0)) (omega arith)
+
+pub level_is : IsSlope (pos 0) (record { bound = AtMost; scale = pos (2 ^ 41); slack = pos (2 ^ 40) })
+level_is = record { solves = λ k w near. (all k w near, none k w near); scale = omega (arith, ints); slack = omega (arith, ints) }
+  where
+    all : (k w : ℤ) → unsigned_abs k ≤ 1023 → (pos 0 *ℤ k) ≤ℤ w → (k *ℤ pos (2 ^ 30)) ≤ℤ (w *ℤ pos (2 ^ 41) +ℤ pos (2 ^ 40))
+    all k w near h = let e = no_fall k in omega (arith, ints, near, h, e)
+
+    none : (k w : ℤ) → unsigned_abs k ≤ 1023 → (k *ℤ pos (2 ^ 30)) ≤ℤ (w *ℤ pos (2 ^ 41) +ℤ pos (2 ^ 40)) → (pos 0 *ℤ k) ≤ℤ w
+    none k w near h = let e = no_fall k in by_lt_z w (pos 0) (λ less. absurd (omega (arith, ints, near, h, less))) (λ le. omega (arith, ints, e, le))

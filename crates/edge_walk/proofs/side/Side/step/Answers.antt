@@ -1,0 +1,6 @@
+use Rattle.std.proofs.Common.{refl}
+use Rattle.edge_walk.proofs.WalkLemmas.{moved_with}
+use Rattle.edge_walk.proofs.side.Side.step.Goals as goal
+
+pub returns : goal.returns
+returns c p q origin y near reach h = moved_with p q origin y c.args.self.now _ near reach h refl
