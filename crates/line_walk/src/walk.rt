@@ -68,9 +68,8 @@ impl Walk {
             u: 0,
             v: 0,
         };
-        let cuts = self.steps.max(1);
-        self.x = next_slope(self.x, cuts);
-        self.y = next_slope(self.y, cuts);
+        self.x = next_slope(self.x);
+        self.y = next_slope(self.y);
         self.at += 1;
         point
     }
