@@ -1,5 +1,5 @@
 -- A slope's value is the value along the segment.
-use Rattle.std.proofs.Common.{ℕ, ◌+◌, ◌*◌, ◌^◌, ◌≤◌, ◌<◌, ◌≡◌, ◌≢◌, ℤ, pos, ◌+ℤ◌, ◌-ℤ◌, ◌*ℤ◌, ◌≤ℤ◌, ◌<ℤ◌, max, zero, suc, negsuc, w32, SFits, refl, ap, sym, ◌∙◌, arith, unsigned_abs}
+use Rattle.std.proofs.Common.{ℕ, ◌+◌, ◌*◌, ◌/◌, ◌%◌, ◌^◌, ◌≤◌, ◌<◌, ◌≡◌, ◌≢◌, ℤ, pos, ◌+ℤ◌, ◌-ℤ◌, ◌*ℤ◌, ◌≤ℤ◌, ◌<ℤ◌, max, zero, suc, negsuc, w32, SFits, refl, ap, sym, ◌∙◌, arith, unsigned_abs}
 use Rattle.std.specs.Int.{int_div_euclid}
 use Rattle.std.specs.Int.Signed.{shr_z}
 use Rattle.std.proofs.lemmas.Int.{ints, clamps, by_lt_z}
@@ -9,8 +9,9 @@ use Rattle.px_num.specs.declared.shape.Vertex.{Vertex}
 use Rattle.px_num.proofs.FloorLemmas.{floor_is}
 use Rattle.px_num.proofs.Ring.{at, add, mul, same}
 use Rattle.line_walk.specs.Line.{Ends, along, rise, color_along, point_of, steps_of, IsAmid}
-use Rattle.line_walk.specs.Walk.{value_of, IsSlope}
+use Rattle.line_walk.specs.Walk.{AreBytes, AreTones, IsByte, IsSlope, tint_of, value_of}
 use Rattle.line_walk.specs.declared.slope.Slope.{Slope}
+use Rattle.line_walk.specs.declared.tones.Tones.{Tones}
 use Rattle.line_walk.proofs.RiseLemmas.{along-some, along-amid, floor_only, mul_mono}
 
 -- ---- what holds of twice the steps' multiple holds of the value
@@ -156,3 +157,32 @@ one_cut from to n k cuts s e is = let turned : cuts ≡ max 1 n = omega (arith, 
 pub point_is : (s : Ends) (k n : ℕ) (x y : ℤ) (color : ℕ) → n ≡ steps_of s → x ≡ along s.first.x s.second.x n k → y ≡ along s.first.y s.second.y n k
     → color ≡ color_along s.first.color s.second.color n k → ◌≡◌ {A = Vertex} (record { x = x; y = y; color = color; u = 0; v = 0 }) (point_of s k)
 point_is s k n x y color count of_x of_y of_color = rw (of_x, of_y, of_color, count) refl
+
+-- ---- the channels of a colour
+
+tone_within : (v w : ℕ) (z : ℤ) → v < 256 → w < 256 → IsAmid (pos v) (pos w) z → (pos 0 ≤ℤ z) × (z ≤ℤ pos 255)
+tone_within v w z lt lu amid = (omega (arith, ints, clamps, amid.0), omega (arith, ints, clamps, amid.1))
+
+tone_here : (v w n k : ℕ) (s : Slope) → v < 256 → w < 256 → n ≤ 1023 → k ≤ n → IsSlope (pos v) (pos w) (max 1 n) k s → IsByte s
+tone_here v w n k s lt lu most le is =
+    let within = tone_within v w (value_of s) lt lu (slope_amid (pos v) (pos w) n k s most le is) in
+    let here = slope_here (pos v) (pos w) n k s (omega (arith, ints)) (omega (arith, ints)) most le is in
+    record { low = within.0; high = within.1; place = here.place }
+
+pub tones_here : (from to n k : ℕ) (t : Tones) → n ≤ 1023 → k ≤ n → AreTones from to (max 1 n) k t → AreBytes t
+tones_here from to n k t most le are = record {
+  red = tone_here (from % 256) (to % 256) n k t.red (omega arith) (omega arith) most le are.red;
+  green = tone_here (from / 2 ^ 8 % 256) (to / 2 ^ 8 % 256) n k t.green (omega arith) (omega arith) most le are.green;
+  blue = tone_here (from / 2 ^ 16 % 256) (to / 2 ^ 16 % 256) n k t.blue (omega arith) (omega arith) most le are.blue;
+}
+
+pub tint_is : (from to n k : ℕ) (t : Tones) → n ≤ 1023 → k ≤ n → AreTones from to (max 1 n) k t → tint_of t ≡ color_along from to n k
+tint_is from to n k t most le are =
+    rw (
+      slope_at (pos (from % 256)) (pos (to % 256)) n k t.red most le are.red,
+      slope_at (pos (from / 2 ^ 8 % 256)) (pos (to / 2 ^ 8 % 256)) n k t.green most le are.green,
+      slope_at (pos (from / 2 ^ 16 % 256)) (pos (to / 2 ^ 16 % 256)) n k t.blue most le are.blue,
+    ) refl
+
+pub tones_cut : (from to n k cuts : ℕ) (t : Tones) → cuts ≡ max n 1 → AreTones from to cuts k t → AreTones from to (max 1 n) k t
+tones_cut from to n k cuts t e are = let turned : cuts ≡ max 1 n = omega (arith, e) in rw turned at are

@@ -18,6 +18,7 @@ pub(crate) struct Slope {
 }
 
 // At the first end of a run in n steps.
+#[inline(always)]
 pub(crate) fn first_slope(run: &Run, n: u32) -> Slope
     requires near { unsigned_abs (run.now.from -ℤ run.now.to) ≤ 1023 }
     requires some { 0 < n }

@@ -1,8 +1,8 @@
 use Rattle.std.proofs.Common.{ℕ, ◌≤◌, ◌<◌, w32, SFits, rules, sym, subst, ◌∙◌, arith}
 use Rattle.std.proofs.lemmas.Int.{to_z-of_z, ints}
 use Rattle.line_walk.specs.Line.{ends, len_of}
-use Rattle.line_walk.specs.Walk.{Walking}
-use Rattle.line_walk.proofs.SlopeLemmas.{IsHere, slope_here, slope_at, slope_amid, point_is}
+use Rattle.line_walk.specs.Walk.{AreBytes, Walking}
+use Rattle.line_walk.proofs.SlopeLemmas.{IsHere, slope_here, slope_at, slope_amid, tones_here, point_is}
 use Rattle.line_walk.proofs.walk.Walk.next.Goals as goal
 use Rattle.line_walk.proofs.walk.Walk.next.Goals.{After-self}
 
@@ -24,6 +24,15 @@ module _ (c : After-self) where
 
   y_here : IsHere c.self.inside.y
   y_here = slope_here _ _ c.self.inside.steps c.self.inside.at c.self.inside.y (search rules) (search rules) at_most within c.self.invariant.down
+
+  bytes : AreBytes c.self.inside.tones
+  bytes = tones_here _ _ c.self.inside.steps c.self.inside.at c.self.inside.tones at_most within c.self.invariant.shaded
+
+pub tint_between-requires : goal.tint_between-requires
+tint_between-requires c = bytes (goal.at.tint_between-requires c).After-self
+
+pub next_tones-self-inside-requires : goal.next_tones-self-inside-requires
+next_tones-self-inside-requires c = bytes (goal.at.next_tones-self-inside-requires c).After-self
 
 pub value_of-requires-clause-low : goal.value_of-requires-clause-low
 value_of-requires-clause-low c = (x_here c).low
@@ -59,7 +68,7 @@ returns-clause-point c =
     let of_x = c.value_of.ensures ∙ slope_at inside.a.x inside.b.x inside.steps inside.at inside.x most le c.self.invariant.across in
     let of_y = c.value_of-2.ensures ∙ slope_at inside.a.y inside.b.y inside.steps inside.at inside.y most le c.self.invariant.down in
     rw (← c.self.view_is)
-    (simp to_z-of_z (point_is (ends inside.a inside.b) inside.at inside.steps c.value_of.result c.value_of-2.result c.color_at.result c.self.invariant.count of_x of_y c.color_at.ensures.value))
+    (simp to_z-of_z (point_is (ends inside.a inside.b) inside.at inside.steps c.value_of.result c.value_of-2.result c.tint_between.result c.self.invariant.count of_x of_y (c.tint_between.ensures.value inside.steps inside.at most le c.self.invariant.shaded)))
 
 pub returns-clause-between : goal.returns-clause-between
 returns-clause-between c =
@@ -83,4 +92,5 @@ invariant_of-self c =
       within = let le = within (goal.at.invariant_of-self c).After-self in omega (arith, le, c.self.invariant.count);
       across = c.next_slope-self-inside.ensures a.x b.x _ k c.self.invariant.across;
       down = c.next_slope-self-inside-2.ensures a.y b.y _ k c.self.invariant.down;
+      shaded = c.next_tones-self-inside.ensures a.color b.color _ k c.self.invariant.shaded;
     }
