@@ -82,26 +82,6 @@ fn draw_point<L: Ledger>(
     }
 }
 
-// Draws the points of a segment in their order.
-fn draw_each<L: Ledger>(
-    vram: &mut Vram,
-    area: &Box2,
-    brush: &Brush,
-    segment: &Segment,
-    steps: &mut Steps<L>,
-)
-    requires area { IsArea (height_of vram.old) area.now }
-    requires mode { brush.now.mode ≤ 3 }
-    ensures cells { vram.new ≡ drawn_points area.now brush.now segment.now (len_of segment.now) vram.old }
-    ensures long { length vram.new ≡ length vram.old }
-    ensures cost { steps.new ≤ steps.old + points_cost area.now segment.now (len_of segment.now) }
-{
-    let mut walk = segment.walk();
-    for k in 0..segment.len() {
-        draw_point(vram, area, brush, &walk.next(), steps);
-    }
-}
-
 // Whether both ends of a segment lie in a box, and so all its points.
 fn lies_in(b: &Box2, segment: &Segment) -> bool
     ensures first { result ≡ true → is_in b.now segment.now.first ≡ true }
@@ -155,9 +135,13 @@ fn draw_points<L: Ledger>(
     ensures long { length vram.new ≡ length vram.old }
     ensures cost { steps.new ≤ steps.old + points_cost area.now segment.now (len_of segment.now) }
 {
-    match ink_for(area, brush, segment) {
-        Some(ink) => put_points(vram, segment, ink, steps),
-        None => draw_each(vram, area, brush, segment, steps),
+    if let Some(ink) = ink_for(area, brush, segment) {
+        put_points(vram, segment, ink, steps);
+        return;
+    }
+    let mut walk = segment.walk();
+    for k in 0..segment.len() {
+        draw_point(vram, area, brush, &walk.next(), steps);
     }
 }
 
