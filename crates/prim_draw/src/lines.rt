@@ -10,7 +10,7 @@ ghost use Rattle.prim_draw.specs.Lines.{drawn_ends, drawn_point, drawn_points, e
 ghost use Rattle.prim_draw.specs.Lines.{placed_ends, segment_box};
 ghost use Rattle.prim_draw.specs.Settings.{IsArea};
 
-use crate::boxes::clipped;
+use crate::boxes::{Spot, box_from, clipped, greatest, least};
 use crate::point::{ink_of, plot_color};
 use crate::settings::{brush_in, drawing_area, placed};
 use gp1_status::Regs;
@@ -191,17 +191,19 @@ pub(crate) fn draw_segment<L: Ledger>(
     }
 }
 
+fn spot_of(p: &Vertex) -> Spot
+    ensures x { result.x ≡ p.now.x }
+    ensures y { result.y ≡ p.now.y }
+{
+    Spot { x: p.x, y: p.y }
+}
+
 #[tactic(auto, unfolding(crate::specs::Lines::ends_box))]
 fn ends_box(ends: &Ends) -> Box2
     ensures { result ≡ ends_box ends.now }
 {
-    let (a, b) = (&ends.first, &ends.second);
-    Box2 {
-        x1: a.x.min(b.x),
-        y1: a.y.min(b.y),
-        x2: a.x.max(b.x),
-        y2: a.y.max(b.y),
-    }
+    let (a, b) = (spot_of(&ends.first), spot_of(&ends.second));
+    box_from(&least(&a, &b), &greatest(&a, &b))
 }
 
 /// The box of a segment in the drawing area. None where it has no cell or the size rule refuses the segment.
