@@ -14,7 +14,7 @@ use Rattle.line_walk.specs.Line.{Ends, rise, along, channel_along, color_along, 
 le_ups : (x y : ℤ) → x ≤ℤ y → up x + down y ≤ up y + down x
 le_ups x y h = omega (arith, ints)
 
-mul_mono : (d : ℕ) (x y : ℤ) → x ≤ℤ y → (x *ℤ pos d) ≤ℤ (y *ℤ pos d)
+pub mul_mono : (d : ℕ) (x y : ℤ) → x ≤ℤ y → (x *ℤ pos d) ≤ℤ (y *ℤ pos d)
 mul_mono d x y le = omega (arith, ints, mul-le-mul_right d (le_ups x y le))
 
 mul_mono_left : (j k : ℕ) (d : ℤ) → j ≤ k → pos 0 ≤ℤ d → (pos j *ℤ d) ≤ℤ (pos k *ℤ d)
@@ -79,7 +79,7 @@ point_of-between s k within = record {
 
 -- ---- the change as a quotient of plain numbers
 
-floor_only : (p q a : ℤ) (b : ℕ) → IsFloor p a (pos b) → IsFloor q a (pos b) → p ≡ q
+pub floor_only : (p q a : ℤ) (b : ℕ) → IsFloor p a (pos b) → IsFloor q a (pos b) → p ≡ q
 floor_only p q a b f g =
     by_lt_z p q
     (λ less. let m = mul_mono b (p +ℤ pos 1) q (omega (arith, ints)) in absurd (omega (arith, ints, f.next, g.reached)))

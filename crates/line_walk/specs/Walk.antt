@@ -1,36 +1,55 @@
--- Segments that are walked point by point: how far each value has come is a quotient and a remainder, which are
--- stepped (psx-spx, "GPU Render Line Commands"; which points, is our own rule).
-use Rattle.std.specs.Prelude.{ℕ, ◌+◌, ◌-◌, ◌*◌, ◌≤◌, ◌<◌, ◌≡◌, true, false, Bool, if◌then◌else◌, max, unsigned_abs, ℤ, pos, ◌+ℤ◌, ◌-ℤ◌, ◌≤ℤ◌, ◌<ℤ◌}
+-- Segments that are walked point by point: each value is stepped in parts of 1 (psx-spx, "GPU Render Line Commands";
+-- which points, is our own rule).
+use Rattle.std.specs.Prelude.{ℕ, ◌+◌, ◌*◌, ◌/◌, ◌%◌, ◌^◌, ◌≤◌, ◌<◌, ◌≡◌, max, unsigned_abs, ℤ, pos, ◌+ℤ◌, ◌-ℤ◌, ◌*ℤ◌, ◌≤ℤ◌}
+use Rattle.std.specs.Int.Signed.{shr_z}
 use Rattle.line_walk.specs.Line.{Ends, IsNear, len_of, steps_of}
 use Rattle.line_walk.specs.declared.slope.Slope.{Slope}
+use Rattle.line_walk.specs.declared.tones.Tones.{Tones}
 
 -- a segment, and the number of the point that comes next
 pub record Walking : Type 0 where
   pub ends : Ends
   pub at : ℕ
 
--- what the quotient starts from: half of the divisor, and 1 less where the value falls, so that the middle goes upward
-abbrev pub start_of : Bool → ℕ → ℕ
-start_of rises n = if rises then n else n - 1
-
--- the value that a slope has come to
+-- the value that a slope has come to, rounded down
 abbrev pub value_of : Slope → ℤ
-value_of s = if s.rises then s.from +ℤ pos s.change else s.from -ℤ pos s.change
+value_of s = shr_z s.place (2 ^ 21)
 
--- a slope at step k of n from one value to another; twice the change in all is the dividend of a step, 2 n the divisor
+-- a slope at step k of n from one value to another: n steps lead as far as the values are apart, and a little further
 pub record IsSlope (from to : ℤ) (n k : ℕ) (s : Slope) : Type 0 where
-  pub first : s.from ≡ from
-  pub up : s.rises ≡ true → from ≤ℤ to
-  pub down : s.rises ≡ false → to <ℤ from
-  pub step : 2 * unsigned_abs (to -ℤ from) ≡ s.whole * (2 * n) + s.part
-  pub part : s.part < 2 * n
-  pub sum : 2 * k * unsigned_abs (to -ℤ from) + start_of s.rises n ≡ s.change * (2 * n) + s.rest
-  pub rest : s.rest < 2 * n
+  pub over : ℕ
+  pub little : over ≤ n
+  pub step : s.step *ℤ pos n ≡ (to -ℤ from) *ℤ pos (2 ^ 21) +ℤ pos over
+  pub place : s.place ≡ from *ℤ pos (2 ^ 21) +ℤ (pos (2 ^ 20) +ℤ pos k *ℤ s.step)
 
--- slopes of both coordinates at the point that comes next; a segment of one point is cut into one step too
-pub record IsWalk (s : Ends) (steps at : ℕ) (x y : Slope) : Type 0 where
+-- the channels of a colour at step k of n
+pub record AreTones (from to n k : ℕ) (t : Tones) : Type 0 where
+  pub red : IsSlope (pos (from % 256)) (pos (to % 256)) n k t.red
+  pub green : IsSlope (pos (from / 2 ^ 8 % 256)) (pos (to / 2 ^ 8 % 256)) n k t.green
+  pub blue : IsSlope (pos (from / 2 ^ 16 % 256)) (pos (to / 2 ^ 16 % 256)) n k t.blue
+
+-- a slope that has come to a byte
+pub record IsByte (s : Slope) : Type 0 where
+  pub low : pos 0 ≤ℤ value_of s
+  pub high : value_of s ≤ℤ pos 255
+  pub place : unsigned_abs s.place < 2 ^ 60
+
+-- each of the channels has
+pub record AreBytes (t : Tones) : Type 0 where
+  pub red : IsByte t.red
+  pub green : IsByte t.green
+  pub blue : IsByte t.blue
+
+-- the colour that the channels have come to
+abbrev pub tint_of : Tones → ℕ
+tint_of t = unsigned_abs (value_of t.red) + 2 ^ 8 * unsigned_abs (value_of t.green) + 2 ^ 16 * unsigned_abs (value_of t.blue)
+
+-- slopes of both coordinates and of the colour at the point that comes next; a segment of one point is cut into one
+-- step too
+pub record IsWalk (s : Ends) (steps at : ℕ) (x y : Slope) (tones : Tones) : Type 0 where
   pub near : IsNear s.first s.second
   pub count : steps ≡ steps_of s
   pub within : at ≤ len_of s
   pub across : IsSlope s.first.x s.second.x (max 1 steps) at x
   pub down : IsSlope s.first.y s.second.y (max 1 steps) at y
+  pub shaded : AreTones s.first.color s.second.color (max 1 steps) at tones

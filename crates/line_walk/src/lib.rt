@@ -7,6 +7,7 @@
 mod rise;
 mod segment;
 mod slope;
+mod tones;
 mod walk;
 
 pub use segment::Segment;

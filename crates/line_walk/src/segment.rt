@@ -75,6 +75,7 @@ impl Segment {
     }
 
     /// The points in their order, from the first end on.
+    #[inline(always)]
     pub fn walk(&self) -> Walk
         ensures { ◌≡◌ {A = Walking} result (record { ends = self.now; at = 0 }) }
     {

@@ -1,11 +1,11 @@
 // The points of a segment in their order.
 use crate::rise::Run;
-use crate::segment::color_at;
 use crate::slope::{Slope, first_slope, next_slope, value_of};
+use crate::tones::{Tones, first_tones, next_tones, tint_between};
 use px_num::Vertex;
 use std::marker::Model;
 
-/// A walk along a segment, point by point and without a division for a place. Contracts see it as the segment's two
+/// A walk along a segment, point by point and without a division. Contracts see it as the segment's two
 /// vertices and the number of the point that comes next.
 #[derive(Drop)]
 pub struct Walk {
@@ -15,6 +15,7 @@ pub struct Walk {
     at: u32,
     x: Slope,
     y: Slope,
+    tones: Tones,
 }
 
 impl Model for Walk {
@@ -25,7 +26,7 @@ impl Model for Walk {
 
     ghost view = { λ w. record { ends = ends w.a w.b; at = w.at } };
 
-    ghost invariant = { λ w. IsWalk (ends w.a w.b) w.steps w.at w.x w.y };
+    ghost invariant = { λ w. IsWalk (ends w.a w.b) w.steps w.at w.x w.y w.tones };
 }
 
 impl Walk {
@@ -34,6 +35,7 @@ impl Walk {
     ghost use Rattle.line_walk.specs.Walk.{Walking};
 
     /// At the first of the points from `a` to `b`.
+    #[inline(always)]
     pub(crate) fn new(a: Vertex, b: Vertex, steps: u32) -> Walk
         requires near { IsNear a b }
         requires steps { steps ≡ steps_of (ends a b) }
@@ -49,6 +51,7 @@ impl Walk {
             at: 0,
             x: first_slope(&across, cuts),
             y: first_slope(&down, cuts),
+            tones: first_tones(a.color, b.color, cuts),
         }
     }
 
@@ -64,13 +67,13 @@ impl Walk {
         let point = Vertex {
             x: value_of(&self.x),
             y: value_of(&self.y),
-            color: color_at(self.a.color, self.b.color, self.steps, self.at),
+            color: tint_between(self.a.color, self.b.color, &self.tones),
             u: 0,
             v: 0,
         };
-        let cuts = self.steps.max(1);
-        self.x = next_slope(self.x, cuts);
-        self.y = next_slope(self.y, cuts);
+        self.x = next_slope(self.x);
+        self.y = next_slope(self.y);
+        self.tones = next_tones(self.tones);
         self.at += 1;
         point
     }

@@ -3,6 +3,7 @@ ghost use Rattle.std.specs.Prelude.{◌≡◌, ◌≤◌};
 ghost use Rattle.gp0_packets.specs.Ranges.{IsInRange, IsPolyInRange};
 ghost use Rattle.prim_draw.specs.Areas.{area_of, hull, joined, moved_box, polygon_area};
 
+use crate::boxes::{box_from, first_corner, greatest, last_corner, least};
 use crate::lines::{placed_ends, segment_box};
 use crate::polygon::Polygon;
 use crate::rectangles::{extent_at, rectangle_box};
@@ -16,12 +17,9 @@ use px_num::Box2;
 fn hull(a: &Box2, b: &Box2) -> Box2
     ensures { result ≡ hull a.now b.now }
 {
-    Box2 {
-        x1: a.x1.min(b.x1),
-        y1: a.y1.min(b.y1),
-        x2: a.x2.max(b.x2),
-        y2: a.y2.max(b.y2),
-    }
+    let first = least(&first_corner(a), &first_corner(b));
+    let last = greatest(&last_corner(a), &last_corner(b));
+    box_from(&first, &last)
 }
 
 fn joined(a: Option<Box2>, b: Option<Box2>) -> Option<Box2>

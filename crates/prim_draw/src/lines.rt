@@ -10,7 +10,7 @@ ghost use Rattle.prim_draw.specs.Lines.{drawn_ends, drawn_point, drawn_points, e
 ghost use Rattle.prim_draw.specs.Lines.{placed_ends, segment_box};
 ghost use Rattle.prim_draw.specs.Settings.{IsArea};
 
-use crate::boxes::clipped;
+use crate::boxes::{Spot, box_from, clipped, greatest, least};
 use crate::point::{ink_of, plot_color};
 use crate::settings::{brush_in, drawing_area, placed};
 use gp1_status::Regs;
@@ -82,26 +82,6 @@ fn draw_point<L: Ledger>(
     }
 }
 
-// Draws the points of a segment in their order.
-fn draw_each<L: Ledger>(
-    vram: &mut Vram,
-    area: &Box2,
-    brush: &Brush,
-    segment: &Segment,
-    steps: &mut Steps<L>,
-)
-    requires area { IsArea (height_of vram.old) area.now }
-    requires mode { brush.now.mode ≤ 3 }
-    ensures cells { vram.new ≡ drawn_points area.now brush.now segment.now (len_of segment.now) vram.old }
-    ensures long { length vram.new ≡ length vram.old }
-    ensures cost { steps.new ≤ steps.old + points_cost area.now segment.now (len_of segment.now) }
-{
-    let mut walk = segment.walk();
-    for k in 0..segment.len() {
-        draw_point(vram, area, brush, &walk.next(), steps);
-    }
-}
-
 // Whether both ends of a segment lie in a box, and so all its points.
 fn lies_in(b: &Box2, segment: &Segment) -> bool
     ensures first { result ≡ true → is_in b.now segment.now.first ≡ true }
@@ -155,9 +135,13 @@ fn draw_points<L: Ledger>(
     ensures long { length vram.new ≡ length vram.old }
     ensures cost { steps.new ≤ steps.old + points_cost area.now segment.now (len_of segment.now) }
 {
-    match ink_for(area, brush, segment) {
-        Some(ink) => put_points(vram, segment, ink, steps),
-        None => draw_each(vram, area, brush, segment, steps),
+    if let Some(ink) = ink_for(area, brush, segment) {
+        put_points(vram, segment, ink, steps);
+        return;
+    }
+    let mut walk = segment.walk();
+    for k in 0..segment.len() {
+        draw_point(vram, area, brush, &walk.next(), steps);
     }
 }
 
@@ -207,17 +191,19 @@ pub(crate) fn draw_segment<L: Ledger>(
     }
 }
 
+fn spot_of(p: &Vertex) -> Spot
+    ensures x { result.x ≡ p.now.x }
+    ensures y { result.y ≡ p.now.y }
+{
+    Spot { x: p.x, y: p.y }
+}
+
 #[tactic(auto, unfolding(crate::specs::Lines::ends_box))]
 fn ends_box(ends: &Ends) -> Box2
     ensures { result ≡ ends_box ends.now }
 {
-    let (a, b) = (&ends.first, &ends.second);
-    Box2 {
-        x1: a.x.min(b.x),
-        y1: a.y.min(b.y),
-        x2: a.x.max(b.x),
-        y2: a.y.max(b.y),
-    }
+    let (a, b) = (spot_of(&ends.first), spot_of(&ends.second));
+    box_from(&least(&a, &b), &greatest(&a, &b))
 }
 
 /// The box of a segment in the drawing area. None where it has no cell or the size rule refuses the segment.

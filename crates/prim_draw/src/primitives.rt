@@ -8,7 +8,7 @@ ghost use Rattle.prim_draw.specs.Triangles.{drawn_polygon};
 use crate::lines::{draw_segment, placed_ends};
 use crate::polygon::Polygon;
 use crate::rectangles::{extent_at, tile_in};
-use crate::style::Style;
+use crate::style::{Style, style_of};
 use crate::triangles::{draw_triangle, placed_corners};
 use gp0_packets::Packet;
 use gp1_status::Regs;
@@ -60,23 +60,10 @@ pub fn draw<L: Ledger>(vram: &mut Vram, regs: &Regs, packet: &Packet, steps: &mu
             b,
             c,
             d,
-            shaded,
-            textured,
-            semi,
-            raw,
-            clut,
-            page: _,
+            ..
         } => {
-            let style = Style {
-                shaded,
-                textured,
-                semi,
-                raw,
-                clut,
-                color: a.color,
-            };
             let polygon = Polygon { four, a, b, c, d };
-            draw_polygon(vram, regs, &style, &polygon, steps);
+            draw_polygon(vram, regs, &style_of(packet), &polygon, steps);
         }
         Packet::Segment { a, b, semi } => {
             draw_segment(vram, regs, semi, &placed_ends(regs, &a, &b), steps);
@@ -86,23 +73,11 @@ pub fn draw<L: Ledger>(vram: &mut Vram, regs: &Regs, packet: &Packet, steps: &mu
             y,
             w,
             h,
-            color,
-            textured,
-            semi,
-            raw,
             u,
             v,
-            clut,
+            ..
         } => {
-            let style = Style {
-                shaded: false,
-                textured,
-                semi,
-                raw,
-                clut,
-                color,
-            };
-            let tile = tile_in(regs, &style, u, v);
+            let tile = tile_in(regs, &style_of(packet), u, v);
             tile.draw(vram, regs, &extent_at(regs, x, y, w, h), steps);
         }
         Packet::Nop

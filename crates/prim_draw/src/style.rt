@@ -1,4 +1,8 @@
 // How pixels are made.
+ghost use Rattle.std.specs.Prelude.{◌≡◌};
+ghost use Rattle.prim_draw.specs.Parts.{plain_style, style_of};
+
+use gp0_packets::Packet;
 
 /// How the pixels of a polygon or rectangle are made.
 #[derive(Clone, Copy)]
@@ -15,4 +19,58 @@ pub(crate) struct Style {
     pub(crate) clut: u16,
     /// The command's colour, where it is not shaded.
     pub(crate) color: u32,
+}
+
+/// How the pixels of a packet are made. For one that is no polygon and no rectangle the answer means nothing.
+#[inline(always)]
+pub(crate) fn style_of(packet: &Packet) -> Style
+    ensures { result ≡ style_of packet.now }
+{
+    match *packet {
+        Packet::Poly {
+            a,
+            shaded,
+            textured,
+            semi,
+            raw,
+            clut,
+            ..
+        } => Style {
+            shaded,
+            textured,
+            semi,
+            raw,
+            clut,
+            color: a.color,
+        },
+        Packet::Rect {
+            color,
+            textured,
+            semi,
+            raw,
+            clut,
+            ..
+        } => Style {
+            shaded: false,
+            textured,
+            semi,
+            raw,
+            clut,
+            color,
+        },
+        _ => plain_style(),
+    }
+}
+
+fn plain_style() -> Style
+    ensures { result ≡ plain_style }
+{
+    Style {
+        shaded: false,
+        textured: false,
+        semi: false,
+        raw: false,
+        clut: 0,
+        color: 0,
+    }
 }

@@ -1,11 +1,18 @@
 use Rattle.std.proofs.Common.{◌≤◌, w32, SFits, rules, arith}
 use Rattle.std.proofs.lemmas.Int.{ints, to_z-of_z}
 use Rattle.line_walk.specs.Walk.{IsSlope}
-use Rattle.line_walk.proofs.SlopeLemmas.{one_cut}
+use Rattle.line_walk.proofs.SlopeLemmas.{one_cut, tones_cut}
 use Rattle.line_walk.proofs.walk.Walk.new.Goals as goal
 
 pub first_slope-requires-clause-steps : goal.first_slope-requires-clause-steps
 first_slope-requires-clause-steps c =
+    let across = c.requires.near.across in
+    let down = c.requires.near.down in
+    let most : c.args.steps ≤ 1023 = omega (arith, ints, c.requires.steps, across, down) in
+    omega (arith, most, c.max-cuts.ensures)
+
+pub first_tones-requires-clause-steps : goal.first_tones-requires-clause-steps
+first_tones-requires-clause-steps c =
     let across = c.requires.near.across in
     let down = c.requires.near.down in
     let most : c.args.steps ≤ 1023 = omega (arith, ints, c.requires.steps, across, down) in
@@ -25,4 +32,5 @@ invariant_of-result c =
       within = omega arith;
       across = one_cut c.args.a.x c.args.b.x c.args.steps 0 c.max-cuts.result c.first_slope.result c.max-cuts.ensures across;
       down = one_cut c.args.a.y c.args.b.y c.args.steps 0 c.max-cuts.result c.first_slope-2.result c.max-cuts.ensures down;
+      shaded = tones_cut c.args.a.color c.args.b.color c.args.steps 0 c.max-cuts.result c.first_tones.result c.max-cuts.ensures c.first_tones.ensures;
     }
