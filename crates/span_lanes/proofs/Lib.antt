@@ -11,6 +11,7 @@ pub mod PlainLemmas
 pub mod PlanLemmas
 pub mod SameLemmas
 pub mod SolidLemmas
+mod StretchLemmas
 mod SwatchLemmas
 pub mod TexelLemmas
 mod TintLemmas

@@ -10,6 +10,7 @@ pub mod Paints
 pub mod Pen
 pub mod Plan
 pub mod Shade
+pub mod Stretch
 pub mod Swatches
 pub mod Texels
 pub mod Track

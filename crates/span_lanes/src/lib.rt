@@ -27,13 +27,18 @@ mod pixel;
 mod places;
 mod plain;
 mod plan;
+mod row;
+mod sheet;
 mod slopes;
 mod solid;
 mod span;
+mod store;
+mod stretch;
 mod swatches;
 mod textured;
 mod tint;
 mod track;
+mod untextured;
 
 pub use pen::{Pen, draw_span};
 pub use span::{Brush, Paint, Span, Texture};

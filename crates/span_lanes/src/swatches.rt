@@ -1,26 +1,27 @@
 // Textures of four bits under one colour, whose palette is read and coloured once a span.
-ghost use Rattle.std.specs.Prelude.{◌≡◌, ◌≢◌, ◌≤◌, ◌<◌, ◌+◌, ◌*◌, ◌/◌, ◌%◌, ◌&&◌, not, false, IsTrue, Some, ℕ, pos};
+ghost use Rattle.std.specs.Prelude.{◌≡◌, ◌≤◌, ◌<◌, ◌+◌, ◌%◌, IsTrue};
 ghost use Rattle.std.specs.Prelude.{length, slice_index};
 ghost use Rattle.vram_store.specs.Vram.{height_of};
 ghost use Rattle.span_lanes.specs.declared.hues.Hues.TheVariants.{One};
 ghost use Rattle.span_lanes.specs.Chunk.{IsChunk, drawn_chunk};
 ghost use Rattle.span_lanes.specs.Cost.{chunk_cost, span_cost};
-ghost use Rattle.span_lanes.specs.Guard.{IsApart};
 ghost use Rattle.span_lanes.specs.Lanes.{AreCoordinates};
-ghost use Rattle.span_lanes.specs.Plan.{IsPlan};
-ghost use Rattle.span_lanes.specs.Shade.{IsTexture, IsSpan, LiesIn, texture_of, front_of, drawn_span};
-ghost use Rattle.span_lanes.specs.Swatches.{AreColored, AreSwatches};
+ghost use Rattle.span_lanes.specs.Plan.{HasTexels, IsPlan, IsPlanned};
+ghost use Rattle.span_lanes.specs.Shade.{IsTexture, drawn_span};
+ghost use Rattle.span_lanes.specs.Stretch.{IsStretch};
+ghost use Rattle.span_lanes.specs.Swatches.{AreColored, AreFronts, AreSwatches, SuitsPalette};
 ghost use Rattle.px_num.specs.Lanes.{EachLane};
 ghost use Rattle.span_lanes.specs.Texels.{AreTexels};
 
 use crate::colors::no_shifts;
 use crate::coordinates::Coordinates;
-use crate::draw::store_chunk;
 use crate::fetch::{halfwords_of, same, sixteen_entries};
 use crate::hues::Hues;
 use crate::nibbles::{entries_at, indexes};
 use crate::places::places_of;
 use crate::plan::{Plan, is_dithered};
+use crate::store::store_chunk;
+use crate::stretch::{Stretch, indexes_beside};
 use crate::textured::{collect_fronts, fronts};
 use crate::track::track_lanes;
 use crate::{Span, Texture};
@@ -130,10 +131,9 @@ fn read_drawn<L: Ledger>(
     requires down { AreCoordinates at.now.vs }
     requires some { 1 ≤ k }
     requires few { k ≤ 16 }
-    ensures long { (length result.texels ≡ 16) × (length result.fronts ≡ 16) }
+    ensures long { length result.texels ≡ 16 }
     ensures texels { AreTexels texture.now at.now k vram.now result.texels }
-    ensures fronts { (j : ℕ) → j < k → slice_index result.fronts j
-        ≡ front_of texture.now.raw swatches.now.color (pos 0) (slice_index result.texels j) }
+    ensures fronts { AreFronts texture.now.raw swatches.now.color k result.texels result.fronts }
     ensures cost { steps.new ≤ steps.old + k }
 {
     let places = places_of(texture, at);
@@ -142,6 +142,87 @@ fn read_drawn<L: Ledger>(
     Drawn {
         texels: entries_at(swatches.entries, index),
         fronts: entries_at(swatches.fronts, index),
+    }
+}
+
+// k texels of four bits that stand side by side.
+#[inline(always)]
+fn read_beside<L: Ledger>(
+    vram: &Vram,
+    span: &Span,
+    texture: &Texture,
+    stretch: &Stretch,
+    swatches: &Swatches,
+    first: u16,
+    k: u8,
+    steps: &mut Steps<L>,
+) -> Drawn
+    requires page { texture.now.page.y + 255 < height_of vram.now }
+    requires depth { texture.now.page.depth ≡ 0 }
+    requires chunk { IsChunk span.now first k }
+    requires stretch { IsStretch span.now texture.now stretch.now }
+    requires swatches { AreSwatches texture.now vram.now swatches.now }
+    ensures texels { HasTexels span.now texture.now first k vram.now result.texels }
+    ensures fronts { AreFronts texture.now.raw swatches.now.color k result.texels result.fronts }
+    ensures cost { steps.new ≤ steps.old + 1 }
+{
+    let index = indexes_beside(vram, span, texture, stretch, first, k, steps);
+    Drawn {
+        texels: entries_at(swatches.entries, index),
+        fronts: entries_at(swatches.fronts, index),
+    }
+}
+
+// k texels by their coordinates.
+#[inline(always)]
+fn read_scattered<L: Ledger>(
+    vram: &Vram,
+    span: &Span,
+    texture: &Texture,
+    plan: &Plan,
+    swatches: &Swatches,
+    first: u16,
+    k: u8,
+    steps: &mut Steps<L>,
+) -> Drawn
+    requires planned { IsPlanned (height_of vram.now) span.now texture.now plan.now }
+    requires depth { texture.now.page.depth ≡ 0 }
+    requires chunk { IsChunk span.now first k }
+    requires whole { first % 16 ≡ 0 }
+    requires swatches { AreSwatches texture.now vram.now swatches.now }
+    ensures texels { HasTexels span.now texture.now first k vram.now result.texels }
+    ensures fronts { AreFronts texture.now.raw swatches.now.color k result.texels result.fronts }
+    ensures cost { steps.new ≤ steps.old + k }
+{
+    let _ = span;
+    let at = track_lanes(&plan.track, first);
+    read_drawn(vram, texture, swatches, &at, k, steps)
+}
+
+// k texels of a chunk.
+#[inline(always)]
+fn read_swatches<L: Ledger>(
+    vram: &Vram,
+    span: &Span,
+    texture: &Texture,
+    plan: &Plan,
+    swatches: &Swatches,
+    first: u16,
+    k: u8,
+    steps: &mut Steps<L>,
+) -> Drawn
+    requires planned { IsPlanned (height_of vram.now) span.now texture.now plan.now }
+    requires depth { texture.now.page.depth ≡ 0 }
+    requires chunk { IsChunk span.now first k }
+    requires whole { first % 16 ≡ 0 }
+    requires swatches { AreSwatches texture.now vram.now swatches.now }
+    ensures texels { HasTexels span.now texture.now first k vram.now result.texels }
+    ensures fronts { AreFronts texture.now.raw swatches.now.color k result.texels result.fronts }
+    ensures cost { steps.new ≤ steps.old + k }
+{
+    match &plan.stretch {
+        Some(stretch) => read_beside(vram, span, texture, stretch, swatches, first, k, steps),
+        None => read_scattered(vram, span, texture, plan, swatches, first, k, steps),
     }
 }
 
@@ -157,16 +238,10 @@ fn swatch_chunk<L: Ledger>(
     k: u8,
     steps: &mut Steps<L>,
 )
-    requires span { IsSpan span.now }
-    requires height { LiesIn (height_of vram.old) span.now }
+    requires planned { IsPlanned (height_of vram.old) span.now texture.now plan.now }
     requires chunk { IsChunk span.now first k }
     requires whole { first % 16 ≡ 0 }
-    requires texture { texture_of span.now.paint ≡ Some texture.now }
-    requires depth { texture.now.page.depth ≡ 0 }
-    requires plan { IsPlan span.now texture.now plan.now }
-    requires apart { IsApart span.now }
-    requires row { texture.now.clut / 64 % 512 ≢ span.now.y }
-    requires even { (span.now.brush.dither && not texture.now.raw) ≡ false }
+    requires suits { SuitsPalette span.now texture.now }
     requires hue { plan.now.hues ≡ One swatches.now.color }
     requires swatches { AreSwatches texture.now vram.old swatches.now }
     ensures cells { vram.new ≡ drawn_chunk span.now first k vram.old }
@@ -174,8 +249,7 @@ fn swatch_chunk<L: Ledger>(
     ensures swatches { AreSwatches texture.now vram.new swatches.now }
     ensures cost { steps.new + 1 ≤ steps.old + chunk_cost span.now first k }
 {
-    let at = track_lanes(&plan.track, first);
-    let drawn = read_drawn(vram, texture, swatches, &at, k, steps);
+    let drawn = read_swatches(vram, span, texture, plan, swatches, first, k, steps);
     let lanes = collect_fronts(
         vram,
         span,
@@ -200,14 +274,8 @@ pub(crate) fn draw_swatches<L: Ledger>(
     last: &mut Swatches,
     steps: &mut Steps<L>,
 )
-    requires span { IsSpan span.now }
-    requires height { LiesIn (height_of vram.old) span.now }
-    requires texture { texture_of span.now.paint ≡ Some texture.now }
-    requires depth { texture.now.page.depth ≡ 0 }
-    requires plan { IsPlan span.now texture.now plan.now }
-    requires apart { IsApart span.now }
-    requires row { texture.now.clut / 64 % 512 ≢ span.now.y }
-    requires even { (span.now.brush.dither && not texture.now.raw) ≡ false }
+    requires planned { IsPlanned (height_of vram.old) span.now texture.now plan.now }
+    requires suits { SuitsPalette span.now texture.now }
     requires hue { plan.now.hues ≡ One color }
     requires last { AreColored last.old }
     ensures cells { vram.new ≡ drawn_span span.now span.now.n vram.old }
@@ -239,10 +307,7 @@ pub(crate) fn draw_swatches<L: Ledger>(
 // Whether a palette of sixteen entries can be coloured for a whole span.
 pub(crate) fn suits(span: &Span, texture: &Texture, plan: &Plan) -> bool
     requires plan { IsPlan span.now texture.now plan.now }
-    ensures apart { IsTrue result → IsApart span.now }
-    ensures depth { IsTrue result → texture.now.page.depth ≡ 0 }
-    ensures row { IsTrue result → texture.now.clut / 64 % 512 ≢ span.now.y }
-    ensures even { IsTrue result → (span.now.brush.dither && not texture.now.raw) ≡ false }
+    ensures { IsTrue result → SuitsPalette span.now texture.now }
 {
     let dithered = is_dithered(span.brush.dither, texture.raw);
     plan.apart && texture.page.depth == 0 && texture.clut / 64 % 512 != span.y && !dithered

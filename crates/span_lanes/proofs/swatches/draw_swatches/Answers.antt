@@ -38,7 +38,7 @@ returns-else-rest-gt0-clause-cells g c = all_cells c.args.span.now c.loop-c.c _ 
 pub returns-else-rest-gt0-clause-cost : goal.returns-else-rest-gt0-clause-cost
 returns-else-rest-gt0-clause-cost g c =
     let cost = all_cost c.args.span.now c.loop-c.c _ _ _ _ c.loop-c.invariant.drawn (omega arith) in
-    omega (arith, cost, c.swatches_of-swatches.ensures.cost, c.requires.span.some)
+    omega (arith, cost, c.swatches_of-swatches.ensures.cost, c.requires.planned.span.some)
 
-pub swatch_chunk-requires-clause-height : goal.swatch_chunk-requires-clause-height
-swatch_chunk-requires-clause-height g c = rw c.loop-c.invariant.drawn.long c.requires.height
+pub swatch_chunk-requires-clause-planned : goal.swatch_chunk-requires-clause-planned
+swatch_chunk-requires-clause-planned g c = rw c.loop-c.invariant.drawn.long c.requires.planned

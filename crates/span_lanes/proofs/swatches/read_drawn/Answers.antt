@@ -13,8 +13,11 @@ returns-clause-texels g c = λ j lt.
     (rw position at (c.entries_at.ensures.value j in_lanes ∙ c.requires.swatches.entry _ few))
 
 pub returns-clause-fronts : goal.returns-clause-fronts
-returns-clause-fronts g c = λ j lt.
-    let in_lanes : j < 16 = omega arith in
-    let few = c.indexes-index.ensures.low j in_lanes in
-    c.entries_at-2.ensures.value j in_lanes ∙ c.requires.swatches.front _ few
-    ∙ ap (front_of c.args.texture.now.raw c.args.swatches.now.color (pos 0)) (sym (c.entries_at.ensures.value j in_lanes))
+returns-clause-fronts g c = record {
+  long = c.entries_at-2.ensures.long;
+  front = λ j lt.
+      let in_lanes : j < 16 = omega arith in
+      let few = c.indexes-index.ensures.low j in_lanes in
+      c.entries_at-2.ensures.value j in_lanes ∙ c.requires.swatches.front _ few
+      ∙ ap (front_of c.args.texture.now.raw c.args.swatches.now.color (pos 0)) (sym (c.entries_at.ensures.value j in_lanes));
+}

@@ -1,8 +1,8 @@
 use Rattle.std.proofs.Common.{arith, ◌+◌}
 use Rattle.span_lanes.proofs.ChunkLemmas.{AreDrawn, drawn_start, drawn_next, all_cells, all_cost}
-use Rattle.span_lanes.proofs.draw.draw_chunks.Given.{Over}
-use Rattle.span_lanes.proofs.draw.draw_chunks.Goals.{After-draw_textured-then-rest-gt0}
-use Rattle.span_lanes.proofs.draw.draw_chunks.Goals as goal
+use Rattle.span_lanes.proofs.sheet.draw_chunks.Given.{Over}
+use Rattle.span_lanes.proofs.sheet.draw_chunks.Goals.{After-draw_textured-then-rest-gt0}
+use Rattle.span_lanes.proofs.sheet.draw_chunks.Goals as goal
 
 pub loop-c-init : goal.loop-c-init
 loop-c-init g c = drawn_start c.args.span.now c.args.steps.now c.args.vram.now
@@ -30,5 +30,5 @@ returns-else-rest-gt0-clause-cells g c = all_cells c.args.span.now c.loop-c.c _ 
 pub returns-else-rest-gt0-clause-cost : goal.returns-else-rest-gt0-clause-cost
 returns-else-rest-gt0-clause-cost g c = all_cost c.args.span.now c.loop-c.c _ _ _ _ c.loop-c.invariant (omega arith)
 
-pub draw_textured-requires-clause-height : goal.draw_textured-requires-clause-height
-draw_textured-requires-clause-height g c = rw c.loop-c.invariant.long c.requires.height
+pub draw_textured-requires-clause-planned : goal.draw_textured-requires-clause-planned
+draw_textured-requires-clause-planned g c = rw c.loop-c.invariant.long c.requires.planned

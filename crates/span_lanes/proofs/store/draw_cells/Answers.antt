@@ -3,7 +3,7 @@ use Rattle.std.proofs.lemmas.Grind.{common_steps}
 use Rattle.vram_store.specs.Plot.{later, draw_lane}
 use Rattle.span_lanes.specs.Shade.{shade}
 use Rattle.vram_store.proofs.Drawn.{lane_later, drawn_more, drawn_none}
-use Rattle.span_lanes.proofs.draw.draw_cells.Goals as goal
+use Rattle.span_lanes.proofs.store.draw_cells.Goals as goal
 
 pub loop-j-init : goal.loop-j-init
 loop-j-init g c = record { cells = sym (drawn_none _ _ _ _); cost = omega arith; long = refl }

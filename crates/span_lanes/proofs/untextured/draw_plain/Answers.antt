@@ -1,7 +1,7 @@
 use Rattle.std.proofs.Common.{arith}
 use Rattle.span_lanes.proofs.BlindLemmas.{span_blind}
 use Rattle.span_lanes.proofs.CostLemmas.{plain_cost}
-use Rattle.span_lanes.proofs.draw.draw_plain.Goals as goal
+use Rattle.span_lanes.proofs.untextured.draw_plain.Goals as goal
 
 pub store_chunk-requires-clause-blind : goal.store_chunk-requires-clause-blind
 store_chunk-requires-clause-blind g c =

@@ -2,7 +2,7 @@ use Rattle.std.proofs.Common.{length, ◌≡◌, ◌≤◌, ◌+◌, ◌*◌}
 use Rattle.vram_store.specs.Plot.{later, drawn_lanes}
 use Rattle.span_lanes.specs.Shade.{shade}
 use Rattle.span_lanes.specs.Cost.{paint_steps}
-use Rattle.span_lanes.proofs.draw.draw_cells.Given as goal
+use Rattle.span_lanes.proofs.store.draw_cells.Given as goal
 
 abbrev pub invariant-loop-j : goal.invariant-loop-j
 invariant-loop-j g l = record {

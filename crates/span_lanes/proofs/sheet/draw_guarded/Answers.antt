@@ -1,43 +1,41 @@
 use Rattle.std.proofs.Common.{sym, ◌∙◌, arith}
-use Rattle.span_lanes.proofs.BlindLemmas.{span_blind}
 use Rattle.span_lanes.proofs.CostLemmas.{textured_cost}
 use Rattle.span_lanes.proofs.PlanLemmas.{texels_here}
 use Rattle.span_lanes.proofs.TexelLemmas.{cells_same}
-use Rattle.span_lanes.proofs.draw.draw_guarded.Goals as goal
+use Rattle.span_lanes.proofs.sheet.draw_guarded.Goals as goal
 
 pub texels_at-cells-requires-clause-texture : goal.texels_at-cells-requires-clause-texture
-texels_at-cells-requires-clause-texture g c = rw c.requires.texture at c.requires.span.texture
+texels_at-cells-requires-clause-texture g c = rw c.requires.planned.texture at c.requires.planned.span.texture
 
 pub read_texels-read-requires-clause-texture : goal.read_texels-read-requires-clause-texture
-read_texels-read-requires-clause-texture g c = rw c.requires.texture at c.requires.span.texture
+read_texels-read-requires-clause-texture g c = rw c.requires.planned.texture at c.requires.planned.span.texture
 
 pub read_texels-read-requires-clause-page : goal.read_texels-read-requires-clause-page
-read_texels-read-requires-clause-page g c = rw c.requires.texture at c.requires.height.page
+read_texels-read-requires-clause-page g c = rw c.requires.planned.texture at c.requires.planned.lies.page
 
-pub collect_textured-lanes-requires-clause-texels : goal.collect_textured-lanes-requires-clause-texels
-collect_textured-lanes-requires-clause-texels g c =
+pub draw_texels-requires-clause-texels : goal.draw_texels-requires-clause-texels
+draw_texels-requires-clause-texels g c =
     texels_here c.args.span.now c.args.texture.now c.args.first c.args.k _ _ c.args.vram.now _ c.requires.at c.read_texels-read.ensures.long c.read_texels-read.ensures.value
 
-pub store_chunk-requires-clause-blind : goal.store_chunk-requires-clause-blind
-store_chunk-requires-clause-blind g c =
+pub draw_texels-requires-clause-free : goal.draw_texels-requires-clause-free
+draw_texels-requires-clause-free g c =
     let span = c.args.span.now in
     let t = c.args.texture.now in
     let cells = cells_same span.paint t span.x span.y c.args.first _ _ c.args.k c.args.k c.requires.at (omega arith) ∙ sym c.texels_at-cells.ensures in
-    span_blind span c.args.first c.args.k c.args.vram.now c.requires.span c.requires.chunk.within
-    (λ h. let known = rw (c.requires.texture, cells) at h in absurd (cc (c.reads_itself.ensures.pairs.1 known, c.if-reads_itself.false)))
+    λ h. let known = rw (c.requires.planned.texture, cells) at h in absurd (cc (c.reads_itself.ensures.pairs.1 known, c.if-reads_itself.false))
 
 pub returns-then-reads_itself-clause-cost : goal.returns-then-reads_itself-clause-cost
 returns-then-reads_itself-clause-cost g c =
     let span = c.args.span.now in
     let t = c.args.texture.now in
     let cells = cells_same span.paint t span.x span.y c.args.first _ _ c.args.k c.args.k c.requires.at (omega arith) ∙ sym c.texels_at-cells.ensures in
-    let cost = rw (← c.reads_itself.ensures.value, c.if-reads_itself.true) at (textured_cost span t c.args.first c.args.k _ c.requires.texture cells) in
-    rw cost (rw c.requires.texture at c.draw_cells.ensures.cost)
+    let cost = rw (← c.reads_itself.ensures.value, c.if-reads_itself.true) at (textured_cost span t c.args.first c.args.k _ c.requires.planned.texture cells) in
+    rw cost (rw c.requires.planned.texture at c.draw_cells.ensures.cost)
 
 pub returns-else-reads_itself-clause-cost : goal.returns-else-reads_itself-clause-cost
 returns-else-reads_itself-clause-cost g c =
     let span = c.args.span.now in
     let t = c.args.texture.now in
     let cells = cells_same span.paint t span.x span.y c.args.first _ _ c.args.k c.args.k c.requires.at (omega arith) ∙ sym c.texels_at-cells.ensures in
-    let cost = rw (← c.reads_itself.ensures.value, c.if-reads_itself.false) at (textured_cost span t c.args.first c.args.k _ c.requires.texture cells) in
-    omega (arith, cost, c.read_texels-read.ensures.cost, c.collect_textured-lanes.ensures.cost, c.store_chunk.ensures.cost)
+    let cost = rw (← c.reads_itself.ensures.value, c.if-reads_itself.false) at (textured_cost span t c.args.first c.args.k _ c.requires.planned.texture cells) in
+    omega (arith, cost, c.read_texels-read.ensures.cost, c.draw_texels.ensures.cost)

@@ -1,8 +1,8 @@
 use Rattle.std.proofs.Common.{arith, ◌+◌}
 use Rattle.span_lanes.proofs.ChunkLemmas.{AreDrawn, drawn_start, drawn_next, all_cells, all_cost}
-use Rattle.span_lanes.proofs.draw.draw_hues.Given.{Over}
-use Rattle.span_lanes.proofs.draw.draw_hues.Goals.{After-draw_plain-then-rest-gt0}
-use Rattle.span_lanes.proofs.draw.draw_hues.Goals as goal
+use Rattle.span_lanes.proofs.untextured.draw_hues.Given.{Over}
+use Rattle.span_lanes.proofs.untextured.draw_hues.Goals.{After-draw_plain-then-rest-gt0}
+use Rattle.span_lanes.proofs.untextured.draw_hues.Goals as goal
 
 pub loop-c-init : goal.loop-c-init
 loop-c-init g c = drawn_start c.args.span.now c.args.steps.now c.args.vram.now

@@ -1,0 +1,77 @@
+-- Texels that stand side by side.
+use Rattle.std.proofs.Common.{◌≡◌, ◌<◌, ◌≤◌, ℕ, List, Bool, true, false, cond, eqb, ◌+◌, ◌*◌, ◌/◌, ◌%◌, get_or, refl, sym, ap, ◌∙◌, arith}
+use Rattle.std.specs.Int.Bits.{bit_and, bit_or, and_zero_r, or_zero_r}
+use Rattle.std.proofs.lemmas.Bool.Decides.{nat_tests}
+use Rattle.std.proofs.lemmas.Nat.{and_mask}
+use Rattle.texture_page.specs.Page.{texel_place, column, windowed, index_in}
+use Rattle.span_lanes.specs.declared.stretch.Stretch.{Stretch}
+use Rattle.span_lanes.specs.declared.span.Texture.{Texture}
+use Rattle.span_lanes.specs.declared.span.Paint.{Paint}
+use Rattle.span_lanes.specs.declared.span.Paint.TheVariants.{TexturedRow}
+use Rattle.span_lanes.specs.declared.span.Span.{Span}
+use Rattle.span_lanes.specs.Paints.{paint_u, paint_v}
+use Rattle.span_lanes.specs.Shade.{row_u, texel, at_cell}
+use Rattle.span_lanes.specs.Cost.{texel_steps}
+use Rattle.span_lanes.specs.Stretch.{IsStretch}
+use Rattle.span_lanes.proofs.TexelLemmas.{texel_direct, texel_four}
+
+-- without bits of the mask a window changes no coordinate
+pub open_window : (mask off u : ℕ) → mask ≡ 0 → u ≤ 255 → windowed mask off u ≡ u
+unfolding windowed
+open_window mask off u none low = rw (none, and_zero_r, or_zero_r, and_mask u 8) (omega arith)
+
+-- the columns of a row that does not wrap
+pub rising : (u i : ℕ) → u + i ≤ 255 → row_u u false i ≡ u + i
+unfolding row_u
+rising u i low = omega arith
+
+deep_column : (depth u : ℕ) → 2 ≤ depth → column depth u ≡ u
+deep_column depth u deep = grind (arith, nat_tests)
+
+-- a texel of fifteen bits
+pub whole_texel : (span : Span) (t : Texture) (s : Stretch) (x i h : ℕ) (m : List ℕ) → IsStretch span t s → 2 ≤ t.page.depth → i < span.n
+    → h ≡ get_or m (1024 * s.y + (t.page.x + (s.u + i))) 0 → h ≡ texel t (paint_u span.paint x span.y i) (paint_v span.paint x span.y i) m
+whole_texel span t s x i h m is deep lt read =
+    let column = is.column x i lt in
+    let row = is.row x i lt in
+    let wide = deep_column t.page.depth (s.u + i) deep in
+    let room = is.wholes deep in
+    let here : (t.page.x + (s.u + i)) % 1024 ≡ t.page.x + (s.u + i) = omega arith in
+    read
+    ∙ rw (column, row, wide, here) at (texel_direct t (paint_u span.paint x span.y i) (paint_v span.paint x span.y i) m (texel_place t.page t.window (paint_u span.paint x span.y i) (paint_v span.paint x span.y i)) deep refl)
+
+-- a texel of four bits, by its entry
+pub four_texel : (span : Span) (t : Texture) (s : Stretch) (x i e : ℕ) (m : List ℕ) → IsStretch span t s → t.page.depth ≡ 0 → i < span.n
+    → e ≡ get_or m (1024 * (t.clut / 64 % 512) + (t.clut % 64 * 16 + index_in 0 (s.u + i) (get_or m (1024 * s.y + (t.page.x + (s.u + i) / 4)) 0)) % 1024) 0
+    → e ≡ texel t (paint_u span.paint x span.y i) (paint_v span.paint x span.y i) m
+four_texel span t s x i e m is four lt entry =
+    let column = is.column x i lt in
+    let row = is.row x i lt in
+    let room = is.fours four in
+    let here : (t.page.x + (s.u + i) / 4) % 1024 ≡ t.page.x + (s.u + i) / 4 = omega arith in
+    texel_four t _ _ m (s.u + i) (get_or m (1024 * s.y + (t.page.x + (s.u + i) / 4)) 0) e four (sym column)
+    (rw (four, column, row, here) refl) entry
+
+-- the part of a halfword for a column
+pub same_part : (a b h : ℕ) → a % 4 ≡ b % 4 → index_in 0 a h ≡ index_in 0 b h
+same_part a b h same = rw same refl
+
+-- the reads of a texel of fifteen bits
+pub deep_steps : (depth : ℕ) → 2 ≤ depth → texel_steps depth ≡ 1
+deep_steps depth deep = grind (arith, nat_tests)
+
+-- where the texels of a row stand side by side
+pub row_stretch : (span : Span) (t : Texture) (color u v : ℕ) (flip : Bool) (s : Stretch) → span.paint ≡ TexturedRow color t u v flip → flip ≡ false → t.window.mask_x ≡ 0
+    → s.u ≡ u → s.y ≡ t.page.y + windowed t.window.mask_y t.window.off_y v → s.y ≤ t.page.y + 255 → u + span.n ≤ 256
+    → (2 ≤ t.page.depth → t.page.x + (u + span.n) ≤ 1024) → (t.page.depth ≡ 0 → t.page.x + (u + span.n) / 4 + 16 ≤ 1024) → IsStretch span t s
+row_stretch span t color u v flip s paint rises clear at row low in_page wholes fours = record {
+  low = low;
+  in_page = rw at in_page;
+  wholes = rw at wholes;
+  fours = rw at fours;
+  column = λ x i lt.
+      let small : u + i ≤ 255 = omega arith in
+      let here = rising u i small in
+      rw (paint, rises, at, here) (open_window t.window.mask_x t.window.off_x (u + i) clear small);
+  row = λ x i lt. rw (paint, row) refl;
+}

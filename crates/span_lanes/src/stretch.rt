@@ -1,0 +1,120 @@
+// Texels that stand side by side in a row of video memory.
+ghost use Rattle.std.specs.Prelude.{◌≡◌, ◌≤◌, ◌<◌, ◌+◌, ◌/◌, ℕ, IfSome, IsTrue, false, length, slice_index};
+ghost use Rattle.px_num.specs.Lanes.{EachLane};
+ghost use Rattle.texture_page.specs.Page.{index_in};
+ghost use Rattle.vram_store.specs.Vram.{at, height_of};
+ghost use Rattle.span_lanes.specs.declared.span.Paint.TheVariants.{TexturedRow};
+ghost use Rattle.span_lanes.specs.Chunk.{IsChunk};
+ghost use Rattle.span_lanes.specs.Plan.{HasTexels};
+ghost use Rattle.span_lanes.specs.Shade.{IsSpan, IsTexture};
+ghost use Rattle.span_lanes.specs.Stretch.{IsStretch};
+
+use crate::fetch::ramp;
+use crate::nibbles::{entries_at, indexes};
+use crate::row::TexelRow;
+use crate::{Span, Texture};
+use px_num::lanes::{add, shifted_down, splat};
+use std::simd::prelude::*;
+use std::sync::ledger::Ledger;
+use texture_page::texel_cell;
+use vram_store::{Steps, Vram};
+
+// The column of the first texel in its page, and the row of video memory that they stand in.
+#[derive(Clone, Copy)]
+pub(crate) struct Stretch {
+    pub(crate) u: u16,
+    pub(crate) y: u16,
+}
+
+// Whether the cells of n texels from a column of the page on do not wrap.
+#[inline(always)]
+fn has_room(texture: &Texture, u: u16, n: u16) -> bool
+    requires texture { IsTexture texture.now }
+    requires in_page { u + n ≤ 256 }
+    ensures wholes { IsTrue result → 2 ≤ texture.now.page.depth → texture.now.page.x + (u + n) ≤ 1024 }
+    ensures fours { IsTrue result → texture.now.page.depth ≡ 0 → texture.now.page.x + (u + n) / 4 + 16 ≤ 1024 }
+{
+    match texture.page.depth {
+        0 => texture.page.x + (u + n) / 4 + 16 <= 1024,
+        1 => false,
+        _ => texture.page.x + u + n <= 1024,
+    }
+}
+
+// Whether the columns of n texels of a row are one more from cell to cell.
+#[inline(always)]
+fn rises(texture: &Texture, row: TexelRow, n: u16) -> bool
+    requires row { n ≤ 1024 }
+    ensures open { IsTrue result → texture.now.window.mask_x ≡ 0 }
+    ensures rising { IsTrue result → row.flip ≡ false }
+    ensures in_page { IsTrue result → row.u + n ≤ 256 }
+{
+    texture.window.mask_x == 0 && !row.flip && row.u as u16 + n <= 256
+}
+
+// Where the texels of a row stand side by side, if they do.
+#[inline(always)]
+pub(crate) fn stretch_of(span: &Span, texture: &Texture, row: TexelRow) -> Option<Stretch>
+    requires span { IsSpan span.now }
+    requires paint { span.now.paint ≡ TexturedRow row.color texture.now row.u row.v row.flip }
+    ensures { IfSome result (IsStretch span.now texture.now) }
+{
+    let u = row.u as u16;
+    if rises(texture, row, span.n) && has_room(texture, u, span.n) {
+        let y = texel_cell(&texture.page, &texture.window, row.u, row.v).y;
+        Some(Stretch { u, y })
+    } else {
+        None
+    }
+}
+
+// k texels of fifteen bits that stand side by side.
+#[inline(always)]
+pub(crate) fn read_stretch<L: Ledger>(
+    vram: &Vram,
+    span: &Span,
+    texture: &Texture,
+    stretch: &Stretch,
+    first: u16,
+    k: u8,
+    steps: &mut Steps<L>,
+) -> u16x16
+    requires page { texture.now.page.y + 255 < height_of vram.now }
+    requires chunk { IsChunk span.now first k }
+    requires stretch { IsStretch span.now texture.now stretch.now }
+    requires depth { 2 ≤ texture.now.page.depth }
+    ensures texels { HasTexels span.now texture.now first k vram.now result }
+    ensures cost { steps.new ≤ steps.old + 1 }
+{
+    let _ = span;
+    vram.load16(texture.page.x + stretch.u + first, stretch.y, k, steps)
+}
+
+// The indexes of k texels of four bits that stand side by side.
+#[inline(always)]
+pub(crate) fn indexes_beside<L: Ledger>(
+    vram: &Vram,
+    span: &Span,
+    texture: &Texture,
+    stretch: &Stretch,
+    first: u16,
+    k: u8,
+    steps: &mut Steps<L>,
+) -> u16x16
+    requires page { texture.now.page.y + 255 < height_of vram.now }
+    requires chunk { IsChunk span.now first k }
+    requires stretch { IsStretch span.now texture.now stretch.now }
+    requires depth { texture.now.page.depth ≡ 0 }
+    ensures long { length result ≡ 16 }
+    ensures low { EachLane (λ i. slice_index result i < 16) }
+    ensures value { (j : ℕ) → j < k → let u = stretch.now.u + (first + j) in slice_index result j
+        ≡ index_in 0 u (at vram.now (texture.now.page.x + u / 4) stretch.now.y) }
+    ensures cost { steps.new ≤ steps.old + 1 }
+{
+    let _ = span;
+    let u = stretch.u + first;
+    let across = add(splat(u % 4), ramp());
+    let cells = vram.load16(texture.page.x + u / 4, stretch.y, 16, steps);
+    let _ = k;
+    indexes(across, entries_at(cells, shifted_down(across, 2)))
+}
