@@ -5,7 +5,7 @@ use Rattle.gp0_packets.specs.declared.note.Note.{Note}
 use Rattle.gpu_core.specs.Kept.{Kept, kept_of}
 use Rattle.gpu_core.specs.Loading.{AreData, FeedsData, feeds_cost}
 use Rattle.gpu_core.specs.Machine.{State, Feed, FeedNote}
-use Rattle.gpu_taps.specs.Pixels.{pixel_note, pixel_notes, after_notes}
+use Rattle.gpu_taps.specs.Bare.{bare_note, bare_notes, after_notes}
 use Rattle.gpu_taps.specs.Tally.{Reading, capped, reading_after}
 use Rattle.event_play.specs.PlayedWords.{after_word, after_words, IsTold, number_behind}
 use Rattle.event_play.specs.Replay.{Tale, next_number}
@@ -29,23 +29,23 @@ number_is t [] lt = omega (arith, lt)
 number_is t (word ∷ words) lt = let e = number_is (after_word t word) words (omega arith) in omega (arith, e)
 
 -- numbers that are cut off alike number alike
-same_numbers : (a b : ℕ) (words : List ℕ) → capped a ≡ capped b → pixel_notes a words ≡ pixel_notes b words
+same_numbers : (a b : ℕ) (words : List ℕ) → capped a ≡ capped b → bare_notes 9 a words ≡ bare_notes 9 b words
 same_numbers a b [] e = refl
 same_numbers a b (word ∷ words) e =
     let next = same_numbers (a + 1) (b + 1) words (omega (arith, e)) in
-    ap (λ n. pixel_note n word ∷ pixel_notes (a + 1) words) e
-    ∙ ap (λ notes. pixel_note (capped b) word ∷ notes) next
+    ap (λ n. bare_note 9 n word ∷ bare_notes 9 (a + 1) words) e
+    ∙ ap (λ notes. bare_note 9 (capped b) word ∷ notes) next
 
 notes_are : (t : Tale) (words : List ℕ) → AreData t.state.gpu words
-    → (after_words t words).notes ≡ t.notes ++ pixel_notes (t.played + 1) words
+    → (after_words t words).notes ≡ t.notes ++ bare_notes 9 (t.played + 1) words
 notes_are t [] are = sym (append-nil t.notes)
 notes_are t (word ∷ words) are =
     let n = next_number t.played in
-    let one : FeedNote t.state.gpu n word ≡ Some (pixel_note n word) = are.0 n in
+    let one : FeedNote t.state.gpu n word ≡ Some (bare_note 9 n word) = are.0 n in
     notes_are (after_word t word) words are.1
-    ∙ ap (λ note. (t.notes ++ option_to_list note) ++ pixel_notes (n + 1) words) one
-    ∙ append_assoc t.notes (pixel_note n word ∷ []) (pixel_notes (n + 1) words)
-    ∙ ap (λ notes. t.notes ++ pixel_note n word ∷ notes)
+    ∙ ap (λ note. (t.notes ++ option_to_list note) ++ bare_notes 9 (n + 1) words) one
+    ∙ append_assoc t.notes (bare_note 9 n word ∷ []) (bare_notes 9 (n + 1) words)
+    ∙ ap (λ notes. t.notes ++ bare_note 9 n word ∷ notes)
     (same_numbers (n + 1) (t.played + 1 + 1) words (omega arith))
 
 -- each tap is told all notes, or all taps each note
@@ -66,13 +66,13 @@ told_each notes (reading ∷ readings) =
 pub load_told : (t : Tale) (first before now : Outlets) (was gpu : Kept) (played : ℕ) (words : List ℕ) → played < 2 ^ 64
     → IsTold t first before was played
     → ((s : State) → kept_of s ≡ was → FeedsData s words gpu before.steps now.steps)
-    → now.heard ≡ map (after_notes (pixel_notes (played + 1) words)) before.heard
+    → now.heard ≡ map (after_notes (bare_notes 9 (played + 1) words)) before.heard
     → IsTold (after_words t words) first now gpu (number_behind played (length words))
 load_told t first before now was gpu played words lt told feeds heard =
     let did = feeds t.state.gpu told.state in
     let number = told.number in
-    let notes = pixel_notes (played + 1) words in
-    let same : pixel_notes (t.played + 1) words ≡ notes = ap (λ n. pixel_notes (n + 1) words) number in
+    let notes = bare_notes 9 (played + 1) words in
+    let same : bare_notes 9 (t.played + 1) words ≡ notes = ap (λ n. bare_notes 9 (n + 1) words) number in
     record {
       state = ap kept_of (state_is t words) ∙ did.feed;
       number = number_is t words (omega (arith, number, lt)) ∙ ap (λ n. number_behind n (length words)) number;

@@ -10,7 +10,7 @@ use Rattle.gp0_words.specs.Skipped.{behind_pixels}
 use Rattle.gp0_words.specs.declared.item.Item.TheVariants as item
 use Rattle.gp0_words.specs.declared.pending.Pending.{Pending}
 use Rattle.gp0_words.specs.declared.pending.Pending.TheVariants as pending
-use Rattle.gpu_taps.specs.Pixels.{pixel_note}
+use Rattle.gpu_taps.specs.Bare.{bare_note}
 use Rattle.vram_copy.proofs.LoadLemmas.{one_more_word, pixels_more}
 use Rattle.vram_copy.specs.Words.{advanced, advanced_by, pixels_next, pixels_in, LoadWord, LoadWords}
 use Rattle.vram_copy.specs.declared.transfer.Transfer.{Transfer}
@@ -29,7 +29,7 @@ loading p left = record { parts = p; pending = pending.Pixels left }
 
 record IsOne (s : State) (p : Parts) (job : Transfer) (left word : ℕ) : Type 0 where
   pub feed : kept_of (Feed s word) ≡ record { parts = with_pixels p (Some job) word; pending = next_pending (pending.Pixels left) word }
-  pub note : (event : ℕ) → FeedNote s event word ≡ Some (pixel_note event word)
+  pub note : (event : ℕ) → FeedNote s event word ≡ Some (bare_note 9 event word)
   pub cost : FeedCost s word ≡ 2 * pixels_next job
 
 one : (s : State) (p : Parts) (job : Transfer) (left word : ℕ) → kept_of s ≡ loading p left → p.load ≡ Some job

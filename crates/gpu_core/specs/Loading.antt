@@ -1,6 +1,6 @@
 -- Data words of the open load that are taken at once.
 use Rattle.std.specs.Prelude.{◌≡◌, ◌≤◌, ℕ, ◌+◌, ◌*◌, List, [], ◌∷◌, Option, Some, None, fold, length, nat_lt, if◌then◌else◌}
-use Rattle.gpu_taps.specs.Pixels.{pixel_note}
+use Rattle.gpu_taps.specs.Bare.{bare_note}
 use Rattle.vram_copy.specs.Words.{advanced_by, words_left, pixels_in, LoadWords}
 use Rattle.vram_copy.specs.declared.transfer.Transfer.{Transfer}
 use Rattle.gpu_core.specs.Cost.{FeedCost}
@@ -38,7 +38,7 @@ feeds_cost s (word ∷ words) = FeedCost s word + feeds_cost (Feed s word) words
 abbrev pub AreData : State → List ℕ → Type 0
 AreData s [] = Unit {0}
 AreData s (word ∷ words) =
-    ((event : ℕ) → FeedNote s event word ≡ Some (pixel_note event word)) × AreData (Feed s word) words
+    ((event : ℕ) → FeedNote s event word ≡ Some (bare_note 9 event word)) × AreData (Feed s word) words
 
 -- these words were fed, all of them data words
 pub record FeedsData (s : State) (words : List ℕ) (now : Kept) (steps steps_now : ℕ) : Type 0 where

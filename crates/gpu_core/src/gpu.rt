@@ -1,7 +1,7 @@
 // The machine.
 ghost use Rattle.std.specs.Prelude.{◌≡◌, ◌≤◌, ◌<◌, ◌+◌, ◌*◌, ◌%◌, length, map, Some, None, IfOk, IfSome};
 ghost use Rattle.gp0_words.specs.Next.{wanted, IsPending};
-ghost use Rattle.gpu_taps.specs.Pixels.{pixel_notes, after_notes};
+ghost use Rattle.gpu_taps.specs.Bare.{bare_notes, after_notes};
 ghost use Rattle.vram_store.specs.Vram.{blank};
 ghost use Rattle.gpu_core.specs.Cost.{FeedCost, TakeCost};
 ghost use Rattle.gpu_core.specs.Kept.{kept_of, kept_with, state_with, IsLinked, IsOpen, IsSet};
@@ -13,7 +13,7 @@ use crate::parts::Parts;
 use gp0_packets::Note;
 use gp0_words::{Pending, Splitter};
 use gp1_status::{Regs, clears};
-use gpu_taps::{Listener, tell_all, tell_all_pixels};
+use gpu_taps::{Listener, bare_note, tell_all, tell_all_bare};
 use px_num::OutOfMemory;
 use std::alloc::Global;
 use std::marker::Model;
@@ -149,11 +149,11 @@ impl Gpu {
         requires wanted { length words.now ≤ wanted self.old.pending }
         ensures feed { (s : State) → kept_of s ≡ self.old → FeedsData s words.now self.new steps.old steps.new }
         ensures taps { map T.heard taps.new.items
-            ≡ map (after_notes (pixel_notes (played + 1) words.now)) (map T.heard taps.old.items) }
+            ≡ map (after_notes (bare_notes 9 (played + 1) words.now)) (map T.heard taps.old.items) }
     {
         self.splitter.skip_pixels(words.len());
         self.parts.take_all_pixels(words, steps);
-        tell_all_pixels(taps, played, words);
+        tell_all_bare(taps, 9, played, words);
     }
 
     /// Takes a word of GP1. Opcodes 00h and 01h also end an unfinished packet, load, polyline and store.
@@ -277,18 +277,6 @@ impl Gpu {
         ensures cost { steps.new ≡ steps.old + 1 }
     {
         self.parts.set_cells(x, y, lanes, steps);
-    }
-}
-
-// A note without an area.
-fn bare_note(event: u64, class: u8, head: u32) -> Note
-    ensures { result ≡ record { event = event; class = class; head = head; area = None } }
-{
-    Note {
-        event,
-        class,
-        head,
-        area: None,
     }
 }
 

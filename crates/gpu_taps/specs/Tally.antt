@@ -4,6 +4,7 @@ use Rattle.std.specs.Prelude.{nat_lt, nat_le, ◌==◌, ◌&&◌, if◌then◌el
 use Rattle.std.specs.Prelude.{List, [], ◌∷◌, ◌++◌, length, slice_index, slice_set, drop}
 use Rattle.px_num.specs.declared.shape.Box2.{Box2}
 use Rattle.gp0_packets.specs.declared.note.Note.{Note}
+use Rattle.gpu_taps.specs.declared.noted.Noted.{Noted}
 
 -- a number stays at 2^64 - 1 once there
 abbrev pub capped : ℕ → ℕ
@@ -59,11 +60,15 @@ pub record Reading : Type 0 where
 unfoldable pub reading_after : Note → Reading → Reading
 reading_after note reading = record { kind = reading.kind; numbers = tally reading.kind reading.numbers note }
 
--- three numbers of each note
-abbrev pub trace_numbers : List Note → List ℕ
+-- what a trace keeps of a note
+abbrev pub noted_of : Note → Noted
+noted_of note = record { event = note.event; class = note.class; head = note.head }
+
+-- three numbers of each
+abbrev pub trace_numbers : List Noted → List ℕ
 trace_numbers [] = []
 trace_numbers (note ∷ notes) = note.event ∷ note.class ∷ note.head ∷ trace_numbers notes
 
 -- the number of a note at a place: event, class, head
-abbrev pub note_number : Note → (place : ℕ) → ℕ
+abbrev pub note_number : Noted → (place : ℕ) → ℕ
 note_number note place = if place == 0 then note.event else (if place == 1 then note.class else note.head)

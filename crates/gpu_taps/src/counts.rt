@@ -1,5 +1,6 @@
 // The tap of kind 0.
-ghost use Rattle.std.specs.Prelude.{◌≡◌, replicate};
+ghost use Rattle.std.specs.Prelude.{◌≡◌, ◌+◌, ◌<◌, ◌^◌, replicate};
+ghost use Rattle.gpu_taps.specs.Tally.{capped};
 
 use crate::tap::Tap;
 use gp0_packets::Note;
@@ -19,6 +20,14 @@ impl Counts {
     }
 }
 
+/// A count that grew by so much.
+fn grown(count: u64, by: u64) -> u64
+    ensures value { result ≡ capped (count + by) }
+    ensures before { count < 2 ^ 64 }
+{
+    count.saturating_add(by)
+}
+
 impl Tap for Counts {
     ghost reading = { λ c. record { kind = 0; numbers = c.counts } };
 
@@ -31,6 +40,14 @@ impl Tap for Counts {
         let class = usize::from(note.class);
         if class < 10 {
             self.counts[class] = self.counts[class].saturating_add(1);
+        }
+    }
+
+    #[tactic(auto, unfolding(crate::specs::Tally::tally, crate::specs::Tally::reading_after))]
+    fn bare_notes(&mut self, class: u8, _played: u64, words: &[u32]) {
+        let class = usize::from(class);
+        if class < 10 {
+            self.counts[class] = grown(self.counts[class], words.len() as u64);
         }
     }
 

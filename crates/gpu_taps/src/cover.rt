@@ -63,6 +63,8 @@ impl Tap for Cover {
         }
     }
 
+    fn bare_notes(&mut self, _class: u8, _played: u64, _words: &[u32]) {}
+
     fn len(&self) -> u32 {
         3
     }

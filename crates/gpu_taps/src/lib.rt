@@ -7,13 +7,14 @@
 mod counts;
 mod cover;
 mod listener;
+mod noted;
 mod tap;
 mod trace;
 
 pub use counts::Counts;
 pub use cover::Cover;
-pub use listener::{Listener, tell_all, tell_all_pixels};
-pub use tap::{Tap, pixel_note};
+pub use listener::{Listener, tell_all, tell_all_bare};
+pub use tap::{Tap, bare_note};
 pub use trace::Trace;
 
 #[cfg(test)]

@@ -1,6 +1,6 @@
 // What can be told of notes, and telling a list of it.
 ghost use Rattle.std.specs.Prelude.{◌≡◌, ◌<◌, ◌+◌, length, map, slice_index, vec_len};
-ghost use Rattle.gpu_taps.specs.Pixels.{pixel_notes, after_notes};
+ghost use Rattle.gpu_taps.specs.Bare.{bare_notes, after_notes};
 ghost use Rattle.gpu_taps.specs.Tally.{Reading, reading_after};
 
 use crate::tap::Tap;
@@ -16,9 +16,9 @@ pub trait Listener: Drop {
     fn tell(&mut self, note: &Note)
         ensures { heard self.new ≡ reading_after note.now (heard self.old) };
 
-    /// Tells it the notes of data words of a load, an event each, behind so many events.
-    fn tell_pixels(&mut self, played: u64, words: &[u32])
-        ensures { heard self.new ≡ after_notes (pixel_notes (played + 1) words.now) (heard self.old) };
+    /// Tells it notes of this class without an area, one for each of these words, an event each, behind so many events.
+    fn tell_bare(&mut self, class: u8, played: u64, words: &[u32])
+        ensures { heard self.new ≡ after_notes (bare_notes class (played + 1) words.now) (heard self.old) };
 
     /// The kind of what it says.
     fn kind(&self) -> u8
@@ -41,8 +41,8 @@ impl Listener for Box<dyn Tap> {
         (**self).note(note)
     }
 
-    fn tell_pixels(&mut self, played: u64, words: &[u32]) {
-        (**self).pixels(played, words)
+    fn tell_bare(&mut self, class: u8, played: u64, words: &[u32]) {
+        (**self).bare_notes(class, played, words)
     }
 
     fn kind(&self) -> u8 {
@@ -68,13 +68,14 @@ pub fn tell_all<T: Listener>(taps: &mut Vec<T>, note: &Note)
     }
 }
 
-/// Tells every listener of the list the notes of the same data words, in order.
-pub fn tell_all_pixels<T: Listener>(taps: &mut Vec<T>, played: u64, words: &[u32])
+/// Tells every listener of the list the same notes without an area, in order: those of this class, one for each of these
+/// words, an event each, behind so many events.
+pub fn tell_all_bare<T: Listener>(taps: &mut Vec<T>, class: u8, played: u64, words: &[u32])
     ensures len { vec_len taps.new ≡ vec_len taps.old }
     ensures told { map T.heard taps.new.items
-        ≡ map (after_notes (pixel_notes (played + 1) words.now)) (map T.heard taps.old.items) }
+        ≡ map (after_notes (bare_notes class (played + 1) words.now)) (map T.heard taps.old.items) }
 {
     for k in 0..taps.len() {
-        taps[k].tell_pixels(played, words);
+        taps[k].tell_bare(class, played, words);
     }
 }

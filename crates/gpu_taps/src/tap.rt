@@ -1,6 +1,6 @@
 // What watches notes.
 ghost use Rattle.std.specs.Prelude.{◌≡◌, ◌<◌, ◌+◌, length, slice_index};
-ghost use Rattle.gpu_taps.specs.Pixels.{pixel_note, pixel_notes, after_notes};
+ghost use Rattle.gpu_taps.specs.Bare.{bare_note, bare_notes, after_notes};
 ghost use Rattle.gpu_taps.specs.Tally.{Reading, reading_after};
 
 use gp0_packets::Note;
@@ -18,12 +18,12 @@ pub trait Tap: Drop {
     fn note(&mut self, note: &Note)
         ensures { reading self.new ≡ reading_after note.now (reading self.old) };
 
-    /// Takes the notes of data words of a load, an event each, behind so many events.
-    fn pixels(&mut self, played: u64, words: &[u32])
-        ensures { reading self.new ≡ after_notes (pixel_notes (played + 1) words.now) (reading self.old) }
+    /// Takes notes of this class without an area, one for each of these words, an event each, behind so many events.
+    fn bare_notes(&mut self, class: u8, played: u64, words: &[u32])
+        ensures { reading self.new ≡ after_notes (bare_notes class (played + 1) words.now) (reading self.old) }
     {
         for i in 0..words.len() {
-            self.note(&pixel_note(played.saturating_add(i as u64 + 1), words[i]));
+            self.note(&bare_note(played.saturating_add(i as u64 + 1), class, words[i]));
         }
     }
 
@@ -37,14 +37,14 @@ pub trait Tap: Drop {
         ensures { result ≡ slice_index (reading self.now).numbers i };
 }
 
-/// The note of a data word of a load.
-pub fn pixel_note(event: u64, word: u32) -> Note
-    ensures { result ≡ pixel_note event word }
+/// A note without an area.
+pub fn bare_note(event: u64, class: u8, head: u32) -> Note
+    ensures { result ≡ bare_note class event head }
 {
     Note {
         event,
-        class: 9,
-        head: word,
+        class,
+        head,
         area: None,
     }
 }

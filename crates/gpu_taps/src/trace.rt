@@ -1,7 +1,10 @@
 // The tap of kind 1.
-ghost use Rattle.std.specs.Prelude.{◌≡◌, ◌<◌, ◌≤◌, None, IfOk, [], length, slice_index};
-ghost use Rattle.gpu_taps.specs.Tally.{note_number, trace_numbers};
+ghost use Rattle.std.specs.Prelude.{◌≡◌, ◌<◌, ◌≤◌, ◌+◌, ◌++◌, IfOk, [], length, map, slice_index};
+ghost use Rattle.circular_buffer.specs.Buffer.{keep_last};
+ghost use Rattle.gpu_taps.specs.Bare.{bare_notes};
+ghost use Rattle.gpu_taps.specs.Tally.{noted_of, trace_numbers};
 
+use crate::noted::Noted;
 use crate::tap::Tap;
 use circular_buffer::HeapCircularBuffer;
 use gp0_packets::Note;
@@ -14,7 +17,7 @@ const KEPT: usize = 64;
 /// The last 64 notes, the oldest first: three numbers of each, its event, its class and its head.
 #[derive(Drop)]
 pub struct Trace {
-    notes: HeapCircularBuffer<Note>,
+    notes: HeapCircularBuffer<Noted>,
     ghost size: { notes.capacity ≡ 64 },
     ghost fits: { length notes.items ≤ 64 },
 }
@@ -30,7 +33,8 @@ impl Trace {
 }
 
 impl Tap for Trace {
-    ghost use Rattle.std.specs.Prelude.{◌≡◌, ◌<◌, length, slice_index};
+    ghost use Rattle.std.specs.Prelude.{◌≡◌, ◌<◌, ◌+◌, length, slice_index};
+    ghost use Rattle.gpu_taps.specs.Bare.{bare_notes, after_notes};
     ghost use Rattle.gpu_taps.specs.Tally.{trace_numbers, reading_after};
 
     ghost reading = { λ t. record { kind = 1; numbers = trace_numbers t.notes.items } };
@@ -41,7 +45,18 @@ impl Tap for Trace {
 
     #[tactic(auto, unfolding(crate::specs::Tally::tally, crate::specs::Tally::reading_after))]
     fn note(&mut self, note: &Note) {
-        self.notes.push_back(without_area(note));
+        self.notes.push_back(Noted::of(note));
+    }
+
+    // Of more words than are kept the last alone are noted.
+    fn bare_notes(&mut self, class: u8, played: u64, words: &[u32]) {
+        let gone = words.len().saturating_sub(KEPT);
+        keep_words(
+            &mut self.notes,
+            class,
+            played.saturating_add(gone as u64),
+            &words[gone..],
+        );
     }
 
     fn len(&self) -> u32 {
@@ -53,37 +68,28 @@ impl Tap for Trace {
     }
 }
 
-/// A note without its area, which no number of a trace shows. It is built from its members: to copy the whole would
-/// wait for the writes of its parts.
-fn without_area(note: &Note) -> Note
-    ensures { result ≡ record { event = note.now.event; class = note.now.class; head = note.now.head; area = None } }
+/// Notes one word after another, an event each, behind so many events.
+fn keep_words(notes: &mut HeapCircularBuffer<Noted>, class: u8, played: u64, words: &[u32])
+    requires size { notes.old.capacity ≡ 64 }
+    requires fits { length notes.old.items ≤ 64 }
+    ensures size { notes.new.capacity ≡ 64 }
+    ensures items { notes.new.items
+        ≡ keep_last 64 (notes.old.items ++ map noted_of (bare_notes class (played + 1) words.now)) }
 {
-    Note {
-        event: note.event,
-        class: note.class,
-        head: note.head,
-        area: None,
-    }
-}
-
-/// Number `place`, 0 to 2, of the three of a note.
-fn number_in(note: &Note, place: u32) -> u64
-    ensures { result ≡ note_number note.now place }
-{
-    match place {
-        0 => note.event,
-        1 => u64::from(note.class),
-        _ => u64::from(note.head),
+    for i in 0..words.len() {
+        let event = played.saturating_add(i as u64 + 1);
+        let head = words[i];
+        notes.push_back(Noted { event, class, head });
     }
 }
 
 /// Number `i` of the numbers of these notes.
-fn number_of(notes: &HeapCircularBuffer<Note>, i: u32) -> u64
+fn number_of(notes: &HeapCircularBuffer<Noted>, i: u32) -> u64
     requires { i < length (trace_numbers notes.now.items) }
     ensures { result ≡ slice_index (trace_numbers notes.now.items) i }
 {
     match notes.get((i / 3) as usize) {
-        Some(note) => number_in(note, i % 3),
+        Some(note) => note.number(i % 3),
         None => 0,
     }
 }
