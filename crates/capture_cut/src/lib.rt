@@ -26,8 +26,8 @@ mod tests {
     use std::test::Fail;
     use vram_store::Steps;
 
-    // How a capture of seven events, with a triangle around them, ends where it is cut behind so many, and how many bytes
-    // are written.
+    // How a capture of seven events, with a triangle around them, ends where it is cut behind so many, and how many
+    // bytes are written.
     fn cut_behind<L: Ledger>(
         alloc: Global,
         blank: Blank,

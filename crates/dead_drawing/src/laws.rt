@@ -7,16 +7,16 @@ ghost use Rattle.dead_drawing.specs.OneEvent.{CalmEventsKeepAlike, FillsMakeSame
 ghost use Rattle.dead_drawing.specs.OnePacket.{PacketsAreUnseen};
 ghost use Rattle.dead_drawing.specs.Slim.{Slim};
 
-/// Two states that agree outside of an area, with the same registers, open transfers and words that are due, do so after
-/// the same event, which shows the same words, where that is no read and completes nothing that reads cells elsewhere. A
-/// fill that covers the area makes them the same.
+/// Two states that agree outside of an area, with the same registers, open transfers and words that are due, do so
+/// after the same event, which shows the same words, where that is no read and completes nothing that reads cells
+/// elsewhere. A fill that covers the area makes them the same.
 pub fn events_keep_alike()
     ensures calm { CalmEventsKeepAlike }
     ensures fill { FillsMakeSame }
 {}
 
-/// The words of one packet may be left out where it draws nothing, or where a later fill covers its area unseen: whatever
-/// events come before and behind, the same words are shown, and the status word and video memory are the same.
+/// The words of one packet may be left out where it draws nothing, or where a later fill covers its area unseen:
+/// whatever events come before and behind, the same words are shown, and the status word and video memory are the same.
 pub fn packets_are_unseen()
     ensures { PacketsAreUnseen }
 {}

@@ -1,5 +1,7 @@
 -- A capture gives reads that are not shown only in the versions that know them.
-use Rattle.std.proofs.Common.{◌≡◌, ◌≤◌, ◌+◌, ◌&&◌, ◌==◌, ◌++◌, ℕ, zero, suc, List, [], ◌∷◌, Bool, true, false, cond, nat_lt, nat_le, length, take, drop, replicate, Result, Ok, Err, refl, sym, subst, arith, inl, inr}
+use Rattle.std.proofs.Common.{◌≡◌, ◌≤◌, ◌+◌, ◌&&◌, ◌==◌, ◌++◌, ℕ, zero, suc, List, [], ◌∷◌, Bool, true, false, cond}
+use Rattle.std.proofs.Common.{nat_lt, nat_le, length, take, drop, replicate, Result, Ok, Err, refl, sym, subst, arith}
+use Rattle.std.proofs.Common.{inl, inr}
 use Rattle.std.proofs.lemmas.Bool.{cases_Bool}
 use Rattle.std.proofs.lemmas.Bool.Decides.{nat_tests}
 use Rattle.gpu_capture.specs.Capture.{Captured, after_step, capture, limit, opened, records, head_version}
@@ -57,7 +59,8 @@ tag_known version place tag =
     by_tests version place tag (count_of tag) _ _ _ _ _ _ _ _ _ _ (skip_known version (kind_of tag) (count_of tag))
 
 -- an address leads to no event
-opened_known : (version : ℕ) (b : Bool) (next : Due) (stop : Stop) → GivesKnown version (cond b (Opens next) (Closes stop))
+opened_known : (version : ℕ) (b : Bool) (next : Due) (stop : Stop)
+    → GivesKnown version (cond b (Opens next) (Closes stop))
 opened_known version true next stop = tt
 opened_known version false next stop = tt
 
@@ -77,7 +80,8 @@ step_known version (due.Chcr by madr bcr) place word = by_start version by madr 
 
 -- ---- all bytes
 
-known_append : (version : ℕ) (xs ys : List Event) → AreKnown version xs → AreKnown version ys → AreKnown version (xs ++ ys)
+known_append : (version : ℕ) (xs ys : List Event) → AreKnown version xs → AreKnown version ys
+    → AreKnown version (xs ++ ys)
 known_append version [] ys first last = last
 known_append version (x ∷ xs) ys first last = (first.0, known_append version xs ys first.1 last)
 
@@ -92,11 +96,15 @@ behind_known version (Gives e count next) on bytes known later =
     known_append version (replicate count e) (on next).events (known_repeated version e count known) (later next)
 behind_known version (Closes stop) on bytes known later = tt
 
-records_known : (bytes : List ℕ) (version : ℕ) (at : Due) (place : ℕ) → AreKnown version (records version at place bytes).events
+records_known : (bytes : List ℕ) (version : ℕ) (at : Due) (place : ℕ)
+    → AreKnown version (records version at place bytes).events
 records_known [] version at place = elim (cases_Bool (nat_lt place limit)) [ inl is ↦ rw is tt | inr is ↦ rw is tt ]
-records_known (a ∷ []) version at place = elim (cases_Bool (nat_lt place limit)) [ inl is ↦ rw is tt | inr is ↦ rw is tt ]
-records_known (a ∷ b ∷ []) version at place = elim (cases_Bool (nat_lt place limit)) [ inl is ↦ rw is tt | inr is ↦ rw is tt ]
-records_known (a ∷ b ∷ c ∷ []) version at place = elim (cases_Bool (nat_lt place limit)) [ inl is ↦ rw is tt | inr is ↦ rw is tt ]
+records_known (a ∷ []) version at place = elim
+    (cases_Bool (nat_lt place limit)) [ inl is ↦ rw is tt | inr is ↦ rw is tt ]
+records_known (a ∷ b ∷ []) version at place = elim
+    (cases_Bool (nat_lt place limit)) [ inl is ↦ rw is tt | inr is ↦ rw is tt ]
+records_known (a ∷ b ∷ c ∷ []) version at place = elim
+    (cases_Bool (nat_lt place limit)) [ inl is ↦ rw is tt | inr is ↦ rw is tt ]
 records_known (a ∷ b ∷ c ∷ d ∷ bytes) version at place =
     elim (cases_Bool (nat_lt place limit)) [
       | inl is ↦ rw is (behind_known version _ (λ next. records version next (place + 4) bytes) bytes
@@ -104,7 +112,8 @@ records_known (a ∷ b ∷ c ∷ d ∷ bytes) version at place =
       | inr is ↦ rw is tt
     ]
 
-by_head : (version : Result ℕ ℕ) (bytes : List ℕ) → AreKnown (opened version bytes).version (opened version bytes).events
+by_head : (version : Result ℕ ℕ) (bytes : List ℕ)
+    → AreKnown (opened version bytes).version (opened version bytes).events
 by_head (Ok version) bytes =
     let P : ℕ → Type 0 = λ v. AreKnown v (records version due.Tag 8 bytes).events in
     subst P (sym (records_version bytes version due.Tag 8)) (records_known bytes version due.Tag 8)

@@ -48,7 +48,8 @@ off : (version : ℕ) → version ≡ 0 → nat_lt 0 version ≡ false
 off version none = rw none refl
 
 -- what the format says at a place behind the head where no event is still to be given
-pub at_word : (p : Progress) (bytes : List ℕ) → 0 < p.version → p.left ≡ 0 → capture_from p bytes ≡ records p.version p.due p.place bytes
+pub at_word : (p : Progress) (bytes : List ℕ) → 0 < p.version → p.left ≡ 0 → capture_from p bytes
+    ≡ records p.version p.due p.place bytes
 at_word p bytes started none = rw (on p.version started, none) refl
 
 -- ---- none too many
@@ -56,7 +57,8 @@ at_word p bytes started none = rw (on p.version started, none) refl
 -- a proper part is shorter
 part_shorter : (taken part more : List ℕ) → taken ≡ part ++ more → (more ≡ [] → ⊥) → length part < length taken
 part_shorter taken part [] is some = absurd (some refl)
-part_shorter taken part (x ∷ xs) is some = let e : length taken ≡ length part + suc (length xs) = ap length is ∙ length-append part (x ∷ xs) in omega (arith, e)
+part_shorter taken part (x ∷ xs) is some = let e : length taken ≡ length part + suc (length xs) = ap length is
+    ∙ length-append part (x ∷ xs) in omega (arith, e)
 
 none_needed : (p : Progress) → AreNeeded p []
 none_needed p [] [] is some = absurd (some refl)
@@ -64,7 +66,8 @@ none_needed p [] (x ∷ xs) is some = absurd cc
 none_needed p (x ∷ xs) more is some = absurd cc
 
 -- at most four bytes of a word
-pub word_needed : (p : Progress) (taken : List ℕ) → 0 < p.version → p.left ≡ 0 → p.place < limit → length taken ≤ 4 → AreNeeded p taken
+pub word_needed : (p : Progress) (taken : List ℕ) → 0 < p.version → p.left ≡ 0 → p.place < limit → length taken ≤ 4
+    → AreNeeded p taken
 word_needed p taken started none lt few part more is some =
     let short = part_shorter taken part more is some in
     record {
@@ -120,8 +123,10 @@ no_word_says p (BadRecord byte word) taken now started none says = absurd says
 no_word_needed : (p : Progress) (stop : Stop) (taken : List ℕ) (now : Option (List ℕ)) → 0 < p.version → p.left ≡ 0
     → SaysNoWord stop p.place taken now → AreNeeded p taken
 no_word_needed p (TooLong byte) taken now started none says = rw says.2 (none_needed p)
-no_word_needed p (Truncated byte) taken now started none says = word_needed p taken started none says.0 (omega (arith, says.1))
-no_word_needed p (ReadFault byte) taken now started none says = word_needed p taken started none says.0 (omega (arith, says.1))
+no_word_needed p (Truncated byte) taken now started none says = word_needed p taken started none says.0
+    (omega (arith, says.1))
+no_word_needed p (ReadFault byte) taken now started none says = word_needed p taken started none says.0
+    (omega (arith, says.1))
 no_word_needed p End taken now started none says = absurd says
 no_word_needed p (NotCapture byte) taken now started none says = absurd says
 no_word_needed p (BadRecord byte word) taken now started none says = absurd says
@@ -146,7 +151,8 @@ word_says : (p : Progress) (a b c d : ℕ) (bytes : List ℕ) → 0 < p.version 
 word_says p a b c d bytes started none lt = at_word p (a ∷ b ∷ c ∷ d ∷ bytes) started none ∙ rw (within p.place lt) refl
 
 -- the same for the word that was taken
-pub took_says : (p : Progress) (before now : Option (List ℕ)) (word : ℕ) (step : Step) (rest : List ℕ) → 0 < p.version → p.left ≡ 0
+pub took_says : (p : Progress) (before now : Option (List ℕ)) (word : ℕ) (step : Step) (rest : List ℕ) → 0 < p.version
+    → p.left ≡ 0
     → (took : IsWord before now p.place word) → step ≡ word_step p.version p.due p.place word
     → capture_from p ((took.a ∷ took.b ∷ took.c ∷ took.d ∷ []) ++ rest)
     ≡ after_step p.version step (λ next. records p.version next (p.place + 4) rest) rest
@@ -157,7 +163,8 @@ took_says p before now word step rest started none took is =
 
 -- where a reader stands behind a word, the format says what it says of the bytes there
 behind_says : (p : Progress) (next : Due) (repeated : Event) (left : ℕ) (rest : List ℕ) → 0 < p.version
-    → capture_from (behind_word p next repeated left) rest ≡ then_events (replicate left repeated) (records p.version next (p.place + 4) rest)
+    → capture_from (behind_word p next repeated left) rest ≡ then_events (replicate left repeated)
+    (records p.version next (p.place + 4) rest)
 behind_says p next repeated left rest started = rw (on p.version started) refl
 
 pub opens_word : (p : Progress) (before now : Option (List ℕ)) (word : ℕ) (next : Due) → 0 < p.version → p.left ≡ 0
@@ -173,11 +180,13 @@ opens_word p before now word next started none took is = record {
 
 -- the first of so many, and the others
 first_of_them : (event : Event) (count : ℕ) (more : Captured) → 1 ≤ count
-    → then_events (replicate count event) more ≡ then_events (event ∷ []) (then_events (replicate (count - 1) event) more)
+    → then_events (replicate count event) more
+    ≡ then_events (event ∷ []) (then_events (replicate (count - 1) event) more)
 first_of_them event zero more some = absurd (omega arith)
 first_of_them event (suc n) more some = let e : suc n - 1 ≡ n = omega arith in rw e refl
 
-pub gives_word : (p : Progress) (before now : Option (List ℕ)) (word : ℕ) (event : Event) (count : ℕ) (next : Due) → 0 < p.version → p.left ≡ 0
+pub gives_word : (p : Progress) (before now : Option (List ℕ)) (word : ℕ) (event : Event) (count : ℕ) (next : Due)
+    → 0 < p.version → p.left ≡ 0
     → 1 ≤ count → IsWord before now p.place word → GivesEvents event count next ≡ word_step p.version p.due p.place word
     → Takes p (behind_word p next event (count - 1)) before now (event ∷ [])
 gives_word p before now word event count next started none some took is = record {
@@ -191,19 +200,22 @@ gives_word p before now word event count next started none some took is = record
 
 -- an event that is still to be given takes no byte
 pub gives_repeated : (p : Progress) (left : Option (List ℕ)) → 0 < p.version → 1 ≤ p.left
-    → Takes p (record { version = p.version; place = p.place; due = p.due; repeated = p.repeated; left = p.left - 1 }) left left (p.repeated ∷ [])
+    → Takes p (record { version = p.version; place = p.place; due = p.due; repeated = p.repeated; left = p.left - 1 })
+    left left (p.repeated ∷ [])
 gives_repeated p left started some = record {
   taken = [];
   bytes = prepended-nil left;
   needed = none_needed p;
-  says = λ rest. rw (on p.version started) (first_of_them p.repeated p.left (records p.version p.due p.place rest) some);
+  says = λ rest. rw (on p.version started)
+      (first_of_them p.repeated p.left (records p.version p.due p.place rest) some);
 }
 
 -- a stop that a word decides
 word_stop_says : (p : Progress) (before now : Option (List ℕ)) (word : ℕ) (stop : Stop) → 0 < p.version → p.left ≡ 0
     → (took : IsWord before now p.place word) → Closes stop ≡ word_step p.version p.due p.place word → IsWordStop stop
     → SaysStop stop p p.version (took.a ∷ took.b ∷ took.c ∷ took.d ∷ []) now
-word_stop_says p before now word End started none took is decided = λ rest. took_says p before now word (Closes End) rest started none took is
+word_stop_says p before now word End started none took is decided = λ rest. took_says p before now word
+    (Closes End) rest started none took is
 word_stop_says p before now word (BadRecord byte tag) started none took is decided =
     λ rest. took_says p before now word (Closes (BadRecord byte tag)) rest started none took is
 word_stop_says p before now word (NotCapture byte) started none took is decided = absurd decided
@@ -212,7 +224,8 @@ word_stop_says p before now word (TooLong byte) started none took is decided = a
 word_stop_says p before now word (ReadFault byte) started none took is decided = absurd decided
 
 pub word_stops : (p : Progress) (before now : Option (List ℕ)) (word : ℕ) (stop : Stop) → 0 < p.version → p.left ≡ 0
-    → IsWord before now p.place word → Closes stop ≡ word_step p.version p.due p.place word → IsWordStop stop → StopsAt p p before now stop
+    → IsWord before now p.place word → Closes stop ≡ word_step p.version p.due p.place word → IsWordStop stop
+    → StopsAt p p before now stop
 word_stops p before now word stop started none took is decided = record {
   taken = took.a ∷ took.b ∷ took.c ∷ took.d ∷ [];
   bytes = took.bytes;
@@ -240,9 +253,12 @@ says_on : (p q : Progress) (version : ℕ) (stop : Stop) (xs ys : List ℕ) (now
 says_on p q version (ReadFault byte) xs ys now moved says = moved ys ∙ says
 says_on p q version (Truncated byte) xs ys now moved says = (moved ys ∙ says.0, says.1)
 says_on p q version End xs ys now moved says = λ rest. rw (append_assoc xs ys rest) (moved (ys ++ rest) ∙ says rest)
-says_on p q version (NotCapture byte) xs ys now moved says = λ rest. rw (append_assoc xs ys rest) (moved (ys ++ rest) ∙ says rest)
-says_on p q version (TooLong byte) xs ys now moved says = λ rest. rw (append_assoc xs ys rest) (moved (ys ++ rest) ∙ says rest)
-says_on p q version (BadRecord byte word) xs ys now moved says = λ rest. rw (append_assoc xs ys rest) (moved (ys ++ rest) ∙ says rest)
+says_on p q version (NotCapture byte) xs ys now moved says = λ rest. rw (append_assoc xs ys rest)
+    (moved (ys ++ rest) ∙ says rest)
+says_on p q version (TooLong byte) xs ys now moved says = λ rest. rw (append_assoc xs ys rest)
+    (moved (ys ++ rest) ∙ says rest)
+says_on p q version (BadRecord byte word) xs ys now moved says = λ rest. rw (append_assoc xs ys rest)
+    (moved (ys ++ rest) ∙ says rest)
 
 pub stops_on : (p q r : Progress) (before mid now : Option (List ℕ)) (stop : Stop)
     → Takes p q before mid [] → StopsAt q r mid now stop → StopsAt p r before now stop
@@ -265,9 +281,11 @@ no_version : (version : ℕ) (stop : Stop) (rest : List ℕ) → version ≡ 0 �
 no_version version stop rest none = rw none refl
 
 -- what the head and the bytes behind it say
-opened_says : (p : Progress) (bytes rest : List ℕ) → p.version ≡ 0 → length bytes ≡ 8 → capture_from p (bytes ++ rest) ≡ opened (head_version bytes) rest
+opened_says : (p : Progress) (bytes rest : List ℕ) → p.version ≡ 0 → length bytes ≡ 8 → capture_from p (bytes ++ rest)
+    ≡ opened (head_version bytes) rest
 opened_says p (a ∷ b ∷ c ∷ d ∷ e ∷ f ∷ g ∷ h ∷ []) rest unstarted eight =
-    let long : nat_lt (length (a ∷ b ∷ c ∷ d ∷ e ∷ f ∷ g ∷ h ∷ rest)) 8 ≡ false = grind arith in rw (off p.version unstarted, long) refl
+    let long : nat_lt (length (a ∷ b ∷ c ∷ d ∷ e ∷ f ∷ g ∷ h ∷ rest)) 8 ≡ false = grind arith in
+    rw (off p.version unstarted, long) refl
 opened_says p [] rest unstarted eight = absurd (omega (arith, eight))
 opened_says p (a ∷ []) rest unstarted eight = absurd (omega (arith, eight))
 opened_says p (a ∷ b ∷ []) rest unstarted eight = absurd (omega (arith, eight))
@@ -278,11 +296,14 @@ opened_says p (a ∷ b ∷ c ∷ d ∷ e ∷ f ∷ []) rest unstarted eight = ab
 opened_says p (a ∷ b ∷ c ∷ d ∷ e ∷ f ∷ g ∷ []) rest unstarted eight = absurd (omega (arith, eight))
 opened_says p (a ∷ b ∷ c ∷ d ∷ e ∷ f ∷ g ∷ h ∷ i ∷ bytes) rest unstarted eight = absurd (omega (arith, eight))
 
-whole : (buf : List ℕ) (before now : Option (List ℕ)) → length buf ≡ 8 → before ≡ prepended (take 8 buf) now → before ≡ prepended buf now
+whole : (buf : List ℕ) (before now : Option (List ℕ)) → length buf ≡ 8 → before ≡ prepended (take 8 buf) now
+    → before ≡ prepended buf now
 whole buf before now eight took = took ∙ ap (λ bytes. prepended bytes now) (take_all 8 buf (omega (arith, eight)))
 
-pub head_takes : (p : Progress) (buf : List ℕ) (before now : Option (List ℕ)) (version : ℕ) → p.version ≡ 0 → length buf ≡ 8
-    → before ≡ prepended (take 8 buf) now → head_version buf ≡ Ok version → 1 ≤ version → Takes p (tag_due version 8) before now []
+pub head_takes : (p : Progress) (buf : List ℕ) (before now : Option (List ℕ)) (version : ℕ) → p.version ≡ 0
+    → length buf ≡ 8
+    → before ≡ prepended (take 8 buf) now → head_version buf ≡ Ok version → 1 ≤ version
+    → Takes p (tag_due version 8) before now []
 head_takes p buf before now version unstarted eight took is known = record {
   taken = buf;
   bytes = whole buf before now eight took;
@@ -290,35 +311,46 @@ head_takes p buf before now version unstarted eight took is known = record {
   says = λ rest. opened_says p buf rest unstarted eight ∙ ap (λ says. opened says rest) is ∙ rw (on version known) refl;
 }
 
-pub head_stops : (p : Progress) (buf : List ℕ) (before now : Option (List ℕ)) (place : ℕ) → p.version ≡ 0 → length buf ≡ 8
+pub head_stops : (p : Progress) (buf : List ℕ) (before now : Option (List ℕ)) (place : ℕ) → p.version ≡ 0
+    → length buf ≡ 8
     → before ≡ prepended (take 8 buf) now → head_version buf ≡ Err place → StopsAt p p before now (NotCapture place)
 head_stops p buf before now place unstarted eight took is = record {
   taken = buf;
   bytes = whole buf before now eight took;
   needed = head_needed p buf unstarted (omega (arith, eight));
-  says = λ rest. opened_says p buf rest unstarted eight ∙ ap (λ says. opened says rest) is ∙ no_version p.version (NotCapture place) rest unstarted;
+  says = λ rest. opened_says p buf rest unstarted eight ∙ ap (λ says. opened says rest) is
+      ∙ no_version p.version (NotCapture place) rest unstarted;
 }
 
 -- fewer than eight bytes
-short_says : (p : Progress) (bytes : List ℕ) → p.version ≡ 0 → length bytes < 8 → capture_from p bytes ≡ ended p.version (Truncated (length bytes)) []
-short_says p bytes unstarted short = let e : nat_lt (length bytes) 8 ≡ true = grind (arith, short) in rw (off p.version unstarted, e, unstarted) refl
+short_says : (p : Progress) (bytes : List ℕ) → p.version ≡ 0 → length bytes < 8 → capture_from p bytes
+    ≡ ended p.version (Truncated (length bytes)) []
+short_says p bytes unstarted short = let e : nat_lt (length bytes) 8 ≡ true = grind (arith, short) in
+    rw (off p.version unstarted, e, unstarted) refl
 
-pub head_short : (p : Progress) (buf : List ℕ) (before now : Option (List ℕ)) (n : ℕ) → p.version ≡ 0 → n ≤ length buf → n < 8
+pub head_short : (p : Progress) (buf : List ℕ) (before now : Option (List ℕ)) (n : ℕ) → p.version ≡ 0 → n ≤ length buf
+    → n < 8
     → before ≡ prepended (take n buf) now → IsAtEnd now → StopsAt p p before now (Truncated n)
 head_short p buf before now n unstarted fits few took at_end =
     let long : length (take n buf) ≡ n = length-take-le n buf fits in record {
       taken = take n buf;
       bytes = took;
       needed = head_needed p (take n buf) unstarted (omega (arith, long, few));
-      says = (short_says p (take n buf) unstarted (omega (arith, long, few)) ∙ ap (λ byte. ended p.version (Truncated byte) []) long, at_end);
+      says = (
+        short_says p (take n buf) unstarted (omega (arith, long, few))
+            ∙ ap (λ byte. ended p.version (Truncated byte) []) long,
+        at_end,
+      );
     }
 
-pub head_fails : (p : Progress) (buf : List ℕ) (before now : Option (List ℕ)) (n : ℕ) → p.version ≡ 0 → n ≤ length buf → n < 8
+pub head_fails : (p : Progress) (buf : List ℕ) (before now : Option (List ℕ)) (n : ℕ) → p.version ≡ 0 → n ≤ length buf
+    → n < 8
     → before ≡ prepended (take n buf) now → StopsAt p p before now (ReadFault n)
 head_fails p buf before now n unstarted fits few took =
     let long : length (take n buf) ≡ n = length-take-le n buf fits in record {
       taken = take n buf;
       bytes = took;
       needed = head_needed p (take n buf) unstarted (omega (arith, long, few));
-      says = short_says p (take n buf) unstarted (omega (arith, long, few)) ∙ ap (λ byte. ended p.version (Truncated byte) []) long;
+      says = short_says p (take n buf) unstarted (omega (arith, long, few))
+          ∙ ap (λ byte. ended p.version (Truncated byte) []) long;
     }

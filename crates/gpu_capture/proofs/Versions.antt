@@ -8,17 +8,23 @@ use Rattle.gpu_capture.specs.declared.record.Due.{Due}
 use Rattle.gpu_capture.specs.declared.record.Step.{Step}
 use Rattle.gpu_capture.specs.declared.record.Step.TheVariants.{Opens, Gives, Closes}
 
-behind_step : (version : ℕ) (step : Step) (on : Due → Captured) (bytes : List ℕ) → ((next : Due) → (on next).version ≡ version)
+behind_step : (version : ℕ) (step : Step) (on : Due → Captured) (bytes : List ℕ)
+    → ((next : Due) → (on next).version ≡ version)
     → (after_step version step on bytes).version ≡ version
 behind_step version (Opens next) on bytes keeps = keeps next
 behind_step version (Gives event count next) on bytes keeps = keeps next
 behind_step version (Closes stop) on bytes keeps = refl
 
-records_version : (version : ℕ) (at : Due) (place : ℕ) (bytes : List ℕ) → (records version at place bytes).version ≡ version
-records_version version at place [] = elim (cases_Bool (nat_lt place limit)) [ inl is ↦ rw is refl | inr is ↦ rw is refl ]
-records_version version at place (a ∷ []) = elim (cases_Bool (nat_lt place limit)) [ inl is ↦ rw is refl | inr is ↦ rw is refl ]
-records_version version at place (a ∷ b ∷ []) = elim (cases_Bool (nat_lt place limit)) [ inl is ↦ rw is refl | inr is ↦ rw is refl ]
-records_version version at place (a ∷ b ∷ c ∷ []) = elim (cases_Bool (nat_lt place limit)) [ inl is ↦ rw is refl | inr is ↦ rw is refl ]
+records_version : (version : ℕ) (at : Due) (place : ℕ) (bytes : List ℕ) → (records version at place bytes).version
+    ≡ version
+records_version version at place [] = elim
+    (cases_Bool (nat_lt place limit)) [ inl is ↦ rw is refl | inr is ↦ rw is refl ]
+records_version version at place (a ∷ []) = elim
+    (cases_Bool (nat_lt place limit)) [ inl is ↦ rw is refl | inr is ↦ rw is refl ]
+records_version version at place (a ∷ b ∷ []) = elim
+    (cases_Bool (nat_lt place limit)) [ inl is ↦ rw is refl | inr is ↦ rw is refl ]
+records_version version at place (a ∷ b ∷ c ∷ []) = elim
+    (cases_Bool (nat_lt place limit)) [ inl is ↦ rw is refl | inr is ↦ rw is refl ]
 records_version version at place (a ∷ b ∷ c ∷ d ∷ bytes) =
     elim (cases_Bool (nat_lt place limit)) [
       | inl is ↦

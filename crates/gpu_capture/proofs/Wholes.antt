@@ -17,7 +17,8 @@ use Rattle.gpu_capture.proofs.Written.{word_read, words_read, words_length, word
 
 -- ---- the words of Gp0 and Ram records
 
-gp0_read : (version : ℕ) (words : List ℕ) (left place : ℕ) (rest : List ℕ) → left ≡ length words → 1 ≤ left → AreWords words → place + 4 * left ≤ limit
+gp0_read : (version : ℕ) (words : List ℕ) (left place : ℕ) (rest : List ℕ) → left ≡ length words → 1 ≤ left
+    → AreWords words → place + 4 * left ≤ limit
     → records version (due.Gp0 left) place (flat_map word_bytes words ++ rest)
     ≡ then_events (map event.Gp0 words) (records version due.Tag (place + 4 * left) rest)
 gp0_read version [] left place rest is some fit le = absurd (omega (arith, is, some))
@@ -30,11 +31,14 @@ gp0_read version (word ∷ next ∷ words) left place rest is some fit le =
     let behind : place + 4 * left ≡ place + 4 + 4 * (left - 1) = omega (arith, is) in
     let opens : gp0_due left ≡ due.Gp0 (left - 1) = rw more refl in
     words_read version (due.Gp0 left) place word (next ∷ words) rest (omega (arith, le, some)) fit.0
-    ∙ ap (λ d. then_events (event.Gp0 word ∷ []) (records version d (place + 4) (flat_map word_bytes (next ∷ words) ++ rest))) opens
+    ∙ ap (λ d. then_events (event.Gp0 word ∷ [])
+    (records version d (place + 4) (flat_map word_bytes (next ∷ words) ++ rest))) opens
     ∙ ap (then_events (event.Gp0 word ∷ []))
-    (rw behind (gp0_read version (next ∷ words) (left - 1) (place + 4) rest less (omega (arith, is)) fit.1 (omega (arith, le, is))))
+    (rw behind (gp0_read version (next ∷ words) (left - 1) (place + 4) rest less (omega (arith, is)) fit.1
+    (omega (arith, le, is))))
 
-ram_read : (version : ℕ) (words : List ℕ) (address left place : ℕ) (rest : List ℕ) → left ≡ length words → 1 ≤ left → AreWords words → place + 4 * left ≤ limit
+ram_read : (version : ℕ) (words : List ℕ) (address left place : ℕ) (rest : List ℕ) → left ≡ length words → 1 ≤ left
+    → AreWords words → place + 4 * left ≤ limit
     → records version (due.Ram address left) place (flat_map word_bytes words ++ rest)
     ≡ then_events (words_from address words) (records version due.Tag (place + 4 * left) rest)
 ram_read version [] address left place rest is some fit le = absurd (omega (arith, is, some))
@@ -47,9 +51,11 @@ ram_read version (word ∷ next ∷ words) address left place rest is some fit l
     let behind : place + 4 * left ≡ place + 4 + 4 * (left - 1) = omega (arith, is) in
     let opens : ram_due address left ≡ due.Ram (address + 4) (left - 1) = rw more refl in
     words_read version (due.Ram address left) place word (next ∷ words) rest (omega (arith, le, some)) fit.0
-    ∙ ap (λ d. then_events (event.Ram address word ∷ []) (records version d (place + 4) (flat_map word_bytes (next ∷ words) ++ rest))) opens
+    ∙ ap (λ d. then_events (event.Ram address word ∷ [])
+    (records version d (place + 4) (flat_map word_bytes (next ∷ words) ++ rest))) opens
     ∙ ap (then_events (event.Ram address word ∷ []))
-    (rw behind (ram_read version (next ∷ words) (address + 4) (left - 1) (place + 4) rest less (omega (arith, is)) fit.1 (omega (arith, le, is))))
+    (rw behind (ram_read version (next ∷ words) (address + 4) (left - 1) (place + 4) rest less
+    (omega (arith, is)) fit.1 (omega (arith, le, is))))
 
 -- ---- tags
 
@@ -58,7 +64,8 @@ module _ (version place n : ℕ) (few : n < 2 ^ 24) (some : 1 ≤ n) where
   low = grind arith
 
   gp0_tag : tag_step version place (tag_of 2 n) ≡ Opens (due.Gp0 n)
-  gp0_tag = let k : (33554432 + n) / 16777216 ≡ 2 = omega arith in let c : (33554432 + n) % 16777216 ≡ n = omega arith in rw (k, c, low) refl
+  gp0_tag = let k : (33554432 + n) / 16777216 ≡ 2 = omega arith in let c : (33554432 + n) % 16777216
+      ≡ n = omega arith in rw (k, c, low) refl
 
   ram_tag : n ≤ 524288 → tag_step version place (tag_of 1 n) ≡ Opens (due.Address n)
   ram_tag le =
@@ -82,16 +89,21 @@ module _ (version place n : ℕ) (few : n < 2 ^ 24) (some : 1 ≤ n) where
       let on : nat_le 2 version ≡ true = grind arith in
       let high : nat_le n 262144 ≡ true = grind arith in rw (k, c, on, low, high) refl
 
-tag_read : (version place tag : ℕ) (words rest : List ℕ) (step : Step) → place < limit → tag < 2 ^ 32 → tag_step version place tag ≡ step
+tag_read : (version place tag : ℕ) (words rest : List ℕ) (step : Step) → place < limit → tag < 2 ^ 32
+    → tag_step version place tag ≡ step
     → records version due.Tag place (flat_map word_bytes (tag ∷ words) ++ rest)
-    ≡ after_step version step (λ next. records version next (place + 4) (flat_map word_bytes words ++ rest)) (flat_map word_bytes words ++ rest)
+    ≡ after_step version step (λ next. records version next (place + 4) (flat_map word_bytes words ++ rest))
+    (flat_map word_bytes words ++ rest)
 tag_read version place tag words rest step lt fits is =
     words_read version due.Tag place tag words rest lt fits
-    ∙ ap (λ step. after_step version step (λ next. records version next (place + 4) (flat_map word_bytes words ++ rest)) (flat_map word_bytes words ++ rest)) is
+    ∙ ap (λ step. after_step version step
+    (λ next. records version next (place + 4) (flat_map word_bytes words ++ rest))
+    (flat_map word_bytes words ++ rest)) is
 
 -- ---- one record
 
-record_read : (version : ℕ) (given : Record) (place : ℕ) (rest : List ℕ) → IsRecord version given → place + 4 * length (words_in given) ≤ limit
+record_read : (version : ℕ) (given : Record) (place : ℕ) (rest : List ℕ) → IsRecord version given
+    → place + 4 * length (words_in given) ≤ limit
     → records version due.Tag place (record_bytes given ++ rest)
     ≡ then_events (events_in given) (records version due.Tag (place + 4 * length (words_in given)) rest)
 record_read version (Ram address words) place rest is le =
@@ -100,15 +112,20 @@ record_read version (Ram address words) place rest is le =
     let at : place + 4 + 4 + 4 * n ≡ place + 4 * length (words_in (Ram address words)) = omega arith in
     let whole : (address % 4 == 0) ≡ true = rw is.2 refl in
     let fits : nat_le (address + 4 * n) 0x200000 ≡ true = grind (arith, is.3) in
-    let opens : word_step version (due.Address n) (place + 4) address ≡ Opens (due.Ram address n) = rw (whole, fits) refl in
-    rw (← at) (tag_read version place (tag_of 1 n) (address ∷ words) rest (Opens (due.Address n)) (omega (arith, le)) (omega (arith, few)) (ram_tag version place n few is.0 is.1)
+    let opens : word_step version (due.Address n) (place + 4) address
+    ≡ Opens (due.Ram address n) = rw (whole, fits) refl in
+    rw (← at) (tag_read version place (tag_of 1 n) (address ∷ words) rest (Opens (due.Address n)) (omega (arith, le))
+    (omega (arith, few)) (ram_tag version place n few is.0 is.1)
     ∙ words_read version (due.Address n) (place + 4) address words rest (omega (arith, le)) (omega (arith, is.3))
-    ∙ ap (λ step. after_step version step (λ next. records version next (place + 4 + 4) (flat_map word_bytes words ++ rest)) (flat_map word_bytes words ++ rest)) opens
+    ∙ ap (λ step. after_step version step
+    (λ next. records version next (place + 4 + 4) (flat_map word_bytes words ++ rest))
+    (flat_map word_bytes words ++ rest)) opens
     ∙ ram_read version words address n (place + 4 + 4) rest refl is.0 is.4 (omega (arith, le)))
 record_read version (Gp0 words) place rest is le =
     let n = length words in
     let at : place + 4 + 4 * n ≡ place + 4 * length (words_in (Gp0 words)) = omega arith in
-    rw (← at) (tag_read version place (tag_of 2 n) words rest (Opens (due.Gp0 n)) (omega (arith, le)) (omega (arith, is.1)) (gp0_tag version place n is.1 is.0)
+    rw (← at) (tag_read version place (tag_of 2 n) words rest (Opens (due.Gp0 n)) (omega (arith, le))
+    (omega (arith, is.1)) (gp0_tag version place n is.1 is.0)
     ∙ gp0_read version words n (place + 4) rest refl is.0 is.2 (omega (arith, le)))
 record_read version (Gp1 word) place rest is le =
     let at : place + 4 + 4 ≡ place + 8 = omega arith in
@@ -116,26 +133,33 @@ record_read version (Gp1 word) place rest is le =
     ∙ words_read version due.Gp1 (place + 4) word [] rest (omega (arith, le)) is)
 record_read version (Reads count) place rest is le =
     let few : count < 2 ^ 24 = omega (arith, is.1) in
-    tag_read version place (tag_of 4 count) [] rest (Gives event.Read count due.Tag) (omega (arith, le)) (omega (arith, few)) (reads_tag version place count few is.0 is.1)
-record_read version Stat place rest is le = words_read version due.Tag place (tag_of 5 1) [] rest (omega (arith, le)) (lit< tt)
+    tag_read version place (tag_of 4 count) [] rest (Gives event.Read count due.Tag) (omega (arith, le))
+    (omega (arith, few)) (reads_tag version place count few is.0 is.1)
+record_read version Stat place rest is le = words_read version due.Tag place (tag_of 5 1) [] rest (omega (arith, le))
+    (lit< tt)
 record_read version (Dma channel madr bcr chcr) place rest is le =
     elim is.0 [
-      | inl two ↦ rw two (words_read version due.Tag place (tag_of 6 2) (madr ∷ bcr ∷ chcr ∷ []) rest (omega (arith, le)) (lit< tt)
+      | inl two ↦ rw two
+          (words_read version due.Tag place (tag_of 6 2) (madr ∷ bcr ∷ chcr ∷ []) rest (omega (arith, le)) (lit< tt)
           ∙ start_read version place madr bcr chcr (start.Dma 2) rest le is.1 is.2 is.3)
-      | inr six ↦ rw six (words_read version due.Tag place (tag_of 6 6) (madr ∷ bcr ∷ chcr ∷ []) rest (omega (arith, le)) (lit< tt)
+      | inr six ↦ rw six
+          (words_read version due.Tag place (tag_of 6 6) (madr ∷ bcr ∷ chcr ∷ []) rest (omega (arith, le)) (lit< tt)
           ∙ start_read version place madr bcr chcr (start.Dma 6) rest le is.1 is.2 is.3)
     ]
 record_read version (Begin madr bcr chcr) place rest is le =
     let known : nat_le 2 version ≡ true = grind (arith, is.0) in
     let opens : tag_step version place (tag_of 7 2) ≡ Opens (due.Madr start.Begin) = rw known refl in
-    tag_read version place (tag_of 7 2) (madr ∷ bcr ∷ chcr ∷ []) rest (Opens (due.Madr start.Begin)) (omega (arith, le)) (lit< tt) opens
+    tag_read version place (tag_of 7 2) (madr ∷ bcr ∷ chcr ∷ []) rest (Opens (due.Madr start.Begin))
+    (omega (arith, le)) (lit< tt) opens
     ∙ start_read version place madr bcr chcr start.Begin rest le is.1 is.2 is.3
 record_read version (Turns count) place rest is le =
     let few : count < 2 ^ 24 = omega (arith, is.1.1) in
-    tag_read version place (tag_of 8 count) [] rest (Gives event.Turn count due.Tag) (omega (arith, le)) (omega (arith, few)) (turns_tag version place count few is.1.0 is.0 is.1.1)
+    tag_read version place (tag_of 8 count) [] rest (Gives event.Turn count due.Tag) (omega (arith, le))
+    (omega (arith, few)) (turns_tag version place count few is.1.0 is.0 is.1.1)
 record_read version (Skips count) place rest is le =
     let few : count < 2 ^ 24 = omega (arith, is.1.1) in
-    tag_read version place (tag_of 9 count) [] rest (Gives event.Skip count due.Tag) (omega (arith, le)) (omega (arith, few)) (skips_tag version place count few is.1.0 is.0 is.1.1)
+    tag_read version place (tag_of 9 count) [] rest (Gives event.Skip count due.Tag) (omega (arith, le))
+    (omega (arith, few)) (skips_tag version place count few is.1.0 is.0 is.1.1)
 
 -- ---- all records
 
@@ -151,7 +175,8 @@ records_read version (one ∷ given) place rest are le =
     let all = ap length (append_assoc (record_bytes one) (flat_map record_bytes given) spelled_end) in
     let both = length-append (record_bytes one) later in
     let most : place + 4 * length (words_in one) + length later ≤ limit = omega (arith, le, long, all, both) in
-    ap (λ bytes. records version due.Tag place (bytes ++ rest)) (append_assoc (record_bytes one) (flat_map record_bytes given) spelled_end)
+    ap (λ bytes. records version due.Tag place (bytes ++ rest))
+    (append_assoc (record_bytes one) (flat_map record_bytes given) spelled_end)
     ∙ ap (records version due.Tag place) (append_assoc (record_bytes one) later rest)
     ∙ record_read version one place (later ++ rest) are.0 (omega (arith, most))
     ∙ ap (then_events (events_in one)) (records_read version given (place + 4 * length (words_in one)) rest are.1 most)

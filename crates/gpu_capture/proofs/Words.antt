@@ -11,7 +11,8 @@ use Rattle.dev_io.proofs.Parts.{prepended-nil, prepended-prepended, taken_on}
 use Rattle.gpu_capture.specs.Capture.{Captured, then_events, records, limit}
 use Rattle.gpu_capture.specs.Record.{gp0_due, word_step}
 use Rattle.gpu_capture.specs.Reader.{IsWord, Takes, SaysNoWord, capture_from}
-use Rattle.gpu_capture.specs.Words.{word_events, IsCutWithin, TakesWords, StopsBehind, MayTake, gp0_left, words_due, behind_words}
+use Rattle.gpu_capture.specs.Words.{word_events, IsCutWithin, TakesWords, StopsBehind, MayTake, gp0_left, words_due}
+use Rattle.gpu_capture.specs.Words.{behind_words}
 use Rattle.gpu_capture.specs.declared.event.Event.{Event}
 use Rattle.gpu_capture.specs.declared.event.Event.TheVariants.{Gp0}
 use Rattle.gpu_capture.specs.declared.event.Stop.{Stop}
@@ -25,7 +26,8 @@ use Rattle.gpu_capture.proofs.Steps.{split, word_needed, took_says, on, at_word,
 -- ---- no word, and one more
 
 -- where two readers say the same of every rest, no word lies between them
-pub words_none : (p q : Progress) (left : Option (List ℕ)) → ((rest : List ℕ) → capture_from p rest ≡ capture_from q rest)
+pub words_none : (p q : Progress) (left : Option (List ℕ))
+    → ((rest : List ℕ) → capture_from p rest ≡ capture_from q rest)
     → TakesWords p q left left []
 words_none p q left same = record {
   taken = [];
@@ -61,7 +63,11 @@ module _ (p q r : Progress) (before mid now : Option (List ℕ)) (words : List �
           fewer = longer;
           version = short.version;
           byte = short.byte;
-          is = rw (take-append-le (length words) words (word ∷ []) (omega arith), take_all (length words) words (omega arith))
+          is = rw (
+            take-append-le (length words) words (word ∷ []) (omega arith),
+            take_all (length words) words
+                (omega arith),
+          )
               (ap (capture_from p) behind.1 ∙ first.says behind.0 ∙ ap (then_events (word_events words)) short.is);
         }
         | inr inside ↦ let short = first.needed part inside.0 inside.1 inside.2 in record {
@@ -69,7 +75,8 @@ module _ (p q r : Progress) (before mid now : Option (List ℕ)) (words : List �
           fewer = let fewer = short.fewer in let e = longer in omega (arith, fewer, e);
           version = short.version;
           byte = short.byte;
-          is = rw (take-append-le short.count words (word ∷ []) (let fewer = short.fewer in omega (arith, fewer))) short.is;
+          is = rw (take-append-le short.count words (word ∷ []) (let fewer = short.fewer in omega (arith, fewer)))
+              short.is;
         }
       ]
 
@@ -112,7 +119,8 @@ due_next left count lt =
 
 -- what is said where a reader stands behind so many words
 behind_say : (p : Progress) (count : ℕ) (rest : List ℕ) → 1 ≤ p.version
-    → capture_from (behind_words p count) rest ≡ records p.version (words_due (gp0_left p.due) count) (p.place + 4 * count) rest
+    → capture_from (behind_words p count) rest ≡ records p.version (words_due (gp0_left p.due) count)
+    (p.place + 4 * count) rest
 behind_say p count rest started = rw (on p.version started) refl
 
 module _ (p : Progress) (most : ℕ) (may : MayTake p most) where
@@ -223,7 +231,8 @@ module _ (p q : Progress) (before now : Option (List ℕ)) (words bytes : List �
       left = prepended begun now;
       takes = all_words;
       stops = no_word_stops q (prepended begun now) now stop
-          (let e : q.version ≡ p.version = ap (λ (q : Progress). q.version) is in let known = may.started in omega (arith, e, known))
+          (let e : q.version ≡ p.version = ap (λ (q : Progress). q.version) is in let known = may.started in
+          omega (arith, e, known))
           (ap (λ (q : Progress). q.left) is)
           (record { taken = begun; bytes = refl; says = says });
     }

@@ -32,7 +32,9 @@ unfolding word_bytes
 word_read version at place word rest lt fits =
     let within : nat_lt place limit ≡ true = grind arith in
     let back : little_number 4 (little_bytes 4 word ++ []) ≡ word = little_number-reads_back 4 word [] fits in
-    rw within (ap (λ w. after_step version (word_step version at place w) (λ next. records version next (place + 4) rest) rest) back)
+    rw within (ap
+    (λ w. after_step version (word_step version at place w) (λ next. records version next (place + 4) rest) rest)
+    back)
 
 -- the same where words follow
 pub words_read : (version : ℕ) (at : Due) (place word : ℕ) (words rest : List ℕ) → place < limit → word < 2 ^ 32
@@ -73,16 +75,21 @@ two_words place = omega arith
 three_words : (place : ℕ) → place + 4 + 4 + 4 ≡ place + 12
 three_words place = omega arith
 
-event_read : (version : ℕ) (given : Event) (place : ℕ) (rest : List ℕ) → Allows version given → place + 4 * length (record_words given) ≤ limit
+event_read : (version : ℕ) (given : Event) (place : ℕ) (rest : List ℕ) → Allows version given
+    → place + 4 * length (record_words given) ≤ limit
     → Reads version given place rest
 event_read version (event.Ram address word) place rest allows le =
     let whole : (address % 4 == 0) ≡ true = rw allows.event.1 refl in
     let fits : nat_le (address + 4) 0x200000 ≡ true = grind (arith, allows.event.0, allows.event.1) in
     let small : address < 2 ^ 32 = omega (arith, allows.event.0) in
-    let opens : word_step version (due.Address 1) (place + 4) address ≡ Opens (due.Ram address 1) = rw (whole, fits) refl in
-    rw (← three_words place) (words_read version due.Tag place (tag_of 1 1) (address ∷ word ∷ []) rest (omega (arith, le)) (lit< tt)
+    let opens : word_step version (due.Address 1) (place + 4) address
+    ≡ Opens (due.Ram address 1) = rw (whole, fits) refl in
+    rw (← three_words place)
+    (words_read version due.Tag place (tag_of 1 1) (address ∷ word ∷ []) rest (omega (arith, le)) (lit< tt)
     ∙ words_read version (due.Address 1) (place + 4) address (word ∷ []) rest (omega (arith, le)) small
-    ∙ ap (λ step. after_step version step (λ next. records version next (place + 4 + 4) (flat_map word_bytes (word ∷ []) ++ rest)) (flat_map word_bytes (word ∷ []) ++ rest)) opens
+    ∙ ap (λ step. after_step version step
+    (λ next. records version next (place + 4 + 4) (flat_map word_bytes (word ∷ []) ++ rest))
+    (flat_map word_bytes (word ∷ []) ++ rest)) opens
     ∙ words_read version (due.Ram address 1) (place + 4 + 4) word [] rest (omega (arith, le)) allows.words)
 event_read version (event.Gp0 word) place rest allows le =
     rw (← two_words place) (words_read version due.Tag place (tag_of 2 1) (word ∷ []) rest (omega (arith, le)) (lit< tt)
@@ -96,16 +103,20 @@ event_read version event.Stat place rest allows le =
     words_read version due.Tag place (tag_of 5 1) [] rest (omega (arith, le)) (lit< tt)
 event_read version (event.Dma channel madr bcr chcr) place rest allows le =
     elim allows.event [
-      | inl two ↦ rw two (words_read version due.Tag place (tag_of 6 2) (madr ∷ bcr ∷ chcr ∷ []) rest (omega (arith, le)) (lit< tt)
+      | inl two ↦ rw two
+          (words_read version due.Tag place (tag_of 6 2) (madr ∷ bcr ∷ chcr ∷ []) rest (omega (arith, le)) (lit< tt)
           ∙ start_read version place madr bcr chcr (start.Dma 2) rest le allows.words.0 allows.words.1 allows.words.2)
-      | inr six ↦ rw six (words_read version due.Tag place (tag_of 6 6) (madr ∷ bcr ∷ chcr ∷ []) rest (omega (arith, le)) (lit< tt)
+      | inr six ↦ rw six
+          (words_read version due.Tag place (tag_of 6 6) (madr ∷ bcr ∷ chcr ∷ []) rest (omega (arith, le)) (lit< tt)
           ∙ start_read version place madr bcr chcr (start.Dma 6) rest le allows.words.0 allows.words.1 allows.words.2)
     ]
 event_read version (event.Begin madr bcr chcr) place rest allows le =
     let known : nat_le 2 version ≡ true = grind (arith, allows.known) in
     let opens : word_step version due.Tag place (tag_of 7 2) ≡ Opens (due.Madr start.Begin) = rw known refl in
     words_read version due.Tag place (tag_of 7 2) (madr ∷ bcr ∷ chcr ∷ []) rest (omega (arith, le)) (lit< tt)
-    ∙ ap (λ step. after_step version step (λ next. records version next (place + 4) (flat_map word_bytes (madr ∷ bcr ∷ chcr ∷ []) ++ rest)) (flat_map word_bytes (madr ∷ bcr ∷ chcr ∷ []) ++ rest)) opens
+    ∙ ap (λ step. after_step version step
+    (λ next. records version next (place + 4) (flat_map word_bytes (madr ∷ bcr ∷ chcr ∷ []) ++ rest))
+    (flat_map word_bytes (madr ∷ bcr ∷ chcr ∷ []) ++ rest)) opens
     ∙ start_read version place madr bcr chcr start.Begin rest le allows.words.0 allows.words.1 allows.words.2
 event_read version event.Turn place rest allows le =
     let known : nat_le 2 version ≡ true = grind (arith, allows.known) in
@@ -132,10 +143,12 @@ events_read version (given ∷ events) place rest allows le =
     let all = ap length (append_assoc (spelled given) (flat_map spelled events) spelled_end) in
     let both = length-append (spelled given) later in
     let most : place + 4 * length (record_words given) + length later ≤ limit = omega (arith, le, long, all, both) in
-    ap (λ bytes. records version due.Tag place (bytes ++ rest)) (append_assoc (spelled given) (flat_map spelled events) spelled_end)
+    ap (λ bytes. records version due.Tag place (bytes ++ rest))
+    (append_assoc (spelled given) (flat_map spelled events) spelled_end)
     ∙ ap (records version due.Tag place) (append_assoc (spelled given) later rest)
     ∙ event_read version given place (later ++ rest) allows.0 (omega (arith, most))
-    ∙ ap (then_events (given ∷ [])) (events_read version events (place + 4 * length (record_words given)) rest allows.1 most)
+    ∙ ap (then_events (given ∷ []))
+    (events_read version events (place + 4 * length (record_words given)) rest allows.1 most)
 
 three_versions : (version : ℕ) → IsVersion version → (version ≡ 1) ⊎ ((version ≡ 2) ⊎ (version ≡ 3))
 three_versions version is = grind (arith, is.0, is.1)
@@ -144,16 +157,19 @@ eight_bytes : (version : ℕ) (bytes : List ℕ) → nat_lt (length (head_of ver
 eight_bytes version bytes = grind arith
 
 -- the head that was written is read again
-pub head_read : (version : ℕ) (bytes : List ℕ) → IsVersion version → capture (head_of version ++ bytes) ≡ records version due.Tag 8 bytes
+pub head_read : (version : ℕ) (bytes : List ℕ) → IsVersion version → capture (head_of version ++ bytes)
+    ≡ records version due.Tag 8 bytes
 head_read version bytes is =
     elim (three_versions version is) [
       | inl one ↦ rw (one, eight_bytes 1 bytes) refl
-      | inr others ↦ elim others [ inl two ↦ rw (two, eight_bytes 2 bytes) refl | inr three ↦ rw (three, eight_bytes 3 bytes) refl ]
+      | inr others ↦ elim others
+          [ inl two ↦ rw (two, eight_bytes 2 bytes) refl | inr three ↦ rw (three, eight_bytes 3 bytes) refl ]
     ]
 
 pub written_read : (version : ℕ) (events : List Event) (rest : List ℕ) → IsVersion version → AllowsAll version events
     → length (written version events) ≤ limit
-    → capture (written version events ++ rest) ≡ record { version = version; events = events; ending = End; rest = rest }
+    → capture (written version events ++ rest)
+    ≡ record { version = version; events = events; ending = End; rest = rest }
 written_read version events rest is allows le =
     let later = flat_map spelled events ++ spelled_end in
     ap (λ bytes. capture (bytes ++ rest)) (append_assoc (head_of version) (flat_map spelled events) spelled_end)
@@ -164,20 +180,26 @@ written_read version events rest is allows le =
 -- ---- the version
 
 -- what a step says is of the version of what comes behind it
-step_version : (version : ℕ) (step : Step) (on : Due → Captured) (bytes : List ℕ) → ((next : Due) → (on next).version ≡ version)
+step_version : (version : ℕ) (step : Step) (on : Due → Captured) (bytes : List ℕ)
+    → ((next : Due) → (on next).version ≡ version)
     → (after_step version step on bytes).version ≡ version
 step_version version (Opens next) on bytes same = same next
 step_version version (GivesEvents event count next) on bytes same = same next
 step_version version (Closes stop) on bytes same = refl
 
-pub records_version : (bytes : List ℕ) (version : ℕ) (at : Due) (place : ℕ) → (records version at place bytes).version ≡ version
+pub records_version : (bytes : List ℕ) (version : ℕ) (at : Due) (place : ℕ) → (records version at place bytes).version
+    ≡ version
 records_version [] version at place = elim (cases_Bool (nat_lt place limit)) [ inl e ↦ rw e refl | inr e ↦ rw e refl ]
-records_version (a ∷ []) version at place = elim (cases_Bool (nat_lt place limit)) [ inl e ↦ rw e refl | inr e ↦ rw e refl ]
-records_version (a ∷ b ∷ []) version at place = elim (cases_Bool (nat_lt place limit)) [ inl e ↦ rw e refl | inr e ↦ rw e refl ]
-records_version (a ∷ b ∷ c ∷ []) version at place = elim (cases_Bool (nat_lt place limit)) [ inl e ↦ rw e refl | inr e ↦ rw e refl ]
+records_version (a ∷ []) version at place = elim
+    (cases_Bool (nat_lt place limit)) [ inl e ↦ rw e refl | inr e ↦ rw e refl ]
+records_version (a ∷ b ∷ []) version at place = elim
+    (cases_Bool (nat_lt place limit)) [ inl e ↦ rw e refl | inr e ↦ rw e refl ]
+records_version (a ∷ b ∷ c ∷ []) version at place = elim
+    (cases_Bool (nat_lt place limit)) [ inl e ↦ rw e refl | inr e ↦ rw e refl ]
 records_version (a ∷ b ∷ c ∷ d ∷ bytes) version at place =
     elim (cases_Bool (nat_lt place limit)) [
-      | inl e ↦ rw e (step_version version (word_step version at place (little_number 4 (a ∷ b ∷ c ∷ d ∷ []))) (λ next. records version next (place + 4) bytes) bytes
+      | inl e ↦ rw e (step_version version (word_step version at place (little_number 4 (a ∷ b ∷ c ∷ d ∷ [])))
+          (λ next. records version next (place + 4) bytes) bytes
           (λ next. records_version bytes version next (place + 4)))
       | inr e ↦ rw e refl
     ]

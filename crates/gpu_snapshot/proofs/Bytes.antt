@@ -1,5 +1,6 @@
 -- Words of a memory and their bytes.
-use Rattle.std.proofs.Common.{◌≡◌, ◌≤◌, ◌<◌, ◌+◌, ◌*◌, ◌++◌, List, [], ◌∷◌, ℕ, Option, length, ap, refl, ◌∙◌, length-append}
+use Rattle.std.proofs.Common.{◌≡◌, ◌≤◌, ◌<◌, ◌+◌, ◌*◌, ◌++◌, List, [], ◌∷◌, ℕ, Option, length, ap, refl, ◌∙◌}
+use Rattle.std.proofs.Common.{length-append}
 use Rattle.std.proofs.Common.{arith, append_assoc, append-nil, sym}
 use Rattle.dev_io.specs.Device.{prepended}
 use Rattle.dev_io.proofs.Parts.{taken_on}
@@ -19,7 +20,8 @@ word_long word = refl
 pub bytes_of-append : (xs ys : List ℕ) → bytes_of (xs ++ ys) ≡ bytes_of xs ++ bytes_of ys
 bytes_of-append [] ys = refl
 bytes_of-append (x ∷ xs) ys =
-    ap (λ bytes. word_bytes x ++ bytes) (bytes_of-append xs ys) ∙ sym (append_assoc (word_bytes x) (bytes_of xs) (bytes_of ys))
+    ap (λ bytes. word_bytes x ++ bytes) (bytes_of-append xs ys)
+    ∙ sym (append_assoc (word_bytes x) (bytes_of xs) (bytes_of ys))
 
 -- the bytes of one word
 pub alone : (before now : Option (List ℕ)) (word : ℕ) → before ≡ prepended (word_bytes word) now

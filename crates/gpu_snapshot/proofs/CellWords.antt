@@ -70,7 +70,8 @@ lanes_on before mid now xs new k word low high long within were took is_low is_h
     rw (set, is_low, is_high) (cells_on before mid now (take (2 * k) xs) (word % 2 ^ 16 ∷ word / 2 ^ 16 ∷ []) even were
     (pair_taken mid now word took))
 
-pub lanes_lack : (before mid now : Option (List ℕ)) (xs : List ℕ) (place k : ℕ) (why : SnapFault) → length xs ≡ 16 → k < 8
+pub lanes_lack : (before mid now : Option (List ℕ)) (xs : List ℕ) (place k : ℕ) (why : SnapFault) → length xs ≡ 16
+    → k < 8
     → TakesCells before mid (take (2 * k) xs) → EndsWord mid now (place + 4 * k) why → LacksWords before now place 8 why
 lanes_lack before mid now xs place k why long within were lack =
     let n = length-take-le (2 * k) xs (omega (arith, long, within)) in
@@ -127,7 +128,8 @@ chunk_lacks before mid now m place c chunks why all within were lack =
     (omega (arith, count, within)) (omega (arith, count)) lack
 
 pub others_on : (first mid now : RigState) → ◌≡◌ {A = RigState} mid (with_cells first mid.gpu.parts.m)
-    → ◌≡◌ {A = RigState} now (with_cells mid now.gpu.parts.m) → ◌≡◌ {A = RigState} now (with_cells first now.gpu.parts.m)
+    → ◌≡◌ {A = RigState} now (with_cells mid now.gpu.parts.m)
+    → ◌≡◌ {A = RigState} now (with_cells first now.gpu.parts.m)
 others_on first mid now were is =
     let f : RigState → RigState = λ r. with_cells r now.gpu.parts.m in is ∙ ap f were
 

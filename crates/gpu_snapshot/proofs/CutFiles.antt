@@ -31,7 +31,8 @@ use Rattle.snapshot_words.proofs.States.{state_read}
 use Rattle.capture_flat.specs.Out.{spell}
 use Rattle.capture_cut.specs.File.{cut_file, rig_bytes}
 use Rattle.capture_cut.specs.File.{snapshot as state_bytes}
-use Rattle.gpu_snapshot.specs.CutFiles.{IsCutWhole, LeadsTo, EndAlike, played_cut, PlaysLead, CutsAreWhole, GoesOn, WritesOn}
+use Rattle.gpu_snapshot.specs.CutFiles.{IsCutWhole, LeadsTo, EndAlike, played_cut, PlaysLead, CutsAreWhole, GoesOn}
+use Rattle.gpu_snapshot.specs.CutFiles.{WritesOn}
 use Rattle.gpu_snapshot.specs.CutFiles.{EndsOn, CutLaw}
 use Rattle.gpu_snapshot.specs.Laws.{snapshot_of, spelled, IsSpelledWhole}
 use Rattle.gpu_snapshot.specs.Opened.{Restored, opened, behind_head, opened_state}
@@ -232,4 +233,11 @@ ends_on start first t events later rest leads is =
     (record { state = tale.state; played = tale.played; ending = same.ending; rest = same.rest })
 
 pub cut_files : CutLaw
-cut_files = record { leads = plays_lead; whole = cuts_whole; goes_on = goes_on; writes_on = writes_on; ends_on = ends_on }
+cut_files = record {
+  leads = plays_lead;
+  whole = cuts_whole;
+  goes_on = goes_on;
+  writes_on = writes_on;
+  ends_on =
+      ends_on;
+}

@@ -58,7 +58,8 @@ snapshot_is bytes long is =
     ]
 
 -- a capture is one by the heads of captures alone
-pub capture_is : (bytes : List ℕ) (version : ℕ) → file_head bytes ≡ Ok (Capture version) → head_version bytes ≡ Ok version
+pub capture_is : (bytes : List ℕ) (version : ℕ) → file_head bytes ≡ Ok (Capture version) → head_version bytes
+    ≡ Ok version
 unfolding file_head
 capture_is bytes version is =
     elim (cases_Bool (place_of_difference (head_of 1) bytes == 8)) [

@@ -113,4 +113,5 @@ module _ (mode : Mode) (by_bytes inner : List ℕ → Played) (front : List ℕ)
   pub ends_moved : (rig : RigState) (ending : Ending) → left ≡ prepended front mid → AreAllNeeded by_bytes front
       → steps_mid ≤ steps → EndsPlay mode inner old now rig ending
       → EndsBehind mode by_bytes front new now rig ending
-  ends_moved rig ending bytes needed few ends = record { plays = moved rig ending bytes needed few ends; more = ends.taken; taken_is = refl }
+  ends_moved rig ending bytes needed few ends =
+      record { plays = moved rig ending bytes needed few ends; more = ends.taken; taken_is = refl }

@@ -38,7 +38,8 @@ head_of_all first bytes long = ap (λ n. take n (first ++ bytes)) (sym long) ∙
 behind_all : (first bytes : List ℕ) → length first ≡ 8 → drop 8 (first ++ bytes) ≡ bytes
 behind_all first bytes long = ap (λ n. drop n (first ++ bytes)) (sym long) ∙ drop-append_seam first bytes
 
-pub opened_behind : (first bytes : List ℕ) → length first ≡ 8 → opened (first ++ bytes) ≡ behind_head (file_head first) bytes
+pub opened_behind : (first bytes : List ℕ) → length first ≡ 8 → opened (first ++ bytes)
+    ≡ behind_head (file_head first) bytes
 unfolding opened
 opened_behind first bytes long =
     rw (head_enough first bytes long, head_of_all first bytes long, behind_all first bytes long) refl
@@ -180,6 +181,10 @@ refuses_state before mid now steps steps_now why takes stops = record {
   bytes = taken_on before mid now takes.taken stops.taken takes.bytes stops.bytes;
   needed = state_needed takes.taken stops.taken takes.long takes.is stops.needed;
   says = refused_state why takes.taken stops.taken now takes.long takes.is stops.says;
-  cost = λ rest. rw (append_assoc takes.taken stops.taken rest, cost_of_state takes.taken (stops.taken ++ rest) takes.long takes.is)
+  cost = λ rest. rw (
+    append_assoc takes.taken stops.taken rest,
+    cost_of_state takes.taken
+        (stops.taken ++ rest) takes.long takes.is,
+  )
       (stops.cost rest);
 }

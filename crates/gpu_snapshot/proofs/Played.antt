@@ -31,7 +31,8 @@ use Rattle.snapshot_words.specs.declared.fault.SnapFault.{SnapFault}
 use Rattle.snapshot_words.specs.declared.fault.SnapFault.TheVariants as fault
 use Rattle.gpu_snapshot.specs.Head.{file_head}
 use Rattle.gpu_snapshot.specs.Intake.{intake}
-use Rattle.gpu_snapshot.specs.Opened.{Opened, Captured as IsCapture, Restored, Unknown, BreaksOff, BadWord, opened, behind_head}
+use Rattle.gpu_snapshot.specs.Opened.{Opened, Captured as IsCapture, Restored, Unknown, BreaksOff, BadWord, opened}
+use Rattle.gpu_snapshot.specs.Opened.{behind_head}
 use Rattle.gpu_snapshot.specs.Opened.{opened_state}
 use Rattle.gpu_snapshot.specs.Opening.{OpensCapture, OpensState, Refuses, AreNeeded, IsTooShort, opening_cost}
 use Rattle.gpu_snapshot.specs.PlayAny.{PlayAny, played_opened, EndsAny, PlaysAny, IsGood, HasNoBadWord}
@@ -100,7 +101,8 @@ captured_is bytes version rest is =
           rw (enough, capture_is (take 8 bytes) version by.0, by.1) refl
     ]
 
-from_tag : (version : ℕ) (rest : List ℕ) → 1 ≤ version → capture_from (tag_due version 8) rest ≡ records version Tag 8 rest
+from_tag : (version : ℕ) (rest : List ℕ) → 1 ≤ version → capture_from (tag_due version 8) rest
+    ≡ records version Tag 8 rest
 from_tag version rest known = at_word (tag_due version 8) rest known refl
 
 raised_twice : (s : Machine) (version : ℕ)
@@ -119,7 +121,8 @@ capture_leads s version front bytes known says =
     let c = capture_from (tag_due version 8) bytes in
     let is : c.version ≡ version = version_from (tag_due version 8) bytes known in
     play_by first (front ++ bytes) (IsCapture version bytes) (says bytes)
-    ∙ ap (played_from first) (captured_is (front ++ bytes) version bytes (says bytes) ∙ sym (from_tag version bytes known))
+    ∙ ap (played_from first) (captured_is (front ++ bytes) version bytes (says bytes)
+    ∙ sym (from_tag version bytes known))
     ∙ ap (λ v. replayed (raised first v) c) is
     ∙ ap (λ t. replayed t c) (sym (raised_twice s version))
     ∙ ap (λ v. replayed (raised (from_state (raised first version).state 0) v) c) (sym is)
@@ -127,7 +130,8 @@ capture_leads s version front bytes known says =
 pub plays_capture : (mode : Mode) (s : Machine) (left mid held : Option (List ℕ)) (heard : List Reading)
     (steps steps_mid : ℕ) (now : Streams) (opened_rig rig : RigState) (reader : ReaderState) (ending : Ending)
     → OpensCapture (intake left steps) (intake mid steps_mid) opened_rig reader → Stands first_rig s
-    → ((t : Machine) → Stands opened_rig t → EndsPlay mode (played_behind (from_state t opened_rig.played) reader.progress)
+    → ((t : Machine) → Stands opened_rig t
+    → EndsPlay mode (played_behind (from_state t opened_rig.played) reader.progress)
     (streams mid held heard steps_mid) now rig ending)
     → PlaysAny mode (from_state s 0) (streams left held heard steps) now ending
 plays_capture mode s left mid held heard steps steps_mid now opened_rig rig reader ending opens stands plays =
@@ -161,7 +165,8 @@ plays_capture mode s left mid held heard steps steps_mid now opened_rig rig read
 pub plays_state : (mode : Mode) (s : Machine) (left mid held : Option (List ℕ)) (heard : List Reading)
     (steps steps_mid : ℕ) (now : Streams) (opened_rig rig : RigState) (reader : ReaderState) (ending : Ending)
     → OpensState (intake left steps) (intake mid steps_mid) opened_rig reader
-    → ((t : Machine) → Stands opened_rig t → EndsPlay mode (played_behind (from_state t opened_rig.played) reader.progress)
+    → ((t : Machine) → Stands opened_rig t
+    → EndsPlay mode (played_behind (from_state t opened_rig.played) reader.progress)
     (streams mid held heard steps_mid) now rig ending)
     → PlaysAny mode (from_state s 0) (streams left held heard steps) now ending
 plays_state mode s left mid held heard steps steps_mid now opened_rig rig reader ending opens plays =

@@ -42,7 +42,8 @@ word_taken before mid now ram new i word long within were took is =
     rw (next_is_suc i, put) (take_set_on ram i word (omega (arith, long, within))) in
     rw on (record {
       bytes = rw (bytes_of-append (take i ram) (word ∷ []))
-          (taken_on before mid now (bytes_of (take i ram)) (bytes_of (word ∷ [])) were.bytes (alone mid now word took.bytes));
+          (taken_on before mid now (bytes_of (take i ram)) (bytes_of (word ∷ [])) were.bytes
+          (alone mid now word took.bytes));
       each = AreWords-append (take i ram) (word ∷ []) were.each (took.fits, tt);
     })
 

@@ -41,7 +41,8 @@ outline_bad : (taken : List ℕ) (place word : ℕ) → outline_from first_place
 unfolding state_from
 outline_bad taken place word is = rw is refl
 
-state_says : (why : SnapFault) (taken : List ℕ) (now : Option (List ℕ)) → SaysFault why (outline_from first_place) taken now
+state_says : (why : SnapFault) (taken : List ℕ) (now : Option (List ℕ))
+    → SaysFault why (outline_from first_place) taken now
     → SaysFault why (state_from first_place) taken now
 state_says (fault.Bad byte word) taken now says = λ rest. outline_bad (taken ++ rest) byte word (says rest)
 state_says (fault.Stop (Truncated byte)) taken now says = (outline_short taken byte says.0, says.1)
@@ -51,7 +52,8 @@ state_says (fault.Stop (NotCapture byte)) taken now says = absurd says
 state_says (fault.Stop (BadRecord byte word)) taken now says = absurd says
 state_says (fault.Stop (TooLong byte)) taken now says = absurd says
 
-outline_needed : (taken : List ℕ) → AreNeeded (outline_from first_place) taken → AreNeeded (state_from first_place) taken
+outline_needed : (taken : List ℕ) → AreNeeded (outline_from first_place) taken
+    → AreNeeded (state_from first_place) taken
 unfolding state_from
 outline_needed taken needed part more is some =
     short_then (outline_from first_place part) memories_from (needed part more is some)
@@ -134,7 +136,8 @@ reader_of reader version height place progress stop is =
     ap with_progress stop ∙ ap with_stop (progress ∙ ap (λ v. tag_due v place) is)
 
 -- the rig is the state
-whole_rig : (first rig : RigState) (o : Outline) (m ram : List ℕ) → HoldsOutline first o → rig ≡ with_memories first m ram
+whole_rig : (first rig : RigState) (o : Outline) (m ram : List ℕ) → HoldsOutline first o
+    → rig ≡ with_memories first m ram
     → rig ≡ rig_in (record { outline = o; m = m; ram = ram })
 whole_rig first rig o m ram holds is =
     let with_gpu : Kept → Run → ℕ → RigState = λ gpu running played.
@@ -176,7 +179,8 @@ module _ (before mid now : Option (List ℕ)) (steps steps_now place behind : �
   says : (rest : List ℕ) → state_from first_place (spelled ++ rest) ≡ Whole whole behind rest
   says rest =
       rw (snap_split o rig.gpu.parts.m rig.ram rest)
-      (state_back (bytes_of (outline_words o)) (bytes_of (cell_words rig.gpu.parts.m) ++ (bytes_of rig.ram ++ rest)) rest o
+      (state_back (bytes_of (outline_words o)) (bytes_of (cell_words rig.gpu.parts.m) ++ (bytes_of rig.ram ++ rest))
+      rest o
       rig.gpu.parts.m rig.ram place (takes.says (bytes_of (cell_words rig.gpu.parts.m) ++ (bytes_of rig.ram ++ rest)))
       (memories_back o rig.gpu.parts.m rig.ram place rest rows memories.cells long memories.words)
       ∙ ap (λ p. Whole whole p rest) (sym moved))

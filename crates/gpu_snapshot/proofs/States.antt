@@ -82,12 +82,18 @@ memories_lack o place bytes few =
           let cells = 4 * (512 * o.regs.height) in
           let behind : length (drop cells bytes) ≡ length bytes - cells = length-drop cells bytes in
           let lacks : length (drop cells bytes) < 4 * ram_words = rw ram_is (omega (arith, few, behind, le)) in
-          rw (whole_memory (512 * o.regs.height) place bytes le, short_memory ram_words (place + cells) (drop cells bytes) lacks)
+          rw (
+            whole_memory (512 * o.regs.height) place bytes le,
+            short_memory ram_words (place + cells)
+                (drop cells bytes) lacks,
+          )
           (ap Short (same_place place cells (length (drop cells bytes)) (length bytes) (omega (arith, behind, le))))
     ]
 
 -- behind a whole outline
-pub state_lacks : (front bytes : List ℕ) (o : Outline) (place : ℕ) → outline_from first_place (front ++ bytes) ≡ Whole o place bytes
-    → length bytes < 4 * (512 * o.regs.height + 524288) → state_from first_place (front ++ bytes) ≡ Short (place + length bytes)
+pub state_lacks : (front bytes : List ℕ) (o : Outline) (place : ℕ) → outline_from first_place (front ++ bytes)
+    ≡ Whole o place bytes
+    → length bytes < 4 * (512 * o.regs.height + 524288) → state_from first_place (front ++ bytes)
+    ≡ Short (place + length bytes)
 unfolding state_from
 state_lacks front bytes o place is few = rw is (memories_lack o place bytes few)

@@ -5,8 +5,8 @@ use Rattle.gpu_snapshot.specs.Head.{file_head}
 use Rattle.gpu_snapshot.specs.declared.head.FileHead.{FileHead}
 use Rattle.gpu_snapshot.specs.declared.head.FileHead.TheVariants as head
 
--- A capture of a version, with the bytes behind its head; a state, with the place behind it and the bytes from there on;
--- bytes that no known head begins, from a place on; bytes that break off in a head or a state, where they end; or a
+-- A capture of a version, with the bytes behind its head; a state, with the place behind it and the bytes from there
+-- on; bytes that no known head begins, from a place on; bytes that break off in a head or a state, where they end; or a
 -- state in which the word at a place may not stand there.
 pub data Opened : Type 0 where
   Captured : (version : ℕ) → (rest : List ℕ) → Opened

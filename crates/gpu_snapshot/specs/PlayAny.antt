@@ -28,7 +28,8 @@ restored_tale s = from_state (machine_in s) s.outline.played
 
 -- the records behind a state that ends at a place, played from it
 abbrev pub played_restored : Snapshot → (place : ℕ) → List ℕ → Played
-played_restored s place rest = played_behind (restored_tale s) (tag_due (version_behind s.outline.regs.height) place) rest
+played_restored s place rest = played_behind (restored_tale s) (tag_due (version_behind s.outline.regs.height) place)
+    rest
 
 -- nothing is played, and it ends with this stop
 abbrev pub unplayed : Tale → Stop → List ℕ → Played
@@ -42,9 +43,9 @@ played_opened first bytes (Unknown place rest) = unplayed first (NotCapture plac
 played_opened first bytes (BreaksOff place) = unplayed first (Truncated place) []
 played_opened first bytes (BadWord place word) = unplayed first (BadRecord place word) []
 
--- A capture is played from a tale; a snapshot from its own state, with the records behind it. Other bytes have no event.
--- Those in which a word of a state may not stand at its place end as if it were that of a record; `AnyUnder` tells them
--- apart.
+-- A capture is played from a tale; a snapshot from its own state, with the records behind it. Other bytes have no
+-- event. Those in which a word of a state may not stand at its place end as if it were that of a record; `AnyUnder`
+-- tells them apart.
 unfoldable pub PlayAny : Tale → List ℕ → Played
 PlayAny first bytes = played_opened first bytes (opened bytes)
 

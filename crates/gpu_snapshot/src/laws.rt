@@ -19,8 +19,8 @@ pub fn states_are_read()
 {}
 
 /// A file that cutting a capture writes is played as the machine behind the first events goes on with the others: what
-/// the whole capture writes is what is due after the first events, and then what the file writes, by taps that have heard
-/// their notes. It ends as the whole capture does.
+/// the whole capture writes is what is due after the first events, and then what the file writes, by taps that have
+/// heard their notes. It ends as the whole capture does.
 pub fn cut_files_go_on()
     ensures { CutLaw }
 {}

@@ -1,5 +1,6 @@
 -- What notes without an area do to the numbers of counts and of a cover.
-use Rattle.std.proofs.Common.{◌≡◌, ℕ, ◌+◌, ◌^◌, ◌<◌, ◌≤◌, nat_lt, true, List, [], ◌∷◌, length, refl, sym, ap, ◌∙◌, arith}
+use Rattle.std.proofs.Common.{◌≡◌, ℕ, ◌+◌, ◌^◌, ◌<◌, ◌≤◌, nat_lt, true, List, [], ◌∷◌, length, refl, sym, ap, ◌∙◌}
+use Rattle.std.proofs.Common.{arith}
 use Rattle.std.proofs.Common.{slice_index, slice_set, length-set, get_or-set_same}
 use Rattle.std.proofs.lemmas.List.{set-set, set-get_or}
 use Rattle.std.proofs.lemmas.Bool.Decides.{nat_tests}
@@ -13,7 +14,8 @@ one_counted numbers class ten lt =
     rw (ten, known) refl
 
 -- they count at once
-pub counted : (words numbers : List ℕ) (class first : ℕ) → length numbers ≡ 10 → class < 10 → slice_index numbers class < 2 ^ 64
+pub counted : (words numbers : List ℕ) (class first : ℕ) → length numbers ≡ 10 → class < 10
+    → slice_index numbers class < 2 ^ 64
     → after_notes (bare_notes class first words) (record { kind = 0; numbers = numbers })
     ≡ record { kind = 0; numbers = slice_set numbers class (capped (slice_index numbers class + length words)) }
 unfolding tally reading_after
@@ -26,7 +28,8 @@ counted (word ∷ words) numbers class first ten lt fits =
     let here : slice_index now class ≡ capped (slice_index numbers class + 1) =
     get_or-set_same numbers class (capped (slice_index numbers class + 1)) 0 (omega (arith, ten, lt)) in
     let rest = counted words now class (first + 1) (length-set _ _ _ ∙ ten) lt (omega (arith, here)) in
-    let sum : capped (slice_index now class + length words) ≡ capped (slice_index numbers class + length (word ∷ words)) =
+    let sum : capped (slice_index now class + length words)
+    ≡ capped (slice_index numbers class + length (word ∷ words)) =
     omega (arith, here) in
     ap (λ l. after_notes (bare_notes class (first + 1) words) (record { kind = 0; numbers = l })) one
     ∙ rest
@@ -35,7 +38,8 @@ counted (word ∷ words) numbers class first ten lt fits =
 
 -- none of a class above 9 counts
 pub uncounted : (words numbers : List ℕ) (class first : ℕ) → 10 ≤ class
-    → after_notes (bare_notes class first words) (record { kind = 0; numbers = numbers }) ≡ record { kind = 0; numbers = numbers }
+    → after_notes (bare_notes class first words) (record { kind = 0; numbers = numbers })
+    ≡ record { kind = 0; numbers = numbers }
 unfolding tally reading_after
 uncounted [] numbers class first past = refl
 uncounted (word ∷ words) numbers class first past =
@@ -45,7 +49,8 @@ uncounted (word ∷ words) numbers class first past =
 
 -- none covers
 pub uncovered : (words numbers : List ℕ) (class first : ℕ)
-    → after_notes (bare_notes class first words) (record { kind = 2; numbers = numbers }) ≡ record { kind = 2; numbers = numbers }
+    → after_notes (bare_notes class first words) (record { kind = 2; numbers = numbers })
+    ≡ record { kind = 2; numbers = numbers }
 unfolding tally reading_after
 uncovered [] numbers class first = refl
 uncovered (word ∷ words) numbers class first = uncovered words numbers class (first + 1)

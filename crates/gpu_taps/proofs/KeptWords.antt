@@ -1,5 +1,6 @@
 -- The notes that a trace keeps, where many come at once.
-use Rattle.std.proofs.Common.{◌≡◌, ℕ, zero, suc, ◌+◌, ◌-◌, ◌<◌, ◌≤◌, List, [], ◌∷◌, ◌++◌, length, take, drop, map, get_or, refl, sym, ap, ◌∙◌, inl, inr, arith, append_assoc, append-nil}
+use Rattle.std.proofs.Common.{◌≡◌, ℕ, zero, suc, ◌+◌, ◌-◌, ◌<◌, ◌≤◌, List, [], ◌∷◌, ◌++◌, length, take, drop, map}
+use Rattle.std.proofs.Common.{get_or, refl, sym, ap, ◌∙◌, inl, inr, arith, append_assoc, append-nil}
 use Rattle.std.proofs.Common.{length-append, length-drop}
 use Rattle.std.proofs.lemmas.Bool.{cases_lt}
 use Rattle.std.proofs.lemmas.List.{drop-append-le, drop-drop, take_more, length-take-le, map_push, length-map}
@@ -13,7 +14,8 @@ use Rattle.gpu_taps.proofs.Bare.{bare_notes-push}
 use Rattle.gpu_taps.proofs.Numbers.{trace_after-is}
 
 -- to keep the last of a list before more come changes nothing
-pub keep_last-append : {X : Type 0} (n : ℕ) (xs ys : List X) → keep_last n (keep_last n xs ++ ys) ≡ keep_last n (xs ++ ys)
+pub keep_last-append : {X : Type 0} (n : ℕ) (xs ys : List X) → keep_last n (keep_last n xs ++ ys)
+    ≡ keep_last n (xs ++ ys)
 keep_last-append n xs ys =
     let gone = length xs - n in
     let left = length-drop gone xs in
@@ -36,7 +38,8 @@ pub trace_after_notes : (notes : List Note) (kept : List Noted) → length kept 
     ≡ record { kind = 1; numbers = trace_numbers (keep_last 64 (kept ++ map noted_of notes)) }
 unfolding tally reading_after
 trace_after_notes [] kept few =
-    ap (λ l. record { kind = 1; numbers = trace_numbers l }) (sym (ap (keep_last 64) (append-nil kept) ∙ keep_last-few 64 kept few))
+    ap (λ l. record { kind = 1; numbers = trace_numbers l })
+    (sym (ap (keep_last 64) (append-nil kept) ∙ keep_last-few 64 kept few))
 trace_after_notes (note ∷ notes) kept few =
     let now = keep_last 64 (kept ++ noted_of note ∷ []) in
     let one = trace_after-is kept note 64 refl few in
@@ -59,7 +62,8 @@ words_kept class first words i kept lt =
     ≡ bare_notes class first (take i words) ++ bare_note class (capped (first + i)) (get_or words i 0) ∷ [] =
     ap (bare_notes class first) (take_more words i 0 lt)
     ∙ bare_notes-push class first (take i words) (get_or words i 0)
-    ∙ ap (λ n. bare_notes class first (take i words) ++ bare_note class (capped (first + n)) (get_or words i 0) ∷ []) long in
+    ∙ ap (λ n. bare_notes class first (take i words) ++ bare_note class (capped (first + n)) (get_or words i 0) ∷ [])
+    long in
     keep_last-append 64 (kept ++ before) (one ∷ [])
     ∙ ap (keep_last 64) (append_assoc kept before (one ∷ [])
     ∙ ap (λ l. kept ++ l) (sym (ap (map noted_of) notes ∙ map_push noted_of (bare_notes class first (take i words)) _)))
@@ -70,7 +74,8 @@ bare_notes-length : (class first : ℕ) (words : List ℕ) → length (bare_note
 bare_notes-length class first [] = refl
 bare_notes-length class first (word ∷ words) = ap suc (bare_notes-length class (first + 1) words)
 
-same_numbers : (class a b : ℕ) (words : List ℕ) → capped a ≡ capped b → bare_notes class a words ≡ bare_notes class b words
+same_numbers : (class a b : ℕ) (words : List ℕ) → capped a ≡ capped b → bare_notes class a words
+    ≡ bare_notes class b words
 same_numbers class a b [] e = refl
 same_numbers class a b (word ∷ words) e =
     let next = same_numbers class (a + 1) (b + 1) words (omega (arith, e)) in
@@ -78,7 +83,8 @@ same_numbers class a b (word ∷ words) e =
     ∙ ap (λ notes. bare_note class (capped b) word ∷ notes) next
 
 drop-noted : (class first gone : ℕ) (words : List ℕ)
-    → drop gone (map noted_of (bare_notes class first words)) ≡ map noted_of (bare_notes class (first + gone) (drop gone words))
+    → drop gone (map noted_of (bare_notes class first words))
+    ≡ map noted_of (bare_notes class (first + gone) (drop gone words))
 drop-noted class first zero words =
     let e : first + zero ≡ first = omega arith in rw e refl
 drop-noted class first (suc gone) [] = refl
@@ -87,7 +93,9 @@ drop-noted class first (suc gone) (word ∷ words) =
     rw (← e) (drop-noted class (first + 1) gone words)
 
 pub last_kept : (class played : ℕ) (words : List ℕ) (kept : List Noted) → length kept ≤ 64
-    → keep_last 64 (kept ++ map noted_of (bare_notes class (capped (played + (length words - 64)) + 1) (drop (length words - 64) words)))
+    → keep_last 64
+    (kept ++ map noted_of
+    (bare_notes class (capped (played + (length words - 64)) + 1) (drop (length words - 64) words)))
     ≡ keep_last 64 (kept ++ map noted_of (bare_notes class (played + 1) words))
 last_kept class played words kept few =
     let gone = length words - 64 in
@@ -96,14 +104,17 @@ last_kept class played words kept few =
     length-map (bare_notes class (played + 1) words) noted_of ∙ bare_notes-length class (played + 1) words in
     let number : capped (capped (played + gone) + 1) ≡ capped (played + 1 + gone) = omega arith in
     let rest : map noted_of (bare_notes class (capped (played + gone) + 1) (drop gone words)) ≡ drop gone all =
-    ap (map noted_of) (same_numbers class _ _ (drop gone words) number) ∙ sym (drop-noted class (played + 1) gone words) in
+    ap (map noted_of) (same_numbers class _ _ (drop gone words) number)
+    ∙ sym (drop-noted class (played + 1) gone words) in
     ap (λ l. keep_last 64 (kept ++ l)) rest ∙ at_end all gone (ap (λ n. n - 64) long)
   where
-    at_end : (all : List Noted) (gone : ℕ) → length all - 64 ≡ gone → keep_last 64 (kept ++ drop gone all) ≡ keep_last 64 (kept ++ all)
+    at_end : (all : List Noted) (gone : ℕ) → length all - 64 ≡ gone → keep_last 64 (kept ++ drop gone all)
+        ≡ keep_last 64 (kept ++ all)
     at_end all gone e = elim (cases_lt 64 (length all)) [
       | inl more ↦
           let left : length (drop gone all) ≡ 64 = omega (arith, length-drop gone all) in
-          let from : length (kept ++ drop gone all) - 64 ≡ length kept = omega (arith, left, length-append kept (drop gone all)) in
+          let from : length (kept ++ drop gone all) - 64
+          ≡ length kept = omega (arith, left, length-append kept (drop gone all)) in
           let all_from : length (kept ++ all) - 64 ≡ length kept + gone = omega (arith, length-append kept all) in
           ap (λ n. drop n (kept ++ drop gone all)) from ∙ drop-append_seam kept (drop gone all)
           ∙ sym (ap (λ n. drop n (kept ++ all)) all_from ∙ drop-append-add kept all gone)

@@ -1,5 +1,6 @@
 -- The numbers of a list of notes.
-use Rattle.std.proofs.Common.{◌≡◌, ℕ, suc, zero, ◌+◌, ◌-◌, ◌*◌, ◌/◌, ◌%◌, ◌<◌, ◌≤◌, List, [], ◌∷◌, ◌++◌, Some, None, length, slice_get, slice_index, refl, sym, ap, arith, inl, inr}
+use Rattle.std.proofs.Common.{◌≡◌, ℕ, suc, zero, ◌+◌, ◌-◌, ◌*◌, ◌/◌, ◌%◌, ◌<◌, ◌≤◌, List, [], ◌∷◌, ◌++◌, Some, None}
+use Rattle.std.proofs.Common.{length, slice_get, slice_index, refl, sym, ap, arith, inl, inr}
 use Rattle.std.proofs.lemmas.Bool.Decides.{nat_tests}
 use Rattle.std.proofs.lemmas.Bool.{cases_lt, cases_order}
 use Rattle.std.proofs.lemmas.Option.{slice_get_cases}
@@ -13,14 +14,17 @@ pub length-trace_numbers : (notes : List Noted) → length (trace_numbers notes)
 length-trace_numbers [] = refl
 length-trace_numbers (n ∷ ns) = omega (arith, length-trace_numbers ns)
 
-pub trace_numbers-push : (notes : List Noted) (n : Noted) → trace_numbers (notes ++ n ∷ []) ≡ trace_numbers notes ++ n.event ∷ n.class ∷ n.head ∷ []
+pub trace_numbers-push : (notes : List Noted) (n : Noted) → trace_numbers (notes ++ n ∷ [])
+    ≡ trace_numbers notes ++ n.event ∷ n.class ∷ n.head ∷ []
 trace_numbers-push [] n = refl
 trace_numbers-push (m ∷ ms) n = ap (λ l. m.event ∷ m.class ∷ m.head ∷ l) (trace_numbers-push ms n)
 
 pub at_note : (notes : List Noted) (k : ℕ) (n : Noted) → slice_get notes k ≡ Some n →
-    (slice_index (trace_numbers notes) (3 * k) ≡ n.event) × (slice_index (trace_numbers notes) (3 * k + 1) ≡ n.class) × (slice_index (trace_numbers notes) (3 * k + 2) ≡ n.head)
+    (slice_index (trace_numbers notes) (3 * k) ≡ n.event) × (slice_index (trace_numbers notes) (3 * k + 1) ≡ n.class)
+    × (slice_index (trace_numbers notes) (3 * k + 2) ≡ n.head)
 at_note [] k n e = absurd cc
-at_note (m ∷ ms) zero n e = let same : m ≡ n = cc in (ap (λ x. x.event) same, ap (λ x. x.class) same, ap (λ x. x.head) same)
+at_note (m ∷ ms) zero n e = let same : m
+    ≡ n = cc in (ap (λ x. x.event) same, ap (λ x. x.class) same, ap (λ x. x.head) same)
 at_note (m ∷ ms) (suc k) n e =
     let three : 3 * suc k ≡ suc (suc (suc (3 * k))) = omega arith in
     let rest = at_note ms k n e in

@@ -1,5 +1,6 @@
 -- Whether the size rule admits a segment, as a fact and as a test.
-use Rattle.std.proofs.Common.{ℕ, ◌≤◌, ◌≡◌, ◌-ℤ◌, ◌↔◌, IsTrue, Bool, true, false, ◌&&◌, leb, unsigned_abs, refl, sym, arith}
+use Rattle.std.proofs.Common.{ℕ, ◌≤◌, ◌≡◌, ◌-ℤ◌, ◌↔◌, IsTrue, Bool, true, false, ◌&&◌, leb, unsigned_abs, refl, sym}
+use Rattle.std.proofs.Common.{arith}
 use Rattle.std.proofs.lemmas.Bool.Decides.{nat_tests}
 use Rattle.px_num.specs.declared.shape.Vertex.{Vertex}
 use Rattle.line_walk.specs.Line.{is_near, IsNear}
@@ -12,7 +13,8 @@ true_both m n j k g h = grind (arith, nat_tests)
 
 pub is_near-iff : (p q : Vertex) → IsTrue (is_near p q) ↔ IsNear p q
 is_near-iff p q = (
-  λ h. let both = both_true (unsigned_abs (p.x -ℤ q.x)) 1023 (unsigned_abs (p.y -ℤ q.y)) 511 h in record { across = both.0; down = both.1 },
+  λ h. let both = both_true (unsigned_abs (p.x -ℤ q.x)) 1023 (unsigned_abs (p.y -ℤ q.y)) 511 h in
+      record { across = both.0; down = both.1 },
   λ h. true_both _ _ _ _ h.across h.down,
 )
 

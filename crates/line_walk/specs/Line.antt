@@ -1,5 +1,6 @@
 -- Segments: the size rule and the points (psx-spx, "GPU Render Line Commands"; which points, is our own rule).
-use Rattle.std.specs.Prelude.{ℕ, ◌+◌, ◌*◌, ◌/◌, ◌%◌, ◌^◌, ◌≤◌, ◌==◌, Bool, ◌&&◌, nat_le, if◌then◌else◌, max, unsigned_abs, ℤ, pos, ◌+ℤ◌, ◌-ℤ◌, ◌*ℤ◌, ◌≤ℤ◌}
+use Rattle.std.specs.Prelude.{ℕ, ◌+◌, ◌*◌, ◌/◌, ◌%◌, ◌^◌, ◌≤◌, ◌==◌, Bool, ◌&&◌, nat_le, if◌then◌else◌, max}
+use Rattle.std.specs.Prelude.{unsigned_abs, ℤ, pos, ◌+ℤ◌, ◌-ℤ◌, ◌*ℤ◌, ◌≤ℤ◌}
 use Rattle.std.specs.Int.{int_div_euclid, int_min, int_max}
 use Rattle.px_num.specs.declared.shape.Vertex.{Vertex}
 
@@ -28,7 +29,8 @@ steps_of s = max (unsigned_abs (s.second.x -ℤ s.first.x)) (unsigned_abs (s.sec
 abbrev pub len_of : Ends → ℕ
 len_of s = steps_of s + 1
 
--- how much a value that changes by d in n steps has changed at step k, rounded to the nearest, and upward from the middle
+-- how much a value that changes by d in n steps has changed at step k, rounded to the nearest, and upward from the
+-- middle
 unfoldable pub rise : ℤ → ℕ → ℕ → ℤ
 rise d n k = int_div_euclid (pos (2 * k) *ℤ d +ℤ pos n) (pos (2 * n))
 

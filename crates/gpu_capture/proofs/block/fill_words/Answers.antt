@@ -25,6 +25,8 @@ pub returns-in-Err-clause-stop : goal.returns-in-Err-clause-stop
 returns-in-Err-clause-stop g c =
     let long = length-take-le c.in-Err.n c.fill.new.buf (omega (arith, c.in-Err.ensures.failed.fits)) in
     let lt = c.in-Err.ensures.part in
-    stops_failed _ _ _ _ _ (take c.in-Err.n c.fill.new.buf) c.in-Err.ensures.failed.bytes c.read_words-in-Err.ensures.takes
-    (length c.args.bytes.now) c.requires.may c.requires.whole (omega (arith, long, lt)) c.read_words-in-Err.ensures.place
+    stops_failed _ _ _ _ _ (take c.in-Err.n c.fill.new.buf) c.in-Err.ensures.failed.bytes
+    c.read_words-in-Err.ensures.takes
+    (length c.args.bytes.now) c.requires.may c.requires.whole
+    (omega (arith, long, lt)) c.read_words-in-Err.ensures.place
     c.in-Err.n long

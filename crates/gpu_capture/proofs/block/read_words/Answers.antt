@@ -18,7 +18,8 @@ loop-i-preserved c = record {
       let p = c.args.progress.now in
       let took = word_in c.args.bytes.now c.loop-i.i (p.place + 4 * c.loop-i.i) c.read_u32.result now
       (omega (arith, lt, below)) (omega (arith, lt)) c.read_u32.ensures in
-      rw c.push.ensures.items (words_on p (behind_words p c.loop-i.i) (behind_words p (c.loop-i.i + 1)) _ _ _ c.loop-i.words.items
+      rw c.push.ensures.items
+      (words_on p (behind_words p c.loop-i.i) (behind_words p (c.loop-i.i + 1)) _ _ _ c.loop-i.words.items
       c.read_u32.result (c.loop-i.invariant.takes now)
       (word_taken p _ c.requires.may c.loop-i.i c.read_u32.result lt _ _ took));
 }

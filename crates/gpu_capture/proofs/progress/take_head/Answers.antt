@@ -10,7 +10,9 @@ pub returns-in-Ok-version_of-clause-takes : goal.returns-in-Ok-version_of-clause
 returns-in-Ok-version_of-clause-takes g c =
     let unstarted : c.args.progress.now.version ≡ 0 = omega arith in
     let is = sym c.version_of.ensures.version ∙ c.in-Ok-version_of.is in
-    rw c.at_tag.ensures.value (head_takes _ c.fill.new.buf _ _ c.in-Ok-version_of.version unstarted (search rules) (search rules) is c.in-Ok-version_of.ensures.known.0)
+    rw c.at_tag.ensures.value
+    (head_takes _ c.fill.new.buf _ _ c.in-Ok-version_of.version unstarted (search rules)
+    (search rules) is c.in-Ok-version_of.ensures.known.0)
 
 pub returns-in-Ok-version_of-clause-forward : goal.returns-in-Ok-version_of-clause-forward
 unfolding work_left
@@ -21,12 +23,15 @@ returns-in-Ok-version_of-clause-forward g c =
 pub returns-in-Err-version_of-clause-stop : goal.returns-in-Err-version_of-clause-stop
 returns-in-Err-version_of-clause-stop g c =
     let unstarted : c.args.progress.now.version ≡ 0 = omega arith in
-    head_stops _ c.fill.new.buf _ _ _ unstarted (search rules) (search rules) (sym c.version_of.ensures.version ∙ c.in-Err-version_of.is)
+    head_stops _ c.fill.new.buf _ _ _ unstarted (search rules) (search rules)
+    (sym c.version_of.ensures.version ∙ c.in-Err-version_of.is)
 
 pub returns-in-Ok-clause-stop : goal.returns-in-Ok-clause-stop
 returns-in-Ok-clause-stop g c =
-    head_short _ c.fill.new.buf _ _ c.in-Ok.n (let none : c.args.progress.now.version ≡ 0 = omega arith in none) (search rules) (search rules) (search rules) (search rules)
+    head_short _ c.fill.new.buf _ _ c.in-Ok.n (let none : c.args.progress.now.version ≡ 0 = omega arith in none)
+    (search rules) (search rules) (search rules) (search rules)
 
 pub returns-in-Err-clause-stop : goal.returns-in-Err-clause-stop
 returns-in-Err-clause-stop g c =
-    head_fails _ c.fill.new.buf _ _ c.in-Err.n (let none : c.args.progress.now.version ≡ 0 = omega arith in none) (search rules) (search rules) (search rules)
+    head_fails _ c.fill.new.buf _ _ c.in-Err.n (let none : c.args.progress.now.version ≡ 0 = omega arith in none)
+    (search rules) (search rules) (search rules)

@@ -20,21 +20,29 @@ returns-in_err-word-clause-stop g c =
 pub returns-in-Opens-clause-takes : goal.returns-in-Opens-clause-takes
 returns-in-Opens-clause-takes g c =
     let none : c.args.progress.now.left ≡ 0 = omega arith in
-    rw c.behind_word.ensures (opens_word c.args.progress.now _ _ c.in_ok-word.word c.in-Opens.next c.requires.started none c.in_ok-word.ensures.word c.in-Opens.ensures.value)
+    rw c.behind_word.ensures
+    (opens_word c.args.progress.now _ _ c.in_ok-word.word c.in-Opens.next c.requires.started none
+    c.in_ok-word.ensures.word c.in-Opens.ensures.value)
 
 pub returns-in-Opens-clause-forward : goal.returns-in-Opens-clause-forward
-returns-in-Opens-clause-forward g c = rw c.behind_word.ensures (behind_less c.args.progress.now c.in-Opens.next _ 0 c.in_ok-word.ensures.word.below_limit (omega arith))
+returns-in-Opens-clause-forward g c = rw c.behind_word.ensures
+    (behind_less c.args.progress.now c.in-Opens.next _ 0 c.in_ok-word.ensures.word.below_limit (omega arith))
 
 pub returns-in-Gives-clause-takes : goal.returns-in-Gives-clause-takes
 returns-in-Gives-clause-takes g c =
     let none : c.args.progress.now.left ≡ 0 = omega arith in
-    rw c.behind_word-in-Gives.ensures (gives_word c.args.progress.now _ _ c.in_ok-word.word c.in-Gives.event c.in-Gives.count c.in-Gives.next c.requires.started none c.in-Gives.ensures.bounds.1 c.in_ok-word.ensures.word c.in-Gives.ensures.value)
+    rw c.behind_word-in-Gives.ensures
+    (gives_word c.args.progress.now _ _ c.in_ok-word.word c.in-Gives.event c.in-Gives.count c.in-Gives.next
+    c.requires.started none c.in-Gives.ensures.bounds.1 c.in_ok-word.ensures.word c.in-Gives.ensures.value)
 
 pub returns-in-Gives-clause-forward : goal.returns-in-Gives-clause-forward
 returns-in-Gives-clause-forward g c = let few = c.in-Gives.ensures.bounds.2 in
-    rw c.behind_word-in-Gives.ensures (behind_less c.args.progress.now c.in-Gives.next _ (c.in-Gives.count - 1) c.in_ok-word.ensures.word.below_limit (omega (arith, few)))
+    rw c.behind_word-in-Gives.ensures
+    (behind_less c.args.progress.now c.in-Gives.next _ (c.in-Gives.count - 1) c.in_ok-word.ensures.word.below_limit
+    (omega (arith, few)))
 
 pub returns-in-Closes-clause-stop : goal.returns-in-Closes-clause-stop
 returns-in-Closes-clause-stop g c =
     let none : c.args.progress.now.left ≡ 0 = omega arith in
-    word_stops c.args.progress.now _ _ c.in_ok-word.word c.in-Closes.stop c.requires.started none c.in_ok-word.ensures.word c.in-Closes.ensures.value c.in-Closes.ensures.bounds
+    word_stops c.args.progress.now _ _ c.in_ok-word.word c.in-Closes.stop c.requires.started none
+    c.in_ok-word.ensures.word c.in-Closes.ensures.value c.in-Closes.ensures.bounds

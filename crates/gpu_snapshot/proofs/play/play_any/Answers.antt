@@ -4,7 +4,8 @@ use Rattle.gpu_snapshot.proofs.play.play_any.Goals as goal
 
 pub returns-in-Ok-clause-ends : goal.returns-in-Ok-clause-ends
 returns-in-Ok-clause-ends g c = λ s stands. elim c.in-Ok.ensures.opened [
-  | inl opens ↦ plays_capture _ s _ _ _ _ _ _ _ c.in-Ok.rig _ c.in-Ok.reader _ opens stands c.play_from-ending.ensures.ends
+  | inl opens ↦ plays_capture _ s _ _ _ _ _ _ _ c.in-Ok.rig _ c.in-Ok.reader _ opens stands
+      c.play_from-ending.ensures.ends
   | inr opens ↦ plays_state _ s _ _ _ _ _ _ _ c.in-Ok.rig _ c.in-Ok.reader _ opens c.play_from-ending.ensures.ends
 ]
 

@@ -11,7 +11,8 @@ pub returns-in-Err-read_memories-clause-fault : goal.returns-in-Err-read_memorie
 returns-in-Err-read_memories-clause-fault g c =
     let height : c.put_outline.new.rig.gpu.parts.regs.height ≡ c.in-Ok.outline.regs.height =
     ap (λ (k : Kept). k.parts.regs.height) c.put_outline.ensures.gpu in
-    stops_memories _ _ _ _ _ _ c.in-Ok.outline _ c.in-Ok.ensures.takes (rw height at c.in-Err-read_memories.ensures.fault)
+    stops_memories _ _ _ _ _ _ c.in-Ok.outline _ c.in-Ok.ensures.takes
+    (rw height at c.in-Err-read_memories.ensures.fault)
     (rw height at c.read_memories.ensures.cost)
 
 pub returns-in-Ok-read_memories-clause-restored : goal.returns-in-Ok-read_memories-clause-restored

@@ -10,6 +10,8 @@ loop-i-preserved g c =
     let within : c.loop-i.i < length xs = omega (arith, inv.len) in
     record {
       len = length-set _ _ _ ∙ inv.len;
-      told = told_set xs olds c.loop-i.i c.index_mut.result.now c.tell.new.self within c.index_mut.ensures.value inv.rest _ _ inv.len c.tell.ensures inv.told;
-      rest = rest_set xs olds c.loop-i.i c.index_mut.result.now c.tell.new.self within c.index_mut.ensures.value inv.rest;
+      told = told_set xs olds c.loop-i.i c.index_mut.result.now c.tell.new.self within c.index_mut.ensures.value
+          inv.rest _ _ inv.len c.tell.ensures inv.told;
+      rest = rest_set xs olds c.loop-i.i c.index_mut.result.now c.tell.new.self within c.index_mut.ensures.value
+          inv.rest;
     }

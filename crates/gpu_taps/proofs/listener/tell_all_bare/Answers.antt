@@ -10,6 +10,8 @@ loop-k-preserved g c =
     let within : c.loop-k.k < length xs = omega (arith, inv.len) in
     record {
       len = length-set _ _ _ ∙ inv.len;
-      told = told_set xs olds c.loop-k.k c.index_mut.result.now c.tell_bare.new.self within c.index_mut.ensures.value inv.rest _ _ inv.len c.tell_bare.ensures inv.told;
-      rest = rest_set xs olds c.loop-k.k c.index_mut.result.now c.tell_bare.new.self within c.index_mut.ensures.value inv.rest;
+      told = told_set xs olds c.loop-k.k c.index_mut.result.now c.tell_bare.new.self within c.index_mut.ensures.value
+          inv.rest _ _ inv.len c.tell_bare.ensures inv.told;
+      rest = rest_set xs olds c.loop-k.k c.index_mut.result.now c.tell_bare.new.self within c.index_mut.ensures.value
+          inv.rest;
     }

@@ -7,7 +7,8 @@ use Rattle.gpu_taps.proofs.trace.keep_words.Goals as goal
 pub loop-i-init : goal.loop-i-init
 loop-i-init c = record {
   size = c.requires.size;
-  items = sym (ap (keep_last 64) (append-nil c.args.notes.now.items) ∙ keep_last-few 64 c.args.notes.now.items c.requires.fits);
+  items = sym (ap (keep_last 64) (append-nil c.args.notes.now.items)
+      ∙ keep_last-few 64 c.args.notes.now.items c.requires.fits);
 }
 
 pub loop-i-preserved : goal.loop-i-preserved
@@ -16,7 +17,8 @@ loop-i-preserved c =
     let words = c.args.words.now in
     let inv = c.loop-i.invariant in
     let number : c.saturating_add-event.result ≡ capped (c.args.played + 1 + i) =
-    c.saturating_add-event.ensures ∙ (let e : c.args.played + (i + 1) ≡ c.args.played + 1 + i = omega arith in ap capped e) in
+    c.saturating_add-event.ensures
+    ∙ (let e : c.args.played + (i + 1) ≡ c.args.played + 1 + i = omega arith in ap capped e) in
     record {
       size = rw c.push_back.ensures.items inv.size;
       items = rw (c.push_back.ensures.items, inv.size, inv.items, number)

@@ -31,10 +31,22 @@ module _ (c : After-rise) where
   sum_wide = omega (arith, ints, sum_fits)
 
 pub overflow_add-result : goal.overflow_add-result
-overflow_add-result c = omega (arith, ints, sum_fits (goal.at.overflow_add-result c).After-rise, from_fits (goal.at.overflow_add-result c).After-rise)
+overflow_add-result c = omega (
+  arith,
+  ints,
+  sum_fits (goal.at.overflow_add-result c).After-rise,
+  from_fits
+      (goal.at.overflow_add-result c).After-rise,
+)
 
 pub overflow_cast-result-2 : goal.overflow_cast-result-2
-overflow_cast-result-2 c = omega (arith, ints, sum_fits (goal.at.overflow_cast-result-2 c).After-rise, from_fits (goal.at.overflow_cast-result-2 c).After-rise)
+overflow_cast-result-2 c = omega (
+  arith,
+  ints,
+  sum_fits (goal.at.overflow_cast-result-2 c).After-rise,
+  from_fits
+      (goal.at.overflow_cast-result-2 c).After-rise,
+)
 
 pub returns-clause-value : goal.returns-clause-value
 returns-clause-value c =
@@ -45,7 +57,8 @@ returns-clause-value c =
     let from : SFits w32 run.from = from_fits k in
     let from_wide : SFits w64 run.from = omega (arith, ints, from) in
     let fits : SFits w64 c.rise.result = search rules in
-    simp to_z-of_z (ap (λ r. run.from +ℤ r) (grown k) ∙ sym (along-some run.from run.to c.args.n c.args.k c.if-n-eq0.false))
+    simp to_z-of_z
+    (ap (λ r. run.from +ℤ r) (grown k) ∙ sym (along-some run.from run.to c.args.n c.args.k c.if-n-eq0.false))
 
 pub returns-clause-amid : goal.returns-clause-amid
 returns-clause-amid c =

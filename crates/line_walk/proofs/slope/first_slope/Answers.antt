@@ -17,10 +17,13 @@ returns c =
     let less : SFits w32 (to -ℤ from) = omega (arith, ints, near) in
     let parts : SFits w32 ((to -ℤ from) *ℤ pos (2 ^ 21)) = omega (arith, ints, near) in
     let low : c.args.n < 2 ^ 31 = (let most = c.requires.steps in omega (arith, most)) in
-    let value : c.div_euclid-step.result ≡ int_div_euclid ((to -ℤ from) *ℤ pos (2 ^ 21)) (pos c.args.n) = simp (to_z-of_z, to_z_pos) at c.div_euclid-step.ensures in
+    let value : c.div_euclid-step.result ≡ int_div_euclid ((to -ℤ from) *ℤ pos (2 ^ 21)) (pos c.args.n) = simp
+    (to_z-of_z, to_z_pos) at c.div_euclid-step.ensures in
     let floor : IsFloor c.div_euclid-step.result ((to -ℤ from) *ℤ pos (2 ^ 21)) (pos c.args.n) =
-    rw value (floor_is ((to -ℤ from) *ℤ pos (2 ^ 21)) (pos c.args.n) (let some = c.requires.some in omega (arith, ints, some))) in
-    let small = step_small c.div_euclid-step.result ((to -ℤ from) *ℤ pos (2 ^ 21)) c.args.n c.requires.some floor (omega (arith, ints, near)) in
+    rw value (floor_is ((to -ℤ from) *ℤ pos (2 ^ 21)) (pos c.args.n)
+    (let some = c.requires.some in omega (arith, ints, some))) in
+    let small = step_small c.div_euclid-step.result ((to -ℤ from) *ℤ pos (2 ^ 21)) c.args.n c.requires.some floor
+    (omega (arith, ints, near)) in
     let next_fits : SFits w32 (c.div_euclid-step.result +ℤ pos 1) = omega (arith, ints, step_fits, small) in
     let from_wide : SFits w64 from = omega (arith, ints, from_fits) in
     let scaled : SFits w64 (from *ℤ pos (2 ^ 21)) = omega (arith, ints, from_fits) in

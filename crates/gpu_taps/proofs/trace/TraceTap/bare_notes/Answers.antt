@@ -13,5 +13,6 @@ returns c =
     let rest : take (length words - gone) (drop gone words) ≡ drop gone words =
     take_all (length words - gone) (drop gone words) (omega (arith, length-drop gone words)) in
     rw (c.keep_words.ensures.items, c.saturating_add.ensures, c.saturating_sub-gone.ensures, rest)
-    (ap (λ l. record { kind = 1; numbers = trace_numbers l }) (last_kept c.args.class c.args.played words kept c.args.self.now.fits)
+    (ap (λ l. record { kind = 1; numbers = trace_numbers l })
+    (last_kept c.args.class c.args.played words kept c.args.self.now.fits)
     ∙ sym (trace_after_notes (bare_notes c.args.class (c.args.played + 1) words) kept c.args.self.now.fits))

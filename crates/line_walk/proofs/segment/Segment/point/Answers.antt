@@ -11,4 +11,6 @@ returns-clause-between c =
     let by_ : SFits w32 s.b.y = search rules in
     let x : SFits w32 c.along.result = search rules in
     let y : SFits w32 c.along-2.result = search rules in
-    rw (← c.self.view_is) (simp to_z-of_z (record { across = simp to_z-of_z at c.along.ensures.amid; down = simp to_z-of_z at c.along-2.ensures.amid }))
+    rw (← c.self.view_is)
+    (simp to_z-of_z
+    (record { across = simp to_z-of_z at c.along.ensures.amid; down = simp to_z-of_z at c.along-2.ensures.amid }))

@@ -20,10 +20,12 @@ module _ (c : After-self) where
       omega (arith, ints, c.self.invariant.count, across, down)
 
   x_here : IsHere c.self.inside.x
-  x_here = slope_here _ _ c.self.inside.steps c.self.inside.at c.self.inside.x (search rules) (search rules) at_most within c.self.invariant.across
+  x_here = slope_here _ _ c.self.inside.steps c.self.inside.at c.self.inside.x (search rules)
+      (search rules) at_most within c.self.invariant.across
 
   y_here : IsHere c.self.inside.y
-  y_here = slope_here _ _ c.self.inside.steps c.self.inside.at c.self.inside.y (search rules) (search rules) at_most within c.self.invariant.down
+  y_here = slope_here _ _ c.self.inside.steps c.self.inside.at c.self.inside.y (search rules)
+      (search rules) at_most within c.self.invariant.down
 
   bytes : AreBytes c.self.inside.tones
   bytes = tones_here _ _ c.self.inside.steps c.self.inside.at c.self.inside.tones at_most within c.self.invariant.shaded
@@ -65,10 +67,15 @@ returns-clause-point c =
     let inside = c.self.inside in
     let x : SFits w32 c.value_of.result = search rules in
     let y : SFits w32 c.value_of-2.result = search rules in
-    let of_x = c.value_of.ensures ∙ slope_at inside.a.x inside.b.x inside.steps inside.at inside.x most le c.self.invariant.across in
-    let of_y = c.value_of-2.ensures ∙ slope_at inside.a.y inside.b.y inside.steps inside.at inside.y most le c.self.invariant.down in
+    let of_x = c.value_of.ensures
+    ∙ slope_at inside.a.x inside.b.x inside.steps inside.at inside.x most le c.self.invariant.across in
+    let of_y = c.value_of-2.ensures
+    ∙ slope_at inside.a.y inside.b.y inside.steps inside.at inside.y most le c.self.invariant.down in
     rw (← c.self.view_is)
-    (simp to_z-of_z (point_is (ends inside.a inside.b) inside.at inside.steps c.value_of.result c.value_of-2.result c.tint_between.result c.self.invariant.count of_x of_y (c.tint_between.ensures.value inside.steps inside.at most le c.self.invariant.shaded)))
+    (simp to_z-of_z
+    (point_is (ends inside.a inside.b) inside.at inside.steps c.value_of.result c.value_of-2.result
+    c.tint_between.result c.self.invariant.count of_x of_y
+    (c.tint_between.ensures.value inside.steps inside.at most le c.self.invariant.shaded)))
 
 pub returns-clause-between : goal.returns-clause-between
 returns-clause-between c =
@@ -77,8 +84,10 @@ returns-clause-between c =
     let inside = c.self.inside in
     let x : SFits w32 c.value_of.result = search rules in
     let y : SFits w32 c.value_of-2.result = search rules in
-    let across = rw (← c.value_of.ensures) at (slope_amid inside.a.x inside.b.x inside.steps inside.at inside.x most le c.self.invariant.across) in
-    let down = rw (← c.value_of-2.ensures) at (slope_amid inside.a.y inside.b.y inside.steps inside.at inside.y most le c.self.invariant.down) in
+    let across = rw (← c.value_of.ensures) at
+    (slope_amid inside.a.x inside.b.x inside.steps inside.at inside.x most le c.self.invariant.across) in
+    let down = rw (← c.value_of-2.ensures) at
+    (slope_amid inside.a.y inside.b.y inside.steps inside.at inside.y most le c.self.invariant.down) in
     rw (← c.self.view_is) (simp to_z-of_z (record { across = across; down = down }))
 
 pub invariant_of-self : goal.invariant_of-self
