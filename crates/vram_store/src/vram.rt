@@ -1,6 +1,7 @@
 // The cells, and the four accesses that count.
 ghost use Rattle.std.specs.Prelude.{◌≡◌, ◌≤◌, ◌<◌, ◌+◌, ◌*◌, ◌++◌, ◌-◌, ℕ, List, length, vec_len, vec_capacity, IfOk};
 ghost use Rattle.px_num.specs.Height.{IsHeight, tall_height};
+ghost use Rattle.px_num.specs.Zeros.{zeros};
 ghost use Rattle.vram_store.specs.Vram.{at, height_of, set, blank, tall, IsLoaded, IsStored};
 
 use crate::steps::Steps;
