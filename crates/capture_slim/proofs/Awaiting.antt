@@ -2,7 +2,6 @@
 use Rattle.std.proofs.Common.{◌≡◌, ◌≤◌, ◌<◌, ◌⊎◌, inl, inr, ◌+◌, ◌++◌, max, ℕ, List, [], ◌∷◌, Option, Result, Ok, Err, OnOk, IfOk, IfErr, length, refl, ap, sym, ◌∙◌, subst, arith, nat_lt, true, take, drop}
 use Rattle.std.proofs.lemmas.Bool.{cases_Bool}
 use Rattle.dev_io.specs.Device.{prepended, appended, Rose}
-use Rattle.dev_io.proofs.Appended.{appended-nil}
 use Rattle.dev_io.proofs.Parts.{prepended-nil, taken_on}
 use Rattle.gpu_capture.specs.Capture.{Captured, capture, then_events, opened, numbered_version, heads}
 use Rattle.gpu_capture.specs.Head.{head_among}
@@ -20,20 +19,22 @@ use Rattle.dead_drawing.specs.Slim.{Slim}
 use Rattle.capture_flat.specs.Passing.{AreNeeded}
 use Rattle.capture_flat.proofs.Awaiting.{Answers}
 use Rattle.capture_flat.proofs.Needed.{none_needed, needed_on, needed_end, says_on, stop_whole, stop_part, takes_version, stops_version}
-use Rattle.capture_slim.specs.Came.{Came, EndsEvent, EndsRefused, EndsPushed, EndsStop, FailsLast, IsAll}
-use Rattle.capture_slim.specs.File.{begun}
+use Rattle.capture_slim.specs.Came.{Came, EndsEvent, EndsRefused, EndsPushed, EndsStop, FailsAny, FailsLast, IsAll}
+use Rattle.capture_slim.specs.File.{IsDraft, begun}
+use Rattle.capture_slim.specs.Gathered.{Piece}
 use Rattle.capture_slim.specs.Passing.{Streams, streams, Way, SaysFirst, SaysStop, StopsBehind, RefusesNext, SaysEnding, EndsSlim, FailsAt, IsTooLong}
 use Rattle.capture_slim.specs.Window.{Window, first_window, waiting}
 use Rattle.capture_slim.specs.declared.ending.SlimEnding.{SlimEnding}
 use Rattle.capture_slim.specs.declared.ending.SlimEnding.TheVariants.{Done, Stopped, NotFlat, TooLong, WriteFailed}
+use Rattle.capture_slim.specs.declared.file.Draft.{Draft}
 use Rattle.capture_slim.specs.declared.file.SlimFile.{SlimFile}
 use Rattle.event_play.proofs.Awaiting.{events_left}
 use Rattle.capture_slim.proofs.Firsts.{counted}
-use Rattle.capture_slim.proofs.Files.{written_most}
+use Rattle.capture_slim.proofs.Files.{first_draft, written_most}
 use Rattle.capture_slim.proofs.ReadAgain.{is_slim}
 use Rattle.capture_slim.proofs.TooMuch.{is_too_long}
 
-pub record Awaits (version : ℕ) (before now : Streams) (window : Window) (file : SlimFile) (count : ℕ) (new : Progress)
+pub record Awaits (version : ℕ) (before now : Streams) (window : Window) (draft : Draft) (count : ℕ) (new : Progress)
     (next : Result Event Stop) : Type 0 where
   pub left : Option (List ℕ)
   pub old : Progress
@@ -42,21 +43,21 @@ pub record Awaits (version : ℕ) (before now : Streams) (window : Window) (file
   pub events : List Event
   pub says : (rest : List ℕ) → capture (taken ++ rest) ≡ then_events events (capture_from old rest)
   pub needed : AreNeeded events taken
-  pub came : Came (height_for version) events window file count before.held now.held
+  pub came : Came (height_for version) events window draft count before.held now.held
   pub named : (events ≡ []) ⊎ (1 ≤ version)
   pub same : version ≡ new.version
   pub answer : Answers old new left now.left next
 
 -- an answer that is known
-pub awaits_is : (version : ℕ) (before now : Streams) (window : Window) (file : SlimFile) (count : ℕ) (new : Progress) (next given : Result Event Stop)
-    → next ≡ given → Awaits version before now window file count new next → Awaits version before now window file count new given
-awaits_is version before now window file count new next given is at =
-    let P : Result Event Stop → Type 0 = λ n. Awaits version before now window file count new n in subst P is at
+pub awaits_is : (version : ℕ) (before now : Streams) (window : Window) (draft : Draft) (count : ℕ) (new : Progress) (next given : Result Event Stop)
+    → next ≡ given → Awaits version before now window draft count new next → Awaits version before now window draft count new given
+awaits_is version before now window draft count new next given is at =
+    let P : Result Event Stop → Type 0 = λ n. Awaits version before now window draft count new n in subst P is at
 
-pub few_wait : (version : ℕ) (before now : Streams) (window : Window) (file : SlimFile) (count : ℕ) (new : Progress) (next : Result Event Stop)
-    → Awaits version before now window file count new next → length (waiting window) ≤ count
-few_wait version before now window file count new next at =
-    omega (arith, counted (height_for version) at.events window file count before.held now.held at.came)
+pub few_wait : (version : ℕ) (before now : Streams) (window : Window) (draft : Draft) (count : ℕ) (new : Progress) (next : Result Event Stop)
+    → Awaits version before now window draft count new next → length (waiting window) ≤ count
+few_wait version before now window draft count new next at =
+    omega (arith, counted (height_for version) at.events window draft count before.held now.held at.came)
 
 -- ---- how many events may come
 
@@ -93,12 +94,12 @@ answers : (old new : Progress) (before now : Option (List ℕ)) (next : Result E
 answers old new before now (Ok event) takes known stops = (takes, known)
 answers old new before now (Err stop) takes known stops = stops
 
-pub starts : (left left_now held : Option (List ℕ)) (faults faults_now : ℕ) (window : Window) (first new : Progress) (version known : ℕ)
-    (next : Result Event Stop) → IsStart first → window ≡ first_window (height_for version) → version ≡ new.version
+pub starts : (left left_now held : Option (List ℕ)) (faults faults_now : ℕ) (window : Window) (first new : Progress) (version known : ℕ) (draft : Draft)
+    (next : Result Event Stop) → draft.file ≡ record { version = known; size = 0 } → draft.gathered ≡ [] → IsStart first → window ≡ first_window (height_for version) → version ≡ new.version
     → IfOk next (λ event. Takes first new left left_now (event ∷ [])) → OnOk next (1 ≤ new.version)
     → IfErr next (λ stop. StopsAt first new left left_now stop)
-    → Awaits version (streams left faults held) (streams left_now faults_now held) window (record { version = known; size = 0 }) 0 new next
-starts left left_now held faults faults_now window first new version known next is window_is same takes answered stops = record {
+    → Awaits version (streams left faults held) (streams left_now faults_now held) window draft 0 new next
+starts left left_now held faults faults_now window first new version known draft next file_is none is window_is same takes answered stops = record {
   left = left;
   old = first;
   taken = [];
@@ -111,7 +112,10 @@ starts left left_now held faults faults_now window first new version known next 
     words = tt;
     window_is = window_is;
     count_is = refl;
-    file_is = record { stands = sym (appended-nil held); size_is = refl; fits = omega arith };
+    draft_is =
+        let P : SlimFile → Type 0 = λ f. IsDraft (record { file = f; gathered = [] }) held held [] in
+        let Q : List Piece → Type 0 = λ ps. IsDraft (record { file = draft.file; gathered = ps }) held held [] in
+        subst Q (sym none) (subst P (sym file_is) (first_draft known held));
   };
   named = inl refl;
   same = same;
@@ -119,8 +123,8 @@ starts left left_now held faults faults_now window first new version known next 
 }
 
 -- one event more was passed on, and the reader has answered again
-module _ (version : ℕ) (before now : Streams) (window : Window) (file : SlimFile) (count : ℕ) (new : Progress) (e : Event)
-    (at : Awaits version before now window file count new (Ok e)) where
+module _ (version : ℕ) (before now : Streams) (window : Window) (draft : Draft) (count : ℕ) (new : Progress) (e : Event)
+    (at : Awaits version before now window draft count new (Ok e)) where
   takes : Takes at.old new at.left now.left (e ∷ [])
   takes = at.answer.0
 
@@ -144,12 +148,12 @@ module _ (version : ℕ) (before now : Streams) (window : Window) (file : SlimFi
   next_version newer left (Ok x) answer = at.same ∙ takes_version new newer now.left left (x ∷ []) answer.0 at.answer.1 answer.1
   next_version newer left (Err stop) answer = at.same ∙ stops_version new newer.version stop answer.taken left answer.says at.answer.1
 
-  pub goes_on : (newer : Progress) (left held : Option (List ℕ)) (faults : ℕ) (next_window : Window) (size : ℕ) (next : Result Event Stop)
-      → Came (height_for version) (at.events ++ e ∷ []) next_window (record { version = file.version; size = size }) (count + 1) before.held held
+  pub goes_on : (newer : Progress) (left held : Option (List ℕ)) (faults : ℕ) (next_window : Window) (next_draft : Draft) (next : Result Event Stop)
+      → Came (height_for version) (at.events ++ e ∷ []) next_window next_draft (count + 1) before.held held
       → IfOk next (λ event. Takes new newer now.left left (event ∷ [])) → OnOk next (1 ≤ newer.version)
       → IfErr next (λ stop. StopsAt new newer now.left left stop)
-      → Awaits version before (streams left faults held) next_window (record { version = file.version; size = size }) (count + 1) newer next
-  goes_on newer left held faults next_window size next came took answered stops =
+      → Awaits version before (streams left faults held) next_window next_draft (count + 1) newer next
+  goes_on newer left held faults next_window next_draft next came took answered stops =
       let answer = answers new newer now.left left next took answered stops in
       record {
         left = now.left;
@@ -200,7 +204,7 @@ module _ (version : ℕ) (before now : Streams) (window : Window) (file : SlimFi
     way = record { version = version; taken = at.taken ++ takes.taken; events = at.events };
     bytes = all_taken;
     ports = at.came.ports;
-    says = inl (record { due = inr (fails.last, inr (refuses refused)); fails = fails.fails });
+    says = inl (record { due = inr (fails.some, inr (refuses refused)); fails = fails.fails });
   }
   refused_end held Done refused ends = absurd ends
   refused_end held (Stopped number stop) refused ends = absurd ends
@@ -237,8 +241,8 @@ module _ (version : ℕ) (before now : Streams) (window : Window) (file : SlimFi
 
 -- ---- the reader stops
 
-module _ (version : ℕ) (before now : Streams) (window : Window) (file : SlimFile) (count : ℕ) (new : Progress) (stop : Stop)
-    (at : Awaits version before now window file count new (Err stop)) (most : version ≤ 3)
+module _ (version : ℕ) (before now : Streams) (window : Window) (draft : Draft) (count : ℕ) (new : Progress) (stop : Stop)
+    (at : Awaits version before now window draft count new (Err stop)) (most : version ≤ 3)
     (cause : IsReadFault stop → Rose before.faults now.faults) where
   stops : StopsAt at.old new at.left now.left stop
   stops = at.answer
@@ -293,7 +297,7 @@ module _ (version : ℕ) (before now : Streams) (window : Window) (file : SlimFi
       by_ending (WriteFailed number) ends =
           let P : Stop → Type 0 = λ s. StopsBehind way s before (streams now.left now.faults held) in
           elim ends [
-            | inl fails ↦ inl (record { due = inr (fails.last, inl (stop, stops_behind held)); fails = fails.fails })
+            | inl fails ↦ inl (record { due = inr (fails.some, inl (stop, stops_behind held)); fails = fails.fails })
             | inr u ↦ inr (record { number_is = u.1.number_is; stops = subst P u.0 (stops_behind held); held = u.1.stands; fits = u.1.fits })
           ]
       by_ending (NotFlat number) ends = absurd ends
@@ -313,6 +317,9 @@ module _ (version : ℕ) (before now : Streams) (window : Window) (file : SlimFi
 
   none_fails : (known number : ℕ) (held : Option (List ℕ)) (ending : SlimEnding) → FailsLast (height_for version) known [] number before.held held ending → ⊥
   none_fails known number held ending fails = omega (arith, fails.last.some, fails.fails.number_is)
+
+  none_lacks : (known number : ℕ) (held : Option (List ℕ)) (ending : SlimEnding) → FailsAny (height_for version) known [] number before.held held ending → ⊥
+  none_lacks known number held ending fails = omega (arith, fails.some, fails.fails.number_is)
 
   end_named : stop ≡ End → 1 ≤ version
   end_named is =
@@ -343,9 +350,9 @@ module _ (version : ℕ) (before now : Streams) (window : Window) (file : SlimFi
           let P : List Event → Type 0 = λ es. FailsLast (height_for version) known es number before.held held (TooLong number) in
           absurd (none_fails known number held (TooLong number) (subst P none fails))
       unnamed (WriteFailed number) none ends =
-          let P : List Event → Type 0 = λ es. FailsLast (height_for version) known es number before.held held (WriteFailed number) in
+          let P : List Event → Type 0 = λ es. FailsAny (height_for version) known es number before.held held (WriteFailed number) in
           elim ends [
-            | inl fails ↦ absurd (none_fails known number held (WriteFailed number) (subst P none fails))
+            | inl fails ↦ absurd (none_lacks known number held (WriteFailed number) (subst P none fails))
             | inr u ↦ named_end (end_named u.0) (WriteFailed number) (inr u)
           ]
       unnamed (NotFlat number) none ends = absurd ends

@@ -1,16 +1,21 @@
 -- What stands in the file, record by record.
-use Rattle.std.proofs.Common.{◌≡◌, ◌≤◌, ◌+◌, ◌++◌, ◌==◌, ℕ, List, [], ◌∷◌, Option, true, false, length, length-append, refl, ap, sym, ◌∙◌, append_assoc, append-nil, subst, arith}
+use Rattle.std.proofs.Common.{◌≡◌, ◌<◌, ◌⊎◌, inl, inr, Some, ◌≤◌, ◌+◌, ◌++◌, ◌==◌, ℕ, List, [], ◌∷◌, Option, true, false, length, length-append, refl, ap, sym, ◌∙◌, append_assoc, append-nil, subst, arith}
 use Rattle.dev_io.specs.Device.{appended, AppendsPart}
+use Rattle.dev_io.proofs.Appended.{appended-appended, appended-nil}
 use Rattle.gpu_capture.specs.Capture.{head_of, limit}
 use Rattle.gpu_capture.specs.Written.{spelled, spelled_end, written, tag_of}
 use Rattle.gpu_capture.proofs.Written.{word_length}
 use Rattle.gpu_capture.specs.declared.event.Event.{Event}
 use Rattle.capture_flat.specs.Out.{spell}
 use Rattle.capture_flat.proofs.Pieces.{spell-append, wrote_on}
-use Rattle.capture_slim.specs.File.{begun, head_due, head_at, due, IsFile, WritesDue, FailsDue, Fails}
+use Rattle.capture_slim.specs.File.{begun, head_due, head_at, due, IsFile, IsDraft, IsLacking, FailsIn, FailsNext, EndsTooLong}
+use Rattle.capture_slim.specs.Gathered.{BreaksOff, MakesRoom, Piece, bytes_of}
+use Rattle.capture_slim.specs.Places.{kept_of}
 use Rattle.capture_slim.specs.declared.ending.SlimEnding.{SlimEnding}
 use Rattle.capture_slim.specs.declared.ending.SlimEnding.TheVariants.{Done, Stopped, NotFlat, TooLong, WriteFailed}
+use Rattle.capture_slim.specs.declared.file.Draft.{Draft}
 use Rattle.capture_slim.specs.declared.file.SlimFile.{SlimFile}
+use Rattle.capture_slim.proofs.Rests.{kept_append}
 
 -- ---- the head
 
@@ -60,35 +65,194 @@ size_more file base held kept e is =
     let all = ap length (begun_more file.version kept e) in
     omega (arith, same, all, is.size_is, length-append (begun file.version kept) (head_due file.version kept ++ spelled e))
 
-pub record_on : (file : SlimFile) (base held now : Option (List ℕ)) (kept : List Event) (e : Event) (size : ℕ) → IsFile file base held kept
-    → WritesDue file e held now size → IsFile (record { version = file.version; size = size }) base now (kept ++ e ∷ [])
-record_on file base held now kept e size is wrote = record {
-  stands = wrote_on base held now (begun file.version kept) (due file e) is.stands wrote.held
-      ∙ ap (λ bytes. appended base (begun file.version kept ++ bytes)) (due_same file base held kept e is)
-      ∙ ap (appended base) (sym (begun_more file.version kept e));
-  size_is = wrote.size_is ∙ size_more file base held kept e is;
-  fits = wrote.fits;
+-- ---- pieces that are split in two ways
+
+none_split : (whole : List Piece) (p : Piece) (later : List Piece) → [] ≡ whole ++ p ∷ later → ⊥
+none_split [] p later is = cc
+none_split (x ∷ whole) p later is = cc
+
+abbrev Splits : (pieces whole later : List Piece) (p q : Piece) → Type 0
+Splits pieces whole later p q = ((rest : List Piece) × (pieces ≡ whole ++ q ∷ rest)) ⊎ ((whole ≡ pieces) × (q ≡ p))
+
+splits : (pieces whole later : List Piece) (p q : Piece) → pieces ++ p ∷ [] ≡ whole ++ q ∷ later → Splits pieces whole later p q
+splits [] [] later p q is = let same : q ≡ p = cc in inr (refl, same)
+splits [] (w ∷ whole) later p q is = let none : [] ≡ whole ++ q ∷ later = cc in absurd (none_split whole q later none)
+splits (x ∷ pieces) [] later p q is = let same : x ≡ q = cc in inl (pieces, ap (λ (y : Piece). y ∷ pieces) same)
+splits (x ∷ pieces) (w ∷ whole) later p q is =
+    let same : x ≡ w = cc in
+    let tails : pieces ++ p ∷ [] ≡ whole ++ q ∷ later = cc in
+    elim (splits pieces whole later p q tails) [
+      | inl u ↦ let rest = u.1 in inl (u.0, cc)
+      | inr u ↦ let whole_is = u.0 in inr (cc, u.1)
+    ]
+
+bytes_more : (pieces : List Piece) (p : Piece) → bytes_of (pieces ++ p ∷ []) ≡ bytes_of pieces ++ p.bytes
+bytes_more [] p = append-nil p.bytes
+bytes_more (x ∷ pieces) p = ap (λ bytes. x.bytes ++ bytes) (bytes_more pieces p) ∙ sym (append_assoc x.bytes (bytes_of pieces) p.bytes)
+
+-- the writing breaks off in one of the first pieces, or in the last one
+abbrev BreaksLast : (pieces : List Piece) (p : Piece) (held now : Option (List ℕ)) (number : ℕ) → Type 0
+BreaksLast pieces p held now number =
+    BreaksOff pieces held now number ⊎ ((number ≡ p.number) × AppendsPart (appended held (bytes_of pieces)) now p.bytes)
+
+breaks_last : (pieces : List Piece) (p : Piece) (held now : Option (List ℕ)) (number : ℕ)
+    → BreaksOff (pieces ++ p ∷ []) held now number → BreaksLast pieces p held now number
+breaks_last pieces p held now number off =
+    elim (splits pieces off.whole off.later p off.broken off.are) [
+      | inl u ↦ inl (record {
+        whole = off.whole;
+        broken = off.broken;
+        later = u.0;
+        are = u.1;
+        number_is = off.number_is;
+        stands = off.stands;
+      })
+      | inr u ↦
+          let P : List Piece → Type 0 = λ ps. AppendsPart (appended held (bytes_of ps)) now off.broken.bytes in
+          let Q : Piece → Type 0 = λ q. AppendsPart (appended held (bytes_of pieces)) now q.bytes in
+          inr (off.number_is ∙ ap (λ (q : Piece). q.number) u.1, subst Q u.1 (subst P u.0 off.stands))
+    ]
+
+-- ---- events in their places
+
+pub fails_wider : (version : ℕ) (base held : Option (List ℕ)) (outs more : List (Option Event)) (number : ℕ) (ending : SlimEnding)
+    → FailsIn version base held outs number ending → FailsIn version base held (outs ++ more) number ending
+fails_wider version base held outs more number ending fails = record {
+  earlier = fails.earlier;
+  event = fails.event;
+  later = fails.later ++ more;
+  are = ap (λ (os : List (Option Event)). os ++ more) fails.are ∙ append_assoc fails.earlier (Some fails.event ∷ fails.later) more;
+  number_is = fails.number_is;
+  fails = fails.fails;
 }
 
-pub record_fails : (file : SlimFile) (base held now : Option (List ℕ)) (kept : List Event) (e : Event) (number : ℕ) (ending : SlimEnding)
-    → IsFile file base held kept → FailsDue file number e held now ending → Fails file.version base now kept e number ending
-record_fails file base held now kept e number (TooLong at) is fails = (
-  fails.0,
-  record {
-    stands = fails.1 ∙ is.stands;
-    fits = omega (arith, is.fits, is.size_is);
-    long = omega (arith, fails.2, size_more file base held kept e is, written_more file.version kept e);
-  },
-)
-record_fails file base held now kept e number (WriteFailed at) is fails =
-    let P : Option (List ℕ) → Type 0 = λ mid. AppendsPart mid now (head_due file.version kept ++ spelled e) in
-    let Q : List ℕ → Type 0 = λ bytes. AppendsPart held now bytes in (
-      fails.0,
+-- ---- what is gathered
+
+abbrev draft_of : SlimFile → List Piece → Draft
+draft_of file pieces = record { file = file; gathered = pieces }
+
+-- nothing is gathered, and none stays
+pub first_draft : (version : ℕ) (held : Option (List ℕ)) → IsDraft (draft_of (record { version = version; size = 0 }) []) held held []
+first_draft version held = record {
+  file_is = record {
+    stands = refl;
+    size_is = refl;
+    fits = omega arith;
+  };
+  lacks = λ now number off. absurd (none_split off.whole off.broken off.later off.are);
+}
+
+-- all was written
+pub written_file : (draft : Draft) (base held now : Option (List ℕ)) (outs : List (Option Event)) → IsDraft draft base held outs
+    → now ≡ appended held (bytes_of draft.gathered) → IsFile draft.file base now (kept_of outs)
+written_file draft base held now outs is wrote = record {
+  stands = wrote ∙ is.file_is.stands;
+  size_is = is.file_is.size_is;
+  fits = is.file_is.fits;
+}
+
+written_draft : (file : SlimFile) (pieces : List Piece) (base held now : Option (List ℕ)) (outs : List (Option Event))
+    → IsDraft (draft_of file pieces) base held outs → now ≡ appended held (bytes_of pieces) → IsDraft (draft_of file []) base now outs
+written_draft file pieces base held now outs is wrote = record {
+  file_is = record {
+    stands = appended-nil now ∙ wrote ∙ is.file_is.stands;
+    size_is = is.file_is.size_is;
+    fits = is.file_is.fits;
+  };
+  lacks = λ later number off. absurd (none_split off.whole off.broken off.later off.are);
+}
+
+pub room_draft : (file : SlimFile) (old new : List Piece) (base held now : Option (List ℕ)) (outs : List (Option Event))
+    → IsDraft (draft_of file old) base held outs → MakesRoom old new held now → IsDraft (draft_of file new) base now outs
+room_draft file old new base held now outs is made =
+    let P : List Piece → Type 0 = λ ps. IsDraft (draft_of file ps) base now outs in
+    let Q : Option (List ℕ) → Type 0 = λ h. IsDraft (draft_of file old) base h outs in
+    elim made [
+      | inl u ↦ subst P (sym u.0) (subst Q (sym u.1) is)
+      | inr u ↦ subst P (sym u.0) (written_draft file old base held now outs is u.1)
+    ]
+
+-- none of these stays
+pub passed_draft : (draft : Draft) (base held : Option (List ℕ)) (outs none : List (Option Event)) → IsDraft draft base held outs
+    → kept_of none ≡ [] → IsDraft draft base held (outs ++ none)
+passed_draft draft base held outs none is are =
+    let P : List Event → Type 0 = λ es. IsFile draft.file base (appended held (bytes_of draft.gathered)) es in
+    let same : kept_of (outs ++ none) ≡ kept_of outs =
+    kept_append outs none ∙ ap (λ (es : List Event). kept_of outs ++ es) are ∙ append-nil (kept_of outs) in
+    record {
+      file_is = subst P (sym same) is.file_is;
+      lacks = λ now number off.
+          fails_wider draft.file.version base now outs none number (WriteFailed number) (is.lacks now number off);
+    }
+
+-- ---- one record more
+
+module _ (file : SlimFile) (pieces : List Piece) (base held : Option (List ℕ)) (outs : List (Option Event)) (e : Event) (number after : ℕ)
+    (is : IsDraft (draft_of file pieces) base held outs) (at : number ≡ length outs + 1)
+    (after_is : after ≡ file.size + length (due file e)) where
+  abbrev kept : List Event
+  kept = kept_of outs
+
+  abbrev piece : Piece
+  piece = record { number = number; bytes = due file e }
+
+  abbrev new_file : SlimFile
+  new_file = record { version = file.version; size = after }
+
+  all_held : Option (List ℕ)
+  all_held = appended held (bytes_of pieces)
+
+  record_lacks : (now : Option (List ℕ)) → after + 4 ≤ limit → AppendsPart (appended held (bytes_of pieces)) now (due file e)
+      → IsLacking file.version base now kept e
+  record_lacks now fits part =
+      let P : Option (List ℕ) → Type 0 = λ mid. AppendsPart mid now (head_due file.version kept ++ spelled e) in
+      let Q : List ℕ → Type 0 = λ bytes. AppendsPart (appended held (bytes_of pieces)) now bytes in
       record {
-        stands = subst P is.stands (subst Q (due_same file base held kept e is) fails.1);
-        fits = omega (arith, fails.2, size_more file base held kept e is, written_more file.version kept e);
-      },
-    )
-record_fails file base held now kept e number Done is fails = absurd fails
-record_fails file base held now kept e number (Stopped at stop) is fails = absurd fails
-record_fails file base held now kept e number (NotFlat at) is fails = absurd fails
+        stands = subst P is.file_is.stands (subst Q (due_same file base (appended held (bytes_of pieces)) kept e is.file_is) part);
+        fits = omega (arith, fits, after_is, size_more file base (appended held (bytes_of pieces)) kept e is.file_is, written_more file.version kept e);
+      }
+
+  record_file : after + 4 ≤ limit → IsFile new_file base (appended held (bytes_of (pieces ++ piece ∷ []))) (kept ++ e ∷ [])
+  record_file fits = record {
+    stands = ap (appended held) (bytes_more pieces piece)
+        ∙ wrote_on base (appended held (bytes_of pieces)) _ (begun file.version kept) (due file e) is.file_is.stands
+        (sym (appended-appended held (bytes_of pieces) (due file e)))
+        ∙ ap (λ bytes. appended base (begun file.version kept ++ bytes)) (due_same file base (appended held (bytes_of pieces)) kept e is.file_is)
+        ∙ ap (appended base) (sym (begun_more file.version kept e));
+    size_is = after_is ∙ size_more file base (appended held (bytes_of pieces)) kept e is.file_is;
+    fits = fits;
+  }
+
+  pub added_draft : after + 4 ≤ limit → IsDraft (draft_of new_file (pieces ++ piece ∷ [])) base held (outs ++ Some e ∷ [])
+  added_draft fits =
+      let P : List Event → Type 0 = λ es. IsFile new_file base (appended held (bytes_of (pieces ++ piece ∷ []))) es in
+      record {
+        file_is = subst P (sym (kept_append outs (Some e ∷ []))) (record_file fits);
+        lacks = λ now n off.
+            elim (breaks_last pieces piece held now n off) [
+              | inl before ↦ fails_wider file.version base now outs (Some e ∷ []) n (WriteFailed n) (is.lacks now n before)
+              | inr last ↦ record {
+                earlier = outs;
+                event = e;
+                later = [];
+                are = refl;
+                number_is = last.0 ∙ at;
+                fails = (refl, record_lacks now fits last.1);
+              }
+            ];
+      }
+
+  pub long_ends : (now : Option (List ℕ)) (ending : SlimEnding) → limit < after + 4 → EndsTooLong pieces held now number ending
+      → FailsNext file.version base now outs e ending
+  long_ends now (TooLong n) long ends = (
+    ends.0 ∙ at,
+    record {
+      stands = ends.1 ∙ is.file_is.stands;
+      fits = omega (arith, is.file_is.fits, is.file_is.size_is);
+      long = omega (arith, long, after_is, size_more file base (appended held (bytes_of pieces)) kept e is.file_is, written_more file.version kept e);
+    },
+  )
+  long_ends now (WriteFailed n) long ends = is.lacks now n ends
+  long_ends now Done long ends = absurd ends
+  long_ends now (Stopped n stop) long ends = absurd ends
+  long_ends now (NotFlat n) long ends = absurd ends

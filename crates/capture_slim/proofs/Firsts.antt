@@ -1,5 +1,5 @@
 -- What stays of the first events, by what left the window.
-use Rattle.std.proofs.Common.{◌≡◌, ◌≤◌, ◌+◌, ◌-◌, ◌++◌, ◌&&◌, ltb, ℕ, suc, List, [], ◌∷◌, Option, None, Some, Bool, true, false, cond, take, length, length-append, refl, ap, sym, ◌∙◌, append_assoc, append-nil, subst, arith, inl, inr}
+use Rattle.std.proofs.Common.{◌≡◌, ◌≤◌, ◌+◌, ◌++◌, ◌&&◌, ltb, ℕ, suc, List, [], ◌∷◌, Option, None, Some, Bool, true, false, cond, take, length, length-append, refl, ap, sym, ◌∙◌, append_assoc, append-nil, subst, arith, inl, inr}
 use Rattle.std.proofs.Math.Seq.{take-append-add}
 use Rattle.std.proofs.lemmas.Bool.{ltb-false}
 use Rattle.dev_io.specs.Device.{appended, AppendsPart}
@@ -13,18 +13,19 @@ use Rattle.event_play.specs.Ports.{IsAtPorts, AreAtPorts}
 use Rattle.dead_drawing.specs.Control.{Control}
 use Rattle.dead_drawing.specs.Dead.{is_droppable}
 use Rattle.dead_drawing.specs.Slim.{Slim}
-use Rattle.capture_slim.specs.Came.{Came, ClosesFile, EndsPushed, EndsRefused, EndsStop, HoldWords, IsAll, FailsLast, FailsNow}
-use Rattle.capture_slim.specs.File.{begun, head_due, IsFile, Fails, FailsSlots}
+use Rattle.capture_slim.specs.Came.{Came, ClosesFile, EndsPushed, EndsRefused, EndsStop, HoldWords, IsAll, FailsAny, FailsLast}
+use Rattle.capture_slim.specs.File.{begun, head_due, IsDraft, IsFile, Fails, FailsIn, FailsNext, FailsRest}
 use Rattle.capture_slim.specs.Passing.{FailsAt}
-use Rattle.capture_slim.specs.Places.{kept_of, places, slim_first}
+use Rattle.capture_slim.specs.Places.{kept_of, places}
 use Rattle.capture_slim.specs.Stream.{outs, behind, leaving, leaving_from, staying, staying_from}
 use Rattle.capture_slim.specs.Window.{Window, kept, kept_words, with_words, with_event, with_word, pushed_by, pushed, first_window, all_left, left_of, waiting}
 use Rattle.capture_slim.specs.declared.ending.SlimEnding.{SlimEnding}
 use Rattle.capture_slim.specs.declared.ending.SlimEnding.TheVariants.{Done, Stopped, NotFlat, TooLong, WriteFailed}
+use Rattle.capture_slim.specs.declared.file.Draft.{Draft}
 use Rattle.capture_slim.specs.declared.file.SlimFile.{SlimFile}
 use Rattle.capture_slim.specs.declared.slot.Slot.{Slot}
-use Rattle.capture_slim.proofs.Files.{head_same, begun_end, written_most}
-use Rattle.capture_slim.proofs.Rests.{kept_append, left_append}
+use Rattle.capture_slim.proofs.Files.{head_same, begun_end, fails_wider, written_most}
+use Rattle.capture_slim.proofs.Rests.{kept_append, left_long}
 use Rattle.capture_slim.proofs.SettlingLemmas.{kept_count}
 use Rattle.capture_slim.proofs.StreamLaw.{stream_law, leaves_law, places_law}
 use Rattle.capture_slim.proofs.WindowLaw.{judged_long}
@@ -109,100 +110,109 @@ placed all xs more e are =
       behind = ap (λ os. kept_of (take (length xs + 1) os)) are ∙ ap kept_of (take-append-add xs (Some e ∷ more) 1) ∙ kept_append xs (Some e ∷ []);
     }
 
-abbrev number_of : SlimEnding → ℕ
-number_of (TooLong number) = number
-number_of (WriteFailed number) = number
-number_of other = 0
-
-fails_number : (version : ℕ) (base held : Option (List ℕ)) (kept : List Event) (e : Event) (number : ℕ) (ending : SlimEnding)
-    → Fails version base held kept e number ending → number_of ending ≡ number
-fails_number version base held kept e number (TooLong at) fails = fails.0
-fails_number version base held kept e number (WriteFailed at) fails = fails.0
-fails_number version base held kept e number Done fails = absurd fails
-fails_number version base held kept e number (Stopped at stop) fails = absurd fails
-fails_number version base held kept e number (NotFlat at) fails = absurd fails
-
--- the record of an event in its place was not written
-pub fails_at : (height version : ℕ) (events : List Event) (xs more : Outs) (e : Event) (number : ℕ) (base held : Option (List ℕ)) (ending : SlimEnding)
-    → places height events ≡ xs ++ Some e ∷ more → number ≡ length xs + 1 → Fails version base held (kept_of xs) e number ending
-    → FailsAt height version events (number_of ending) base held ending
-fails_at height version events xs more e number base held ending are at fails =
+-- the record of an event in its place would be too much, or was not written
+pub fails_at : (height version : ℕ) (events : List Event) (outs : Outs) (number : ℕ) (base held : Option (List ℕ)) (ending : SlimEnding)
+    → places height events ≡ outs → FailsIn version base held outs number ending
+    → FailsAt height version events number base held ending
+fails_at height version events outs number base held ending is fails =
     let all = places height events in
-    let place = placed all xs more e are in
-    let same = fails_number version base held (kept_of xs) e number ending fails in
-    let P : ℕ → Type 0 = λ n. Fails version base held (slim_first height (length xs) events) e n ending in
+    let xs = fails.earlier in
+    let e = fails.event in
+    let place = placed all xs fails.later e (is ∙ fails.are) in
     let Q : List Event → Type 0 = λ es. Fails version base held es e number ending in
     record {
       earlier = length xs;
-      number_is = same ∙ at;
+      number_is = fails.number_is;
       event = e;
-      stays = ap (λ n. kept_of (take n all)) (same ∙ at) ∙ place.behind ∙ ap (λ es. es ++ e ∷ []) (sym place.before);
-      fails = subst P (sym same) (subst Q (sym place.before) fails);
+      stays = ap (λ n. kept_of (take n all)) fails.number_is ∙ place.behind ∙ ap (λ es. es ++ e ∷ []) (sym place.before);
+      fails = subst Q (sym place.before) fails.fails;
     }
+
+pub fails_among : (version : ℕ) (base held : Option (List ℕ)) (outs : Outs) (number : ℕ) (ending : SlimEnding)
+    → FailsIn version base held outs number ending → number ≤ length outs
+fails_among version base held outs number ending fails =
+    omega (arith, fails.number_is, ap length fails.are, length-append fails.earlier (Some fails.event ∷ fails.later))
 
 -- ---- the end
 
-module _ (height : ℕ) (events : List Event) (window : Window) (file : SlimFile) (count : ℕ) (base held : Option (List ℕ))
-    (came : Came height events window file count base held) where
+module _ (height : ℕ) (events : List Event) (window : Window) (draft : Draft) (count : ℕ) (base held : Option (List ℕ))
+    (came : Came height events window draft count base held) where
   abbrev gone : Outs
   gone = outs events (first_window height)
 
   pub all_places : places height events ≡ gone ++ all_left (waiting window)
   all_places = stream_law height events ∙ ap (λ (w : Window). gone ++ all_left (waiting w)) (sym came.window_is)
 
-  pub slim_is : kept_of gone ++ kept_of (all_left (waiting window)) ≡ Slim height events
-  slim_is = sym (kept_append gone (all_left (waiting window))) ∙ ap kept_of (sym all_places) ∙ places_law height events
+  slim_is : kept_of (gone ++ all_left (waiting window)) ≡ Slim height events
+  slim_is = ap kept_of (sym all_places) ∙ places_law height events
 
   pub counted : length gone + length (waiting window) ≡ count
   counted = omega (arith, waiting_size window, counts events (first_window height), ap size came.window_is, came.count_is)
 
-  pub rest_fails : (now : Option (List ℕ)) (ending : SlimEnding) → length (waiting window) ≤ 4096
-      → FailsSlots file.version base now (kept_of gone) (waiting window) (count - length (waiting window)) ending
-      → FailsLast height file.version events (number_of ending) base now ending
-  rest_fails now ending most fails =
-      let done = all_left fails.done in
-      let xs = gone ++ done in
-      let are : places height events ≡ xs ++ Some fails.event ∷ all_left fails.after =
-      all_places ∙ ap (λ (ss : List Slot). gone ++ all_left ss) fails.are
-      ∙ ap (λ os. gone ++ os) (left_append fails.done (fails.slot ∷ fails.after) ∙ ap (λ (out : Option Event). done ++ out ∷ all_left fails.after) fails.event_is)
-      ∙ sym (append_assoc gone done (Some fails.event ∷ all_left fails.after)) in
-      let long = length-append gone done in
-      let at : fails.number ≡ length xs + 1 = omega (arith, fails.number_is, long, left_long fails.done, counted) in
-      let P : List Event → Type 0 = λ es. Fails file.version base now es fails.event fails.number ending in
-      let fails_here = subst P (sym (kept_append gone done)) fails.fails in
-      let same = fails_number file.version base now (kept_of xs) fails.event fails.number ending fails_here in
-      let slots = ap length fails.are in
+  all_long : length (gone ++ all_left (waiting window)) ≡ length events
+  all_long = omega (arith, length-append gone (all_left (waiting window)), left_long (waiting window), counted, came.count_is)
+
+  pub events_count : count ≡ length gone + length (waiting window)
+  events_count = omega (arith, counted)
+
+  rest_long : (now : Option (List ℕ)) (at : ℕ) → length (waiting window) ≤ 4096
+      → FailsRest draft.file.version base now gone (all_left (waiting window)) (TooLong at)
+      → FailsLast height draft.file.version events at base now (TooLong at)
+  rest_long now at most fails =
+      let all = gone ++ all_left (waiting window) in
+      let among = fails_among draft.file.version base now all at (TooLong at) fails.1 in
       record {
         last = record {
-          some = omega (arith, same, fails.number_is, counted, came.count_is, slots, length-append fails.done (fails.slot ∷ fails.after));
-          late = omega (arith, same, fails.number_is, counted, came.count_is, most);
+          some = omega (arith, among, all_long);
+          late = omega (arith, fails.0, counted, came.count_is, most);
         };
-        fails = fails_at height file.version events xs (all_left fails.after) fails.event fails.number base now ending are at fails_here;
+        fails = fails_at height draft.file.version events all at base now (TooLong at) all_places fails.1;
       }
-    where
-      left_long : (slots : List Slot) → length (all_left slots) ≡ length slots
-      left_long [] = refl
-      left_long (s ∷ slots) = ap suc (left_long slots)
+
+  rest_lacks : (now : Option (List ℕ)) (at : ℕ)
+      → FailsRest draft.file.version base now gone (all_left (waiting window)) (WriteFailed at)
+      → FailsAny height draft.file.version events at base now (WriteFailed at)
+  rest_lacks now at fails =
+      let all = gone ++ all_left (waiting window) in
+      let among = fails_among draft.file.version base now all at (WriteFailed at) fails in
+      record {
+        some = omega (arith, among, all_long);
+        fails = fails_at height draft.file.version events all at base now (WriteFailed at) all_places fails;
+      }
+
+  pub rest_refused : (now : Option (List ℕ)) (ending : SlimEnding) → length (waiting window) ≤ 4096
+      → FailsRest draft.file.version base now gone (all_left (waiting window)) ending
+      → EndsRefused height draft.file.version events base now ending
+  rest_refused now (TooLong at) most fails = rest_long now at most fails
+  rest_refused now (WriteFailed at) most fails = rest_lacks now at fails
+  rest_refused now Done most fails = absurd fails
+  rest_refused now (Stopped at stop) most fails = absurd fails
+  rest_refused now (NotFlat at) most fails = absurd fails
+
+  pub rest_stopped : (stop : Stop) (now : Option (List ℕ)) (ending : SlimEnding) → length (waiting window) ≤ 4096
+      → FailsRest draft.file.version base now gone (all_left (waiting window)) ending
+      → EndsStop height draft.file.version events stop base now ending
+  rest_stopped stop now (TooLong at) most fails = rest_long now at most fails
+  rest_stopped stop now (WriteFailed at) most fails = inl (rest_lacks now at fails)
+  rest_stopped stop now Done most fails = absurd fails
+  rest_stopped stop now (Stopped at told) most fails = absurd fails
+  rest_stopped stop now (NotFlat at) most fails = absurd fails
 
   -- all was written
-  pub rest_all : (now : Option (List ℕ)) (size number : ℕ)
-      → IsFile (record { version = file.version; size = size }) base now (kept_of gone ++ kept_of (all_left (waiting window)))
+  pub rest_file : (file : SlimFile) (now : Option (List ℕ)) → IsFile file base now (kept_of (gone ++ all_left (waiting window)))
+      → IsFile file base now (Slim height events)
+  rest_file file now is = let P : List Event → Type 0 = λ es. IsFile file base now es in subst P slim_is is
+
+  pub rest_all : (file : SlimFile) (now : Option (List ℕ)) (number : ℕ) → IsFile file base now (kept_of (gone ++ all_left (waiting window)))
       → number ≡ count + 1
       → IsAll height file.version events number base now
-  rest_all now size number is at =
-      let P : List Event → Type 0 = λ es. IsFile (record { version = file.version; size = size }) base now es in
-      let file_is = subst P slim_is is in
+  rest_all file now number is at =
+      let file_is = rest_file file now is in
       record {
         number_is = at ∙ ap (λ n. n + 1) came.count_is;
         stands = file_is.stands;
         fits = written_most file.version (Slim height events) (omega (arith, file_is.fits, file_is.size_is));
       }
-
-  pub rest_file : (now : Option (List ℕ)) (size : ℕ)
-      → IsFile (record { version = file.version; size = size }) base now (kept_of gone ++ kept_of (all_left (waiting window)))
-      → IsFile (record { version = file.version; size = size }) base now (Slim height events)
-  rest_file now size is =
-      let P : List Event → Type 0 = λ es. IsFile (record { version = file.version; size = size }) base now es in subst P slim_is is
 
   -- ---- an event of the ports comes
 
@@ -221,21 +231,16 @@ module _ (height : ℕ) (events : List Event) (window : Window) (file : SlimFile
     outs_now : outs (events ++ e ∷ []) (first_window height) ≡ gone ++ leaving (pushed window e)
     outs_now = outs_more events e (first_window height) ∙ ap (λ w. gone ++ leaving (pushed w e)) (sym came.window_is)
 
-    kept_now : (left : List Event) → left ≡ kept_of (leaving (pushed window e))
-        → kept_of gone ++ left ≡ kept_of (outs (events ++ e ∷ []) (first_window height))
-    kept_now left is = ap (λ es. kept_of gone ++ es) is ∙ sym (kept_append gone (leaving (pushed window e))) ∙ ap kept_of (sym outs_now)
-
-    pub comes : (now : Option (List ℕ)) (size : ℕ) (left : List Event) → left ≡ kept_of (leaving (pushed window e))
-        → IsFile (record { version = file.version; size = size }) base now (kept_of gone ++ left)
-        → Came height (events ++ e ∷ []) next (record { version = file.version; size = size }) (count + 1) base now
-    comes now size left is file_is =
-        let P : List Event → Type 0 = λ es. IsFile (record { version = file.version; size = size }) base now es in
+    pub comes : (new : Draft) (now : Option (List ℕ)) → IsDraft new base now (gone ++ leaving (pushed window e))
+        → Came height (events ++ e ∷ []) next new (count + 1) base now
+    comes new now is =
+        let P : Outs → Type 0 = λ os. IsDraft new base now os in
         record {
           ports = ports_more events came.ports;
           words = words_more events came.words;
           window_is = now_is;
           count_is = omega (arith, came.count_is, length-append events (e ∷ []));
-          file_is = subst P (kept_now left is) file_is;
+          draft_is = subst P (sym outs_now) is;
         }
 
     one_leaves : (slots : List Slot) (words : List ℕ) (left : Event) → left ∷ [] ≡ kept_of (leaving_from slots words)
@@ -252,56 +257,64 @@ module _ (height : ℕ) (events : List Event) (window : Window) (file : SlimFile
         by_test true e is = absurd cc
         by_test false e is = (one_out (left_of s.event s.mark) is, ltb-false _ _ e)
 
-    -- the one that leaves could not be written
-    pub now_fails : (now : Option (List ℕ)) (ending : SlimEnding) (left : Event) (number : ℕ) → left ∷ [] ≡ kept_of (leaving (pushed window e))
-        → number + size next ≡ count + 1 → size next ≤ 4096
-        → Fails file.version base now (kept_of gone) left number ending
-        → FailsNow height file.version (events ++ e ∷ []) (number_of ending) base now ending
-    now_fails now ending left number is at most fails =
-        let p = pushed window e in
-        let leaves = one_leaves p.slots p.words left is in
-        let all = leaves_law height (events ++ e ∷ []) [] in
-        let are : places height (events ++ e ∷ []) ≡ gone ++ Some left ∷ all.0 =
-        ap (places height) (sym (append-nil (events ++ e ∷ []))) ∙ all.1 ∙ ap (λ os. os ++ all.0) (outs_now ∙ ap (λ os. gone ++ os) leaves.0)
-        ∙ append_assoc gone (Some left ∷ []) all.0 in
-        let next_size = ap size next_is in
-        let same = fails_number file.version base now (kept_of gone) left number ending fails in
-        let long = length-append events (e ∷ []) in
-        let before = pushed_size window e in
-        record {
-          due = omega (arith, same, at, most, leaves.1, next_size, came.count_is, long);
-          fails = fails_at height file.version (events ++ e ∷ []) gone all.0 left number base now ending are
-              (omega (arith, at, most, leaves.1, next_size, counted, waiting_size window, before, ap length leaves.0, leaves_size p.slots p.words)) fails;
-        }
+    -- one leaves, and stays
+    module _ (left : Event) (number : ℕ) (is : left ∷ [] ≡ kept_of (leaving (pushed window e)))
+        (at : number + size next ≡ count + 1) (most : size next ≤ 4096) where
+      leaves : (leaving (pushed window e) ≡ Some left ∷ []) × (4096 ≤ size next)
+      leaves =
+          let p = pushed window e in
+          let one = one_leaves p.slots p.words left is in
+          (one.0, omega (arith, one.1, ap size next_is))
+
+      pub leaves_one : leaving (pushed window e) ≡ Some left ∷ []
+      leaves_one = leaves.0
+
+      pub number_is : number ≡ length gone + 1
+      number_is =
+          let p = pushed window e in
+          omega (arith, at, most, leaves.1, ap size next_is, counted, waiting_size window, pushed_size window e, ap length leaves.0, leaves_size p.slots p.words)
+
+      next_places : (later : Outs) × (places height (events ++ e ∷ []) ≡ gone ++ Some left ∷ later)
+      next_places =
+          let all = leaves_law height (events ++ e ∷ []) [] in (
+            all.0,
+            ap (places height) (sym (append-nil (events ++ e ∷ []))) ∙ all.1 ∙ ap (λ os. os ++ all.0) (outs_now ∙ ap (λ os. gone ++ os) leaves.0)
+                ∙ append_assoc gone (Some left ∷ []) all.0,
+          )
+
+      -- its record would be too much, or one before it was not written
+      pub now_fails : (now : Option (List ℕ)) (ending : SlimEnding) → FailsNext draft.file.version base now gone left ending
+          → EndsPushed height draft.file.version (events ++ e ∷ []) base now ending
+      now_fails now (TooLong n) fails = record {
+        due = omega (arith, fails.0, number_is, at, most, leaves.1, came.count_is, length-append events (e ∷ []));
+        fails = fails_at height draft.file.version (events ++ e ∷ []) (gone ++ Some left ∷ next_places.0) n base now (TooLong n) next_places.1
+            (record {
+              earlier = gone;
+              event = left;
+              later = next_places.0;
+              are = refl;
+              number_is = fails.0;
+              fails = (refl, fails.1);
+            });
+      }
+      now_fails now (WriteFailed n) fails = record {
+        due = omega (
+          arith,
+          fails_among draft.file.version base now gone n (WriteFailed n) fails,
+          number_is,
+          at,
+          leaves.1,
+          came.count_is,
+          length-append events (e ∷ []),
+        );
+        fails = fails_at height draft.file.version (events ++ e ∷ []) (gone ++ Some left ∷ next_places.0) n base now (WriteFailed n) next_places.1
+            (fails_wider draft.file.version base now gone (Some left ∷ next_places.0) n (WriteFailed n) fails);
+      }
+      now_fails now Done fails = absurd fails
+      now_fails now (Stopped n stop) fails = absurd fails
+      now_fails now (NotFlat n) fails = absurd fails
 
 -- ---- endings
-
-pub pushed_ends : (height version : ℕ) (events : List Event) (base held : Option (List ℕ)) (kept : List Event) (e : Event) (number : ℕ) (ending : SlimEnding)
-    → Fails version base held kept e number ending → FailsNow height version events (number_of ending) base held ending
-    → EndsPushed height version events base held ending
-pushed_ends height version events base held kept e number (TooLong at) fails now = now
-pushed_ends height version events base held kept e number (WriteFailed at) fails now = now
-pushed_ends height version events base held kept e number Done fails now = absurd fails
-pushed_ends height version events base held kept e number (Stopped at stop) fails now = absurd fails
-pushed_ends height version events base held kept e number (NotFlat at) fails now = absurd fails
-
-pub refused_ends : (height version : ℕ) (events : List Event) (base held : Option (List ℕ)) (kept : List Event) (e : Event) (number : ℕ) (ending : SlimEnding)
-    → Fails version base held kept e number ending → FailsLast height version events (number_of ending) base held ending
-    → EndsRefused height version events base held ending
-refused_ends height version events base held kept e number (TooLong at) fails now = now
-refused_ends height version events base held kept e number (WriteFailed at) fails now = now
-refused_ends height version events base held kept e number Done fails now = absurd fails
-refused_ends height version events base held kept e number (Stopped at stop) fails now = absurd fails
-refused_ends height version events base held kept e number (NotFlat at) fails now = absurd fails
-
-pub stop_fails : (height version : ℕ) (events : List Event) (stop : Stop) (base held : Option (List ℕ)) (kept : List Event) (e : Event) (number : ℕ) (ending : SlimEnding)
-    → Fails version base held kept e number ending → FailsLast height version events (number_of ending) base held ending
-    → EndsStop height version events stop base held ending
-stop_fails height version events stop base held kept e number (TooLong at) fails now = now
-stop_fails height version events stop base held kept e number (WriteFailed at) fails now = inl now
-stop_fails height version events stop base held kept e number Done fails now = absurd fails
-stop_fails height version events stop base held kept e number (Stopped at told) fails now = absurd fails
-stop_fails height version events stop base held kept e number (NotFlat at) fails now = absurd fails
 
 -- all that stays was written, and the file is closed
 pub closes : (height : ℕ) (file : SlimFile) (events : List Event) (stop : Stop) (number : ℕ) (base mid now : Option (List ℕ)) (ending : SlimEnding)

@@ -1,12 +1,17 @@
 -- Slots that are written, one after another.
-use Rattle.std.proofs.Common.{◌≡◌, ◌<◌, ◌≤◌, ◌+◌, ◌++◌, ℕ, List, [], ◌∷◌, Option, None, Some, option_to_list, drop, length, length-append, refl, ap, sym, ◌∙◌, append_assoc, append-nil, arith}
+use Rattle.std.proofs.Common.{◌≡◌, ◌<◌, ◌≤◌, ◌+◌, ◌++◌, ℕ, suc, List, [], ◌∷◌, Option, None, Some, drop, take, length, length-append, refl, ap, sym, subst, ◌∙◌, append_assoc, append-nil, arith}
 use Rattle.gpu_capture.specs.declared.event.Event.{Event}
-use Rattle.capture_slim.specs.File.{FailsFirst, FailsSlots}
+use Rattle.capture_slim.specs.File.{FailsFirst, FailsIn, FailsNext, FailsRest}
 use Rattle.capture_slim.specs.Places.{kept_of}
 use Rattle.capture_slim.specs.Stream.{first_left}
 use Rattle.capture_slim.specs.Window.{all_left, left_of}
 use Rattle.capture_slim.specs.declared.ending.SlimEnding.{SlimEnding}
+use Rattle.capture_slim.specs.declared.ending.SlimEnding.TheVariants.{Done, Stopped, NotFlat, TooLong, WriteFailed}
 use Rattle.capture_slim.specs.declared.slot.Slot.{Slot}
+
+pub left_long : (slots : List Slot) → length (all_left slots) ≡ length slots
+left_long [] = refl
+left_long (s ∷ slots) = ap suc (left_long slots)
 
 pub kept_append : (xs ys : List (Option Event)) → kept_of (xs ++ ys) ≡ kept_of xs ++ kept_of ys
 kept_append [] ys = refl
@@ -17,9 +22,17 @@ pub left_append : (first last : List Slot) → all_left (first ++ last) ≡ all_
 left_append [] last = refl
 left_append (s ∷ first) last = ap (λ (outs : List (Option Event)). left_of s.event s.mark ∷ outs) (left_append first last)
 
-one_kept : (out : Option Event) → kept_of (out ∷ []) ≡ option_to_list out
-one_kept None = refl
-one_kept (Some e) = refl
+pub all_left_long : (outs : List (Option Event)) (slots : List Slot) → length (outs ++ all_left slots) ≡ length outs + length slots
+all_left_long outs slots = omega (arith, length-append outs (all_left slots), left_long slots)
+
+-- the first slot, where its event stays or not
+pub first_none : (slots : List Slot) → first_left slots ≡ None → kept_of (all_left (take 1 slots)) ≡ []
+first_none [] none = refl
+first_none (s ∷ slots) none = ap (λ (out : Option Event). kept_of (out ∷ [])) none
+
+pub first_some : (slots : List Slot) (e : Event) → first_left slots ≡ Some e → all_left (take 1 slots) ≡ Some e ∷ []
+first_some [] e some = absurd cc
+first_some (s ∷ slots) e some = ap (λ (out : Option Event). out ∷ []) some
 
 -- the first of the slots that are left goes to those that are done
 pub record MovesOn (all done slots : List Slot) : Type 0 where
@@ -28,8 +41,8 @@ pub record MovesOn (all done slots : List Slot) : Type 0 where
   pub slots_are : slots ≡ next ∷ after
   pub are : all ≡ (done ++ next ∷ []) ++ drop 1 slots
   pub counted : length (done ++ next ∷ []) ≡ length done + 1
-  pub kept : (before : List Event) → (before ++ kept_of (all_left done)) ++ option_to_list (first_left slots)
-      ≡ before ++ kept_of (all_left (done ++ next ∷ []))
+  pub placed : (outs : List (Option Event)) → (outs ++ all_left done) ++ all_left (take 1 slots)
+      ≡ outs ++ all_left (done ++ next ∷ [])
 
 pub moves_on : (all done slots : List Slot) → all ≡ done ++ slots → length done < length all → MovesOn all done slots
 moves_on all done [] are lt = absurd (omega (arith, ap length are, lt, length-append {A = Slot} done []))
@@ -39,29 +52,56 @@ moves_on all done (s ∷ slots) are lt = record {
   slots_are = refl;
   are = are ∙ sym (append_assoc done (s ∷ []) slots);
   counted = omega (arith, length-append done (s ∷ []));
-  kept = λ before.
-      append_assoc before (kept_of (all_left done)) (option_to_list (left_of s.event s.mark))
-      ∙ ap (λ (es : List Event). before ++ es) (ap (λ (es : List Event). kept_of (all_left done) ++ es) (sym (one_kept (left_of s.event s.mark)))
-      ∙ sym (kept_append (all_left done) (left_of s.event s.mark ∷ [])) ∙ ap kept_of (sym (left_append done (s ∷ []))));
+  placed = λ outs.
+      append_assoc outs (all_left done) (left_of s.event s.mark ∷ [])
+      ∙ ap (λ (os : List (Option Event)). outs ++ os) (sym (left_append done (s ∷ [])));
 }
 
--- it could not be written
-pub fails_slots : (version : ℕ) (base held : Option (List ℕ)) (kept : List Event) (all done slots : List Slot) (gone number : ℕ) (ending : SlimEnding)
-    → all ≡ done ++ slots → number ≡ gone + length done + 1
-    → FailsFirst version base held (kept ++ kept_of (all_left done)) (first_left slots) number ending
-    → FailsSlots version base held kept all gone ending
-fails_slots version base held kept all done [] gone number ending are counted first = let none = first.event_is in absurd cc
-fails_slots version base held kept all done (s ∷ slots) gone number ending are counted first = record {
-  done = done;
-  slot = s;
-  after = slots;
-  are = are;
-  event = first.event;
-  event_is = first.event_is;
-  number = number;
-  number_is = counted;
-  fails = first.fails;
-}
+-- ---- a record that was not written, or would be too much
+
+-- behind some slots, before others
+rest_are : (outs : List (Option Event)) (all done slots : List Slot) → all ≡ done ++ slots
+    → (outs ++ all_left done) ++ all_left slots ≡ outs ++ all_left all
+rest_are outs all done slots are =
+    append_assoc outs (all_left done) (all_left slots)
+    ∙ ap (λ (os : List (Option Event)). outs ++ os) (sym (left_append done slots) ∙ ap all_left (sym are))
+
+rest_fails : (version : ℕ) (base held : Option (List ℕ)) (outs : List (Option Event)) (all done slots : List Slot) (s : Slot) (e : Event) (ending : SlimEnding)
+    → all ≡ done ++ s ∷ slots → left_of s.event s.mark ≡ Some e → FailsNext version base held (outs ++ all_left done) e ending
+    → FailsRest version base held outs (all_left all) ending
+rest_fails version base held outs all done slots s e (TooLong at) are left fails = (
+  omega (arith, fails.0, length-append outs (all_left done)),
+  record {
+    earlier = outs ++ all_left done;
+    event = e;
+    later = all_left slots;
+    are = sym (rest_are outs all done (s ∷ slots) are)
+        ∙ ap (λ (out : Option Event). (outs ++ all_left done) ++ out ∷ all_left slots) left;
+    number_is = fails.0;
+    fails = (refl, fails.1);
+  },
+)
+rest_fails version base held outs all done slots s e (WriteFailed at) are left fails =
+    let P : List (Option Event) → Type 0 = λ os. FailsIn version base held os at (WriteFailed at) in
+    subst P (rest_are outs all done (s ∷ slots) are) (record {
+      earlier = fails.earlier;
+      event = fails.event;
+      later = fails.later ++ all_left (s ∷ slots);
+      are = ap (λ (os : List (Option Event)). os ++ all_left (s ∷ slots)) fails.are
+          ∙ append_assoc fails.earlier (Some fails.event ∷ fails.later) (all_left (s ∷ slots));
+      number_is = fails.number_is;
+      fails = fails.fails;
+    })
+rest_fails version base held outs all done slots s e Done are left fails = absurd fails
+rest_fails version base held outs all done slots s e (Stopped at stop) are left fails = absurd fails
+rest_fails version base held outs all done slots s e (NotFlat at) are left fails = absurd fails
+
+pub fails_slots : (version : ℕ) (base held : Option (List ℕ)) (outs : List (Option Event)) (all done slots : List Slot) (ending : SlimEnding)
+    → all ≡ done ++ slots → FailsFirst version base held (outs ++ all_left done) (first_left slots) ending
+    → FailsRest version base held outs (all_left all) ending
+fails_slots version base held outs all done [] ending are first = let none = first.event_is in absurd cc
+fails_slots version base held outs all done (s ∷ slots) ending are first =
+    rest_fails version base held outs all done slots s first.event ending are first.event_is first.fails
 
 -- all are done
 pub none_left : (all done slots : List Slot) → all ≡ done ++ slots → length all ≤ length done → done ≡ all

@@ -10,13 +10,13 @@ use Rattle.event_play.specs.Ends.{IsNotEnd}
 use Rattle.event_play.specs.Ports.{IsAtPorts, AreAtPorts}
 use Rattle.dead_drawing.specs.Dead.{window_events}
 use Rattle.dead_drawing.specs.Slim.{Slim}
-use Rattle.capture_slim.specs.File.{IsFile, begun, head_at, head_due}
+use Rattle.capture_slim.specs.File.{IsDraft, begun, head_at, head_due}
 use Rattle.capture_slim.specs.Passing.{FailsAt, IsAmongLast}
-use Rattle.capture_slim.specs.Places.{kept_of}
 use Rattle.capture_slim.specs.Stream.{outs, behind}
 use Rattle.capture_slim.specs.Window.{Window, first_window}
 use Rattle.capture_slim.specs.declared.ending.SlimEnding.{SlimEnding}
 use Rattle.capture_slim.specs.declared.ending.SlimEnding.TheVariants.{Done, Stopped, NotFlat, TooLong, WriteFailed}
+use Rattle.capture_slim.specs.declared.file.Draft.{Draft}
 use Rattle.capture_slim.specs.declared.file.SlimFile.{SlimFile}
 
 -- the values of events are words
@@ -24,14 +24,14 @@ abbrev pub HoldWords : List Event → Type 0
 HoldWords [] = Unit {0}
 HoldWords (e ∷ events) = HoldsWords e × HoldWords events
 
--- these events of the ports came, and what was due of them was written
-pub record Came (height : ℕ) (events : List Event) (window : Window) (file : SlimFile) (count : ℕ)
+-- these events of the ports came, and what was due of them was written, or is gathered
+pub record Came (height : ℕ) (events : List Event) (window : Window) (draft : Draft) (count : ℕ)
     (base held : Option (List ℕ)) : Type 0 where
   pub ports : AreAtPorts events
   pub words : HoldWords events
   pub window_is : window ≡ behind events (first_window height)
   pub count_is : count ≡ length events
-  pub file_is : IsFile file base held (kept_of (outs events (first_window height)))
+  pub draft_is : IsDraft draft base held (outs events (first_window height))
 
 -- all events were written as if they were all
 pub record IsAll (height version : ℕ) (events : List Event) (number : ℕ) (base held : Option (List ℕ)) : Type 0 where
@@ -39,10 +39,16 @@ pub record IsAll (height version : ℕ) (events : List Event) (number : ℕ) (ba
   pub stands : held ≡ appended base (begun version (Slim height events))
   pub fits : length (written version (Slim height events)) ≤ limit
 
--- at the end of the reading the record of one of the last events was not written
+-- at the end of the reading the record of one of the last events would be too much
 pub record FailsLast (height version : ℕ) (events : List Event) (number : ℕ) (base held : Option (List ℕ))
     (ending : SlimEnding) : Type 0 where
   pub last : IsAmongLast events number
+  pub fails : FailsAt height version events number base held ending
+
+-- at the end of the reading the record of any of the events was not written
+pub record FailsAny (height version : ℕ) (events : List Event) (number : ℕ) (base held : Option (List ℕ))
+    (ending : SlimEnding) : Type 0 where
+  pub some : number ≤ length events
   pub fails : FailsAt height version events number base held ending
 
 -- how it ends at an event that is none of the ports
@@ -51,13 +57,19 @@ EndsRefused height version events base held (NotFlat number) = IsAll height vers
 EndsRefused height version events base held (TooLong number) =
     FailsLast height version events number base held (TooLong number)
 EndsRefused height version events base held (WriteFailed number) =
-    FailsLast height version events number base held (WriteFailed number)
+    FailsAny height version events number base held (WriteFailed number)
 EndsRefused height version events base held ending = ⊥
 
--- the record that is due at the last event was not written
+-- the record that is due at the last event would be too much
 pub record FailsNow (height version : ℕ) (events : List Event) (number : ℕ) (base held : Option (List ℕ))
     (ending : SlimEnding) : Type 0 where
   pub due : length events ≡ number + window_events
+  pub fails : FailsAt height version events number base held ending
+
+-- the record that was due at the last event or before was not written
+pub record FailsBehind (height version : ℕ) (events : List Event) (number : ℕ) (base held : Option (List ℕ))
+    (ending : SlimEnding) : Type 0 where
+  pub due : number + window_events ≤ length events
   pub fails : FailsAt height version events number base held ending
 
 -- how an event of the ports ends it
@@ -65,7 +77,7 @@ abbrev pub EndsPushed : (height version : ℕ) → List Event → (base held : O
 EndsPushed height version events base held (TooLong number) =
     FailsNow height version events number base held (TooLong number)
 EndsPushed height version events base held (WriteFailed number) =
-    FailsNow height version events number base held (WriteFailed number)
+    FailsBehind height version events number base held (WriteFailed number)
 EndsPushed height version events base held ending = ⊥
 
 -- how any event ends it
@@ -91,7 +103,7 @@ EndsStop height version events stop base held (Stopped number told) =
 EndsStop height version events stop base held (TooLong number) =
     FailsLast height version events number base held (TooLong number)
 EndsStop height version events stop base held (WriteFailed number) =
-    FailsLast height version events number base held (WriteFailed number)
+    FailsAny height version events number base held (WriteFailed number)
     ⊎ ((stop ≡ End) × EndsPart height version events number base held)
 EndsStop height version events stop base held ending = ⊥
 

@@ -5,12 +5,12 @@ use Rattle.gpu_capture.specs.Capture.{head_of, limit}
 use Rattle.gpu_capture.specs.Written.{spelled, written}
 use Rattle.gpu_capture.specs.declared.event.Event.{Event}
 use Rattle.capture_flat.specs.Out.{spell}
+use Rattle.capture_slim.specs.Gathered.{BreaksOff, Piece, bytes_of}
 use Rattle.capture_slim.specs.Places.{kept_of}
-use Rattle.capture_slim.specs.Window.{all_left, left_of}
 use Rattle.capture_slim.specs.declared.ending.SlimEnding.{SlimEnding}
 use Rattle.capture_slim.specs.declared.ending.SlimEnding.TheVariants.{TooLong, WriteFailed}
+use Rattle.capture_slim.specs.declared.file.Draft.{Draft}
 use Rattle.capture_slim.specs.declared.file.SlimFile.{SlimFile}
-use Rattle.capture_slim.specs.declared.slot.Slot.{Slot}
 
 -- what stands where these events were written
 abbrev pub begun : (version : ℕ) → List Event → List ℕ
@@ -36,20 +36,6 @@ head_at file = if file.size == 0 then head_of file.version else []
 abbrev pub due : SlimFile → Event → List ℕ
 due file event = head_at file ++ spelled event
 
--- it was written
-pub record WritesDue (file : SlimFile) (event : Event) (before now : Option (List ℕ)) (size : ℕ) : Type 0 where
-  pub held : now ≡ appended before (due file event)
-  pub size_is : size ≡ file.size + length (due file event)
-  pub fits : size + 4 ≤ limit
-
--- it would be too much, and was not written; or a proper part of it was
-abbrev pub FailsDue : SlimFile → (number : ℕ) → Event → (before now : Option (List ℕ)) → SlimEnding → Type 0
-FailsDue file number event before now (TooLong at) =
-    (at ≡ number) × (now ≡ before) × (limit < file.size + length (due file event) + 4)
-FailsDue file number event before now (WriteFailed at) =
-    (at ≡ number) × AppendsPart before now (due file event) × (file.size + length (due file event) + 4 ≤ limit)
-FailsDue file number event before now ending = ⊥
-
 -- ---- behind events that were written
 
 -- the record of an event would be too much, and was not written
@@ -68,22 +54,49 @@ Fails version base held kept event number (TooLong at) = (at ≡ number) × IsTo
 Fails version base held kept event number (WriteFailed at) = (at ≡ number) × IsLacking version base held kept event
 Fails version base held kept event number ending = ⊥
 
+-- ---- events of a list, each in its place where it stays
+
+-- the event of this number stays: all that stay before it were written, and its record would be too much, or a proper
+-- part of it was
+pub record FailsIn (version : ℕ) (base held : Option (List ℕ)) (outs : List (Option Event)) (number : ℕ)
+    (ending : SlimEnding) : Type 0 where
+  pub earlier : List (Option Event)
+  pub event : Event
+  pub later : List (Option Event)
+  pub are : outs ≡ earlier ++ Some event ∷ later
+  pub number_is : number ≡ length earlier + 1
+  pub fails : Fails version base held (kept_of earlier) event number ending
+
+-- Those that stay were written, or are gathered: the sink holds them once all that is gathered is written, and wherever
+-- the writing of that breaks off, one of them was not written.
+pub record IsDraft (draft : Draft) (base held : Option (List ℕ)) (outs : List (Option Event)) : Type 0 where
+  pub file_is : IsFile draft.file base (appended held (bytes_of draft.gathered)) (kept_of outs)
+  pub lacks : (now : Option (List ℕ)) (number : ℕ) → BreaksOff draft.gathered held now number
+      → FailsIn draft.file.version base now outs number (WriteFailed number)
+
+-- what is gathered was written at a record that would be too much, or that failed
+abbrev pub EndsTooLong : List Piece → (before now : Option (List ℕ)) → (number : ℕ) → SlimEnding → Type 0
+EndsTooLong pieces before now number (TooLong at) = (at ≡ number) × (now ≡ appended before (bytes_of pieces))
+EndsTooLong pieces before now number (WriteFailed at) = BreaksOff pieces before now at
+EndsTooLong pieces before now number ending = ⊥
+
+-- behind these events the record of one more would be too much, or that of one of them was not written
+abbrev pub FailsNext : (version : ℕ) → (base held : Option (List ℕ)) → List (Option Event) → Event → SlimEnding → Type 0
+FailsNext version base held outs event (TooLong at) =
+    (at ≡ length outs + 1) × IsTooMuch version base held (kept_of outs) event
+FailsNext version base held outs event (WriteFailed at) = FailsIn version base held outs at (WriteFailed at)
+FailsNext version base held outs event ending = ⊥
+
 -- the same of the first event that waits, which stays
-pub record FailsFirst (version : ℕ) (base held : Option (List ℕ)) (kept : List Event) (first : Option Event)
-    (number : ℕ) (ending : SlimEnding) : Type 0 where
+pub record FailsFirst (version : ℕ) (base held : Option (List ℕ)) (outs : List (Option Event)) (first : Option Event)
+    (ending : SlimEnding) : Type 0 where
   pub event : Event
   pub event_is : first ≡ Some event
-  pub fails : Fails version base held kept event number ending
+  pub fails : FailsNext version base held outs event ending
 
--- the event of one of these slots, behind so many that are gone
-pub record FailsSlots (version : ℕ) (base held : Option (List ℕ)) (kept : List Event) (slots : List Slot) (gone : ℕ)
-    (ending : SlimEnding) : Type 0 where
-  pub done : List Slot
-  pub slot : Slot
-  pub after : List Slot
-  pub are : slots ≡ done ++ slot ∷ after
-  pub event : Event
-  pub event_is : left_of slot.event slot.mark ≡ Some event
-  pub number : ℕ
-  pub number_is : number ≡ gone + length done + 1
-  pub fails : Fails version base held (kept ++ kept_of (all_left done)) event number ending
+-- behind these events the record of one of the last ones would be too much, or that of any was not written
+abbrev pub FailsRest : (version : ℕ) → (base held : Option (List ℕ)) → (outs last : List (Option Event)) → SlimEnding → Type 0
+FailsRest version base held outs last (TooLong at) =
+    (length outs < at) × FailsIn version base held (outs ++ last) at (TooLong at)
+FailsRest version base held outs last (WriteFailed at) = FailsIn version base held (outs ++ last) at (WriteFailed at)
+FailsRest version base held outs last ending = ⊥

@@ -85,11 +85,23 @@ pub record IsAmongLast (events : List Event) (number : ℕ) : Type 0 where
   pub some : number ≤ length events
   pub late : length events < number + window_events
 
+-- the last event of the way is so many events behind one of this number, or more
+pub record ReadsBeyond (way : Way) (number : ℕ) : Type 0 where
+  pub number_is : number + window_events ≤ length way.events
+  pub says : SaysFirst way way.events
+  pub needed : AreNeeded way.events way.taken
+
 -- the record of the event of this number is due
 abbrev pub IsDue : Way → (number : ℕ) → (before now : Streams) → Type 0
 IsDue way number before now =
     ReadsOn way number
     ⊎ (IsAmongLast way.events number × (((stop : Stop) × StopsBehind way stop before now) ⊎ RefusesNext way))
+
+-- The record of the event of this number was due: at the last event of the way or before, or where the reading ends.
+abbrev pub WasDue : Way → (number : ℕ) → (before now : Streams) → Type 0
+WasDue way number before now =
+    ReadsBeyond way number
+    ⊎ ((number ≤ length way.events) × (((stop : Stop) × StopsBehind way stop before now) ⊎ RefusesNext way))
 
 -- ---- the endings
 
@@ -123,10 +135,15 @@ pub record FailsAt (height version : ℕ) (events : List Event) (number : ℕ) (
   pub stays : slim_first height number events ≡ slim_first height earlier events ++ event ∷ []
   pub fails : Fails version base held (slim_first height earlier events) event number ending
 
--- so it is with this event of the way, whose record is due
+-- so it is with this event of the way, whose record is due, and would be too much
 pub record FailsRecord (way : Way) (number : ℕ) (before now : Streams) (ending : SlimEnding) : Type 0 where
   pub due : IsDue way number before now
   pub fails : FailsAt (height_for way.version) way.version way.events number before.held now.held ending
+
+-- so it is with this event of the way, whose record was due, and was not written: it is the first that lacks a byte
+pub record LacksRecord (way : Way) (number : ℕ) (before now : Streams) : Type 0 where
+  pub due : WasDue way number before now
+  pub fails : FailsAt (height_for way.version) way.version way.events number before.held now.held (WriteFailed number)
 
 -- The whole file of the events that were read is too long; and where one of this number was due before the reading
 -- ended, so is that of these and any other events behind them.
@@ -151,7 +168,7 @@ SaysEnding way before now (NotFlat number) = WritesAll way number before now × 
 SaysEnding way before now (TooLong number) =
     FailsRecord way number before now (TooLong number) × IsTooLong way number
 SaysEnding way before now (WriteFailed number) =
-    FailsRecord way number before now (WriteFailed number) ⊎ LacksEnd way number before now
+    LacksRecord way number before now ⊎ LacksEnd way number before now
 
 -- how a capture without dead drawing ends
 pub record EndsSlim (before now : Streams) (ending : SlimEnding) : Type 0 where

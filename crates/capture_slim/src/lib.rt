@@ -2,7 +2,9 @@
 #![tactic(auto)]
 
 mod ending;
+mod extent;
 mod file;
+mod gathering;
 
 ghost use Rattle.std.specs.Prelude.{◌≤◌};
 

@@ -1,5 +1,5 @@
 // A whole capture is read, and written without its dead drawing.
-ghost use Rattle.std.specs.Prelude.{◌≡◌, ◌≤◌, IfOk};
+ghost use Rattle.std.specs.Prelude.{◌≡◌, ◌≤◌, [], IfOk};
 ghost use Rattle.px_num.specs.Height.{short_height};
 ghost use Rattle.dev_io.specs.Device.{Rose};
 ghost use Rattle.dead_drawing.specs.Laws.{height_for};
@@ -7,7 +7,8 @@ ghost use Rattle.capture_slim.specs.Passing.{EndsSlim, IsEnding, MayReadFault, M
 ghost use Rattle.capture_slim.specs.Window.{first_window};
 
 use crate::ending::SlimEnding;
-use crate::file::SlimFile;
+use crate::file::{Draft, SlimFile};
+use crate::gathering::Gathered;
 use crate::slim::{finish, take_event};
 use crate::waiting::Waiting;
 use dev_io::{Sink, Source};
@@ -48,8 +49,9 @@ impl Slim {
     /// memory.
     ///
     /// The record of an event is due 4096 events later, or where the reading ends if that is earlier, and the head with
-    /// the first record or the End record. After every ending all that was due before it stands, and no byte was taken
-    /// past what that ending needs.
+    /// the first record or the End record. Records that are due are gathered and written together: so a write that fails
+    /// may show later, and is still that of the first record that lacks a byte. After every ending all that was due before
+    /// it stands, and no byte was taken past what that ending needs.
     pub fn pass<S: Source, K: Sink>(&mut self, source: &mut S, out: &mut K) -> SlimEnding
         requires { self.old ≡ first_window short_height }
         ensures ends { EndsSlim (streams (S.left source.old) (S.faults source.old) (K.held out.old))
@@ -79,25 +81,31 @@ fn pass_on<S: Source, K: Sink>(window: &mut Waiting, source: &mut S, out: &mut K
     let mut next = reader.next(source);
     let version = reader.version();
     raise(window, version);
-    let known = version.max(1);
-    let mut size = 0;
+    let mut draft = first_draft(version.max(1));
     let mut count = 0;
     'events: loop {
-        let file = SlimFile {
-            version: known,
-            size,
-        };
         match next {
             Ok(event) => {
-                match take_event(window, event, file, count, out) {
-                    Ok(now) => size = now,
+                match take_event(window, event, &mut draft, count, out) {
+                    Ok(()) => {}
                     Err(ending) => return ending,
                 }
                 count += 1;
                 next = reader.next(source);
             }
-            Err(stop) => return finish(window, stop, file, count, out),
+            Err(stop) => return finish(window, stop, &mut draft, count, out),
         }
+    }
+}
+
+// The file of a capture of this version, of which nothing is gathered yet.
+fn first_draft(version: u8) -> Draft
+    ensures file { result.file ≡ record { version = version; size = 0 } }
+    ensures gathered { result.gathered ≡ [] }
+{
+    Draft {
+        file: SlimFile { version, size: 0 },
+        gathered: Gathered::new(),
     }
 }
 

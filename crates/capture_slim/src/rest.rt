@@ -1,64 +1,66 @@
 // The events that wait are written where no event follows.
-ghost use Rattle.std.specs.Prelude.{◌≡◌, ◌≤◌, ◌+◌, ◌-◌, ◌++◌, ◌^◌, List, ℕ, Option, drop, length, IfOk, IfErr, option_to_list};
+ghost use Rattle.std.specs.Prelude.{◌≡◌, ◌≤◌, ◌+◌, ◌++◌, ◌^◌, List, ℕ, Option, drop, take, length, IfErr, OnOk};
 ghost use Rattle.dev_io.specs.Device.{Rose};
 ghost use Rattle.gpu_capture.specs.Capture.{IsVersion};
 ghost use Rattle.gpu_capture.specs.declared.event.Event.{Event as SpecEvent};
-ghost use Rattle.capture_slim.specs.File.{FailsFirst, FailsSlots, IsFile};
+ghost use Rattle.capture_slim.specs.File.{FailsFirst, FailsRest, IsDraft, IsFile};
 ghost use Rattle.capture_slim.specs.Passing.{MayReadFault, MayWriteFault, IsEnding};
 ghost use Rattle.capture_slim.specs.Places.{kept_of};
 ghost use Rattle.capture_slim.specs.Stream.{first_left};
 ghost use Rattle.capture_slim.specs.Window.{all_left, waiting};
 
 use crate::ending::SlimEnding;
-use crate::file::SlimFile;
-use crate::record::write_record;
+use crate::file::Draft;
+use crate::record::add_record;
 use crate::waiting::Waiting;
 use dev_io::Sink;
 
-// Takes the first event that waits, which has this number, and writes it where it stays.
-fn write_next<K: Sink>(
+// Takes the first event that waits, which has this number, and adds it where it stays.
+fn add_next<K: Sink>(
     window: &mut Waiting,
-    out: &mut K,
-    file: SlimFile,
+    draft: &mut Draft,
     number: u64,
-) -> Result<u32, SlimEnding>
-    requires version { IsVersion file.version }
-    requires size { file.size + 4 ≤ 2 ^ 30 }
+    out: &mut K,
+) -> Result<(), SlimEnding>
+    requires version { IsVersion draft.old.file.version }
+    requires size { draft.old.file.size + 4 ≤ 2 ^ 30 }
     ensures window { window.new ≡ record window.old { slots = drop 1 window.old.slots } }
-    ensures ok { (base : Option (List ℕ)) (kept : List SpecEvent) → IsFile file base (K.held out.old) kept → IfOk result (λ size.
-        IsFile (record { version = file.version; size = size }) base (K.held out.new)
-        (kept ++ option_to_list (first_left window.old.slots))) }
-    ensures few { IfOk result (λ size. size + 4 ≤ 2 ^ 30) }
-    ensures ends { (base : Option (List ℕ)) (kept : List SpecEvent) → IsFile file base (K.held out.old) kept → IfErr result (λ ending.
-        FailsFirst file.version base (K.held out.new) kept (first_left window.old.slots) number ending) }
+    ensures ok { (base : Option (List ℕ)) (outs : List (Option SpecEvent)) → IsDraft draft.old base (K.held out.old) outs
+        → number ≡ length outs + 1
+        → OnOk result (IsDraft draft.new base (K.held out.new) (outs ++ all_left (take 1 window.old.slots))) }
+    ensures ends { (base : Option (List ℕ)) (outs : List (Option SpecEvent)) → IsDraft draft.old base (K.held out.old) outs
+        → number ≡ length outs + 1 → IfErr result (λ ending.
+        FailsFirst draft.old.file.version base (K.held out.new) outs (first_left window.old.slots) ending) }
+    ensures few { OnOk result (draft.new.file.size + 4 ≤ 2 ^ 30) }
+    ensures version { draft.new.file.version ≡ draft.old.file.version }
     ensures known { IfErr result (λ ending. IsEnding ending × (MayReadFault ending → ⊥)) }
     ensures cause { IfErr result (λ ending. MayWriteFault ending → Rose (K.faults out.old) (K.faults out.new)) }
     ensures faults { K.faults out.old ≤ K.faults out.new }
 {
     match window.pop() {
-        None => Ok(file.size),
-        Some(event) => write_record(out, file, number, &event),
+        None => Ok(()),
+        Some(event) => add_record(draft, number, &event, out),
     }
 }
 
-/// Writes the events that wait and stay, as if no event followed, behind so many events in all. The answer is how many
-/// bytes stand then.
-pub(crate) fn write_rest<K: Sink>(
+// Adds the events that wait and stay, as if no event followed, behind so many events in all.
+fn add_rest<K: Sink>(
     window: &mut Waiting,
-    out: &mut K,
-    file: SlimFile,
+    draft: &mut Draft,
     count: u64,
-) -> Result<u32, SlimEnding>
-    requires version { IsVersion file.version }
-    requires size { file.size + 4 ≤ 2 ^ 30 }
+    out: &mut K,
+) -> Result<(), SlimEnding>
+    requires version { IsVersion draft.old.file.version }
+    requires size { draft.old.file.size + 4 ≤ 2 ^ 30 }
     requires few { length (waiting window.old) ≤ count }
-    ensures ok { (base : Option (List ℕ)) (kept : List SpecEvent) → IsFile file base (K.held out.old) kept → IfOk result (λ size.
-        IsFile (record { version = file.version; size = size }) base (K.held out.new)
-        (kept ++ kept_of (all_left (waiting window.old)))) }
-    ensures few { IfOk result (λ size. size + 4 ≤ 2 ^ 30) }
+    ensures ok { (base : Option (List ℕ)) (outs : List (Option SpecEvent)) → IsDraft draft.old base (K.held out.old) outs
+        → count ≡ length outs + length (waiting window.old)
+        → OnOk result (IsDraft draft.new base (K.held out.new) (outs ++ all_left (waiting window.old))) }
+    ensures ends { (base : Option (List ℕ)) (outs : List (Option SpecEvent)) → IsDraft draft.old base (K.held out.old) outs
+        → count ≡ length outs + length (waiting window.old) → IfErr result (λ ending.
+        FailsRest draft.old.file.version base (K.held out.new) outs (all_left (waiting window.old)) ending) }
     ensures most { length (waiting window.old) ≤ 4096 }
-    ensures ends { (base : Option (List ℕ)) (kept : List SpecEvent) → IsFile file base (K.held out.old) kept → IfErr result (λ ending.
-        FailsSlots file.version base (K.held out.new) kept (waiting window.old) (count - length (waiting window.old)) ending) }
+    ensures version { draft.new.file.version ≡ draft.old.file.version }
     ensures known { IfErr result (λ ending. IsEnding ending × (MayReadFault ending → ⊥)) }
     ensures cause { IfErr result (λ ending. MayWriteFault ending → Rose (K.faults out.old) (K.faults out.new)) }
     ensures faults { K.faults out.old ≤ K.faults out.new }
@@ -66,14 +68,57 @@ pub(crate) fn write_rest<K: Sink>(
     window.close();
     let left = window.len();
     let gone = count - left as u64;
-    let version = file.version;
-    let mut size = file.size;
     'slots: for i in 0..left {
-        let so_far = SlimFile { version, size };
-        match write_next(window, out, so_far, gone + i as u64 + 1) {
-            Ok(now) => size = now,
+        match add_next(window, draft, gone + i as u64 + 1, out) {
+            Ok(()) => {}
             Err(ending) => return Err(ending),
         }
     }
-    Ok(size)
+    Ok(())
+}
+
+/// Writes all that is gathered, and the events that wait and stay, as if no event followed, behind so many events in all.
+pub(crate) fn write_rest<K: Sink>(
+    window: &mut Waiting,
+    draft: &mut Draft,
+    count: u64,
+    out: &mut K,
+) -> Result<(), SlimEnding>
+    requires version { IsVersion draft.old.file.version }
+    requires size { draft.old.file.size + 4 ≤ 2 ^ 30 }
+    requires few { length (waiting window.old) ≤ count }
+    ensures ok { (base : Option (List ℕ)) (outs : List (Option SpecEvent)) → IsDraft draft.old base (K.held out.old) outs
+        → count ≡ length outs + length (waiting window.old) → OnOk result
+        (IsFile draft.new.file base (K.held out.new) (kept_of (outs ++ all_left (waiting window.old)))) }
+    ensures ends { (base : Option (List ℕ)) (outs : List (Option SpecEvent)) → IsDraft draft.old base (K.held out.old) outs
+        → count ≡ length outs + length (waiting window.old) → IfErr result (λ ending.
+        FailsRest draft.old.file.version base (K.held out.new) outs (all_left (waiting window.old)) ending) }
+    ensures most { length (waiting window.old) ≤ 4096 }
+    ensures version { draft.new.file.version ≡ draft.old.file.version }
+    ensures known { IfErr result (λ ending. IsEnding ending × (MayReadFault ending → ⊥)) }
+    ensures cause { IfErr result (λ ending. MayWriteFault ending → Rose (K.faults out.old) (K.faults out.new)) }
+    ensures faults { K.faults out.old ≤ K.faults out.new }
+{
+    match add_rest(window, draft, count, out) {
+        Ok(()) => write_gathered(draft, out),
+        Err(ending) => Err(ending),
+    }
+}
+
+// Writes all that is gathered.
+fn write_gathered<K: Sink>(draft: &mut Draft, out: &mut K) -> Result<(), SlimEnding>
+    ensures ok { (base : Option (List ℕ)) (outs : List (Option SpecEvent)) → IsDraft draft.old base (K.held out.old) outs
+        → OnOk result (IsFile draft.new.file base (K.held out.new) (kept_of outs)) }
+    ensures ends { (base : Option (List ℕ)) (outs last : List (Option SpecEvent))
+        → IsDraft draft.old base (K.held out.old) (outs ++ last)
+        → IfErr result (λ ending. FailsRest draft.old.file.version base (K.held out.new) outs last ending) }
+    ensures version { draft.new.file.version ≡ draft.old.file.version }
+    ensures known { IfErr result (λ ending. IsEnding ending × (MayReadFault ending → ⊥)) }
+    ensures cause { IfErr result (λ ending. MayWriteFault ending → Rose (K.faults out.old) (K.faults out.new)) }
+    ensures faults { K.faults out.old ≤ K.faults out.new }
+{
+    match draft.gathered.write(out) {
+        Ok(()) => Ok(()),
+        Err(event) => Err(SlimEnding::WriteFailed { event }),
+    }
 }

@@ -1,5 +1,5 @@
 // A whole capture is read, and written without its dead drawing.
-ghost use Rattle.std.specs.Prelude.{◌≡◌, ◌≤◌, ◌<◌, ◌+◌, ◌++◌, ◌∷◌, [], ◌^◌, ◌↔◌, IsTrue, List, ℕ, Option, length, IfOk, IfErr};
+ghost use Rattle.std.specs.Prelude.{◌≡◌, ◌≤◌, ◌<◌, ◌+◌, ◌++◌, ◌∷◌, [], ◌^◌, ◌↔◌, IsTrue, List, ℕ, Option, length, IfErr, OnOk};
 ghost use Rattle.dev_io.specs.Device.{Rose};
 ghost use Rattle.gpu_capture.specs.Capture.{IsVersion};
 ghost use Rattle.gpu_capture.specs.Written.{HoldsWords};
@@ -11,8 +11,8 @@ ghost use Rattle.capture_slim.specs.Passing.{MayReadFault, MayWriteFault, IsEndi
 ghost use Rattle.capture_slim.specs.Window.{waiting};
 
 use crate::ending::SlimEnding;
-use crate::file::SlimFile;
-use crate::record::{write_last, write_record};
+use crate::file::{Draft, SlimFile};
+use crate::record::{add_record, write_last};
 use crate::rest::write_rest;
 use crate::waiting::Waiting;
 use dev_io::Sink;
@@ -44,58 +44,57 @@ fn holds_words(event: Event)
     }
 }
 
-// Takes an event of the ports behind so many, and writes the one that leaves where it stays. The answer is how many bytes
-// stand then.
+// Takes an event of the ports behind so many, and adds the one that leaves where it stays.
 fn push_event<K: Sink>(
     window: &mut Waiting,
     event: Event,
-    file: SlimFile,
+    draft: &mut Draft,
     count: u64,
     out: &mut K,
-) -> Result<u32, SlimEnding>
-    requires version { IsVersion file.version }
-    requires size { file.size + 4 ≤ 2 ^ 30 }
+) -> Result<(), SlimEnding>
+    requires version { IsVersion draft.old.file.version }
+    requires size { draft.old.file.size + 4 ≤ 2 ^ 30 }
     requires port { IsAtPorts event }
     requires few { length (waiting window.old) ≤ count }
     requires small { count < 2 ^ 60 }
     ensures ok { (height : ℕ) (events : List SpecEvent) (base : Option (List ℕ))
-        → Came height events window.old file count base (K.held out.old)
-        → IfOk result (λ size. Came height (events ++ event ∷ []) window.new
-        (record { version = file.version; size = size }) (count + 1) base (K.held out.new)) }
-    ensures few { IfOk result (λ size. size + 4 ≤ 2 ^ 30) }
+        → Came height events window.old draft.old count base (K.held out.old)
+        → OnOk result (Came height (events ++ event ∷ []) window.new draft.new (count + 1) base (K.held out.new)) }
+    ensures few { OnOk result (draft.new.file.size + 4 ≤ 2 ^ 30) }
+    ensures version { draft.new.file.version ≡ draft.old.file.version }
     ensures ends { (height : ℕ) (events : List SpecEvent) (base : Option (List ℕ))
-        → Came height events window.old file count base (K.held out.old)
-        → IfErr result (λ ending. EndsPushed height file.version (events ++ event ∷ []) base (K.held out.new) ending) }
+        → Came height events window.old draft.old count base (K.held out.old)
+        → IfErr result (λ ending. EndsPushed height draft.old.file.version (events ++ event ∷ []) base (K.held out.new) ending) }
     ensures known { IfErr result (λ ending. IsEnding ending × (MayReadFault ending → ⊥)) }
     ensures cause { IfErr result (λ ending. MayWriteFault ending → Rose (K.faults out.old) (K.faults out.new)) }
     ensures faults { K.faults out.old ≤ K.faults out.new }
 {
     holds_words(event);
     match window.push(event) {
-        None => Ok(file.size),
+        None => Ok(()),
         Some(left) => {
             let number = count + 1 - window.len() as u64;
-            write_record(out, file, number, &left)
+            add_record(draft, number, &left, out)
         }
     }
 }
 
 // Ends behind so many events at one that is none of the ports.
-fn refuse<K: Sink>(window: &mut Waiting, file: SlimFile, count: u64, out: &mut K) -> SlimEnding
-    requires version { IsVersion file.version }
-    requires size { file.size + 4 ≤ 2 ^ 30 }
+fn refuse<K: Sink>(window: &mut Waiting, draft: &mut Draft, count: u64, out: &mut K) -> SlimEnding
+    requires version { IsVersion draft.old.file.version }
+    requires size { draft.old.file.size + 4 ≤ 2 ^ 30 }
     requires few { length (waiting window.old) ≤ count }
     requires small { count < 2 ^ 60 }
     ensures ends { (height : ℕ) (events : List SpecEvent) (base : Option (List ℕ))
-        → Came height events window.old file count base (K.held out.old)
-        → EndsRefused height file.version events base (K.held out.new) result }
+        → Came height events window.old draft.old count base (K.held out.old)
+        → EndsRefused height draft.old.file.version events base (K.held out.new) result }
     ensures known { IsEnding result }
     ensures read { MayReadFault result → ⊥ }
     ensures cause { MayWriteFault result → Rose (K.faults out.old) (K.faults out.new) }
     ensures faults { K.faults out.old ≤ K.faults out.new }
 {
-    match write_rest(window, out, file, count) {
-        Ok(_) => SlimEnding::NotFlat { event: count + 1 },
+    match write_rest(window, draft, count, out) {
+        Ok(()) => SlimEnding::NotFlat { event: count + 1 },
         Err(ending) => ending,
     }
 }
@@ -104,30 +103,30 @@ fn refuse<K: Sink>(window: &mut Waiting, file: SlimFile, count: u64, out: &mut K
 pub(crate) fn take_event<K: Sink>(
     window: &mut Waiting,
     event: Event,
-    file: SlimFile,
+    draft: &mut Draft,
     count: u64,
     out: &mut K,
-) -> Result<u32, SlimEnding>
-    requires version { IsVersion file.version }
-    requires size { file.size + 4 ≤ 2 ^ 30 }
+) -> Result<(), SlimEnding>
+    requires version { IsVersion draft.old.file.version }
+    requires size { draft.old.file.size + 4 ≤ 2 ^ 30 }
     requires few { length (waiting window.old) ≤ count }
     requires small { count < 2 ^ 60 }
     ensures ok { (height : ℕ) (events : List SpecEvent) (base : Option (List ℕ))
-        → Came height events window.old file count base (K.held out.old)
-        → IfOk result (λ size. Came height (events ++ event ∷ []) window.new
-        (record { version = file.version; size = size }) (count + 1) base (K.held out.new)) }
-    ensures few { IfOk result (λ size. size + 4 ≤ 2 ^ 30) }
+        → Came height events window.old draft.old count base (K.held out.old)
+        → OnOk result (Came height (events ++ event ∷ []) window.new draft.new (count + 1) base (K.held out.new)) }
+    ensures few { OnOk result (draft.new.file.size + 4 ≤ 2 ^ 30) }
+    ensures version { OnOk result (draft.new.file.version ≡ draft.old.file.version) }
     ensures ends { (height : ℕ) (events : List SpecEvent) (base : Option (List ℕ))
-        → Came height events window.old file count base (K.held out.old)
-        → IfErr result (λ ending. EndsEvent height file.version events event base (K.held out.new) ending) }
+        → Came height events window.old draft.old count base (K.held out.old)
+        → IfErr result (λ ending. EndsEvent height draft.old.file.version events event base (K.held out.new) ending) }
     ensures known { IfErr result (λ ending. IsEnding ending × (MayReadFault ending → ⊥)) }
     ensures cause { IfErr result (λ ending. MayWriteFault ending → Rose (K.faults out.old) (K.faults out.new)) }
     ensures faults { K.faults out.old ≤ K.faults out.new }
 {
     if is_at_ports(&event) {
-        push_event(window, event, file, count, out)
+        push_event(window, event, draft, count, out)
     } else {
-        Err(refuse(window, file, count, out))
+        Err(refuse(window, draft, count, out))
     }
 }
 
@@ -135,30 +134,24 @@ pub(crate) fn take_event<K: Sink>(
 pub(crate) fn finish<K: Sink>(
     window: &mut Waiting,
     stop: Stop,
-    file: SlimFile,
+    draft: &mut Draft,
     count: u64,
     out: &mut K,
 ) -> SlimEnding
-    requires version { IsVersion file.version }
-    requires size { file.size + 4 ≤ 2 ^ 30 }
+    requires version { IsVersion draft.old.file.version }
+    requires size { draft.old.file.size + 4 ≤ 2 ^ 30 }
     requires few { length (waiting window.old) ≤ count }
     requires small { count < 2 ^ 60 }
     ensures ends { (height : ℕ) (events : List SpecEvent) (base : Option (List ℕ))
-        → Came height events window.old file count base (K.held out.old)
-        → EndsStop height file.version events stop base (K.held out.new) result }
+        → Came height events window.old draft.old count base (K.held out.old)
+        → EndsStop height draft.old.file.version events stop base (K.held out.new) result }
     ensures known { IsEnding result }
     ensures read { MayReadFault result → IsReadFault stop }
     ensures cause { MayWriteFault result → Rose (K.faults out.old) (K.faults out.new) }
     ensures faults { K.faults out.old ≤ K.faults out.new }
 {
-    match write_rest(window, out, file, count) {
-        Ok(size) => {
-            let whole = SlimFile {
-                version: file.version,
-                size,
-            };
-            close_file(whole, stop, count + 1, out)
-        }
+    match write_rest(window, draft, count, out) {
+        Ok(()) => close_file(draft.file, stop, count + 1, out),
         Err(ending) => ending,
     }
 }

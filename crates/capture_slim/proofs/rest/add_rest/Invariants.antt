@@ -1,18 +1,19 @@
 use Rattle.std.proofs.Common.{◌≡◌, ◌≤◌, ◌+◌, ◌++◌, ◌^◌, ℕ, List, Option, length}
 use Rattle.gpu_capture.specs.declared.event.Event.{Event}
-use Rattle.capture_slim.specs.File.{IsFile}
-use Rattle.capture_slim.specs.Places.{kept_of}
+use Rattle.capture_slim.specs.File.{IsDraft}
 use Rattle.capture_slim.specs.Window.{all_left, waiting}
 use Rattle.capture_slim.specs.declared.slot.Slot.{Slot}
-use Rattle.capture_slim.proofs.rest.write_rest.Given as goal
+use Rattle.capture_slim.proofs.rest.add_rest.Given as goal
 
 abbrev pub invariant-slots : goal.invariant-slots
 invariant-slots g l = record {
   done : List Slot;
   are : waiting l.fn.window ≡ done ++ l.window.slots;
   counted : length done ≡ l.i;
-  wrote : (base : Option (List ℕ)) (kept : List Event) → IsFile l.fn.file base (g.K.Sink.held l.fn.out) kept
-      → IsFile (record { version = l.version; size = l.size }) base (g.K.Sink.held l.out) (kept ++ kept_of (all_left done));
-  few : l.size + 4 ≤ 2 ^ 30;
+  added : (base : Option (List ℕ)) (outs : List (Option Event)) → IsDraft l.fn.draft base (g.K.Sink.held l.fn.out) outs
+      → l.fn.count ≡ length outs + length (waiting l.fn.window)
+      → IsDraft l.draft base (g.K.Sink.held l.out) (outs ++ all_left done);
+  few : l.draft.file.size + 4 ≤ 2 ^ 30;
+  version : l.draft.file.version ≡ l.fn.draft.file.version;
   faults : g.K.Sink.faults l.fn.out ≤ g.K.Sink.faults l.out;
 }
