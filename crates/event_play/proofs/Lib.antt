@@ -1,3 +1,4 @@
+pub mod AtOnce
 pub mod Awaiting
 pub mod BoxCosts
 pub mod Feeds
@@ -11,6 +12,5 @@ pub mod Reports
 pub mod Turns
 pub mod Firsts
 pub mod InARow
-pub mod DataWords
 pub mod AlikeStates
 pub mod Splits

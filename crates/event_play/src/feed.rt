@@ -203,8 +203,8 @@ pub(crate) fn feed_events<T: Listener, L: Ledger>(
     number
 }
 
-/// Feeds the first of these words in an event of its own, or the first of them that are data words of the open load, an
-/// event each, and says how many that are.
+/// Feeds the first of these words, an event each, as many as the drawing processor takes at once, and says how many that
+/// are.
 #[inline(always)]
 fn feed_first<T: Listener, L: Ledger>(
     gpu: &mut Gpu,
@@ -221,11 +221,5 @@ fn feed_first<T: Listener, L: Ledger>(
         → IsTold (after_words t (take result words.now)) first
         (without_sink (map T.heard taps.new.items) steps.new) gpu.new (number_behind played result) }
 {
-    let count = (gpu.wanted() as usize).min(words.len());
-    if count == 0 {
-        let _ = gpu.gp0(played.saturating_add(1), words[0], taps, steps);
-        return 1;
-    }
-    gpu.load(played, &words[..count], taps, steps);
-    count
+    gpu.take_first(played, words, taps, steps)
 }

@@ -1,5 +1,5 @@
 -- Data words of the open load, one after another.
-use Rattle.std.proofs.Common.{◌≡◌, ◌<◌, ◌≤◌, ◌+◌, ◌-◌, ◌*◌, ℕ, suc, List, [], ◌∷◌, Option, Some, None, length, fold}
+use Rattle.std.proofs.Common.{◌≡◌, ◌<◌, ◌≤◌, ◌+◌, ◌-◌, ◌*◌, ℕ, suc, List, [], ◌∷◌, Option, Some, None, length, fold, map}
 use Rattle.std.proofs.Common.{nat_lt, true, false, refl, ap, sym, ◌∙◌, inl, inr, arith}
 use Rattle.std.proofs.lemmas.Bool.{cases_Bool, ltb-true}
 use Rattle.std.proofs.lemmas.Bool.Decides.{nat_tests}
@@ -10,13 +10,15 @@ use Rattle.gp0_words.specs.Skipped.{behind_pixels}
 use Rattle.gp0_words.specs.declared.item.Item.TheVariants as item
 use Rattle.gp0_words.specs.declared.pending.Pending.{Pending}
 use Rattle.gp0_words.specs.declared.pending.Pending.TheVariants as pending
-use Rattle.gpu_taps.specs.Bare.{bare_note}
+use Rattle.gpu_taps.specs.Bare.{bare_note, bare_notes, after_notes}
+use Rattle.gpu_taps.specs.Tally.{Reading, capped}
 use Rattle.vram_copy.proofs.LoadLemmas.{one_more_word, pixels_more}
 use Rattle.vram_copy.specs.Words.{advanced, advanced_by, pixels_next, pixels_in, LoadWord, LoadWords}
 use Rattle.vram_copy.specs.declared.transfer.Transfer.{Transfer}
 use Rattle.gpu_core.specs.Cost.{FeedCost, pixels_of}
 use Rattle.gpu_core.specs.Kept.{Kept, kept_of, IsLinked}
-use Rattle.gpu_core.specs.Loading.{open_still, with_words, pixels_in_load, feeds_cost, AreData, FeedsData}
+use Rattle.gpu_core.specs.Feeds.{feed_notes, feeds_cost, TakesWords}
+use Rattle.gpu_core.specs.Loading.{open_still, with_words, pixels_in_load}
 use Rattle.gpu_core.specs.Machine.{Parts, State, Feed, FeedNote, with_pixels}
 use Rattle.gpu_core.proofs.Fed.{fed, data_effect, data_cost, data_note}
 use Rattle.gpu_core.proofs.Link.{fewer, one_more}
@@ -63,7 +65,7 @@ behind_more left n =
 record IsLoaded (s : State) (p : Parts) (job : Transfer) (left : ℕ) (words : List ℕ) : Type 0 where
   pub feed : kept_of (fold Feed s words)
       ≡ record { parts = with_words p (Some job) words; pending = behind_pixels (pending.Pixels left) (length words) }
-  pub data_words : AreData s words
+  pub notes : (first : ℕ) → feed_notes s first words ≡ bare_notes 9 first words
   pub cost : feeds_cost s words ≡ 2 * pixels_in job (length words)
 
 loaded : (words : List ℕ) (s : State) (p : Parts) (job : Transfer) (left : ℕ) → 0 < length words
@@ -74,7 +76,7 @@ loaded (word ∷ []) s p job left some e open_load kept link few =
     let first = one s p job left word e open_load kept in
     record {
       feed = first.feed;
-      data_words = (first.note, tt);
+      notes = λ number. rw (first.note (capped number)) refl;
       cost = let c = first.cost in omega (arith, c);
     }
 loaded (word ∷ next ∷ words) s p job left some e open_load kept link few =
@@ -97,35 +99,36 @@ loaded (word ∷ next ∷ words) s p job left some e open_load kept link few =
       feed = rest.feed ∙ ap (λ (p : Parts). record { parts = p; pending = behind_pixels (pending.Pixels (left - 1)) n })
           (ap f (one_more_word job n))
           ∙ ap (λ (h : Pending). record { parts = f (advanced_by job (suc n)); pending = h }) (behind_more left n);
-      data_words = (first.note, rest.data_words);
+      notes = λ number. rw (first.note (capped number), rest.notes (number + 1)) refl;
       cost = let a = first.cost in let b = rest.cost in let more = pixels_more job n in omega (arith, a, b, more);
     }
 
 -- ---- a load that is open
 
-pub loads : (s : State) (p : Parts) (load : Option Transfer) (h new : Pending) (now : Parts) (words : List ℕ)
-    (steps steps_now : ℕ)
+pub loads : (s : State) (p : Parts) (load : Option Transfer) (h new : Pending) (now : Parts) (played : ℕ) (words : List ℕ)
+    (heard heard_now : List Reading) (steps steps_now : ℕ)
     → kept_of s ≡ record { parts = p; pending = h } → p.load ≡ load → IsPending h → IsLinked h load → 0 < length words
     → length words ≤ wanted h → new ≡ behind_pixels h (length words) → now ≡ with_words p load words
+    → heard_now ≡ map (after_notes (bare_notes 9 (played + 1) words)) heard
     → steps_now ≤ steps + 2 * pixels_in_load load (length words)
-    → FeedsData s words (record { parts = now; pending = new }) steps steps_now
-loads s p load (pending.Pixels left) new now words steps steps_now e open_load kept link some few after parts cost =
+    → TakesWords s (played + 1) words (record { parts = now; pending = new }) heard heard_now steps steps_now
+loads s p load (pending.Pixels left) new now played words heard heard_now steps steps_now e open_load kept link some few after parts told cost =
     with_job load open_load link parts cost
   where
     with_job : (load : Option Transfer) → p.load ≡ load → IsLinked (pending.Pixels left) load → now ≡ with_words p load words
         → steps_now ≤ steps + 2 * pixels_in_load load (length words)
-        → FeedsData s words (record { parts = now; pending = new }) steps steps_now
+        → TakesWords s (played + 1) words (record { parts = now; pending = new }) heard heard_now steps steps_now
     with_job None open_load link parts cost = absurd link
     with_job (Some job) open_load link parts cost =
         let is = loaded words s p job left some e open_load kept link few in
         record {
           feed = rw (after, parts) is.feed;
-          data_words = is.data_words;
+          told = rw (is.notes (played + 1)) told;
           cost = let c = is.cost in omega (arith, c, cost);
         }
-loads s p load pending.Idle new now words steps steps_now e open_load kept link some few after parts cost =
+loads s p load pending.Idle new now played words heard heard_now steps steps_now e open_load kept link some few after parts told cost =
     absurd (omega (arith, some, few))
-loads s p load (pending.Packet held) new now words steps steps_now e open_load kept link some few after parts cost =
+loads s p load (pending.Packet held) new now played words heard heard_now steps steps_now e open_load kept link some few after parts told cost =
     absurd (omega (arith, some, few))
-loads s p load (pending.Poly command color vertex half) new now words steps steps_now e open_load kept link some few after parts cost =
+loads s p load (pending.Poly command color vertex half) new now played words heard heard_now steps steps_now e open_load kept link some few after parts told cost =
     absurd (omega (arith, some, few))

@@ -1,11 +1,9 @@
 // The machine.
 ghost use Rattle.std.specs.Prelude.{◌≡◌, ◌≤◌, ◌<◌, ◌+◌, ◌*◌, ◌%◌, length, map, Some, None, IfOk, IfSome};
-ghost use Rattle.gp0_words.specs.Next.{wanted, IsPending};
-ghost use Rattle.gpu_taps.specs.Bare.{bare_notes, after_notes};
+ghost use Rattle.gp0_words.specs.Next.{IsPending};
 ghost use Rattle.vram_store.specs.Vram.{blank};
 ghost use Rattle.gpu_core.specs.Cost.{FeedCost, TakeCost};
 ghost use Rattle.gpu_core.specs.Kept.{kept_of, kept_with, state_with, IsLinked, IsOpen, IsSet};
-ghost use Rattle.gpu_core.specs.Loading.{FeedsData};
 ghost use Rattle.gpu_core.specs.Machine.{State, first_state, Feed, FeedNote, Gp1, Take, TakenWord, Idle, Status};
 ghost use Rattle.gpu_core.specs.Machine.{told_option, tall_state};
 
@@ -13,7 +11,7 @@ use crate::parts::Parts;
 use gp0_packets::Note;
 use gp0_words::{Pending, Splitter};
 use gp1_status::{Regs, clears};
-use gpu_taps::{Listener, bare_note, tell_all, tell_all_bare};
+use gpu_taps::{Listener, bare_note, tell_all};
 use px_num::OutOfMemory;
 use std::alloc::Global;
 use std::marker::Model;
@@ -25,8 +23,8 @@ use vram_store::{Steps, Vram};
 /// The drawing processor.
 #[derive(Drop)]
 pub struct Gpu {
-    parts: Parts,
-    splitter: Splitter,
+    pub(crate) parts: Parts,
+    pub(crate) splitter: Splitter,
 }
 
 impl Model for Gpu {
@@ -127,33 +125,6 @@ impl Gpu {
                 tell(taps, note)
             }
         }
-    }
-
-    /// How many data words the open load still wants, 0 where none is open.
-    pub fn wanted(&self) -> u32
-        ensures { result ≡ wanted self.now.pending }
-    {
-        self.splitter.wanted()
-    }
-
-    /// Takes data words of the open load, an event each, behind so many events. It does what `gp0` does with one after
-    /// another, but that each listener is told all their notes before the next one is.
-    pub fn load<T: Listener, L: Ledger>(
-        &mut self,
-        played: u64,
-        words: &[u32],
-        taps: &mut Vec<T>,
-        steps: &mut Steps<L>,
-    )
-        requires some { 0 < length words.now }
-        requires wanted { length words.now ≤ wanted self.old.pending }
-        ensures feed { (s : State) → kept_of s ≡ self.old → FeedsData s words.now self.new steps.old steps.new }
-        ensures taps { map T.heard taps.new.items
-            ≡ map (after_notes (bare_notes 9 (played + 1) words.now)) (map T.heard taps.old.items) }
-    {
-        self.splitter.skip_pixels(words.len());
-        self.parts.take_all_pixels(words, steps);
-        tell_all_bare(taps, 9, played, words);
     }
 
     /// Takes a word of GP1. Opcodes 00h and 01h also end an unfinished packet, load, polyline and store.

@@ -7,6 +7,7 @@
 
 ghost use Rattle.std.specs.Prelude.{◌≡◌, ◌<◌};
 
+mod block;
 mod effect;
 mod gpu;
 pub mod laws;

@@ -1,0 +1,7 @@
+use Rattle.std.proofs.Common.{ap, sym, ◌∙◌}
+use Rattle.gp0_words.specs.declared.kind.Kind.TheVariants.{Plain}
+use Rattle.gpu_core.proofs.Plain.{plain_kind}
+use Rattle.gpu_core.proofs.block.plain_count.Goals as goal
+
+pub returns-clause-kind : goal.returns-clause-kind
+returns-clause-kind c = λ _. plain_kind c.args.word c.if-class-eq2.false c.if-class-eq5.false ∙ ap Plain (sym c.first_len.ensures)

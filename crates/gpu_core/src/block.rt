@@ -1,0 +1,163 @@
+// Words that are taken at once.
+ghost use Rattle.std.specs.Prelude.{◌≡◌, ◌≤◌, ◌<◌, ◌+◌, length, map, slice_index, take, ℕ};
+ghost use Rattle.gp0_words.specs.Kinds.{kind_of};
+ghost use Rattle.gp0_words.specs.Next.{wanted};
+ghost use Rattle.gp0_words.specs.declared.kind.Kind.TheVariants.{Plain};
+ghost use Rattle.gp0_words.specs.declared.pending.Pending.TheVariants.{Idle};
+ghost use Rattle.gpu_core.specs.Feeds.{SetsRegisters, TakesWords};
+ghost use Rattle.gpu_core.specs.Kept.{kept_of};
+ghost use Rattle.gpu_core.specs.Machine.{State};
+
+use crate::gpu::Gpu;
+use crate::parts::Parts;
+use gp0_words::{Item, Splitter, Words, first_len};
+use gpu_taps::{Listener, tell_all, tell_all_bare};
+use std::sync::ledger::Ledger;
+use vram_store::Steps;
+
+impl Gpu {
+    /// Takes the first of these words, an event each, behind so many events, and says how many: the data words of the
+    /// open load, words of registers, the words of a packet that is there whole, or else one. It does what `gp0` does
+    /// with one after another, but that each listener is told all their notes before the next one is.
+    #[inline(always)]
+    pub fn take_first<T: Listener, L: Ledger>(
+        &mut self,
+        played: u64,
+        words: &[u32],
+        taps: &mut Vec<T>,
+        steps: &mut Steps<L>,
+    ) -> usize
+        requires { 0 < length words.now }
+        ensures some { 0 < result }
+        ensures within { result ≤ length words.now }
+        ensures takes { (s : State) → kept_of s ≡ self.old → TakesWords s (played + 1) (take result words.now) self.new
+            (map T.heard taps.old.items) (map T.heard taps.new.items) steps.old steps.new }
+    {
+        let wanted = (self.splitter.wanted() as usize).min(words.len());
+        if wanted > 0 {
+            self.load(played, &words[..wanted], taps, steps);
+            return wanted;
+        }
+        let set = self.set_registers(words);
+        if set > 0 {
+            tell_all_bare(taps, 7, played, &words[..set]);
+            return set;
+        }
+        let len = self.plain_len(words);
+        if len > 0 {
+            self.take_packet(played, &words[..len], taps, steps);
+            return len;
+        }
+        let _ = self.gp0(played.saturating_add(1), words[0], taps, steps);
+        1
+    }
+
+    // Takes data words of the open load.
+    fn load<T: Listener, L: Ledger>(
+        &mut self,
+        played: u64,
+        words: &[u32],
+        taps: &mut Vec<T>,
+        steps: &mut Steps<L>,
+    )
+        requires some { 0 < length words.now }
+        requires wanted { length words.now ≤ wanted self.old.pending }
+        ensures { (s : State) → kept_of s ≡ self.old → TakesWords s (played + 1) words.now self.new
+            (map T.heard taps.old.items) (map T.heard taps.new.items) steps.old steps.new }
+    {
+        self.splitter.skip_pixels(words.len());
+        self.parts.take_all_pixels(words, steps);
+        tell_all_bare(taps, 9, played, words);
+    }
+
+    // Sets the registers of the first words, as many as are registers' where nothing is pending, and says how many.
+    fn set_registers(&mut self, words: &[u32]) -> usize
+        ensures within { result ≤ length words.now }
+        ensures sets { (s : State) (first : ℕ) → kept_of s ≡ self.old
+            → SetsRegisters s first (take result words.now) self.new }
+    {
+        set_all(&mut self.parts, &self.splitter, words)
+    }
+
+    // How many of the words that come next are a packet that is plain and all there, where nothing is pending; else 0.
+    fn plain_len(&self, words: &[u32]) -> usize
+        requires { 0 < length words.now }
+        ensures within { result ≤ length words.now }
+        ensures idle { 0 < result → self.now.pending ≡ Idle }
+        ensures kind { 0 < result → kind_of (slice_index words.now 0) ≡ Plain result }
+        ensures most { result ≤ 12 }
+    {
+        if !self.splitter.is_idle() {
+            return 0;
+        }
+        let len = plain_count(words[0]);
+        if len <= words.len() { len } else { 0 }
+    }
+
+    // Takes the words of a plain packet.
+    fn take_packet<T: Listener, L: Ledger>(
+        &mut self,
+        played: u64,
+        words: &[u32],
+        taps: &mut Vec<T>,
+        steps: &mut Steps<L>,
+    )
+        requires some { 0 < length words.now }
+        requires idle { self.old.pending ≡ Idle }
+        requires kind { kind_of (slice_index words.now 0) ≡ Plain (length words.now) }
+        requires most { length words.now ≤ 12 }
+        ensures { (s : State) → kept_of s ≡ self.old → TakesWords s (played + 1) words.now self.new
+            (map T.heard taps.old.items) (map T.heard taps.new.items) steps.old steps.new }
+    {
+        let item = Item::Whole {
+            words: copied(words),
+        };
+        let event = played.saturating_add(words.len() as u64);
+        let note = self.parts.take_item(event, &item, steps);
+        tell_all(taps, &note);
+    }
+}
+
+// Sets the registers of the first words, as many as the splitter passes, and says how many.
+fn set_all(parts: &mut Parts, splitter: &Splitter, words: &[u32]) -> usize
+    ensures within { result ≤ length words.now }
+    ensures load { parts.new.load ≡ parts.old.load }
+    ensures sets { (s : State) (first : ℕ) → kept_of s ≡ record { parts = parts.old; pending = splitter.now }
+        → SetsRegisters s first (take result words.now) (record { parts = parts.new; pending = splitter.now }) }
+{
+    for i in 0..words.len() {
+        let word = words[i];
+        if !splitter.passes(word) {
+            return i;
+        }
+        parts.set_register(word);
+    }
+    words.len()
+}
+
+// How many words a packet has that begins with this word, and 0 where it may be a load or a polyline.
+fn plain_count(word: u32) -> usize
+    ensures kind { 0 < result → kind_of word ≡ Plain result }
+    ensures most { result ≤ 12 }
+{
+    let class = word >> 29;
+    if class == 2 {
+        return 0;
+    }
+    if class == 5 {
+        return 0;
+    }
+    first_len(word)
+}
+
+// The words of an item.
+fn copied(words: &[u32]) -> Words
+    requires { length words.now ≤ 12 }
+    ensures { result ≡ words.now }
+{
+    let mut copy = Words::new();
+    for word in words {
+        copy.push(*word);
+    }
+    copy
+}
