@@ -1,18 +1,19 @@
 -- Texels that stand side by side.
-use Rattle.std.proofs.Common.{◌≡◌, ◌<◌, ◌≤◌, ℕ, List, Bool, true, false, cond, eqb, ◌+◌, ◌*◌, ◌/◌, ◌%◌, get_or, refl, sym, ap, ◌∙◌, arith}
-use Rattle.std.specs.Int.Bits.{bit_and, bit_or, and_zero_r, or_zero_r}
+use Rattle.std.proofs.Common.{◌≡◌, ◌<◌, ◌≤◌, ℕ, List, Bool, false, ◌+◌, ◌*◌, ◌/◌, ◌%◌, get_or, refl, sym, ap, ◌∙◌, arith}
+use Rattle.std.specs.Int.Bits.{and_zero_r, or_zero_r}
 use Rattle.std.proofs.lemmas.Bool.Decides.{nat_tests}
 use Rattle.std.proofs.lemmas.Nat.{and_mask}
 use Rattle.texture_page.specs.Page.{texel_place, column, windowed, index_in}
 use Rattle.span_lanes.specs.declared.stretch.Stretch.{Stretch}
 use Rattle.span_lanes.specs.declared.span.Texture.{Texture}
-use Rattle.span_lanes.specs.declared.span.Paint.{Paint}
 use Rattle.span_lanes.specs.declared.span.Paint.TheVariants.{TexturedRow}
 use Rattle.span_lanes.specs.declared.span.Span.{Span}
 use Rattle.span_lanes.specs.Paints.{paint_u, paint_v}
 use Rattle.span_lanes.specs.Shade.{row_u, texel, at_cell}
 use Rattle.span_lanes.specs.Cost.{texel_steps}
+use Rattle.span_lanes.specs.declared.coordinates.Coordinates.{Coordinates}
 use Rattle.span_lanes.specs.Stretch.{IsStretch}
+use Rattle.span_lanes.specs.Texels.{AreBeside, lane_place}
 use Rattle.span_lanes.proofs.TexelLemmas.{texel_direct, texel_four}
 
 -- without bits of the mask a window changes no coordinate
@@ -75,3 +76,35 @@ row_stretch span t color u v flip s paint rises clear at row low in_page wholes 
       rw (paint, rises, at, here) (open_window t.window.mask_x t.window.off_x (u + i) clear small);
   row = λ x i lt. rw (paint, row) refl;
 }
+
+-- sixteen cells of texels of fifteen bits do not wrap
+pub beside_room : (t : Texture) (at : Coordinates) → 2 ≤ t.page.depth → AreBeside t at → t.page.x + get_or at.us 0 0 + 16 ≤ 1024
+beside_room t at deep is = let wide = deep_column t.page.depth (get_or at.us 0 0) deep in rw wide at is.in_row
+
+-- one of sixteen texels of fifteen bits side by side
+pub beside_texel : (t : Texture) (at : Coordinates) (j h : ℕ) (m : List ℕ) → 2 ≤ t.page.depth → AreBeside t at → get_or at.us j 0 ≤ 255 → get_or at.vs j 0 ≤ 255 → j < 16
+    → h ≡ get_or m (1024 * (t.page.y + get_or at.vs 0 0) + (t.page.x + get_or at.us 0 0) + j) 0 → h ≡ texel t (get_or at.us j 0) (get_or at.vs j 0) m
+beside_texel t at j h m deep is low_u low_v lane read =
+    let u = open_window t.window.mask_x t.window.off_x (get_or at.us j 0) is.window_x low_u in
+    let v = open_window t.window.mask_y t.window.off_y (get_or at.vs j 0) is.window_y low_v in
+    let wide = deep_column t.page.depth (get_or at.us j 0) deep in
+    let across = is.columns j lane in
+    let down = is.rows j lane in
+    let room = beside_room t at deep is in
+    let here : (t.page.x + get_or at.us j 0) % 1024 ≡ t.page.x + get_or at.us j 0 = omega arith in
+    let place : 1024 * (t.page.y + get_or at.vs 0 0) + (t.page.x + get_or at.us 0 0) + j ≡ 1024 * (t.page.y + get_or at.vs j 0) + (t.page.x + get_or at.us j 0) = omega arith in
+    read ∙ ap (λ (k : ℕ). get_or m k 0) place
+    ∙ rw (u, v, wide, here) at (texel_direct t (get_or at.us j 0) (get_or at.vs j 0) m (texel_place t.page t.window (get_or at.us j 0) (get_or at.vs j 0)) deep refl)
+
+-- the index of one of sixteen texels of four bits side by side
+pub beside_index : (t : Texture) (at : Coordinates) (j h : ℕ) (m : List ℕ) → t.page.depth ≡ 0 → AreBeside t at → get_or at.us j 0 ≤ 255 → get_or at.vs j 0 ≤ 255 → j < 16
+    → h ≡ index_in 0 (get_or at.us 0 0 + j) (get_or m (1024 * (t.page.y + get_or at.vs 0 0) + (t.page.x + (get_or at.us 0 0 + j) / 4)) 0)
+    → h ≡ index_in 0 (windowed t.window.mask_x t.window.off_x (get_or at.us j 0)) (at_cell m (lane_place t at j))
+beside_index t at j h m four is low_u low_v lane read =
+    let u = open_window t.window.mask_x t.window.off_x (get_or at.us j 0) is.window_x low_u in
+    let v = open_window t.window.mask_y t.window.off_y (get_or at.vs j 0) is.window_y low_v in
+    let across = is.columns j lane in
+    let down = is.rows j lane in
+    let room = rw four at is.in_row in
+    let here : (t.page.x + (get_or at.us 0 0 + j) / 4) % 1024 ≡ t.page.x + (get_or at.us 0 0 + j) / 4 = omega (arith, room) in
+    rw (u, v, four, across, down, here) read

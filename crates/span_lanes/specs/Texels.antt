@@ -1,8 +1,8 @@
 -- The texels of a chunk by their coordinates, lane by lane.
-use Rattle.std.specs.Prelude.{ℕ, ◌≡◌, ◌+◌, ◌<◌, ◌≤◌, List, slice_index}
+use Rattle.std.specs.Prelude.{ℕ, ◌≡◌, ◌+◌, ◌<◌, ◌≤◌, List, length, slice_index}
 use Rattle.px_num.specs.Lanes.{EachLane}
 use Rattle.px_num.specs.declared.shape.Cell.{Cell}
-use Rattle.texture_page.specs.Page.{texel_place, windowed}
+use Rattle.texture_page.specs.Page.{texel_place, windowed, column, index_in}
 use Rattle.span_lanes.specs.declared.coordinates.Coordinates.{Coordinates}
 use Rattle.span_lanes.specs.declared.span.Texture.{Texture}
 use Rattle.span_lanes.specs.Shade.{at_cell, texel}
@@ -36,3 +36,18 @@ StandNear xs ys x y =
     (x + 16 ≤ 1024)
     × EachLane (λ i. (x ≤ slice_index xs i) × (slice_index xs i < x + 16))
     × EachLane (λ i. slice_index ys i ≡ y)
+
+-- sixteen texels that stand side by side, seen without a window, and sixteen cells from the first one's that do not wrap
+pub record AreBeside (t : Texture) (at : Coordinates) : Type 0 where
+  pub window_x : t.window.mask_x ≡ 0
+  pub window_y : t.window.mask_y ≡ 0
+  pub in_row : t.page.x + column t.page.depth (slice_index at.us 0) + 16 ≤ 1024
+  pub columns : EachLane (λ i. slice_index at.us i ≡ slice_index at.us 0 + i)
+  pub rows : EachLane (λ i. slice_index at.vs i ≡ slice_index at.vs 0)
+
+-- the first k lanes are the indexes of texels of four bits
+pub record AreIndexes (t : Texture) (at : Coordinates) (k : ℕ) (m lanes : List ℕ) : Type 0 where
+  pub long : length lanes ≡ 16
+  pub low : EachLane (λ i. slice_index lanes i < 16)
+  pub value : (j : ℕ) → j < k → slice_index lanes j
+      ≡ index_in 0 (windowed t.window.mask_x t.window.off_x (slice_index at.us j)) (at_cell m (lane_place t at j))

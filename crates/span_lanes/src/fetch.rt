@@ -1,16 +1,17 @@
 // Texels of a chunk that lies apart from them.
-ghost use Rattle.std.specs.Prelude.{◌≡◌, IsTrue, ◌≤◌, ◌<◌, ◌+◌, ◌*◌, ◌%◌, ◌^◌, ℕ, length, slice_index};
+ghost use Rattle.std.specs.Prelude.{◌≡◌, IsTrue, ◌≤◌, ◌<◌, ◌+◌, ◌*◌, ℕ, length, slice_index};
 ghost use Rattle.px_num.specs.Lanes.{EachLane};
 ghost use Rattle.vram_store.specs.Vram.{at, height_of};
 ghost use Rattle.texture_page.specs.Page.{clut_place};
 ghost use Rattle.span_lanes.specs.Shade.{IsTexture, at_cell};
 ghost use Rattle.span_lanes.specs.Lanes.{AreCoordinates};
 ghost use Rattle.span_lanes.specs.Cost.{texel_steps};
-ghost use Rattle.span_lanes.specs.Texels.{AreAcross, AreHalfwords, AreTexels, StandInRow, StandNear};
+ghost use Rattle.span_lanes.specs.Texels.{AreTexels, StandInRow, StandNear};
 
 use crate::Texture;
+use crate::beside::{are_beside, indexes_of, read_beside};
 use crate::coordinates::Coordinates;
-use crate::nibbles::{entries_at, indexes};
+use crate::nibbles::entries_at;
 use crate::octets::{entry_columns, octets};
 use crate::places::places_of;
 use px_num::lanes::{add, shifted_down, splat, sub_or_zero};
@@ -168,34 +169,6 @@ pub(crate) fn sixteen_entries<L: Ledger>(vram: &Vram, clut: u16, steps: &mut Ste
     vram.load16(clut % 64 * 16, clut / 64 % 512, 16, steps)
 }
 
-// k texels of four bits by the halfwords of their cells.
-#[inline(always)]
-fn read_fours<L: Ledger>(
-    vram: &Vram,
-    texture: &Texture,
-    at: &Coordinates,
-    across: u16x16,
-    halfwords: u16x16,
-    k: u8,
-    steps: &mut Steps<L>,
-) -> u16x16
-    requires texture { IsTexture texture.now }
-    requires us { AreCoordinates at.now.us }
-    requires long { (length across ≡ 16) × (length halfwords ≡ 16) }
-    requires depth { texture.now.page.depth ≡ 0 }
-    requires some { 1 ≤ k }
-    requires few { k ≤ 16 }
-    requires across { AreAcross texture.now at.now across }
-    requires low { EachLane (λ i. slice_index across i ≤ 255) }
-    requires halfwords { AreHalfwords texture.now at.now k vram.now halfwords }
-    ensures long { length result ≡ 16 }
-    ensures value { AreTexels texture.now at.now k vram.now result }
-    ensures cost { steps.new ≤ steps.old + 1 }
-{
-    let entries = sixteen_entries(vram, texture.clut, steps);
-    entries_at(entries, indexes(across, halfwords))
-}
-
 // The entries of a palette by their indexes, one by one.
 #[inline(always)]
 fn gather_entries<L: Ledger>(
@@ -218,73 +191,97 @@ fn gather_entries<L: Ledger>(
     gather(vram, columns, splat(clut / 64 % 512), k, steps)
 }
 
-// k texels of eight bits by the halfwords of their cells.
+// k texels of four bits.
+#[inline(always)]
+fn read_fours<L: Ledger>(
+    vram: &Vram,
+    texture: &Texture,
+    at: &Coordinates,
+    k: u8,
+    steps: &mut Steps<L>,
+) -> u16x16
+    requires texture { IsTexture texture.now }
+    requires page { texture.now.page.y + 255 < height_of vram.now }
+    requires at { AreCoordinates at.now.us × AreCoordinates at.now.vs }
+    requires depth { texture.now.page.depth ≡ 0 }
+    requires few { (1 ≤ k) × (k ≤ 16) }
+    ensures long { length result ≡ 16 }
+    ensures value { AreTexels texture.now at.now k vram.now result }
+    ensures cost { steps.new ≤ steps.old + 2 * k }
+{
+    let index = indexes_of(vram, texture, at, k, steps);
+    let entries = sixteen_entries(vram, texture.clut, steps);
+    entries_at(entries, index)
+}
+
+// k texels of eight bits.
 #[inline(always)]
 fn read_eights<L: Ledger>(
     vram: &Vram,
     texture: &Texture,
     at: &Coordinates,
-    across: u16x16,
-    halfwords: u16x16,
     k: u8,
     steps: &mut Steps<L>,
 ) -> u16x16
     requires texture { IsTexture texture.now }
-    requires us { AreCoordinates at.now.us }
-    requires long { (length across ≡ 16) × (length halfwords ≡ 16) }
+    requires page { texture.now.page.y + 255 < height_of vram.now }
+    requires at { AreCoordinates at.now.us × AreCoordinates at.now.vs }
     requires depth { texture.now.page.depth ≡ 1 }
-    requires some { 1 ≤ k }
-    requires few { k ≤ 16 }
-    requires across { AreAcross texture.now at.now across }
-    requires halfwords { AreHalfwords texture.now at.now k vram.now halfwords }
+    requires few { (1 ≤ k) × (k ≤ 16) }
+    ensures long { length result ≡ 16 }
+    ensures value { AreTexels texture.now at.now k vram.now result }
+    ensures cost { steps.new ≤ steps.old + 2 * k }
+{
+    let places = places_of(texture, at);
+    let halfwords = halfwords_of(vram, places.xs, places.ys, k, steps);
+    let index = octets(places.across, halfwords);
+    gather_entries(vram, texture.clut, index, k, steps)
+}
+
+// k texels of fifteen bits, by the cells that they stand in.
+#[inline(always)]
+fn read_scattered<L: Ledger>(
+    vram: &Vram,
+    texture: &Texture,
+    at: &Coordinates,
+    k: u8,
+    steps: &mut Steps<L>,
+) -> u16x16
+    requires texture { IsTexture texture.now }
+    requires page { texture.now.page.y + 255 < height_of vram.now }
+    requires at { AreCoordinates at.now.us × AreCoordinates at.now.vs }
+    requires depth { 2 ≤ texture.now.page.depth }
+    requires few { (1 ≤ k) × (k ≤ 16) }
     ensures long { length result ≡ 16 }
     ensures value { AreTexels texture.now at.now k vram.now result }
     ensures cost { steps.new ≤ steps.old + k }
 {
-    gather_entries(vram, texture.clut, octets(across, halfwords), k, steps)
+    let places = places_of(texture, at);
+    halfwords_of(vram, places.xs, places.ys, k, steps)
 }
 
-// k texels of fifteen bits, which are the halfwords of their cells.
+// k texels of fifteen bits.
 #[inline(always)]
-fn read_wholes(vram: &Vram, texture: &Texture, at: &Coordinates, halfwords: u16x16, k: u8) -> u16x16
-    requires texture { IsTexture texture.now }
-    requires long { length halfwords ≡ 16 }
-    requires depth { 2 ≤ texture.now.page.depth }
-    requires few { k ≤ 16 }
-    requires halfwords { AreHalfwords texture.now at.now k vram.now halfwords }
-    ensures long { length result ≡ 16 }
-    ensures value { AreTexels texture.now at.now k vram.now result }
-{
-    halfwords
-}
-
-// k texels by the halfwords of their cells.
-#[inline(always)]
-fn look_up<L: Ledger>(
+fn read_wholes<L: Ledger>(
     vram: &Vram,
     texture: &Texture,
     at: &Coordinates,
-    across: u16x16,
-    halfwords: u16x16,
     k: u8,
     steps: &mut Steps<L>,
 ) -> u16x16
     requires texture { IsTexture texture.now }
-    requires us { AreCoordinates at.now.us }
-    requires long { (length across ≡ 16) × (length halfwords ≡ 16) }
-    requires some { 1 ≤ k }
-    requires few { k ≤ 16 }
-    requires across { AreAcross texture.now at.now across }
-    requires low { EachLane (λ i. slice_index across i ≤ 255) }
-    requires halfwords { AreHalfwords texture.now at.now k vram.now halfwords }
+    requires page { texture.now.page.y + 255 < height_of vram.now }
+    requires at { AreCoordinates at.now.us × AreCoordinates at.now.vs }
+    requires depth { 2 ≤ texture.now.page.depth }
+    requires few { (1 ≤ k) × (k ≤ 16) }
     ensures long { length result ≡ 16 }
     ensures value { AreTexels texture.now at.now k vram.now result }
-    ensures cost { steps.new + k ≤ steps.old + texel_steps texture.now.page.depth * k }
+    ensures cost { steps.new ≤ steps.old + k }
 {
-    match texture.page.depth {
-        0 => read_fours(vram, texture, at, across, halfwords, k, steps),
-        1 => read_eights(vram, texture, at, across, halfwords, k, steps),
-        _ => read_wholes(vram, texture, at, halfwords, k),
+    if are_beside(texture, at) {
+        read_beside(vram, texture, at, k, steps)
+    } else {
+        read_scattered(vram, texture, at, k, steps)
     }
 }
 
@@ -299,15 +296,15 @@ pub(crate) fn read_apart<L: Ledger>(
 ) -> u16x16
     requires texture { IsTexture texture.now }
     requires page { texture.now.page.y + 255 < height_of vram.now }
-    requires across { AreCoordinates at.now.us }
-    requires down { AreCoordinates at.now.vs }
-    requires some { 1 ≤ k }
-    requires few { k ≤ 16 }
+    requires at { AreCoordinates at.now.us × AreCoordinates at.now.vs }
+    requires few { (1 ≤ k) × (k ≤ 16) }
     ensures long { length result ≡ 16 }
     ensures value { AreTexels texture.now at.now k vram.now result }
     ensures cost { steps.new ≤ steps.old + texel_steps texture.now.page.depth * k }
 {
-    let places = places_of(texture, at);
-    let halfwords = halfwords_of(vram, places.xs, places.ys, k, steps);
-    look_up(vram, texture, at, places.across, halfwords, k, steps)
+    match texture.page.depth {
+        0 => read_fours(vram, texture, at, k, steps),
+        1 => read_eights(vram, texture, at, k, steps),
+        _ => read_wholes(vram, texture, at, k, steps),
+    }
 }

@@ -11,6 +11,7 @@ ghost use Rattle.edge_walk.specs.Triangle.{is_inside};
 
 mod apart;
 mod back;
+mod beside;
 mod cells;
 mod colors;
 mod coordinates;

@@ -1,19 +1,14 @@
 // Texels that stand side by side in a row of video memory.
-ghost use Rattle.std.specs.Prelude.{◌≡◌, ◌≤◌, ◌<◌, ◌+◌, ◌/◌, ℕ, IfSome, IsTrue, false, length, slice_index};
-ghost use Rattle.px_num.specs.Lanes.{EachLane};
-ghost use Rattle.texture_page.specs.Page.{index_in};
-ghost use Rattle.vram_store.specs.Vram.{at, height_of};
+ghost use Rattle.std.specs.Prelude.{◌≡◌, ◌≤◌, ◌<◌, ◌+◌, ◌/◌, IfSome, IsTrue, false};
+ghost use Rattle.vram_store.specs.Vram.{height_of};
 ghost use Rattle.span_lanes.specs.declared.span.Paint.TheVariants.{TexturedRow};
 ghost use Rattle.span_lanes.specs.Chunk.{IsChunk};
 ghost use Rattle.span_lanes.specs.Plan.{HasTexels};
 ghost use Rattle.span_lanes.specs.Shade.{IsSpan, IsTexture};
 ghost use Rattle.span_lanes.specs.Stretch.{IsStretch};
 
-use crate::fetch::ramp;
-use crate::nibbles::{entries_at, indexes};
 use crate::row::TexelRow;
 use crate::{Span, Texture};
-use px_num::lanes::{add, shifted_down, splat};
 use std::simd::prelude::*;
 use std::sync::ledger::Ledger;
 use texture_page::texel_cell;
@@ -88,33 +83,4 @@ pub(crate) fn read_stretch<L: Ledger>(
 {
     let _ = span;
     vram.load16(texture.page.x + stretch.u + first, stretch.y, k, steps)
-}
-
-// The indexes of k texels of four bits that stand side by side.
-#[inline(always)]
-pub(crate) fn indexes_beside<L: Ledger>(
-    vram: &Vram,
-    span: &Span,
-    texture: &Texture,
-    stretch: &Stretch,
-    first: u16,
-    k: u8,
-    steps: &mut Steps<L>,
-) -> u16x16
-    requires page { texture.now.page.y + 255 < height_of vram.now }
-    requires chunk { IsChunk span.now first k }
-    requires stretch { IsStretch span.now texture.now stretch.now }
-    requires depth { texture.now.page.depth ≡ 0 }
-    ensures long { length result ≡ 16 }
-    ensures low { EachLane (λ i. slice_index result i < 16) }
-    ensures value { (j : ℕ) → j < k → let u = stretch.now.u + (first + j) in slice_index result j
-        ≡ index_in 0 u (at vram.now (texture.now.page.x + u / 4) stretch.now.y) }
-    ensures cost { steps.new ≤ steps.old + 1 }
-{
-    let _ = span;
-    let u = stretch.u + first;
-    let across = add(splat(u % 4), ramp());
-    let cells = vram.load16(texture.page.x + u / 4, stretch.y, 16, steps);
-    let _ = k;
-    indexes(across, entries_at(cells, shifted_down(across, 2)))
 }

@@ -13,15 +13,15 @@ ghost use Rattle.span_lanes.specs.Swatches.{AreColored, AreFronts, AreSwatches, 
 ghost use Rattle.px_num.specs.Lanes.{EachLane};
 ghost use Rattle.span_lanes.specs.Texels.{AreTexels};
 
+use crate::beside::{indexes_of, sixteen_indexes};
 use crate::colors::no_shifts;
 use crate::coordinates::Coordinates;
-use crate::fetch::{halfwords_of, same, sixteen_entries};
+use crate::fetch::{same, sixteen_entries};
 use crate::hues::Hues;
-use crate::nibbles::{entries_at, indexes};
-use crate::places::places_of;
+use crate::nibbles::entries_at;
 use crate::plan::{Plan, is_dithered};
 use crate::store::store_chunk;
-use crate::stretch::{Stretch, indexes_beside};
+use crate::stretch::Stretch;
 use crate::textured::{collect_fronts, fronts};
 use crate::track::track_lanes;
 use crate::{Span, Texture};
@@ -127,18 +127,14 @@ fn read_drawn<L: Ledger>(
     requires page { texture.now.page.y + 255 < height_of vram.now }
     requires depth { texture.now.page.depth ≡ 0 }
     requires swatches { AreSwatches texture.now vram.now swatches.now }
-    requires across { AreCoordinates at.now.us }
-    requires down { AreCoordinates at.now.vs }
-    requires some { 1 ≤ k }
-    requires few { k ≤ 16 }
+    requires at { AreCoordinates at.now.us × AreCoordinates at.now.vs }
+    requires few { (1 ≤ k) × (k ≤ 16) }
     ensures long { length result.texels ≡ 16 }
     ensures texels { AreTexels texture.now at.now k vram.now result.texels }
     ensures fronts { AreFronts texture.now.raw swatches.now.color k result.texels result.fronts }
     ensures cost { steps.new ≤ steps.old + k }
 {
-    let places = places_of(texture, at);
-    let halfwords = halfwords_of(vram, places.xs, places.ys, k, steps);
-    let index = indexes(places.across, halfwords);
+    let index = indexes_of(vram, texture, at, k, steps);
     Drawn {
         texels: entries_at(swatches.entries, index),
         fronts: entries_at(swatches.fronts, index),
@@ -166,7 +162,10 @@ fn read_beside<L: Ledger>(
     ensures fronts { AreFronts texture.now.raw swatches.now.color k result.texels result.fronts }
     ensures cost { steps.new ≤ steps.old + 1 }
 {
-    let index = indexes_beside(vram, span, texture, stretch, first, k, steps);
+    let _ = span;
+    let _ = k;
+    let u = stretch.u + first;
+    let index = sixteen_indexes(vram, texture.page.x, u, stretch.y, steps);
     Drawn {
         texels: entries_at(swatches.entries, index),
         fronts: entries_at(swatches.fronts, index),

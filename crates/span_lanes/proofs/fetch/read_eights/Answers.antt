@@ -1,10 +1,12 @@
-use Rattle.std.proofs.Common.{◌<◌, slice_index, arith}
+use Rattle.std.proofs.Common.{◌<◌, arith}
 use Rattle.span_lanes.proofs.TexelLemmas.{texel_eight}
 use Rattle.span_lanes.proofs.fetch.read_eights.Goals as goal
 
 pub returns-clause-value : goal.returns-clause-value
 returns-clause-value g c = λ j lt.
-    let in_lanes : j < 16 = omega arith in
-    let index = c.octets.ensures.value j in_lanes in
-    texel_eight c.args.texture.now _ _ c.args.vram.now (slice_index c.args.across j) (slice_index c.args.halfwords j) _ c.requires.depth (c.requires.across j in_lanes) (c.requires.halfwords j lt)
+    let lane : j < 16 = omega arith in
+    let places = c.places_of-places.ensures in
+    let index = c.octets-index.ensures.value j lane in
+    texel_eight c.args.texture.now _ _ c.args.vram.now _ _ _ c.requires.depth (places.across j lane)
+    (rw (places.column j lane, places.row j lane) at (c.halfwords_of-halfwords.ensures.value j lt))
     (rw index at (c.gather_entries.ensures.value j lt))

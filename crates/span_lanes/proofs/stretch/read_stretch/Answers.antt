@@ -1,4 +1,4 @@
-use Rattle.std.proofs.Common.{◌≡◌, ◌<◌, ℕ, ◌+◌, ◌*◌, get_or, ◌∙◌, ap, arith}
+use Rattle.std.proofs.Common.{◌≡◌, ℕ, ◌+◌, ◌*◌, get_or, ◌∙◌, ap, arith}
 use Rattle.span_lanes.proofs.StretchLemmas.{whole_texel}
 use Rattle.span_lanes.proofs.stretch.read_stretch.Goals as goal
 
