@@ -11,3 +11,4 @@ pub mod StreamLaw
 pub mod TooMuch
 pub mod WindowLaw
 pub mod WindowLemmas
+pub mod Registers

@@ -6,6 +6,8 @@ ghost use Rattle.gpu_core.specs.Machine.{is_idle};
 ghost use Rattle.dead_drawing.specs.Control.{controlled, first_control, regs_after};
 ghost use Rattle.capture_slim.specs.declared.saying.Saying.TheVariants.{Quiet};
 ghost use Rattle.capture_slim.specs.Saying.{said_at};
+ghost use Rattle.gpu_capture.specs.declared.event.Event.TheVariants.{Gp0};
+ghost use Rattle.gp0_packets.specs.Packets.{environment_of};
 ghost use Rattle.capture_slim.specs.Telling.{area_at};
 
 use crate::saying::{Saying, said};
@@ -68,6 +70,17 @@ fn put(regs: &mut Regs, packet: &Packet)
     }
 }
 
+// Sets the register that a word of class 7 sets, if any.
+#[tactic(auto, unfolding(gp0_packets::specs::Packets::environment_of))]
+fn set_register(regs: &mut Regs, word: u32)
+    ensures { regs.new ≡ regs_after regs.old (environment_of word) }
+{
+    let opcode = word >> 24;
+    if 0xe1 <= opcode && opcode <= 0xe6 {
+        regs.env((opcode - 0xe0) as u8, word & 0xff_ffff);
+    }
+}
+
 impl Track {
     /// After a reset, with nothing pending.
     #[tactic(auto, unfolding(gp0_words::specs::Items::Rest))]
@@ -88,16 +101,7 @@ impl Track {
         ensures area { result.area ≡ area_at self.old event.now }
     {
         match *event {
-            Event::Gp0 { word } => match self.splitter.push(word) {
-                None => quiet(),
-                Some(item) => {
-                    let packet = decode(&item, self.regs.is_tall());
-                    let area = area_of(&self.regs, &packet);
-                    let saying = said(&self.regs, &packet);
-                    put(&mut self.regs, &packet);
-                    Told { saying, area }
-                }
-            },
+            Event::Gp0 { word } => self.follow_word(word),
             Event::Gp1 { word } => {
                 self.regs.gp1(word);
                 if clears(word) {
@@ -110,6 +114,41 @@ impl Track {
                 saying: Saying::Loud,
                 area: None,
             },
+        }
+    }
+
+    // Goes on by a word for GP0. Words of registers, and those inside a packet, say nothing and have no area.
+    fn follow_word(&mut self, word: u32) -> Told
+        ensures control { self.new ≡ controlled self.old (Gp0 word) }
+        ensures saying { result.saying ≡ said_at self.old (Gp0 word) }
+        ensures area { result.area ≡ area_at self.old (Gp0 word) }
+    {
+        if self.splitter.passes(word) {
+            set_register(&mut self.regs, word);
+            return quiet();
+        }
+        if self.splitter.push_inside(word) {
+            return quiet();
+        }
+        self.complete(word)
+    }
+
+    // The same for any word.
+    #[tactic(auto, unfolding(dead_drawing::specs::Control::controlled, gp0_words::specs::Items::Rest))]
+    fn complete(&mut self, word: u32) -> Told
+        ensures control { self.new ≡ controlled self.old (Gp0 word) }
+        ensures saying { result.saying ≡ said_at self.old (Gp0 word) }
+        ensures area { result.area ≡ area_at self.old (Gp0 word) }
+    {
+        match self.splitter.push(word) {
+            None => quiet(),
+            Some(item) => {
+                let packet = decode(&item, self.regs.is_tall());
+                let area = area_of(&self.regs, &packet);
+                let saying = said(&self.regs, &packet);
+                put(&mut self.regs, &packet);
+                Told { saying, area }
+            }
         }
     }
 

@@ -1,0 +1,66 @@
+-- Words of registers, and words inside a packet.
+use Rattle.std.proofs.Common.{◌≡◌, ◌/◌, ◌^◌, ℕ, [], ◌∷◌, Option, None, Some, Bool, true, false, cond, refl, ap, sym, ◌∙◌}
+use Rattle.gp0_words.specs.Pushed.{IsPushed}
+use Rattle.gp0_words.specs.declared.item.Item.{Item}
+use Rattle.gp0_words.specs.declared.item.Item.TheVariants as item
+use Rattle.gp0_words.specs.declared.pending.Pending.{Pending}
+use Rattle.gp0_packets.specs.Packets.{environment_of}
+use Rattle.gp0_packets.specs.declared.packet.Packet.TheVariants as packet
+use Rattle.gp1_status.specs.Registers.{Registers}
+use Rattle.gpu_capture.specs.declared.event.Event.TheVariants as event
+use Rattle.gpu_core.proofs.Fed.{register_packet}
+use Rattle.prim_draw.specs.Areas.{area_of}
+use Rattle.dead_drawing.specs.Control.{Control, controlled, regs_after}
+use Rattle.capture_slim.specs.Saying.{said, said_at, said_by}
+use Rattle.capture_slim.specs.Telling.{area_at, area_by}
+use Rattle.capture_slim.specs.declared.saying.Saying.TheVariants.{Quiet}
+
+said_of : (b : Bool) (i v : ℕ) → said (cond b (packet.Env i v) packet.Nop) ≡ Quiet
+said_of true i v = refl
+said_of false i v = refl
+
+environment_said : (word : ℕ) → said (environment_of word) ≡ Quiet
+unfolding environment_of
+environment_said word = said_of _ _ _
+
+area_none : (r : Registers) (b : Bool) (i v : ℕ) → area_of r (cond b (packet.Env i v) packet.Nop) ≡ None
+unfolding area_of
+area_none r true i v = refl
+area_none r false i v = refl
+
+environment_area : (r : Registers) (word : ℕ) → area_of r (environment_of word) ≡ None
+unfolding environment_of
+environment_area r word = area_none r _ _ _
+
+-- what is said of a word by what it completes
+pub record IsQuiet (c : Control) (word : ℕ) : Type 0 where
+  pub saying : Quiet ≡ said_at c (event.Gp0 word)
+  pub area : None ≡ area_at c (event.Gp0 word)
+
+-- a word inside a packet
+pub inside_quiet : (c : Control) (new : Pending) (word : ℕ) → IsPushed c.pending new word None → IsQuiet c word
+inside_quiet c new word push = record {
+  saying = ap (λ (i : Option Item). said_by c.regs.height i) push.decided;
+  area = ap (λ (i : Option Item). area_by c.regs i) push.decided;
+}
+
+pub inside_control : (c : Control) (new : Pending) (word : ℕ) → IsPushed c.pending new word None
+    → ◌≡◌ {A = Control} (record { regs = c.regs; pending = new }) (controlled c (event.Gp0 word))
+unfolding controlled
+inside_control c new word push = rw (← push.decided, ← push.pending) refl
+
+-- a word of a register
+pub register_quiet : (c : Control) (word : ℕ) → IsPushed c.pending c.pending word (Some (item.Whole (word ∷ []))) → word / 2 ^ 29 ≡ 7
+    → IsQuiet c word
+register_quiet c word push class =
+    let is = register_packet c.regs.height word class in
+    record {
+      saying = sym (environment_said word) ∙ ap said (sym is) ∙ ap (λ (i : Option Item). said_by c.regs.height i) push.decided;
+      area = sym (environment_area c.regs word) ∙ ap (area_of c.regs) (sym is) ∙ ap (λ (i : Option Item). area_by c.regs i) push.decided;
+    }
+
+pub register_control : (c : Control) (word : ℕ) → IsPushed c.pending c.pending word (Some (item.Whole (word ∷ []))) → word / 2 ^ 29 ≡ 7
+    → ◌≡◌ {A = Control} (record { regs = regs_after c.regs (environment_of word); pending = c.pending }) (controlled c (event.Gp0 word))
+unfolding controlled
+register_control c word push class =
+    rw (← register_packet c.regs.height word class, ← push.decided, ← push.pending) refl
