@@ -12,18 +12,14 @@ use Rattle.edge_walk.specs.declared.slope.Bound.{Bound}
 use Rattle.edge_walk.specs.declared.slope.Bound.TheVariants.{AtMost, AtLeast}
 use Rattle.edge_walk.specs.declared.walk.RowWalk.{RowWalk}
 use Rattle.edge_walk.specs.Extent.{bounding_box}
-use Rattle.edge_walk.specs.Row.{IsBetween, IsInBox, IsRowSpan, least_value}
-use Rattle.edge_walk.specs.Triangle.{Corners, corners, doubled_area, oriented, is_inside, is_within, is_on_side, is_kept_edge, IsNear, IsSmall}
-use Rattle.edge_walk.specs.Walk.{in_parts, raised_column, spare, AreRows, HasRows, IsBounded, IsSide, IsWithin}
+use Rattle.edge_walk.specs.Row.{IsBetween, IsInBox, IsRowSpan}
+use Rattle.edge_walk.specs.Triangle.{Corners, corners, doubled_area, oriented, is_inside, is_within, is_on_side, IsNear, IsSmall}
+use Rattle.edge_walk.specs.Walk.{in_parts, raised_column, start_value, AreRows, HasRows, IsBounded, IsSide, IsWithin}
 use Rattle.edge_walk.proofs.InBox.{inside-in_box}
 use Rattle.edge_walk.proofs.RowLemmas.{both_true, on_side_iff}
 use Rattle.edge_walk.proofs.SpanLemmas.{span_is, none_is}
 
 -- ---- one row further
-
-least_bound : (k : Bool) → unsigned_abs (cond k (pos 0) (pos 1)) ≤ 1
-least_bound true = omega (arith, ints)
-least_bound false = omega (arith, ints)
 
 pub product_small : (a b : ℤ) → unsigned_abs a ≤ 1023 → unsigned_abs b ≤ 512 → unsigned_abs (a *ℤ b) ≤ 523776
 product_small a b g h = rw unsigned_abs-mul (mul-le (unsigned_abs a) (unsigned_abs b) 1023 512 g h)
@@ -31,17 +27,13 @@ product_small a b g h = rw unsigned_abs-mul (mul-le (unsigned_abs a) (unsigned_a
 pub far_small : (a b : ℤ) → unsigned_abs a ≤ 2 ^ 20 → unsigned_abs b ≤ 2 ^ 41 → unsigned_abs (a *ℤ b) ≤ 2 ^ 61
 far_small a b g h = rw unsigned_abs-mul (mul-le (unsigned_abs a) (unsigned_abs b) (2 ^ 20) (2 ^ 41) g h)
 
-pub spare_small : (p q : Vertex) (y : ℤ) → IsNear p q → unsigned_abs (y -ℤ p.y) ≤ 512 → unsigned_abs (spare p q y) < 2 ^ 20
-spare_small p q y near reach =
+pub value_small : (p q : Vertex) (y : ℤ) → IsNear p q → unsigned_abs (y -ℤ p.y) ≤ 512 → unsigned_abs (start_value p q y) < 2 ^ 20
+value_small p q y near reach =
     let product = product_small (q.x -ℤ p.x) (y -ℤ p.y) (omega (arith, ints, near.across)) reach in
-    let least = least_bound (is_kept_edge p q) in
-    omega (arith, ints, product, least)
+    omega (arith, ints, product)
 
 one_more : (a y p : ℤ) → a *ℤ ((y +ℤ pos 1) -ℤ p) ≡ (a *ℤ (y -ℤ p) +ℤ a)
 one_more a y p = same (mul (at a) (sub (add (at y) (at (pos 1))) (at p))) (add (mul (at a) (sub (at y) (at p))) (at a)) (omega arith)
-
-spare_more : (p q : Vertex) (y : ℤ) → spare p q (y +ℤ pos 1) ≡ (spare p q y +ℤ (q.x -ℤ p.x))
-spare_more p q y = let more = one_more (q.x -ℤ p.x) y p.y in omega (arith, ints, more)
 
 grown : (a b d c : ℤ) → b ≡ (a +ℤ d) → b *ℤ c ≡ (a *ℤ c +ℤ d *ℤ c)
 grown a b d c e = rw e (same (mul (add (at a) (at d)) (at c)) (add (mul (at a) (at c)) (mul (at d) (at c))) (omega arith))
@@ -72,24 +64,21 @@ placed start_held far_held start far slack is far_is low high = record {
 pub moved_with : (p q : Vertex) (origin y : ℤ) (s : Side) (next : ℕ) → IsNear p q → unsigned_abs ((y +ℤ pos 1) -ℤ p.y) ≤ 512 → IsSide p q origin y s → next ≡ (s.at + s.by) % 2 ^ 64
     → IsSide p q origin (y +ℤ pos 1) (record { bound = s.bound; at = next; by = s.by })
 moved_with p q origin y s next near reach h next_is =
-    let small = spare_small p q (y +ℤ pos 1) near reach in
-    let far = far_small (spare p q (y +ℤ pos 1)) h.slope.scale (omega (arith, small)) h.is_slope.scale in
-    let reached = in_reach origin p.x (spare p q (y +ℤ pos 1) *ℤ h.slope.scale) h.slope.slack h.start far h.is_slope.slack in record {
+    let small = value_small p q (y +ℤ pos 1) near reach in
+    let far = far_small (start_value p q (y +ℤ pos 1)) h.slope.scale (omega (arith, small)) h.is_slope.scale in
+    let reached = in_reach origin p.x (start_value p q (y +ℤ pos 1) *ℤ h.slope.scale) h.slope.slack h.start far h.is_slope.slack in record {
       slope = h.slope;
       is_slope = h.is_slope;
       bound = h.bound;
       start = h.start;
-      at = stepped s.at s.by h.raised next (in_parts origin p.x) (spare p q y *ℤ h.slope.scale) ((q.x -ℤ p.x) *ℤ h.slope.scale) (spare p q (y +ℤ pos 1) *ℤ h.slope.scale) h.slope.slack
-          h.at h.step h.by next_is (grown (spare p q y) (spare p q (y +ℤ pos 1)) (q.x -ℤ p.x) h.slope.scale (spare_more p q y)) reached.0 reached.1;
+      at = stepped s.at s.by h.raised next (in_parts origin p.x) (start_value p q y *ℤ h.slope.scale) ((q.x -ℤ p.x) *ℤ h.slope.scale) (start_value p q (y +ℤ pos 1) *ℤ h.slope.scale) h.slope.slack
+          h.at h.step h.by next_is (grown (start_value p q y) (start_value p q (y +ℤ pos 1)) (q.x -ℤ p.x) h.slope.scale (one_more (q.x -ℤ p.x) y p.y)) reached.0 reached.1;
       raised = h.raised;
       by = h.by;
       step = h.step;
     }
 
 -- ---- the columns of a row
-
-turned : (least value product : ℤ) → (least ≤ℤ (value -ℤ product)) ↔ (product ≤ℤ (value -ℤ least))
-turned least value product = (λ h. omega (arith, ints, h), λ h. omega (arith, ints, h))
 
 shifted : (b : Bound) (start far k from x : ℤ) → from ≡ (start +ℤ far) → x ≡ (start +ℤ k) → IsBounded b far k ↔ IsBounded b from x
 shifted AtMost start far k from x is_from is_x = (λ h. omega (arith, ints, is_from, is_x, h), λ h. omega (arith, ints, is_from, is_x, h))
@@ -102,10 +91,9 @@ parts_apart origin p x = same (add (mul (sub (at x) (at origin)) (at (pos (2 ^ 3
 pub bounded : (p q : Vertex) (origin x y : ℤ) (s : Side) → IsSide p q origin y s → unsigned_abs (x -ℤ p.x) ≤ 1023 → IsTrue (is_on_side p q x y) ↔ IsBounded s.bound (pos s.at) (in_parts origin x)
 bounded p q origin x y s h near =
     let on = on_side_iff p q x y in
-    let turn = turned (least_value p q) ((q.x -ℤ p.x) *ℤ (y -ℤ p.y)) ((q.y -ℤ p.y) *ℤ (x -ℤ p.x)) in
-    let solved = h.is_slope.solves (x -ℤ p.x) (spare p q y) near in
-    let shift = shifted h.slope.bound (in_parts origin p.x) (spare p q y *ℤ h.slope.scale +ℤ h.slope.slack) ((x -ℤ p.x) *ℤ pos (2 ^ 30)) (pos s.at) (in_parts origin x) h.at (parts_apart origin p.x x) in
-    rw h.bound (λ t. shift.0 (solved.0 (turn.0 (on.0 t))), λ b. on.1 (turn.1 (solved.1 (shift.1 b))))
+    let solved = h.is_slope.solves (x -ℤ p.x) (start_value p q y) near in
+    let shift = shifted h.slope.bound (in_parts origin p.x) (start_value p q y *ℤ h.slope.scale +ℤ h.slope.slack) ((x -ℤ p.x) *ℤ pos (2 ^ 30)) (pos s.at) (in_parts origin x) h.at (parts_apart origin p.x x) in
+    rw h.bound (λ t. shift.0 (solved.0 (on.0 t)), λ b. on.1 (solved.1 (shift.1 b)))
 
 within_ends : (ends : Ends) (origin x : ℤ) → IsWithin ends (in_parts origin x) ↔ IsBetween (pos (ends.low / 2 ^ 30)) (pos (ends.high / 2 ^ 30)) (raised_column origin x)
 within_ends ends origin x = (λ h. (omega (arith, ints, h.0), omega (arith, ints, h.1)), λ h. (omega (arith, ints, h.0), omega (arith, ints, h.1)))

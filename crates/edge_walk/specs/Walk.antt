@@ -30,25 +30,25 @@ IsBounded AtLeast at x = at <ℤ (x +ℤ pos (2 ^ 30))
 abbrev pub IsWithin : Ends → ℤ → Type 0
 IsWithin ends x = IsBounded AtLeast (pos ends.low) x × IsBounded AtMost (pos ends.high) x
 
--- an edge that falls by so many rows leaves the columns that its slope says: of those up to 1023 away from its first vertex,
--- the ones over which its value falls by w or less
-pub record IsSlope (fall : ℤ) (slope : Slope) : Type 0 where
-  pub solves : (k w : ℤ) → unsigned_abs k ≤ 1023
-      → ((fall *ℤ k) ≤ℤ w) ↔ IsBounded slope.bound (w *ℤ slope.scale +ℤ slope.slack) (k *ℤ pos (2 ^ 30))
+-- an edge leaves the columns that its slope says: of those up to 1023 away from its first vertex, at whose column its value
+-- is v, the ones where its value is the least one or more
+pub record IsSlope (p q : Vertex) (slope : Slope) : Type 0 where
+  pub solves : (k v : ℤ) → unsigned_abs k ≤ 1023
+      → (least_value p q ≤ℤ (v -ℤ (q.y -ℤ p.y) *ℤ k)) ↔ IsBounded slope.bound (v *ℤ slope.scale +ℤ slope.slack) (k *ℤ pos (2 ^ 30))
   pub scale : unsigned_abs slope.scale ≤ 2 ^ 41
   pub slack : unsigned_abs slope.slack ≤ 2 ^ 40
 
--- how much the value of the edge from p to q is above the least one in row y, at p's column
-abbrev pub spare : Vertex → Vertex → ℤ → ℤ
-spare p q y = (q.x -ℤ p.x) *ℤ (y -ℤ p.y) -ℤ least_value p q
+-- the value of the edge from p to q in row y, at p's column
+abbrev pub start_value : Vertex → Vertex → ℤ → ℤ
+start_value p q y = (q.x -ℤ p.x) *ℤ (y -ℤ p.y)
 
 -- the edge from p to q in row y, its columns counted from an origin
 pub record IsSide (p q : Vertex) (origin y : ℤ) (s : Side) : Type 0 where
   pub slope : Slope
-  pub is_slope : IsSlope (q.y -ℤ p.y) slope
+  pub is_slope : IsSlope p q slope
   pub bound : s.bound ≡ slope.bound
   pub start : unsigned_abs (origin -ℤ p.x) ≤ 1023
-  pub at : pos s.at ≡ (in_parts origin p.x +ℤ (spare p q y *ℤ slope.scale +ℤ slope.slack))
+  pub at : pos s.at ≡ (in_parts origin p.x +ℤ (start_value p q y *ℤ slope.scale +ℤ slope.slack))
   pub raised : ℕ
   pub by : s.by ≡ (raised + (2 ^ 64 - 2 ^ 62)) % 2 ^ 64
   pub step : pos raised ≡ ((q.x -ℤ p.x) *ℤ slope.scale +ℤ pos (2 ^ 62))

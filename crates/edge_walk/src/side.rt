@@ -6,8 +6,7 @@ ghost use Rattle.px_num.specs.declared.shape.Vertex.{Vertex};
 ghost use Rattle.edge_walk.specs.Triangle.{IsNear};
 ghost use Rattle.edge_walk.specs.Walk.{in_parts, IsBounded, IsSide, IsWithin};
 
-use crate::edge::difference;
-use crate::rows::edge_row;
+use crate::edge::{difference, product};
 use crate::slope::{Bound, Slope, slope_of};
 use px_num::{Box2, Vertex};
 
@@ -73,10 +72,11 @@ impl Side {
         requires origin { unsigned_abs (origin -ℤ p.now.x) ≤ 1023 }
         ensures { IsSide p.now q.now origin y result }
     {
-        let row = edge_row(p, q, y);
-        let slope = slope_of(row.down);
-        let far = raised(row.value - row.least, slope.scale, slope.slack);
-        let step = raised(difference(q.x, p.x), slope.scale, 0);
+        let slope = slope_of(p, q);
+        let across = difference(q.x, p.x);
+        let value = product(across, difference(y, p.y));
+        let far = raised(value, slope.scale, slope.slack);
+        let step = raised(across, slope.scale, 0);
         Side {
             bound: slope.bound,
             at: in_parts(p.x, origin) + far - RAISE as u64,

@@ -1,6 +1,11 @@
 // How the columns that an edge bounds go from row to row.
-ghost use Rattle.std.specs.Prelude.{◌≡◌, ◌+◌, ◌*◌, ◌^◌, ◌≤◌, ◌<◌, pos, ◌-ℤ◌, unsigned_abs};
+ghost use Rattle.std.specs.Prelude.{◌≡◌, ◌+◌, ◌-◌, ◌*◌, ◌^◌, ◌≤◌, ◌<◌, Bool, ℤ, pos, ◌-ℤ◌, ◌≤ℤ◌, ◌<ℤ◌, int_lt, unsigned_abs, if◌then◌else◌};
+ghost use Rattle.px_num.specs.declared.shape.Vertex.{Vertex};
+ghost use Rattle.edge_walk.specs.Triangle.{IsNear};
 ghost use Rattle.edge_walk.specs.Walk.{IsSlope};
+
+use crate::edge::difference;
+use px_num::Vertex;
 
 /// How an edge bounds the columns of a row.
 #[derive(Clone, Copy)]
@@ -11,8 +16,8 @@ pub(crate) enum Bound {
     AtLeast,
 }
 
-/// How an edge bounds the columns of a row, and where: it stands at a column that is `scale` times its spare value, and
-/// `slack` more, from its first vertex. The column is counted in parts of 2^30.
+/// How an edge bounds the columns of a row, and where: its own column is as far from that of its first vertex as the
+/// edge's value there times `scale`, and `slack` more. That is counted in parts of 2^30 of a column.
 #[derive(Clone, Copy)]
 pub(crate) struct Slope {
     pub(crate) bound: Bound,
@@ -32,57 +37,55 @@ fn parts_over(rows: u32) -> u32
     0x3fff_ffff / rows + 1
 }
 
-// The slope of an edge that falls by so many rows.
+// The slope of an edge that rises, or falls, by so many rows.
 #[inline(always)]
-fn falling(rows: u32) -> Slope
+fn steep(rises: bool, rows: u32) -> Slope
     requires some { 1 ≤ rows }
     requires most { rows ≤ 511 }
-    ensures { IsSlope (pos rows) result }
+    ensures { (p q : Vertex) → (q.y -ℤ p.y) ≡ (if rises then pos 0 -ℤ pos rows else pos rows) → IsSlope p q result }
 {
-    Slope {
-        bound: Bound::AtMost,
-        scale: parts_over(rows) as i64,
-        slack: 0x8_0000,
+    let parts = parts_over(rows) as i64;
+    if rises {
+        Slope {
+            bound: Bound::AtLeast,
+            scale: -parts,
+            slack: 0x3ff7_ffff,
+        }
+    } else {
+        Slope {
+            bound: Bound::AtMost,
+            scale: parts,
+            slack: 0x8_0000 - parts,
+        }
     }
 }
 
-// The slope of an edge that rises by so many rows.
+// The slope of a level edge, which may go to the right: in a row it leaves all columns, or none.
 #[inline(always)]
-fn rising(rows: u32) -> Slope
-    requires some { 1 ≤ rows }
-    requires most { rows ≤ 511 }
-    ensures { IsSlope (pos 0 -ℤ pos rows) result }
-{
-    Slope {
-        bound: Bound::AtLeast,
-        scale: -(parts_over(rows) as i64),
-        slack: 0x3ff7_ffff,
-    }
-}
-
-// The slope of a level edge: in a row it leaves all columns, or none.
-#[inline(always)]
-fn level() -> Slope
-    ensures { IsSlope (pos 0) result }
+fn level(right: bool) -> Slope
+    ensures { (p q : Vertex) → q.y ≡ p.y → int_lt p.x q.x ≡ right → IsSlope p q result }
 {
     Slope {
         bound: Bound::AtMost,
         scale: 1 << 41,
-        slack: 1 << 40,
+        slack: if right {
+            0x100_0000_0000
+        } else {
+            -0x100_0000_0000
+        },
     }
 }
 
-/// The slope of an edge whose second vertex stands so many rows below its first.
+/// The slope of the edge from p to q.
 #[inline(always)]
-pub(crate) fn slope_of(fall: i64) -> Slope
-    requires { unsigned_abs fall ≤ 511 }
-    ensures { IsSlope fall result }
+pub(crate) fn slope_of(p: &Vertex, q: &Vertex) -> Slope
+    requires { IsNear p.now q.now }
+    ensures { IsSlope p.now q.now result }
 {
-    if fall > 0 {
-        falling(fall as u32)
-    } else if fall < 0 {
-        rising(-fall as u32)
+    let fall = difference(q.y, p.y);
+    if fall == 0 {
+        level(p.x < q.x)
     } else {
-        level()
+        steep(fall < 0, fall.unsigned_abs() as u32)
     }
 }
