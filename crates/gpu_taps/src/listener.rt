@@ -68,8 +68,8 @@ pub fn tell_all<T: Listener>(taps: &mut Vec<T>, note: &Note)
     }
 }
 
-/// Tells every listener of the list the same notes without an area, in order: those of this class, one for each of these
-/// words, an event each, behind so many events.
+/// Tells every listener of the list the same notes without an area, in order: those of this class, one for each of
+/// these words, an event each, behind so many events.
 pub fn tell_all_bare<T: Listener>(taps: &mut Vec<T>, class: u8, played: u64, words: &[u32])
     ensures len { vec_len taps.new ≡ vec_len taps.old }
     ensures told { map T.heard taps.new.items
