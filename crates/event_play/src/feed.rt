@@ -203,8 +203,8 @@ pub(crate) fn feed_events<T: Listener, L: Ledger>(
     number
 }
 
-/// Feeds the first of these words, an event each, as many as the drawing processor takes at once, and says how many that
-/// are.
+/// Feeds the first of these words, an event each, as many as the drawing processor takes at once, and says how many
+/// that are.
 #[inline(always)]
 fn feed_first<T: Listener, L: Ledger>(
     gpu: &mut Gpu,
