@@ -1,12 +1,14 @@
 -- A cell inside a triangle lies in the box of its corners: it is their mean, weighted by edge values.
-use Rattle.std.proofs.Common.{◌<◌, ◌≡◌, ℤ, pos, negsuc, ◌+ℤ◌, ◌-ℤ◌, ◌*ℤ◌, ◌≤ℤ◌, ◌<ℤ◌, IsTrue, true, false, Bool, int_lt, cond, refl, arith}
+use Rattle.std.proofs.Common.{◌<◌, ◌≡◌, ℤ, pos, negsuc, ◌+ℤ◌, ◌-ℤ◌, ◌*ℤ◌, ◌≤ℤ◌, ◌<ℤ◌, IsTrue, true, false, Bool, int_lt}
+use Rattle.std.proofs.Common.{cond, refl, arith}
 use Rattle.std.proofs.lemmas.Int.{ints, clamps, by_lt_z}
 use Rattle.std.proofs.Math.Nat.{le-mul_of_pos_right}
 use Rattle.px_num.specs.declared.shape.Vertex.{Vertex}
 use Rattle.px_num.proofs.Ring.{Poly, at, add, sub, mul, same}
 use Rattle.edge_walk.specs.Extent.{bounding_box, least_of, most_of}
 use Rattle.edge_walk.specs.Row.{IsInBox}
-use Rattle.edge_walk.specs.Triangle.{Corners, corners, edge, doubled_area, oriented, is_within, is_inside, IsDrawn, IsUpright}
+use Rattle.edge_walk.specs.Triangle.{Corners, corners, edge, doubled_area, oriented, is_within, is_inside, IsDrawn}
+use Rattle.edge_walk.specs.Triangle.{IsUpright}
 use Rattle.edge_walk.proofs.Corner.{sum_of_edges, upright_turned, upright_kept}
 use Rattle.edge_walk.proofs.MixLemmas.{positive_edges}
 
@@ -25,10 +27,12 @@ edge_cross p q x y = same
 
 module _ (ax ay bx by_ cx cy : ℤ) where
   balance_x : cross bx by_ cx cy *ℤ ax +ℤ cross cx cy ax ay *ℤ bx +ℤ cross ax ay bx by_ *ℤ cx ≡ pos 0
-  balance_x = same (add (add (mul (poly_cross bx by_ cx cy) (at ax)) (mul (poly_cross cx cy ax ay) (at bx))) (mul (poly_cross ax ay bx by_) (at cx))) (at (pos 0)) (omega arith)
+  balance_x = same (add (add (mul (poly_cross bx by_ cx cy) (at ax)) (mul (poly_cross cx cy ax ay) (at bx)))
+      (mul (poly_cross ax ay bx by_) (at cx))) (at (pos 0)) (omega arith)
 
   balance_y : cross bx by_ cx cy *ℤ ay +ℤ cross cx cy ax ay *ℤ by_ +ℤ cross ax ay bx by_ *ℤ cy ≡ pos 0
-  balance_y = same (add (add (mul (poly_cross bx by_ cx cy) (at ay)) (mul (poly_cross cx cy ax ay) (at by_))) (mul (poly_cross ax ay bx by_) (at cy))) (at (pos 0)) (omega arith)
+  balance_y = same (add (add (mul (poly_cross bx by_ cx cy) (at ay)) (mul (poly_cross cx cy ax ay) (at by_)))
+      (mul (poly_cross ax ay bx by_) (at cy))) (at (pos 0)) (omega arith)
 
 -- weights of 0 and more, not all 0, that three numbers balance
 record AreWeights (u v w a b c : ℤ) : Type 0 where
@@ -54,15 +58,22 @@ module _ (u v w a b c : ℤ) (h : AreWeights u v w a b c) where
   not_all_above f g k = omega (arith, ints, grown u a h.one f, grown v b h.two g, grown w c h.three k, h.some, h.even)
 
   not_all_below : a <ℤ pos 0 → b <ℤ pos 0 → c <ℤ pos 0 → ⊥
-  not_all_below f g k = omega (arith, ints, fallen u a h.one f, fallen v b h.two g, fallen w c h.three k, h.some, h.even)
+  not_all_below f g k = omega
+      (arith, ints, fallen u a h.one f, fallen v b h.two g, fallen w c h.three k, h.some, h.even)
 
-between : (u v w a b c x : ℤ) → AreWeights u v w (a -ℤ x) (b -ℤ x) (c -ℤ x) → (least_of a b c ≤ℤ x) × (x ≤ℤ most_of a b c)
+between : (u v w a b c x : ℤ) → AreWeights u v w (a -ℤ x) (b -ℤ x) (c -ℤ x)
+    → (least_of a b c ≤ℤ x) × (x ≤ℤ most_of a b c)
 between u v w a b c x h = (
-  by_lt_z x (least_of a b c) (λ beyond. absurd (not_all_above u v w _ _ _ h (omega (arith, ints, clamps)) (omega (arith, ints, clamps)) (omega (arith, ints, clamps)))) (λ le. le),
-  by_lt_z (most_of a b c) x (λ beyond. absurd (not_all_below u v w _ _ _ h (omega (arith, ints, clamps)) (omega (arith, ints, clamps)) (omega (arith, ints, clamps)))) (λ le. le),
+  by_lt_z x (least_of a b c)
+      (λ beyond. absurd (not_all_above u v w _ _ _ h (omega (arith, ints, clamps)) (omega (arith, ints, clamps))
+      (omega (arith, ints, clamps)))) (λ le. le),
+  by_lt_z (most_of a b c) x
+      (λ beyond. absurd (not_all_below u v w _ _ _ h (omega (arith, ints, clamps)) (omega (arith, ints, clamps))
+      (omega (arith, ints, clamps)))) (λ le. le),
 )
 
-pub within-in_box : (a b c : Vertex) (x y : ℤ) → IsUpright (corners a b c) → IsTrue (is_within (corners a b c) x y) → IsInBox (bounding_box (corners a b c)) x y
+pub within-in_box : (a b c : Vertex) (x y : ℤ) → IsUpright (corners a b c) → IsTrue (is_within (corners a b c) x y)
+    → IsInBox (bounding_box (corners a b c)) x y
 unfolding bounding_box
 within-in_box a b c x y upright inside =
     let low = positive_edges a b c x y inside in
@@ -73,18 +84,21 @@ within-in_box a b c x y upright inside =
         two = low.2;
         three = low.0;
         some = some;
-        even = rw (edge_cross b c x y, edge_cross c a x y, edge_cross a b x y) (balance_x (a.x -ℤ x) (a.y -ℤ y) (b.x -ℤ x) (b.y -ℤ y) (c.x -ℤ x) (c.y -ℤ y));
+        even = rw (edge_cross b c x y, edge_cross c a x y, edge_cross a b x y)
+            (balance_x (a.x -ℤ x) (a.y -ℤ y) (b.x -ℤ x) (b.y -ℤ y) (c.x -ℤ x) (c.y -ℤ y));
       }),
       between (edge b c x y) (edge c a x y) (edge a b x y) a.y b.y c.y y (record {
         one = low.1;
         two = low.2;
         three = low.0;
         some = some;
-        even = rw (edge_cross b c x y, edge_cross c a x y, edge_cross a b x y) (balance_y (a.x -ℤ x) (a.y -ℤ y) (b.x -ℤ x) (b.y -ℤ y) (c.x -ℤ x) (c.y -ℤ y));
+        even = rw (edge_cross b c x y, edge_cross c a x y, edge_cross a b x y)
+            (balance_y (a.x -ℤ x) (a.y -ℤ y) (b.x -ℤ x) (b.y -ℤ y) (c.x -ℤ x) (c.y -ℤ y));
       }),
     )
 
-box_turned : (a b c : Vertex) (x y : ℤ) → IsInBox (bounding_box (corners a c b)) x y → IsInBox (bounding_box (corners a b c)) x y
+box_turned : (a b c : Vertex) (x y : ℤ) → IsInBox (bounding_box (corners a c b)) x y
+    → IsInBox (bounding_box (corners a b c)) x y
 unfolding bounding_box
 box_turned a b c x y h = (
   (omega (arith, ints, clamps, h.0.0), omega (arith, ints, clamps, h.0.1)),
@@ -93,7 +107,8 @@ box_turned a b c x y h = (
 
 by_turn : (t : Corners) (x y : ℤ) (turned : Bool) → turned ≡ int_lt (doubled_area t) (pos 0) → IsDrawn t
     → IsTrue (is_within (cond turned (corners t.first t.third t.second) t) x y) → IsInBox (bounding_box t) x y
-by_turn t x y true e drawn inside = box_turned t.first t.second t.third x y (within-in_box t.first t.third t.second x y (upright_turned t drawn e) inside)
+by_turn t x y true e drawn inside = box_turned t.first t.second t.third x y
+    (within-in_box t.first t.third t.second x y (upright_turned t drawn e) inside)
 by_turn t x y false e drawn inside = within-in_box t.first t.second t.third x y (upright_kept t drawn e) inside
 
 pub inside-in_box : (t : Corners) (x y : ℤ) → IsDrawn t → IsTrue (is_inside t x y) → IsInBox (bounding_box t) x y

@@ -10,7 +10,8 @@ not_true true h = absurd (h refl)
 not_true false h = refl
 
 module _ (v : Corners) (y x1 x2 low high : ℤ) (clip : Box2)
-    (is_x1 : x1 ≡ clip.x1) (is_x2 : x2 ≡ clip.x2) (inside : ℤ → Bool) (is_inside_is : (x : ℤ) → is_inside v x y ≡ inside x)
+    (is_x1 : x1 ≡ clip.x1) (is_x2 : x2 ≡ clip.x2) (inside : ℤ → Bool)
+        (is_inside_is : (x : ℤ) → is_inside v x y ≡ inside x)
     (cells : (x : ℤ) → (IsBetween x1 x2 x × IsTrue (inside x)) ↔ IsBetween low high x) where
   pub ends : low ≤ℤ high → (clip.x1 ≤ℤ low) × (high ≤ℤ clip.x2)
   ends order =
@@ -23,9 +24,12 @@ module _ (v : Corners) (y x1 x2 low high : ℤ) (clip : Box2)
     order = order;
     cells = λ x. (
       λ h. (cells x).0 ((omega (arith, ints, h.0.0.0), omega (arith, ints, h.0.0.1)), sym (is_inside_is x) ∙ h.1),
-      λ h. let r = (cells x).1 h in (((omega (arith, ints, r.0.0), omega (arith, ints, r.0.1)), (above, below)), is_inside_is x ∙ r.1),
+      λ h. let r = (cells x).1 h in
+          (((omega (arith, ints, r.0.0), omega (arith, ints, r.0.1)), (above, below)), is_inside_is x ∙ r.1),
     );
   }
 
   pub none_is : high <ℤ low → (x : ℤ) → IsInBox clip x y → is_inside v x y ≡ false
-  none_is empty x h = not_true (is_inside v x y) (λ t. let r = (cells x).0 ((omega (arith, ints, h.0.0), omega (arith, ints, h.0.1)), sym (is_inside_is x) ∙ t) in omega (arith, ints, r.0, r.1))
+  none_is empty x h = not_true (is_inside v x y)
+      (λ t. let r = (cells x).0 ((omega (arith, ints, h.0.0), omega (arith, ints, h.0.1)), sym (is_inside_is x) ∙ t) in
+      omega (arith, ints, r.0, r.1))

@@ -1,5 +1,6 @@
 -- Edges from row to row.
-use Rattle.std.proofs.Common.{ℕ, ◌+◌, ◌-◌, ◌/◌, ◌%◌, ◌^◌, ◌≤◌, ◌<◌, ◌≡◌, ℤ, pos, ◌+ℤ◌, ◌-ℤ◌, ◌*ℤ◌, ◌≤ℤ◌, ◌<ℤ◌, ◌↔◌, Bool, true, false, cond, IsTrue, ◌&&◌, int_lt, unsigned_abs, FitsSigned, w32, refl, arith}
+use Rattle.std.proofs.Common.{ℕ, ◌+◌, ◌-◌, ◌/◌, ◌%◌, ◌^◌, ◌≤◌, ◌<◌, ◌≡◌, ℤ, pos, ◌+ℤ◌, ◌-ℤ◌, ◌*ℤ◌, ◌≤ℤ◌, ◌<ℤ◌, ◌↔◌}
+use Rattle.std.proofs.Common.{Bool, true, false, cond, IsTrue, ◌&&◌, int_lt, unsigned_abs, FitsSigned, w32, refl, arith}
 use Rattle.std.specs.Int.{int_max, int_min}
 use Rattle.std.proofs.lemmas.Int.{ints, clamps, unsigned_abs-mul}
 use Rattle.std.proofs.lemmas.Nat.{mul-le}
@@ -13,7 +14,8 @@ use Rattle.edge_walk.specs.declared.slope.Bound.TheVariants.{AtMost, AtLeast}
 use Rattle.edge_walk.specs.declared.walk.RowWalk.{RowWalk}
 use Rattle.edge_walk.specs.Extent.{bounding_box}
 use Rattle.edge_walk.specs.Row.{IsBetween, IsInBox, IsRowSpan}
-use Rattle.edge_walk.specs.Triangle.{Corners, corners, doubled_area, oriented, is_inside, is_within, is_on_side, IsNear, IsSmall}
+use Rattle.edge_walk.specs.Triangle.{Corners, corners, doubled_area, oriented, is_inside, is_within, is_on_side, IsNear}
+use Rattle.edge_walk.specs.Triangle.{IsSmall}
 use Rattle.edge_walk.specs.Walk.{in_parts, raised_column, start_value, AreRows, HasRows, IsBounded, IsSide, IsWithin}
 use Rattle.edge_walk.proofs.InBox.{inside-in_box}
 use Rattle.edge_walk.proofs.RowLemmas.{both_true, on_side_iff}
@@ -27,25 +29,33 @@ product_small a b g h = rw unsigned_abs-mul (mul-le (unsigned_abs a) (unsigned_a
 pub far_small : (a b : ℤ) → unsigned_abs a ≤ 2 ^ 20 → unsigned_abs b ≤ 2 ^ 41 → unsigned_abs (a *ℤ b) ≤ 2 ^ 61
 far_small a b g h = rw unsigned_abs-mul (mul-le (unsigned_abs a) (unsigned_abs b) (2 ^ 20) (2 ^ 41) g h)
 
-pub value_small : (p q : Vertex) (y : ℤ) → IsNear p q → unsigned_abs (y -ℤ p.y) ≤ 512 → unsigned_abs (start_value p q y) < 2 ^ 20
+pub value_small : (p q : Vertex) (y : ℤ) → IsNear p q → unsigned_abs (y -ℤ p.y) ≤ 512
+    → unsigned_abs (start_value p q y) < 2 ^ 20
 value_small p q y near reach =
     let product = product_small (q.x -ℤ p.x) (y -ℤ p.y) (omega (arith, ints, near.across)) reach in
     omega (arith, ints, product)
 
 one_more : (a y p : ℤ) → a *ℤ ((y +ℤ pos 1) -ℤ p) ≡ (a *ℤ (y -ℤ p) +ℤ a)
-one_more a y p = same (mul (at a) (sub (add (at y) (at (pos 1))) (at p))) (add (mul (at a) (sub (at y) (at p))) (at a)) (omega arith)
+one_more a y p = same (mul (at a) (sub (add (at y) (at (pos 1))) (at p))) (add (mul (at a) (sub (at y) (at p))) (at a))
+    (omega arith)
 
 grown : (a b d c : ℤ) → b ≡ (a +ℤ d) → b *ℤ c ≡ (a *ℤ c +ℤ d *ℤ c)
-grown a b d c e = rw e (same (mul (add (at a) (at d)) (at c)) (add (mul (at a) (at c)) (mul (at d) (at c))) (omega arith))
+grown a b d c e = rw e
+    (same (mul (add (at a) (at d)) (at c)) (add (mul (at a) (at c)) (mul (at d) (at c))) (omega arith))
 
 -- what wraps, at a number that does not
-stepped : (held by raised next : ℕ) (start far step far' slack : ℤ) → pos held ≡ (start +ℤ (far +ℤ slack)) → pos raised ≡ (step +ℤ pos (2 ^ 62)) → by ≡ (raised + (2 ^ 64 - 2 ^ 62)) % 2 ^ 64
-    → next ≡ (held + by) % 2 ^ 64 → far' ≡ (far +ℤ step) → pos 0 ≤ℤ (start +ℤ (far' +ℤ slack)) → (start +ℤ (far' +ℤ slack)) <ℤ pos (2 ^ 63) → pos next ≡ (start +ℤ (far' +ℤ slack))
-stepped held by raised next start far step far' slack is step_is by_is next_is more low high = omega (arith, ints, is, step_is, by_is, next_is, more, low, high)
+stepped : (held by raised next : ℕ) (start far step far' slack : ℤ) → pos held ≡ (start +ℤ (far +ℤ slack))
+    → pos raised ≡ (step +ℤ pos (2 ^ 62)) → by ≡ (raised + (2 ^ 64 - 2 ^ 62)) % 2 ^ 64
+    → next ≡ (held + by) % 2 ^ 64 → far' ≡ (far +ℤ step) → pos 0 ≤ℤ (start +ℤ (far' +ℤ slack))
+        → (start +ℤ (far' +ℤ slack)) <ℤ pos (2 ^ 63) → pos next ≡ (start +ℤ (far' +ℤ slack))
+stepped held by raised next start far step far' slack is step_is by_is next_is more low high = omega
+    (arith, ints, is, step_is, by_is, next_is, more, low, high)
 
-pub in_reach : (origin p far slack : ℤ) → unsigned_abs (origin -ℤ p) ≤ 1023 → unsigned_abs far ≤ 2 ^ 61 → unsigned_abs slack ≤ 2 ^ 40
+pub in_reach : (origin p far slack : ℤ) → unsigned_abs (origin -ℤ p) ≤ 1023 → unsigned_abs far ≤ 2 ^ 61
+    → unsigned_abs slack ≤ 2 ^ 40
     → (pos 0 ≤ℤ (in_parts origin p +ℤ (far +ℤ slack))) × ((in_parts origin p +ℤ (far +ℤ slack)) <ℤ pos (2 ^ 63))
-in_reach origin p far slack start small least = (omega (arith, ints, start, small, least), omega (arith, ints, start, small, least))
+in_reach origin p far slack start small least =
+    (omega (arith, ints, start, small, least), omega (arith, ints, start, small, least))
 
 -- what is held of an edge where it is made
 pub record IsPlaced (start_held far_held : ℕ) (is : ℤ) : Type 0 where
@@ -53,7 +63,9 @@ pub record IsPlaced (start_held far_held : ℕ) (is : ℤ) : Type 0 where
   pub fits : start_held + far_held < 2 ^ 64
   pub value : pos (start_held + far_held - 2 ^ 62) ≡ is
 
-pub placed : (start_held far_held : ℕ) (start far slack : ℤ) → pos start_held ≡ start → pos far_held ≡ (far +ℤ slack +ℤ pos (2 ^ 62)) → pos 0 ≤ℤ (start +ℤ (far +ℤ slack)) → (start +ℤ (far +ℤ slack)) <ℤ pos (2 ^ 63)
+pub placed : (start_held far_held : ℕ) (start far slack : ℤ) → pos start_held ≡ start
+    → pos far_held ≡ (far +ℤ slack +ℤ pos (2 ^ 62)) → pos 0 ≤ℤ (start +ℤ (far +ℤ slack))
+    → (start +ℤ (far +ℤ slack)) <ℤ pos (2 ^ 63)
     → IsPlaced start_held far_held (start +ℤ (far +ℤ slack))
 placed start_held far_held start far slack is far_is low high = record {
   enough = omega (arith, ints, is, far_is, low);
@@ -61,18 +73,23 @@ placed start_held far_held start far slack is far_is low high = record {
   value = omega (arith, ints, is, far_is, low);
 }
 
-pub moved_with : (p q : Vertex) (origin y : ℤ) (s : Side) (next : ℕ) → IsNear p q → unsigned_abs ((y +ℤ pos 1) -ℤ p.y) ≤ 512 → IsSide p q origin y s → next ≡ (s.at + s.by) % 2 ^ 64
+pub moved_with : (p q : Vertex) (origin y : ℤ) (s : Side) (next : ℕ) → IsNear p q
+    → unsigned_abs ((y +ℤ pos 1) -ℤ p.y) ≤ 512 → IsSide p q origin y s → next ≡ (s.at + s.by) % 2 ^ 64
     → IsSide p q origin (y +ℤ pos 1) (record { bound = s.bound; at = next; by = s.by })
 moved_with p q origin y s next near reach h next_is =
     let small = value_small p q (y +ℤ pos 1) near reach in
     let far = far_small (start_value p q (y +ℤ pos 1)) h.slope.scale (omega (arith, small)) h.is_slope.scale in
-    let reached = in_reach origin p.x (start_value p q (y +ℤ pos 1) *ℤ h.slope.scale) h.slope.slack h.start far h.is_slope.slack in record {
+    let reached = in_reach origin p.x (start_value p q (y +ℤ pos 1) *ℤ h.slope.scale) h.slope.slack h.start far
+        h.is_slope.slack in record {
       slope = h.slope;
       is_slope = h.is_slope;
       bound = h.bound;
       start = h.start;
-      at = stepped s.at s.by h.raised next (in_parts origin p.x) (start_value p q y *ℤ h.slope.scale) ((q.x -ℤ p.x) *ℤ h.slope.scale) (start_value p q (y +ℤ pos 1) *ℤ h.slope.scale) h.slope.slack
-          h.at h.step h.by next_is (grown (start_value p q y) (start_value p q (y +ℤ pos 1)) (q.x -ℤ p.x) h.slope.scale (one_more (q.x -ℤ p.x) y p.y)) reached.0 reached.1;
+      at = stepped s.at s.by h.raised next (in_parts origin p.x) (start_value p q y *ℤ h.slope.scale)
+          ((q.x -ℤ p.x) *ℤ h.slope.scale) (start_value p q (y +ℤ pos 1) *ℤ h.slope.scale) h.slope.slack
+          h.at h.step h.by next_is
+              (grown (start_value p q y) (start_value p q (y +ℤ pos 1)) (q.x -ℤ p.x) h.slope.scale
+              (one_more (q.x -ℤ p.x) y p.y)) reached.0 reached.1;
       raised = h.raised;
       by = h.by;
       step = h.step;
@@ -80,23 +97,33 @@ moved_with p q origin y s next near reach h next_is =
 
 -- ---- the columns of a row
 
-shifted : (b : Bound) (start far k from x : ℤ) → from ≡ (start +ℤ far) → x ≡ (start +ℤ k) → IsBounded b far k ↔ IsBounded b from x
-shifted AtMost start far k from x is_from is_x = (λ h. omega (arith, ints, is_from, is_x, h), λ h. omega (arith, ints, is_from, is_x, h))
-shifted AtLeast start far k from x is_from is_x = (λ h. omega (arith, ints, is_from, is_x, h), λ h. omega (arith, ints, is_from, is_x, h))
+shifted : (b : Bound) (start far k from x : ℤ) → from ≡ (start +ℤ far) → x ≡ (start +ℤ k) → IsBounded b far k
+    ↔ IsBounded b from x
+shifted AtMost start far k from x is_from is_x =
+    (λ h. omega (arith, ints, is_from, is_x, h), λ h. omega (arith, ints, is_from, is_x, h))
+shifted AtLeast start far k from x is_from is_x =
+    (λ h. omega (arith, ints, is_from, is_x, h), λ h. omega (arith, ints, is_from, is_x, h))
 
 parts_apart : (origin p x : ℤ) → in_parts origin x ≡ (in_parts origin p +ℤ (x -ℤ p) *ℤ pos (2 ^ 30))
-parts_apart origin p x = same (add (mul (sub (at x) (at origin)) (at (pos (2 ^ 30)))) (at (pos (2 ^ 62)))) (add (add (mul (sub (at p) (at origin)) (at (pos (2 ^ 30)))) (at (pos (2 ^ 62)))) (mul (sub (at x) (at p)) (at (pos (2 ^ 30))))) (omega arith)
+parts_apart origin p x = same (add (mul (sub (at x) (at origin)) (at (pos (2 ^ 30)))) (at (pos (2 ^ 62))))
+    (add (add (mul (sub (at p) (at origin)) (at (pos (2 ^ 30)))) (at (pos (2 ^ 62))))
+    (mul (sub (at x) (at p)) (at (pos (2 ^ 30))))) (omega arith)
 
 -- an edge leaves the columns of the cells on its inner side
-pub bounded : (p q : Vertex) (origin x y : ℤ) (s : Side) → IsSide p q origin y s → unsigned_abs (x -ℤ p.x) ≤ 1023 → IsTrue (is_on_side p q x y) ↔ IsBounded s.bound (pos s.at) (in_parts origin x)
+pub bounded : (p q : Vertex) (origin x y : ℤ) (s : Side) → IsSide p q origin y s → unsigned_abs (x -ℤ p.x) ≤ 1023
+    → IsTrue (is_on_side p q x y) ↔ IsBounded s.bound (pos s.at) (in_parts origin x)
 bounded p q origin x y s h near =
     let on = on_side_iff p q x y in
     let solved = h.is_slope.solves (x -ℤ p.x) (start_value p q y) near in
-    let shift = shifted h.slope.bound (in_parts origin p.x) (start_value p q y *ℤ h.slope.scale +ℤ h.slope.slack) ((x -ℤ p.x) *ℤ pos (2 ^ 30)) (pos s.at) (in_parts origin x) h.at (parts_apart origin p.x x) in
+    let shift = shifted h.slope.bound (in_parts origin p.x) (start_value p q y *ℤ h.slope.scale +ℤ h.slope.slack)
+        ((x -ℤ p.x) *ℤ pos (2 ^ 30)) (pos s.at) (in_parts origin x) h.at (parts_apart origin p.x x) in
     rw h.bound (λ t. shift.0 (solved.0 (on.0 t)), λ b. on.1 (solved.1 (shift.1 b)))
 
-within_ends : (ends : Ends) (origin x : ℤ) → IsWithin ends (in_parts origin x) ↔ IsBetween (pos (ends.low / 2 ^ 30)) (pos (ends.high / 2 ^ 30)) (raised_column origin x)
-within_ends ends origin x = (λ h. (omega (arith, ints, h.0), omega (arith, ints, h.1)), λ h. (omega (arith, ints, h.0), omega (arith, ints, h.1)))
+within_ends : (ends : Ends) (origin x : ℤ) → IsWithin ends (in_parts origin x)
+    ↔ IsBetween (pos (ends.low / 2 ^ 30)) (pos (ends.high / 2 ^ 30)) (raised_column origin x)
+within_ends ends origin x =
+    (λ h. (omega (arith, ints, h.0), omega (arith, ints, h.1)), λ h.
+    (omega (arith, ints, h.0), omega (arith, ints, h.1)))
 
 -- ---- columns and rows that a triangle has are near its vertices
 
@@ -105,7 +132,8 @@ pub record AreAcross (t : Corners) (x : ℤ) : Type 0 where
   pub second : unsigned_abs (x -ℤ t.second.x) ≤ 1023
   pub third : unsigned_abs (x -ℤ t.third.x) ≤ 1023
 
-across_by_turn : (t : Corners) (x : ℤ) (turned : Bool) → IsSmall (cond turned (corners t.first t.third t.second) t) → (bounding_box t).x1 ≤ℤ x → x ≤ℤ (bounding_box t).x2
+across_by_turn : (t : Corners) (x : ℤ) (turned : Bool) → IsSmall (cond turned (corners t.first t.third t.second) t)
+    → (bounding_box t).x1 ≤ℤ x → x ≤ℤ (bounding_box t).x2
     → AreAcross (cond turned (corners t.first t.third t.second) t) x
 unfolding bounding_box
 across_by_turn t x true small low high = record {
@@ -119,7 +147,8 @@ across_by_turn t x false small low high = record {
   third = omega (arith, ints, clamps, small.one.across, small.two.across, small.three.across, low, high);
 }
 
-pub across : (t : Corners) (x : ℤ) → IsSmall (oriented t) → (bounding_box t).x1 ≤ℤ x → x ≤ℤ (bounding_box t).x2 → AreAcross (oriented t) x
+pub across : (t : Corners) (x : ℤ) → IsSmall (oriented t) → (bounding_box t).x1 ≤ℤ x → x ≤ℤ (bounding_box t).x2
+    → AreAcross (oriented t) x
 unfolding oriented
 across t x small low high = across_by_turn t x (int_lt (doubled_area t) (pos 0)) small low high
 
@@ -132,40 +161,54 @@ pub record AreReached (t : Corners) (y : ℤ) : Type 0 where
   pub second : unsigned_abs (y -ℤ t.second.y) ≤ 512
   pub third : unsigned_abs (y -ℤ t.third.y) ≤ 512
 
-by_turn : (t : Corners) (clip : Box2) (y : ℤ) (turned : Bool) → IsSmall (cond turned (corners t.first t.third t.second) t) → HasRows t clip → clip.y1 ≤ℤ y → y ≤ℤ (clip.y2 +ℤ pos 1)
+by_turn : (t : Corners) (clip : Box2) (y : ℤ) (turned : Bool)
+    → IsSmall (cond turned (corners t.first t.third t.second) t) → HasRows t clip → clip.y1 ≤ℤ y
+    → y ≤ℤ (clip.y2 +ℤ pos 1)
     → AreReached (cond turned (corners t.first t.third t.second) t) y
 unfolding bounding_box
 by_turn t clip y true small box above below = record {
-  first = omega (arith, ints, clamps, small.one.down, small.two.down, small.three.down, box.top, box.bottom, above, below);
-  second = omega (arith, ints, clamps, small.one.down, small.two.down, small.three.down, box.top, box.bottom, above, below);
-  third = omega (arith, ints, clamps, small.one.down, small.two.down, small.three.down, box.top, box.bottom, above, below);
+  first = omega
+      (arith, ints, clamps, small.one.down, small.two.down, small.three.down, box.top, box.bottom, above, below);
+  second = omega
+      (arith, ints, clamps, small.one.down, small.two.down, small.three.down, box.top, box.bottom, above, below);
+  third = omega
+      (arith, ints, clamps, small.one.down, small.two.down, small.three.down, box.top, box.bottom, above, below);
 }
 by_turn t clip y false small box above below = record {
-  first = omega (arith, ints, clamps, small.one.down, small.two.down, small.three.down, box.top, box.bottom, above, below);
-  second = omega (arith, ints, clamps, small.one.down, small.two.down, small.three.down, box.top, box.bottom, above, below);
-  third = omega (arith, ints, clamps, small.one.down, small.two.down, small.three.down, box.top, box.bottom, above, below);
+  first = omega
+      (arith, ints, clamps, small.one.down, small.two.down, small.three.down, box.top, box.bottom, above, below);
+  second = omega
+      (arith, ints, clamps, small.one.down, small.two.down, small.three.down, box.top, box.bottom, above, below);
+  third = omega
+      (arith, ints, clamps, small.one.down, small.two.down, small.three.down, box.top, box.bottom, above, below);
 }
 
-pub reached : (t : Corners) (clip : Box2) (y : ℤ) → IsSmall (oriented t) → HasRows t clip → clip.y1 ≤ℤ y → y ≤ℤ (clip.y2 +ℤ pos 1) → AreReached (oriented t) y
+pub reached : (t : Corners) (clip : Box2) (y : ℤ) → IsSmall (oriented t) → HasRows t clip → clip.y1 ≤ℤ y
+    → y ≤ℤ (clip.y2 +ℤ pos 1) → AreReached (oriented t) y
 unfolding oriented
 reached t clip y small box above below = by_turn t clip y (int_lt (doubled_area t) (pos 0)) small box above below
 
 -- ---- what the edges leave of a row
 
-low_end : (low : ℕ) (origin from x : ℤ) → pos low ≡ in_parts origin from → IsBounded AtLeast (pos low) (in_parts origin x) ↔ (from ≤ℤ x)
+low_end : (low : ℕ) (origin from x : ℤ) → pos low ≡ in_parts origin from
+    → IsBounded AtLeast (pos low) (in_parts origin x) ↔ (from ≤ℤ x)
 low_end low origin from x is = (λ h. omega (arith, ints, is, h), λ h. omega (arith, ints, is, h))
 
-high_end : (high : ℕ) (origin last x : ℤ) → pos high ≡ in_parts origin last → IsBounded AtMost (pos high) (in_parts origin x) ↔ (x ≤ℤ last)
+high_end : (high : ℕ) (origin last x : ℤ) → pos high ≡ in_parts origin last
+    → IsBounded AtMost (pos high) (in_parts origin x) ↔ (x ≤ℤ last)
 high_end high origin last x is = (λ h. omega (arith, ints, is, h), λ h. omega (arith, ints, is, h))
 
 greater_of : (a b x : ℤ) → (int_max a b ≤ℤ x) ↔ ((a ≤ℤ x) × (b ≤ℤ x))
-greater_of a b x = (λ h. (omega (arith, ints, clamps, h), omega (arith, ints, clamps, h)), λ h. omega (arith, ints, clamps, h.0, h.1))
+greater_of a b x =
+    (λ h. (omega (arith, ints, clamps, h), omega (arith, ints, clamps, h)), λ h. omega (arith, ints, clamps, h.0, h.1))
 
 lesser_of : (a b x : ℤ) → (x ≤ℤ int_min a b) ↔ ((x ≤ℤ a) × (x ≤ℤ b))
-lesser_of a b x = (λ h. (omega (arith, ints, clamps, h), omega (arith, ints, clamps, h)), λ h. omega (arith, ints, clamps, h.0, h.1))
+lesser_of a b x =
+    (λ h. (omega (arith, ints, clamps, h), omega (arith, ints, clamps, h)), λ h. omega (arith, ints, clamps, h.0, h.1))
 
 module _ (t : Corners) (clip : Box2) (x y : ℤ) (rows : RowWalk) (h : AreRows t clip y rows) where
-  own_columns : IsWithin rows.ends (in_parts rows.origin x) ↔ (IsBetween clip.x1 clip.x2 x × IsBetween (bounding_box t).x1 (bounding_box t).x2 x)
+  own_columns : IsWithin rows.ends (in_parts rows.origin x)
+      ↔ (IsBetween clip.x1 clip.x2 x × IsBetween (bounding_box t).x1 (bounding_box t).x2 x)
   own_columns =
       let low = low_end rows.ends.low rows.origin (int_max clip.x1 (bounding_box t).x1) x h.low in
       let high = high_end rows.ends.high rows.origin (int_min clip.x2 (bounding_box t).x2) x h.high in
@@ -175,21 +218,30 @@ module _ (t : Corners) (clip : Box2) (x y : ℤ) (rows : RowWalk) (h : AreRows t
         λ b. (low.1 (least.1 (b.0.0, b.1.0)), high.1 (most.1 (b.0.1, b.1.1))),
       )
 
-  on_sides : (u : Corners) → IsTrue (is_within u x y) ↔ (IsTrue (is_on_side u.first u.second x y) × IsTrue (is_on_side u.second u.third x y) × IsTrue (is_on_side u.third u.first x y))
+  on_sides : (u : Corners) → IsTrue (is_within u x y)
+      ↔ (IsTrue (is_on_side u.first u.second x y) × IsTrue (is_on_side u.second u.third x y)
+      × IsTrue (is_on_side u.third u.first x y))
   unfolding is_within
   on_sides u =
-      let outer = both_true (is_on_side u.first u.second x y && is_on_side u.second u.third x y) (is_on_side u.third u.first x y) in
+      let outer = both_true (is_on_side u.first u.second x y && is_on_side u.second u.third x y)
+          (is_on_side u.third u.first x y) in
       let inner = both_true (is_on_side u.first u.second x y) (is_on_side u.second u.third x y) in
       (λ t. let o = outer.0 t in let i = inner.0 o.0 in (i.0, i.1, o.1), λ s. outer.1 (inner.1 (s.0, s.1), s.2))
 
-  module _ (ends : Ends) (left : (v : ℤ) → (IsWithin rows.ends v × IsBounded rows.first.bound (pos rows.first.at) v × IsBounded rows.second.bound (pos rows.second.at) v × IsBounded rows.third.bound (pos rows.third.at) v) ↔ IsWithin ends v) where
-    first_bound : AreAcross (oriented t) x → IsTrue (is_on_side (oriented t).first (oriented t).second x y) ↔ IsBounded rows.first.bound (pos rows.first.at) (in_parts rows.origin x)
+  module _ (ends : Ends)
+      (left : (v : ℤ)
+      → (IsWithin rows.ends v × IsBounded rows.first.bound (pos rows.first.at) v × IsBounded rows.second.bound
+      (pos rows.second.at) v × IsBounded rows.third.bound (pos rows.third.at) v) ↔ IsWithin ends v) where
+    first_bound : AreAcross (oriented t) x → IsTrue (is_on_side (oriented t).first (oriented t).second x y)
+        ↔ IsBounded rows.first.bound (pos rows.first.at) (in_parts rows.origin x)
     first_bound near = bounded (oriented t).first (oriented t).second rows.origin x y rows.first h.first near.first
 
-    second_bound : AreAcross (oriented t) x → IsTrue (is_on_side (oriented t).second (oriented t).third x y) ↔ IsBounded rows.second.bound (pos rows.second.at) (in_parts rows.origin x)
+    second_bound : AreAcross (oriented t) x → IsTrue (is_on_side (oriented t).second (oriented t).third x y)
+        ↔ IsBounded rows.second.bound (pos rows.second.at) (in_parts rows.origin x)
     second_bound near = bounded (oriented t).second (oriented t).third rows.origin x y rows.second h.second near.second
 
-    third_bound : AreAcross (oriented t) x → IsTrue (is_on_side (oriented t).third (oriented t).first x y) ↔ IsBounded rows.third.bound (pos rows.third.at) (in_parts rows.origin x)
+    third_bound : AreAcross (oriented t) x → IsTrue (is_on_side (oriented t).third (oriented t).first x y)
+        ↔ IsBounded rows.third.bound (pos rows.third.at) (in_parts rows.origin x)
     third_bound near = bounded (oriented t).third (oriented t).first rows.origin x y rows.third h.third near.third
 
     to : (IsBetween clip.x1 clip.x2 x × IsTrue (is_inside t x y)) → IsWithin ends (in_parts rows.origin x)
@@ -197,16 +249,19 @@ module _ (t : Corners) (clip : Box2) (x y : ℤ) (rows : RowWalk) (h : AreRows t
         let b = inside-in_box t x y h.drawn i.1 in
         let near = across t x h.small b.0.0 b.0.1 in
         let on = (on_sides (oriented t)).0 i.1 in
-        (left (in_parts rows.origin x)).0 (own_columns.1 (i.0, b.0), (first_bound near).0 on.0, (second_bound near).0 on.1, (third_bound near).0 on.2)
+        (left (in_parts rows.origin x)).0
+            (own_columns.1 (i.0, b.0), (first_bound near).0 on.0, (second_bound near).0 on.1, (third_bound near).0 on.2)
 
     from : IsWithin ends (in_parts rows.origin x) → (IsBetween clip.x1 clip.x2 x × IsTrue (is_inside t x y))
     from w =
         let parts = (left (in_parts rows.origin x)).1 w in
         let own = own_columns.0 parts.0 in
         let near = across t x h.small own.1.0 own.1.1 in
-        (own.0, (on_sides (oriented t)).1 ((first_bound near).1 parts.1, (second_bound near).1 parts.2, (third_bound near).1 parts.3))
+        (own.0, (on_sides (oriented t)).1
+            ((first_bound near).1 parts.1, (second_bound near).1 parts.2, (third_bound near).1 parts.3))
 
-    pub columns_are : (IsBetween clip.x1 clip.x2 x × IsTrue (is_inside t x y)) ↔ IsBetween (pos (ends.low / 2 ^ 30)) (pos (ends.high / 2 ^ 30)) (raised_column rows.origin x)
+    pub columns_are : (IsBetween clip.x1 clip.x2 x × IsTrue (is_inside t x y))
+        ↔ IsBetween (pos (ends.low / 2 ^ 30)) (pos (ends.high / 2 ^ 30)) (raised_column rows.origin x)
     columns_are = let w = within_ends ends rows.origin x in (λ i. w.0 (to i), λ b. from (w.1 b))
 
 -- ---- the span of a row
@@ -216,42 +271,57 @@ unfolding bounding_box
 wide t small = omega (arith, ints, clamps, small.one.across, small.two.across, small.three.across)
 
 back : (origin : ℤ) (raised : ℕ) → pos raised ≡ raised_column origin ((pos raised -ℤ pos (2 ^ 32)) +ℤ origin)
-back origin raised = same (at (pos raised)) (add (sub (add (sub (at (pos raised)) (at (pos (2 ^ 32)))) (at origin)) (at origin)) (at (pos (2 ^ 32)))) (omega arith)
+back origin raised = same (at (pos raised))
+    (add (sub (add (sub (at (pos raised)) (at (pos (2 ^ 32)))) (at origin)) (at origin)) (at (pos (2 ^ 32))))
+    (omega arith)
 
 unraised : (origin : ℤ) (low high : ℕ) (x : ℤ)
-    → IsBetween (pos low) (pos high) (raised_column origin x) ↔ IsBetween ((pos low -ℤ pos (2 ^ 32)) +ℤ origin) ((pos high -ℤ pos (2 ^ 32)) +ℤ origin) x
-unraised origin low high x = (λ b. (omega (arith, ints, b.0), omega (arith, ints, b.1)), λ b. (omega (arith, ints, b.0), omega (arith, ints, b.1)))
+    → IsBetween (pos low) (pos high) (raised_column origin x)
+        ↔ IsBetween ((pos low -ℤ pos (2 ^ 32)) +ℤ origin) ((pos high -ℤ pos (2 ^ 32)) +ℤ origin) x
+unraised origin low high x =
+    (λ b. (omega (arith, ints, b.0), omega (arith, ints, b.1)), λ b.
+    (omega (arith, ints, b.0), omega (arith, ints, b.1)))
 
 -- what a column that is held raised is
 abbrev pub Lowers : ℤ → ℕ → ℤ → Type 0
-Lowers origin raised column = (x : ℤ) → FitsSigned w32 x → origin ≤ℤ x → x ≤ℤ (origin +ℤ pos 1023) → pos raised ≡ raised_column origin x → column ≡ x
+Lowers origin raised column = (x : ℤ) → FitsSigned w32 x → origin ≤ℤ x → x ≤ℤ (origin +ℤ pos 1023)
+    → pos raised ≡ raised_column origin x → column ≡ x
 
 module _ (t : Corners) (clip : Box2) (y : ℤ) (rows : RowWalk) (h : AreRows t clip y rows) (low high : ℕ)
-    (cells : (x : ℤ) → (IsBetween clip.x1 clip.x2 x × IsTrue (is_inside t x y)) ↔ IsBetween (pos low) (pos high) (raised_column rows.origin x)) where
+    (cells : (x : ℤ) → (IsBetween clip.x1 clip.x2 x × IsTrue (is_inside t x y))
+        ↔ IsBetween (pos low) (pos high) (raised_column rows.origin x)) where
   abbrev from_origin : ℕ → ℤ
   from_origin raised = (pos raised -ℤ pos (2 ^ 32)) +ℤ rows.origin
 
-  plain_cells : (x : ℤ) → (IsBetween clip.x1 clip.x2 x × IsTrue (is_inside t x y)) ↔ IsBetween (from_origin low) (from_origin high) x
+  plain_cells : (x : ℤ) → (IsBetween clip.x1 clip.x2 x × IsTrue (is_inside t x y))
+      ↔ IsBetween (from_origin low) (from_origin high) x
   plain_cells x = (
     λ i. (unraised rows.origin low high x).0 ((cells x).0 i),
     λ b. (cells x).1 ((unraised rows.origin low high x).1 b),
   )
 
-  lowered : (raised : ℕ) (column : ℤ) → IsBetween (from_origin low) (from_origin high) (from_origin raised) → Lowers rows.origin raised column → column ≡ from_origin raised
+  lowered : (raised : ℕ) (column : ℤ) → IsBetween (from_origin low) (from_origin high) (from_origin raised)
+      → Lowers rows.origin raised column → column ≡ from_origin raised
   lowered raised column between lowers =
       let inside = (plain_cells (from_origin raised)).1 between in
       let own = inside-in_box t (from_origin raised) y h.drawn inside.1 in
       let most = wide t h.drawn.small in
       let left_fits = h.left_fits in
       let right_fits = h.right_fits in
-      lowers (from_origin raised) (omega (arith, ints, own.0.0, own.0.1, left_fits, right_fits)) (omega (arith, ints, own.0.0, h.origin)) (omega (arith, ints, own.0.1, h.origin, most)) (back rows.origin raised)
+      lowers (from_origin raised) (omega (arith, ints, own.0.0, own.0.1, left_fits, right_fits))
+          (omega (arith, ints, own.0.0, h.origin)) (omega (arith, ints, own.0.1, h.origin, most))
+          (back rows.origin raised)
 
-  pub span_of : low ≤ high → y ≤ℤ clip.y2 → (first last : ℤ) → Lowers rows.origin low first → Lowers rows.origin high last → IsRowSpan t y clip first last
+  pub span_of : low ≤ high → y ≤ℤ clip.y2 → (first last : ℤ) → Lowers rows.origin low first
+      → Lowers rows.origin high last → IsRowSpan t y clip first last
   span_of order more first last to_first to_last =
       let ordered : from_origin low ≤ℤ from_origin high = omega (arith, ints, order) in
       let first_is = lowered low first (omega (arith, ints), ordered) to_first in
       let last_is = lowered high last (ordered, omega (arith, ints)) to_last in
-      rw (first_is, last_is) (span_is t y clip.x1 clip.x2 (from_origin low) (from_origin high) clip refl refl (λ x. is_inside t x y) (λ x. refl) plain_cells ordered h.above more)
+      rw (first_is, last_is)
+          (span_is t y clip.x1 clip.x2 (from_origin low) (from_origin high) clip refl refl (λ x. is_inside t x y)
+          (λ x. refl) plain_cells ordered h.above more)
 
   pub none_of : high < low → (x : ℤ) → IsInBox clip x y → is_inside t x y ≡ false
-  none_of empty = none_is t y clip.x1 clip.x2 (from_origin low) (from_origin high) clip refl refl (λ x. is_inside t x y) (λ x. refl) plain_cells (omega (arith, ints, empty))
+  none_of empty = none_is t y clip.x1 clip.x2 (from_origin low) (from_origin high) clip refl refl
+      (λ x. is_inside t x y) (λ x. refl) plain_cells (omega (arith, ints, empty))

@@ -1,5 +1,6 @@
 -- Colour and texture coordinates of a triangle's cells (our own rule).
-use Rattle.std.specs.Prelude.{ℕ, ◌+◌, ◌*◌, ◌/◌, ◌%◌, ◌^◌, ◌==◌, ◌≡◌, ◌≤◌, if◌then◌else◌, unsigned_abs, ℤ, pos, ◌-ℤ◌, ◌*ℤ◌}
+use Rattle.std.specs.Prelude.{ℕ, ◌+◌, ◌*◌, ◌/◌, ◌%◌, ◌^◌, ◌==◌, ◌≡◌, ◌≤◌, if◌then◌else◌, unsigned_abs, ℤ, pos, ◌-ℤ◌}
+use Rattle.std.specs.Prelude.{◌*ℤ◌}
 use Rattle.px_num.specs.declared.shape.Vertex.{Vertex}
 use Rattle.edge_walk.specs.Triangle.{Corners, edge, doubled_area, oriented}
 

@@ -1,5 +1,6 @@
 -- An attribute along a row (our own rule).
-use Rattle.std.specs.Prelude.{ℕ, ◌+◌, ◌-◌, ◌*◌, ◌/◌, ◌%◌, ◌^◌, ◌<◌, ◌≡◌, ℤ, pos, ◌+ℤ◌, int_lt, unsigned_abs, IsTrue, Bool, if◌then◌else◌}
+use Rattle.std.specs.Prelude.{ℕ, ◌+◌, ◌-◌, ◌*◌, ◌/◌, ◌%◌, ◌^◌, ◌<◌, ◌≡◌, ℤ, pos, ◌+ℤ◌, int_lt, unsigned_abs, IsTrue}
+use Rattle.std.specs.Prelude.{Bool, if◌then◌else◌}
 use Rattle.edge_walk.specs.declared.line.RowLine.{RowLine}
 use Rattle.edge_walk.specs.Triangle.{Corners, is_inside}
 use Rattle.edge_walk.specs.Attribute.{attribute_at}
@@ -11,12 +12,14 @@ wrapped falls size = if falls then (2 ^ 64 - size) % 2 ^ 64 else size
 unfoldable pub scaled : ℤ → ℕ → ℕ
 scaled step by = wrapped (int_lt step (pos 0)) (unsigned_abs step * by % 2 ^ 64)
 
--- the attribute j cells from one that is `at` cells from a line's own. It is reckoned from the ninth cell in 32 bits: the step is rounded, and
--- 8 added, so that no sum that is a multiple of the area comes out below it
+-- the attribute j cells from one that is `at` cells from a line's own. It is reckoned from the ninth cell in 32 bits:
+-- the step is rounded, and 8 added, so that no sum that is a multiple of the area comes out below it
 unfoldable pub line_value : RowLine → ℕ → ℕ → ℕ
 line_value line at j =
-    ((j + (2 ^ 32 - 8)) % 2 ^ 32 * ((line.step + 2 ^ 31) % 2 ^ 64 / 2 ^ 32) % 2 ^ 32 + ((line.first + line.step * (at + 8)) % 2 ^ 64 / 2 ^ 32 + 8) % 2 ^ 32) % 2 ^ 32 / 2 ^ 24
+    ((j + (2 ^ 32 - 8)) % 2 ^ 32 * ((line.step + 2 ^ 31) % 2 ^ 64 / 2 ^ 32) % 2 ^ 32 +
+        ((line.first + line.step * (at + 8)) % 2 ^ 64 / 2 ^ 32 + 8) % 2 ^ 32) % 2 ^ 32 / 2 ^ 24
 
 -- a line is that of an attribute from (x, y) to the right, as far as cells are inside
 abbrev pub IsRowLine : Corners → ℕ → ℤ → ℤ → RowLine → Type 0
-IsRowLine t which x y line = (at j : ℕ) → j < 16 → IsTrue (is_inside t (x +ℤ pos (at + j)) y) → line_value line at j ≡ attribute_at t which (x +ℤ pos (at + j)) y
+IsRowLine t which x y line = (at j : ℕ) → j < 16 → IsTrue (is_inside t (x +ℤ pos (at + j)) y) → line_value line at j
+    ≡ attribute_at t which (x +ℤ pos (at + j)) y

@@ -1,5 +1,7 @@
--- Triangles: the edge rule, the size rule and the cells inside (psx-spx, "GPU Render Polygon Commands"; the edge rule is our own).
-use Rattle.std.specs.Prelude.{◌≤◌, ◌≢◌, ◌==◌, Bool, not, ◌||◌, ◌&&◌, nat_le, if◌then◌else◌, int_lt, unsigned_abs, ℤ, pos, ◌-ℤ◌, ◌*ℤ◌, ◌<ℤ◌}
+-- Triangles: the edge rule, the size rule and the cells inside (psx-spx, "GPU Render Polygon Commands"; the edge rule
+-- is our own).
+use Rattle.std.specs.Prelude.{◌≤◌, ◌≢◌, ◌==◌, Bool, not, ◌||◌, ◌&&◌, nat_le, if◌then◌else◌, int_lt, unsigned_abs, ℤ}
+use Rattle.std.specs.Prelude.{pos, ◌-ℤ◌, ◌*ℤ◌, ◌<ℤ◌}
 use Rattle.std.specs.Ordering.{int_eq}
 use Rattle.px_num.specs.declared.shape.Vertex.{Vertex}
 

@@ -1,5 +1,6 @@
 -- The rows of a triangle from top to bottom (our own rule).
-use Rattle.std.specs.Prelude.{ℕ, ◌+◌, ◌-◌, ◌%◌, ◌^◌, ◌≤◌, ◌≡◌, ◌↔◌, ℤ, pos, ◌+ℤ◌, ◌-ℤ◌, ◌*ℤ◌, ◌≤ℤ◌, ◌<ℤ◌, unsigned_abs, FitsSigned}
+use Rattle.std.specs.Prelude.{ℕ, ◌+◌, ◌-◌, ◌%◌, ◌^◌, ◌≤◌, ◌≡◌, ◌↔◌, ℤ, pos, ◌+ℤ◌, ◌-ℤ◌, ◌*ℤ◌, ◌≤ℤ◌, ◌<ℤ◌, unsigned_abs}
+use Rattle.std.specs.Prelude.{FitsSigned}
 use Rattle.std.specs.Int.{int_max, int_min, w32}
 use Rattle.px_num.specs.declared.shape.Box2.{Box2}
 use Rattle.px_num.specs.declared.shape.Vertex.{Vertex}
@@ -21,7 +22,8 @@ in_parts origin x = (x -ℤ origin) *ℤ pos (2 ^ 30) +ℤ pos (2 ^ 62)
 abbrev pub raised_column : ℤ → ℤ → ℤ
 raised_column origin x = (x -ℤ origin) +ℤ pos (2 ^ 32)
 
--- a column is one that an edge leaves which stands at `at`, all in parts: one at least as great begins less than a column before it
+-- a column is one that an edge leaves which stands at `at`, all in parts: one at least as great begins less than a
+-- column before it
 abbrev pub IsBounded : Bound → ℤ → ℤ → Type 0
 IsBounded AtMost at x = x ≤ℤ at
 IsBounded AtLeast at x = at <ℤ (x +ℤ pos (2 ^ 30))
@@ -30,11 +32,12 @@ IsBounded AtLeast at x = at <ℤ (x +ℤ pos (2 ^ 30))
 abbrev pub IsWithin : Ends → ℤ → Type 0
 IsWithin ends x = IsBounded AtLeast (pos ends.low) x × IsBounded AtMost (pos ends.high) x
 
--- an edge leaves the columns that its slope says: of those up to 1023 away from its first vertex, at whose column its value
--- is v, the ones where its value is the least one or more
+-- an edge leaves the columns that its slope says: of those up to 1023 away from its first vertex, at whose column its
+-- value is v, the ones where its value is the least one or more
 pub record IsSlope (p q : Vertex) (slope : Slope) : Type 0 where
   pub solves : (k v : ℤ) → unsigned_abs k ≤ 1023
-      → (least_value p q ≤ℤ (v -ℤ (q.y -ℤ p.y) *ℤ k)) ↔ IsBounded slope.bound (v *ℤ slope.scale +ℤ slope.slack) (k *ℤ pos (2 ^ 30))
+      → (least_value p q ≤ℤ (v -ℤ (q.y -ℤ p.y) *ℤ k)) ↔ IsBounded slope.bound (v *ℤ slope.scale +ℤ slope.slack)
+          (k *ℤ pos (2 ^ 30))
   pub scale : unsigned_abs slope.scale ≤ 2 ^ 41
   pub slack : unsigned_abs slope.slack ≤ 2 ^ 40
 

@@ -1,5 +1,6 @@
 // Attributes of a triangle, mixed by the weights of a cell.
-ghost use Rattle.std.specs.Prelude.{◌≡◌, ◌+◌, ◌*◌, ◌/◌, ◌^◌, ◌≤◌, ◌<◌, ℕ, ℤ, pos, ◌-ℤ◌, ◌+ℤ◌, ◌*ℤ◌, ◌≤ℤ◌, IsTrue, unsigned_abs, length, slice_index};
+ghost use Rattle.std.specs.Prelude.{◌≡◌, ◌+◌, ◌*◌, ◌/◌, ◌^◌, ◌≤◌, ◌<◌, ℕ, ℤ, pos, ◌-ℤ◌, ◌+ℤ◌, ◌*ℤ◌, ◌≤ℤ◌, IsTrue};
+ghost use Rattle.std.specs.Prelude.{unsigned_abs, length, slice_index};
 ghost use Rattle.edge_walk.specs.Triangle.{IsNear, IsSmall, IsUpright, corners, edge, doubled_area, is_within};
 ghost use Rattle.edge_walk.specs.Attribute.{AreBytes, attribute, step_of, row_step_of};
 ghost use Rattle.edge_walk.specs.Divisor.{IsDivisor};
@@ -65,7 +66,8 @@ fn weighted(w: &Weights, a: u8, b: u8, c: u8) -> u32
 pub(crate) fn mixed(w: &Weights, a: u8, b: u8, c: u8, divisor: &Divisor) -> u8
     requires divisor { IsDivisor divisor.now }
     requires area { divisor.now.area ≡ w.now.first + w.now.second + w.now.third }
-    ensures { result ≡ (w.now.first * a + w.now.second * b + w.now.third * c) / (w.now.first + w.now.second + w.now.third) }
+    ensures { result ≡ (w.now.first * a + w.now.second * b + w.now.third * c) /
+        (w.now.first + w.now.second + w.now.third) }
 {
     divisor.quotient(weighted(w, a, b, c))
 }
@@ -135,7 +137,9 @@ pub(crate) fn row_mix(a: &Vertex, b: &Vertex, c: &Vertex, which: u8, weights: &W
     requires small { IsSmall (corners a.now b.now c.now) }
     requires which { which ≤ 4 }
     requires bound { weights.now.first + weights.now.second + weights.now.third ≤ 1045506 }
-    ensures start { result.start ≡ weights.now.first * attribute which a.now + weights.now.second * attribute which b.now + weights.now.third * attribute which c.now }
+    ensures start { result.start
+        ≡ weights.now.first * attribute which a.now + weights.now.second * attribute which b.now + weights.now.third
+        * attribute which c.now }
     ensures step { result.step ≡ step_of (corners a.now b.now c.now) which }
     ensures bound { result.start ≤ 255 * (weights.now.first + weights.now.second + weights.now.third) }
     ensures bytes { AreBytes which (corners a.now b.now c.now) }

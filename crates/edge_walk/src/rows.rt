@@ -40,7 +40,9 @@ fn narrowed(limits: Limits, row: EdgeRow) -> Limits
     requires down { unsigned_abs row.down < 2 ^ 32 }
     requires value { unsigned_abs row.value < 2 ^ 42 }
     requires least { unsigned_abs row.least ≤ 1 }
-    ensures { (x : ℤ) → (IsBetween limits.low limits.high x × (row.least ≤ℤ (row.value -ℤ row.down *ℤ (x -ℤ row.start)))) ↔ IsBetween result.low result.high x }
+    ensures { (x : ℤ)
+        → (IsBetween limits.low limits.high x × (row.least ≤ℤ (row.value -ℤ row.down *ℤ (x -ℤ row.start))))
+        ↔ IsBetween result.low result.high x }
 {
     let spare = row.value - row.least;
     if row.down > 0 {
@@ -91,7 +93,8 @@ pub(crate) fn edge_row(p: &Vertex, q: &Vertex, y: i32) -> EdgeRow
 // The part of the limits on the inner side of an edge.
 fn within_edge(limits: Limits, p: &Vertex, q: &Vertex, y: i32) -> Limits
     requires { IsNear p.now q.now }
-    ensures { (x : ℤ) → (IsBetween limits.low limits.high x × IsTrue (is_on_side p.now q.now x y)) ↔ IsBetween result.low result.high x }
+    ensures { (x : ℤ) → (IsBetween limits.low limits.high x × IsTrue (is_on_side p.now q.now x y))
+        ↔ IsBetween result.low result.high x }
 {
     narrowed(limits, edge_row(p, q, y))
 }
@@ -99,7 +102,8 @@ fn within_edge(limits: Limits, p: &Vertex, q: &Vertex, y: i32) -> Limits
 // The part of the limits within three edges.
 pub(crate) fn row_limits(a: &Vertex, b: &Vertex, c: &Vertex, y: i32, limits: Limits) -> Limits
     requires { IsNear a.now b.now × IsNear b.now c.now × IsNear c.now a.now }
-    ensures { (x : ℤ) → (IsBetween limits.low limits.high x × IsTrue (is_within (corners a.now b.now c.now) x y)) ↔ IsBetween result.low result.high x }
+    ensures { (x : ℤ) → (IsBetween limits.low limits.high x × IsTrue (is_within (corners a.now b.now c.now) x y))
+        ↔ IsBetween result.low result.high x }
 {
     let first = within_edge(limits, a, b, y);
     let second = within_edge(first, b, c, y);

@@ -1,5 +1,6 @@
 // How the columns that an edge bounds go from row to row.
-ghost use Rattle.std.specs.Prelude.{◌≡◌, ◌+◌, ◌-◌, ◌*◌, ◌^◌, ◌≤◌, ◌<◌, Bool, ℤ, pos, ◌-ℤ◌, ◌≤ℤ◌, ◌<ℤ◌, int_lt, unsigned_abs, if◌then◌else◌};
+ghost use Rattle.std.specs.Prelude.{◌≡◌, ◌+◌, ◌-◌, ◌*◌, ◌^◌, ◌≤◌, ◌<◌, Bool, ℤ, pos, ◌-ℤ◌, ◌≤ℤ◌, ◌<ℤ◌, int_lt};
+ghost use Rattle.std.specs.Prelude.{unsigned_abs, if◌then◌else◌};
 ghost use Rattle.px_num.specs.declared.shape.Vertex.{Vertex};
 ghost use Rattle.edge_walk.specs.Triangle.{IsNear};
 ghost use Rattle.edge_walk.specs.Walk.{IsSlope};

@@ -39,7 +39,10 @@ impl Model for Tri {
 
     ghost inverse = { λ t. record { a = t.first; b = t.second; c = t.third; turned = is_turned t; area = size_of t } };
 
-    ghost inverse_ok = { λ t h. ap (λ s. record { a = t.a; b = t.b; c = t.c; turned = s; area = size_of (corners t.a t.b t.c) }) (sym h.turned_is) ∙ ap (λ s. record { a = t.a; b = t.b; c = t.c; turned = t.turned; area = s }) (sym h.area_is) };
+    ghost inverse_ok =
+        { λ t h. ap (λ s. record { a = t.a; b = t.b; c = t.c; turned = s; area = size_of (corners t.a t.b t.c) })
+        (sym h.turned_is) ∙ ap (λ s. record { a = t.a; b = t.b; c = t.c; turned = t.turned; area = s })
+        (sym h.area_is) };
 }
 
 // A triangle whose doubled area is above 0.
@@ -52,7 +55,8 @@ struct Upright {
 
 impl Tri {
     ghost use Rattle.std.specs.Option.{is_some};
-    ghost use Rattle.std.specs.Prelude.{◌≡◌, ◌^◌, IfSome, SomeIff, MatchOption, IsTrue, ◌↔◌, pos, ℤ, false, ◌≤◌, ◌<◌, ◌+ℤ◌, ℕ, length, slice_index};
+    ghost use Rattle.std.specs.Prelude.{◌≡◌, ◌^◌, IfSome, SomeIff, MatchOption, IsTrue, ◌↔◌, pos, ℤ, false, ◌≤◌, ◌<◌};
+    ghost use Rattle.std.specs.Prelude.{◌+ℤ◌, ℕ, length, slice_index};
     ghost use Rattle.px_num.specs.Lanes.{EachLane};
     ghost use Rattle.edge_walk.specs.Attribute.{attribute_at, HasColor};
     ghost use Rattle.edge_walk.specs.Extent.{bounding_box};
@@ -129,7 +133,8 @@ impl Tri {
     /// The first and the last column of the cells inside that stand in a row of a box. All cells between them are
     /// inside. None exactly where the row has no such cell.
     pub fn row_span(&self, y: i32, clip: &Box2) -> Option<(i32, i32)>
-        ensures { MatchOption result ((x : ℤ) → IsInBox clip.now x y → is_inside self.now x y ≡ false) (λ span. IsRowSpan self.now y clip.now span.0 span.1) }
+        ensures { MatchOption result ((x : ℤ) → IsInBox clip.now x y → is_inside self.now x y ≡ false)
+            (λ span. IsRowSpan self.now y clip.now span.0 span.1) }
     {
         if y < clip.y1 || clip.y2 < y {
             return None;
@@ -181,7 +186,8 @@ impl Tri {
     /// The colour of all cells inside, where the three vertices have the same.
     pub fn one_color(&self) -> Option<u32>
         ensures low { IfSome result (λ color. color < 2 ^ 24) }
-        ensures value { IfSome result (λ color. (x y : ℤ) → IsTrue (is_inside self.now x y) → HasColor self.now x y color) }
+        ensures value { IfSome result (λ color. (x y : ℤ) → IsTrue (is_inside self.now x y)
+            → HasColor self.now x y color) }
     {
         let t = self.upright();
         let color = t.a.color % 0x100_0000;

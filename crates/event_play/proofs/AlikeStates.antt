@@ -18,9 +18,11 @@ use Rattle.event_play.specs.AlikeStates.{StandAlike, TellAlike, PlayAlike, Alike
 use Rattle.event_play.specs.Fed.{fed, fed_notes, fed_cost, fed_box_cost}
 use Rattle.event_play.specs.Lines.{lines_for}
 use Rattle.event_play.specs.Out.{final_bytes, final_cost, finals_at, finals_cost_at, ending_under}
-use Rattle.event_play.specs.Replay.{Tale, Played, Replay, go_on, told_on, after_event, next_number, ending_of, from_state}
+use Rattle.event_play.specs.Replay.{Tale, Played, Replay, go_on, told_on, after_event, next_number, ending_of}
+use Rattle.event_play.specs.Replay.{from_state}
 use Rattle.event_play.specs.Replay.{raised, tall_version, played_from}
-use Rattle.event_play.specs.Step.{Machine, Stepped, Step, StepCost, StepBoxCost, done, stepped, step_cost, step_box_cost}
+use Rattle.event_play.specs.Step.{Machine, Stepped, Step, StepCost, StepBoxCost, done, stepped, step_cost}
+use Rattle.event_play.specs.Step.{step_box_cost}
 use Rattle.event_play.specs.Step.{work_cost, work_box_cost, words_of}
 use Rattle.event_play.specs.Taken.{Taken, take_one, first_taken}
 use Rattle.event_play.specs.Told.{told_notes}
@@ -275,8 +277,10 @@ ended-alike t u ending other rest same e =
           rw (same.shown, same.notes, under mode)
           (ap (λ finals. lines_for mode u.shown u.notes ++ finals)
           (finals-alike (ending_under mode q) mode (told_notes u.notes heard) t.state.gpu u.state.gpu same.state.gpu));
-      cost = λ mode. ap (λ more. t.cost + more) (cost mode) ∙ ap (λ n. n + finals_cost_at (ending_under mode q) mode u.state.gpu) same.cost;
-      box_cost = λ mode. ap (λ more. t.box_cost + more) (cost mode) ∙ ap (λ n. n + finals_cost_at (ending_under mode q) mode u.state.gpu) same.box_cost;
+      cost = λ mode. ap (λ more. t.cost + more) (cost mode)
+          ∙ ap (λ n. n + finals_cost_at (ending_under mode q) mode u.state.gpu) same.cost;
+      box_cost = λ mode. ap (λ more. t.box_cost + more) (cost mode)
+          ∙ ap (λ n. n + finals_cost_at (ending_under mode q) mode u.state.gpu) same.box_cost;
     }
 
 -- ---- replays

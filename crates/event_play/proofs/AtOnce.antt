@@ -29,14 +29,16 @@ number_is t [] lt = omega (arith, lt)
 number_is t (word ∷ words) lt = let e = number_is (after_word t word) words (omega arith) in omega (arith, e)
 
 -- numbers that are cut off alike number alike
-same_numbers : (s : State) (a b : ℕ) (words : List ℕ) → capped a ≡ capped b → feed_notes s a words ≡ feed_notes s b words
+same_numbers : (s : State) (a b : ℕ) (words : List ℕ) → capped a ≡ capped b → feed_notes s a words
+    ≡ feed_notes s b words
 same_numbers s a b [] e = refl
 same_numbers s a b (word ∷ words) e =
     let next = same_numbers (Feed s word) (a + 1) (b + 1) words (omega (arith, e)) in
     ap (λ n. option_to_list (FeedNote s n word) ++ feed_notes (Feed s word) (a + 1) words) e
     ∙ ap (λ notes. option_to_list (FeedNote s (capped b) word) ++ notes) next
 
-notes_are : (t : Tale) (words : List ℕ) → (after_words t words).notes ≡ t.notes ++ feed_notes t.state.gpu (t.played + 1) words
+notes_are : (t : Tale) (words : List ℕ) → (after_words t words).notes ≡ t.notes ++ feed_notes t.state.gpu
+    (t.played + 1) words
 notes_are t [] = sym (append-nil t.notes)
 notes_are t (word ∷ words) =
     let n = next_number t.played in
@@ -61,15 +63,18 @@ told_each notes (reading ∷ readings) =
     more [] reading readings = refl
     more (note ∷ notes) reading readings = more notes (reading_after note reading) (map (reading_after note) readings)
 
-pub words_told : (t : Tale) (first before now : Outlets) (was gpu : Kept) (played : ℕ) (words : List ℕ) → played < 2 ^ 64
+pub words_told : (t : Tale) (first before now : Outlets) (was gpu : Kept) (played : ℕ) (words : List ℕ)
+    → played < 2 ^ 64
     → IsTold t first before was played
-    → ((s : State) → kept_of s ≡ was → TakesWords s (played + 1) words gpu before.heard now.heard before.steps now.steps)
+    → ((s : State) → kept_of s ≡ was
+        → TakesWords s (played + 1) words gpu before.heard now.heard before.steps now.steps)
     → IsTold (after_words t words) first now gpu (number_behind played (length words))
 words_told t first before now was gpu played words lt told takes =
     let did = takes t.state.gpu told.state in
     let number = told.number in
     let notes = feed_notes t.state.gpu (played + 1) words in
-    let same : feed_notes t.state.gpu (t.played + 1) words ≡ notes = ap (λ n. feed_notes t.state.gpu (n + 1) words) number in
+    let same : feed_notes t.state.gpu (t.played + 1) words
+        ≡ notes = ap (λ n. feed_notes t.state.gpu (n + 1) words) number in
     record {
       state = ap kept_of (state_is t words) ∙ did.feed;
       number = number_is t words (omega (arith, number, lt)) ∙ ap (λ n. number_behind n (length words)) number;

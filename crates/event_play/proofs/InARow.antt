@@ -1,5 +1,6 @@
 -- Words of GP0 that are played at once, an event each.
-use Rattle.std.proofs.Common.{◌≡◌, ◌≤◌, inl, inr, ℕ, ◌+◌, ◌++◌, List, [], ◌∷◌, Option, None, Some, Result, Ok, Err, OnOk, ◌<◌}
+use Rattle.std.proofs.Common.{◌≡◌, ◌≤◌, inl, inr, ℕ, ◌+◌, ◌++◌, List, [], ◌∷◌, Option, None, Some, Result, Ok, Err}
+use Rattle.std.proofs.Common.{OnOk, ◌<◌}
 use Rattle.std.proofs.Common.{option_to_list}
 use Rattle.std.proofs.Common.{refl, ap, sym, ◌∙◌, append-nil, add-zero, take, arith}
 use Rattle.std.proofs.lemmas.List.Sums.{fold-append}
@@ -44,7 +45,8 @@ unfolding Step StepCost StepBoxCost
 word_is t word =
     let n = next_number t.played in
     let note = option_to_list (FeedNote t.state.gpu n word) in
-    rw (append-nil t.shown, append-nil note, add-zero (FeedCost t.state.gpu word), add-zero (FeedBoxCost t.state.gpu word))
+    rw (append-nil t.shown, append-nil note, add-zero (FeedCost t.state.gpu word), add-zero
+        (FeedBoxCost t.state.gpu word))
     refl
 
 -- a replay of words goes on from the tale behind them

@@ -31,10 +31,10 @@ behind_past past now = record {
 abbrev pub with_past : Tale → Played → Played
 with_past past r = record { tale = behind_past past r.tale; ending = r.ending; rest = r.rest }
 
--- None of the first events has a fault where the whole replay ends with Done. Events behind others that have no fault go
--- on from the tale of those. They show, tell and cost what they do from its machine alone, behind what the tale has. So
--- what is written is the lines of that tale, and then what the later events write from its machine, by taps that have
--- heard its notes.
+-- None of the first events has a fault where the whole replay ends with Done. Events behind others that have no fault
+-- go on from the tale of those. They show, tell and cost what they do from its machine alone, behind what the tale has.
+-- So what is written is the lines of that tale, and then what the later events write from its machine, by taps that
+-- have heard its notes.
 pub record SplitLaw : Type 0 where
   pub first : (t : Tale) (events more : List Event) (stop : Stop) (rest : List ℕ)
       → (Replay t (events ++ more) stop rest).ending ≡ Done → AreFaultless t events

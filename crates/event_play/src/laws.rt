@@ -23,8 +23,8 @@ pub fn alike_replay_alike()
     ensures { AlikeReplayAlike }
 {}
 
-/// A replay may be cut between two events: what comes behind goes on from the machine behind what came before, and shows,
-/// tells, writes and costs what it does from there.
+/// A replay may be cut between two events: what comes behind goes on from the machine behind what came before, and
+/// shows, tells, writes and costs what it does from there.
 pub fn replays_can_be_cut()
     ensures { SplitLaw }
 {}

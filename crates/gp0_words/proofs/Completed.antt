@@ -1,8 +1,11 @@
 -- Every list of words is packets and the beginning of one.
-use Rattle.std.proofs.Common.{◌≡◌, inl, inr, ℕ, zero, suc, ◌-◌, ◌<◌, ◌≤◌, Bool, true, false, cond, List, [], ◌∷◌, ◌++◌, length, take, drop, flat_map, replicate, slice_index, refl, sym, ap, ◌∙◌, arith, append_assoc, get_or-take}
+use Rattle.std.proofs.Common.{◌≡◌, inl, inr, ℕ, zero, suc, ◌-◌, ◌<◌, ◌≤◌, Bool, true, false, cond, List, [], ◌∷◌, ◌++◌}
+use Rattle.std.proofs.Common.{length, take, drop, flat_map, replicate, slice_index, refl, sym, ap, ◌∙◌, arith}
+use Rattle.std.proofs.Common.{append_assoc, get_or-take}
 use Rattle.std.proofs.lemmas.Bool.{cases_lt, cond_both}
 use Rattle.std.proofs.lemmas.Bool.Decides.{nat_tests}
-use Rattle.std.proofs.lemmas.List.{take-append-drop, length-take-le, length-append, length-replicate, length-drop, get_or_append_left}
+use Rattle.std.proofs.lemmas.List.{take-append-drop, length-take-le, length-append, length-replicate, length-drop}
+use Rattle.std.proofs.lemmas.List.{get_or_append_left}
 use Rattle.gp0_words.specs.Kinds.{kind_of, start_len, is_end}
 use Rattle.gp0_words.specs.Sizes.{data_words_of}
 use Rattle.gp0_words.specs.Items.{flat_need, shaded_need, tail_need, packet_need}
@@ -90,22 +93,27 @@ packet_by k packet start more kind parts len tail = record {
 }
 
 -- words in front decide the kind
-kind_front : (words more : List ℕ) → 0 < length words → kind_of (slice_index (words ++ more) 0) ≡ kind_of (slice_index words 0)
+kind_front : (words more : List ℕ) → 0 < length words → kind_of (slice_index (words ++ more) 0)
+    ≡ kind_of (slice_index words 0)
 kind_front words more some = ap kind_of (get_or_append_left words more 0 0 some)
 
-begins : (words : List ℕ) → 0 < length words → length words < packet_need (kind_of (slice_index words 0)) words → BeginsPacket words
+begins : (words : List ℕ) → 0 < length words → length words < packet_need (kind_of (slice_index words 0)) words
+    → BeginsPacket words
 begins words some part =
     let k = kind_of (slice_index words 0) in
     let n = start_len k in
     elim (cases_lt (length words) n) [
       | inr long ↦
-          let short : length (drop n words) < tail_need k (take n words) (drop n words) = grind (arith, nat_tests, length-drop) in
+          let short : length (drop n words) < tail_need k (take n words) (drop n words) = grind
+              (arith, nat_tests, length-drop) in
           let on = tail_completes k (take n words) (drop n words) short in
           record {
             more = on.last;
             some = on.some;
-            packet = packet_by k (words ++ on.last) (take n words) (drop n words ++ on.last) (kind_front words on.last some)
-                (ap (λ xs. xs ++ on.last) (sym (take-append-drop n words)) ∙ append_assoc (take n words) (drop n words) on.last)
+            packet = packet_by k (words ++ on.last) (take n words) (drop n words ++ on.last)
+                (kind_front words on.last some)
+                (ap (λ xs. xs ++ on.last) (sym (take-append-drop n words))
+                    ∙ append_assoc (take n words) (drop n words) on.last)
                 (length-take-le n words long) on.is;
           }
       | inl few ↦
@@ -116,7 +124,9 @@ begins words some part =
             more = zeros ++ tail;
             some = omega (arith, length-append zeros tail, length-replicate {A = ℕ} (n - length words) 0);
             packet = packet_by k (words ++ (zeros ++ tail)) start tail (kind_front words (zeros ++ tail) some)
-                (sym (append_assoc words zeros tail)) (omega (arith, length-append words zeros, length-replicate {A = ℕ} (n - length words) 0)) (shortest_tail-is k start);
+                (sym (append_assoc words zeros tail))
+                    (omega (arith, length-append words zeros, length-replicate {A = ℕ} (n - length words) 0))
+                    (shortest_tail-is k start);
           }
     ]
 
@@ -140,13 +150,15 @@ shaded_tail-cons c v more e h = (e, h)
 shaded_cut : (more : List ℕ) → shaded_need more ≤ length more → IsShadedTail (take (shaded_need more) more)
 shaded_cut [] h = absurd (omega arith)
 shaded_cut (c ∷ []) h =
-    cond_both (is_end c) 1 2 (λ n. IsShadedTail (take n (c ∷ []))) (λ e. e) (λ e. let fits : 2 ≤ 1 = rw e at h in absurd (omega arith))
+    cond_both (is_end c) 1 2 (λ n. IsShadedTail (take n (c ∷ []))) (λ e. e)
+        (λ e. let fits : 2 ≤ 1 = rw e at h in absurd (omega arith))
 shaded_cut (c ∷ v ∷ ws) h =
     cond_both (is_end c) 1 (suc (suc (shaded_need ws))) (λ n. IsShadedTail (take n (c ∷ v ∷ ws)))
     (λ e. e)
     (λ e. let fits : suc (suc (shaded_need ws)) ≤ suc (suc (length ws)) = rw e at h in (e, shaded_cut ws (omega arith)))
 
-tail_cut : (k : Kind) (start more : List ℕ) → tail_need k start more ≤ length more → IsTail k start (take (tail_need k start more) more)
+tail_cut : (k : Kind) (start more : List ℕ) → tail_need k start more ≤ length more
+    → IsTail k start (take (tail_need k start more) more)
 tail_cut (Plain n) start more h = refl
 tail_cut Load start more h = length-take-le _ more h
 tail_cut (Polyline true) start more h = shaded_cut more h
@@ -160,7 +172,8 @@ record HasFront (words : List ℕ) : Type 0 where
   pub is : IsPacket packet
   pub some : 0 < length packet
 
-front : (words : List ℕ) → 0 < length words → packet_need (kind_of (slice_index words 0)) words ≤ length words → HasFront words
+front : (words : List ℕ) → 0 < length words → packet_need (kind_of (slice_index words 0)) words ≤ length words
+    → HasFront words
 front words some whole =
     let k = kind_of (slice_index words 0) in
     let n = start_len k in
@@ -176,8 +189,10 @@ front words some whole =
     record {
       packet = start ++ take m behind;
       rest = drop m behind;
-      parts = sym (take-append-drop n words) ∙ ap (λ xs. start ++ xs) (sym (take-append-drop m behind)) ∙ sym (append_assoc start (take m behind) (drop m behind));
-      is = packet_by k (start ++ take m behind) start (take m behind) (ap kind_of first) refl len (tail_cut k start behind fits);
+      parts = sym (take-append-drop n words) ∙ ap (λ xs. start ++ xs) (sym (take-append-drop m behind))
+          ∙ sym (append_assoc start (take m behind) (drop m behind));
+      is = packet_by k (start ++ take m behind) start (take m behind) (ap kind_of first) refl len
+          (tail_cut k start behind fits);
       some = omega (arith, length-append start (take m behind), len);
     }
 
@@ -188,14 +203,16 @@ cut_up fuel [] h = record { packets = []; rest = []; parts = refl; whole = tt; p
 cut_up zero (w ∷ ws) h = absurd (omega arith)
 cut_up (suc fuel) (w ∷ ws) h =
     elim (cases_lt (length (w ∷ ws)) (packet_need (kind_of w) (w ∷ ws))) [
-      | inl part ↦ record { packets = []; rest = w ∷ ws; parts = refl; whole = tt; part = inr (begins (w ∷ ws) (omega arith) part) }
+      | inl part ↦ record { packets = []; rest = w ∷ ws; parts = refl; whole = tt; part = inr
+          (begins (w ∷ ws) (omega arith) part) }
       | inr whole ↦
           let f = front (w ∷ ws) (omega arith) whole in
           let on = cut_up fuel f.rest (omega (arith, ap length f.parts, length-append f.packet f.rest, f.some)) in
           record {
             packets = f.packet ∷ on.packets;
             rest = on.rest;
-            parts = f.parts ∙ ap (λ xs. f.packet ++ xs) on.parts ∙ sym (append_assoc f.packet (flat_map (λ packet. packet) on.packets) on.rest);
+            parts = f.parts ∙ ap (λ xs. f.packet ++ xs) on.parts
+                ∙ sym (append_assoc f.packet (flat_map (λ packet. packet) on.packets) on.rest);
             whole = (f.is, on.whole);
             part = on.part;
           }

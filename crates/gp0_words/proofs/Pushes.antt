@@ -12,7 +12,8 @@ use Rattle.gp0_words.specs.declared.pending.Pending.{Pending}
 use Rattle.gp0_words.specs.declared.pending.Pending.TheVariants as pending
 use Rattle.gp0_words.proofs.Cut.{Items-push, Rest-push, next_pending-kept}
 
-pushed_next : (old : Pending) (word : ℕ) → IsPending old → IsPushed old (next_pending old word) word (next_item old word)
+pushed_next : (old : Pending) (word : ℕ) → IsPending old
+    → IsPushed old (next_pending old word) word (next_item old word)
 pushed_next old word kept = record {
   item = λ words e. rw (← e) (Items-push words word);
   stands = λ words e. rw (← e) (Rest-push words word);
@@ -21,7 +22,8 @@ pushed_next old word kept = record {
   bounds = (kept, next_pending-kept old word kept);
 }
 
-pub pushed : (old new : Pending) (word : ℕ) (answer : Option Item) → IsPending old → new ≡ next_pending old word → answer ≡ next_item old word
+pub pushed : (old new : Pending) (word : ℕ) (answer : Option Item) → IsPending old → new ≡ next_pending old word
+    → answer ≡ next_item old word
     → IsPushed old new word answer
 pushed old new word answer kept p a = rw (p, a) (pushed_next old word kept)
 
@@ -53,6 +55,9 @@ idle_is (pending.Packet words) idle = absurd idle
 idle_is (pending.Pixels left) idle = absurd idle
 idle_is (pending.Poly command color vertex half) idle = absurd idle
 
-pub register_pushed : (h : Pending) (word : ℕ) → IsIdle h → word / 2 ^ 29 ≡ 7 → IsPushed h h word (Some (Whole (word ∷ [])))
+pub register_pushed : (h : Pending) (word : ℕ) → IsIdle h → word / 2 ^ 29 ≡ 7
+    → IsPushed h h word (Some (Whole (word ∷ [])))
 register_pushed h word idle class =
-    rw (idle_is h idle) (pushed pending.Idle pending.Idle word (Some (Whole (word ∷ []))) tt (rw (register_kind word class) refl) (rw (register_kind word class) refl))
+    rw (idle_is h idle)
+        (pushed pending.Idle pending.Idle word (Some (Whole (word ∷ []))) tt (rw (register_kind word class) refl)
+        (rw (register_kind word class) refl))

@@ -182,7 +182,8 @@ fn want_more(words: &Words) -> bool
 /// nothing changes.
 pub fn extend(pending: &mut Pending, word: u32) -> bool
     requires { IsPending pending.old }
-    ensures taken { IsTrue result → (pending.new ≡ next_pending pending.old word) × (next_item pending.old word ≡ None) }
+    ensures taken { IsTrue result → (pending.new ≡ next_pending pending.old word)
+        × (next_item pending.old word ≡ None) }
     ensures others { result ≡ false → pending.new ≡ pending.old }
 {
     match pending {

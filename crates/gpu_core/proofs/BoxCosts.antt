@@ -7,7 +7,8 @@ use Rattle.gp0_packets.specs.declared.packet.Packet.TheVariants as packet
 use Rattle.prim_draw.proofs.CostLemmas.{cost_law}
 use Rattle.vram_store.specs.Vram.{height_of}
 use Rattle.vram_copy.proofs.CutLemmas.{copies_small, fills_small}
-use Rattle.gpu_core.specs.Cost.{FeedCost, FeedBoxCost, TakeCost, TakeBoxCost, packet_cost, packet_box_cost, item_cost, item_box_cost, pixels_of}
+use Rattle.gpu_core.specs.Cost.{FeedCost, FeedBoxCost, TakeCost, TakeBoxCost, packet_cost, packet_box_cost, item_cost}
+use Rattle.gpu_core.specs.Cost.{item_box_cost, pixels_of}
 use Rattle.gpu_core.specs.Laws.{CostLaw}
 use Rattle.gpu_core.specs.Machine.{Parts, State, new_item, with_page}
 
@@ -31,7 +32,8 @@ packet-small p (packet.Env index value) = none
 packet-small p (packet.Poly four a b c d shaded textured semi raw clut page) =
     cost_law (with_page p.regs textured page) (packet.Poly four a b c d shaded textured semi raw clut page)
 packet-small p (packet.Segment a b semi) = cost_law p.regs (packet.Segment a b semi)
-packet-small p (packet.Rect x y w h color textured semi raw u v clut) = cost_law p.regs (packet.Rect x y w h color textured semi raw u v clut)
+packet-small p (packet.Rect x y w h color textured semi raw u v clut) = cost_law p.regs
+    (packet.Rect x y w h color textured semi raw u v clut)
 packet-small p packet.Irq = none
 packet-small p packet.Nop = none
 packet-small p packet.Finish = none

@@ -21,7 +21,8 @@ pub record IsFed (s : State) (k : Kept) (new : Pending) (event word : ℕ) (r : 
   pub note : FeedNote s event word ≡ noted k.parts.regs event r
   pub cost : FeedCost s word ≡ item_cost k.parts r
 
-pub fed : (s : State) (k : Kept) (new : Pending) (event word : ℕ) (r : Option Item) → kept_of s ≡ k → IsPushed k.pending new word r
+pub fed : (s : State) (k : Kept) (new : Pending) (event word : ℕ) (r : Option Item) → kept_of s ≡ k
+    → IsPushed k.pending new word r
     → IsFed s k new event word r
 unfolding Feed FeedNote FeedCost
 fed s k new event word r e push =
@@ -37,21 +38,25 @@ fed s k new event word r e push =
 
 -- ---- a data word of a load
 
-pub data_effect : (p : Parts) (word : ℕ) → Effect p (packet_of p.regs.height (item.Pixels word)) ≡ with_pixels p p.load word
+pub data_effect : (p : Parts) (word : ℕ) → Effect p (packet_of p.regs.height (item.Pixels word))
+    ≡ with_pixels p p.load word
 unfolding Effect
 data_effect p word = refl
 
-pub data_cost : (p : Parts) (word : ℕ) → packet_cost p (packet_of p.regs.height (item.Pixels word)) ≡ 2 * pixels_of p.load
+pub data_cost : (p : Parts) (word : ℕ) → packet_cost p (packet_of p.regs.height (item.Pixels word))
+    ≡ 2 * pixels_of p.load
 unfolding packet_cost
 data_cost p word = refl
 
-pub data_note : (r : Registers) (event word : ℕ) → note_of r event (item.Pixels word) ≡ record { event = event; class = 9; head = word; area = None }
+pub data_note : (r : Registers) (event word : ℕ) → note_of r event (item.Pixels word)
+    ≡ record { event = event; class = 9; head = word; area = None }
 unfolding area_of
 data_note r event word = refl
 
 -- ---- a register's word
 
-pub register_packet : (height word : ℕ) → word / 2 ^ 29 ≡ 7 → packet_of height (item.Whole (word ∷ [])) ≡ environment_of word
+pub register_packet : (height word : ℕ) → word / 2 ^ 29 ≡ 7 → packet_of height (item.Whole (word ∷ []))
+    ≡ environment_of word
 unfolding whole_of
 register_packet height word class = rw (register_kind word class, class) refl
 

@@ -1,5 +1,6 @@
 -- Words that are fed one after another.
-use Rattle.std.proofs.Common.{◌≡◌, ◌≤◌, ◌<◌, ℕ, suc, ◌+◌, List, [], ◌∷◌, ◌++◌, Option, Some, None, option_to_list, fold, length, take, get_or, map, refl, ap, sym, ◌∙◌, arith, append-nil, append_assoc, add-zero}
+use Rattle.std.proofs.Common.{◌≡◌, ◌≤◌, ◌<◌, ℕ, suc, ◌+◌, List, [], ◌∷◌, ◌++◌, Option, Some, None, option_to_list, fold}
+use Rattle.std.proofs.Common.{length, take, get_or, map, refl, ap, sym, ◌∙◌, arith, append-nil, append_assoc, add-zero}
 use Rattle.std.proofs.lemmas.List.{take_more, length-take-le}
 use Rattle.std.proofs.lemmas.List.Sums.{fold-append}
 use Rattle.gp0_packets.specs.declared.note.Note.{Note}
@@ -35,11 +36,13 @@ map-same : (readings : List Reading) → readings ≡ map (after_notes []) readi
 map-same [] = refl
 map-same (reading ∷ readings) = ap (λ more. reading ∷ more) (map-same readings)
 
-told_one : (note : Option Note) (readings : List Reading) → told_option note readings ≡ map (after_notes (option_to_list note ++ [])) readings
+told_one : (note : Option Note) (readings : List Reading) → told_option note readings
+    ≡ map (after_notes (option_to_list note ++ [])) readings
 told_one None readings = map-same readings
 told_one (Some note) readings = refl
 
-pub one_taken : (s : State) (first word : ℕ) (now : Kept) (note : Option Note) (heard heard_now : List Reading) (steps steps_now : ℕ)
+pub one_taken : (s : State) (first word : ℕ) (now : Kept) (note : Option Note) (heard heard_now : List Reading)
+    (steps steps_now : ℕ)
     → kept_of (Feed s word) ≡ now → FeedNote s (capped first) word ≡ note → heard_now ≡ told_option note heard
     → steps_now ≤ steps + FeedCost s word → TakesWords s first (word ∷ []) now heard heard_now steps steps_now
 one_taken s first word now note heard heard_now steps steps_now feed noted told cost = record {

@@ -1,5 +1,6 @@
 -- Data words of the open load, one after another.
-use Rattle.std.proofs.Common.{◌≡◌, ◌<◌, ◌≤◌, ◌+◌, ◌-◌, ◌*◌, ℕ, suc, List, [], ◌∷◌, Option, Some, None, length, fold, map}
+use Rattle.std.proofs.Common.{◌≡◌, ◌<◌, ◌≤◌, ◌+◌, ◌-◌, ◌*◌, ℕ, suc, List, [], ◌∷◌, Option, Some, None, length, fold}
+use Rattle.std.proofs.Common.{map}
 use Rattle.std.proofs.Common.{nat_lt, true, false, refl, ap, sym, ◌∙◌, inl, inr, arith}
 use Rattle.std.proofs.lemmas.Bool.{cases_Bool, ltb-true}
 use Rattle.std.proofs.lemmas.Bool.Decides.{nat_tests}
@@ -30,7 +31,8 @@ loading p left = record { parts = p; pending = pending.Pixels left }
 -- ---- one word
 
 record IsOne (s : State) (p : Parts) (job : Transfer) (left word : ℕ) : Type 0 where
-  pub feed : kept_of (Feed s word) ≡ record { parts = with_pixels p (Some job) word; pending = next_pending (pending.Pixels left) word }
+  pub feed : kept_of (Feed s word)
+      ≡ record { parts = with_pixels p (Some job) word; pending = next_pending (pending.Pixels left) word }
   pub note : (event : ℕ) → FeedNote s event word ≡ Some (bare_note 9 event word)
   pub cost : FeedCost s word ≡ 2 * pixels_next job
 
@@ -38,7 +40,8 @@ one : (s : State) (p : Parts) (job : Transfer) (left word : ℕ) → kept_of s �
     → IsPending (pending.Pixels left) → IsOne s p job left word
 one s p job left word e open_load kept =
     let push : IsPushed (pending.Pixels left) (next_pending (pending.Pixels left) word) word (Some (item.Pixels word)) =
-    pushed (pending.Pixels left) (next_pending (pending.Pixels left) word) word (Some (item.Pixels word)) kept refl refl in
+    pushed (pending.Pixels left) (next_pending (pending.Pixels left) word) word
+        (Some (item.Pixels word)) kept refl refl in
     let is = λ (event : ℕ). fed s (loading p left) (next_pending (pending.Pixels left) word) event word
     (Some (item.Pixels word)) e push in
     let f : Parts → Kept = λ p. record { parts = p; pending = next_pending (pending.Pixels left) word } in
@@ -105,17 +108,20 @@ loaded (word ∷ next ∷ words) s p job left some e open_load kept link few =
 
 -- ---- a load that is open
 
-pub loads : (s : State) (p : Parts) (load : Option Transfer) (h new : Pending) (now : Parts) (played : ℕ) (words : List ℕ)
+pub loads : (s : State) (p : Parts) (load : Option Transfer) (h new : Pending) (now : Parts) (played : ℕ)
+    (words : List ℕ)
     (heard heard_now : List Reading) (steps steps_now : ℕ)
     → kept_of s ≡ record { parts = p; pending = h } → p.load ≡ load → IsPending h → IsLinked h load → 0 < length words
     → length words ≤ wanted h → new ≡ behind_pixels h (length words) → now ≡ with_words p load words
     → heard_now ≡ map (after_notes (bare_notes 9 (played + 1) words)) heard
     → steps_now ≤ steps + 2 * pixels_in_load load (length words)
     → TakesWords s (played + 1) words (record { parts = now; pending = new }) heard heard_now steps steps_now
-loads s p load (pending.Pixels left) new now played words heard heard_now steps steps_now e open_load kept link some few after parts told cost =
+loads s p load (pending.Pixels left) new now played words heard heard_now steps steps_now e open_load kept link some
+    few after parts told cost =
     with_job load open_load link parts cost
   where
-    with_job : (load : Option Transfer) → p.load ≡ load → IsLinked (pending.Pixels left) load → now ≡ with_words p load words
+    with_job : (load : Option Transfer) → p.load ≡ load → IsLinked (pending.Pixels left) load
+        → now ≡ with_words p load words
         → steps_now ≤ steps + 2 * pixels_in_load load (length words)
         → TakesWords s (played + 1) words (record { parts = now; pending = new }) heard heard_now steps steps_now
     with_job None open_load link parts cost = absurd link
@@ -126,9 +132,12 @@ loads s p load (pending.Pixels left) new now played words heard heard_now steps 
           told = rw (is.notes (played + 1)) told;
           cost = let c = is.cost in omega (arith, c, cost);
         }
-loads s p load pending.Idle new now played words heard heard_now steps steps_now e open_load kept link some few after parts told cost =
+loads s p load pending.Idle new now played words heard heard_now steps steps_now e open_load kept link some few after
+    parts told cost =
     absurd (omega (arith, some, few))
-loads s p load (pending.Packet held) new now played words heard heard_now steps steps_now e open_load kept link some few after parts told cost =
+loads s p load (pending.Packet held) new now played words heard heard_now steps steps_now e open_load kept link some
+    few after parts told cost =
     absurd (omega (arith, some, few))
-loads s p load (pending.Poly command color vertex half) new now played words heard heard_now steps steps_now e open_load kept link some few after parts told cost =
+loads s p load (pending.Poly command color vertex half) new now played words heard heard_now steps steps_now e
+    open_load kept link some few after parts told cost =
     absurd (omega (arith, some, few))

@@ -1,9 +1,13 @@
 -- The words of a plain packet.
-use Rattle.std.proofs.Common.{◌≡◌, ◌≤◌, ◌<◌, ℕ, suc, ◌+◌, ◌-◌, ◌*◌, ◌/◌, ◌%◌, ◌^◌, ◌==◌, Bool, true, false, cond, if◌then◌else◌, nat_lt, List, [], ◌∷◌, ◌++◌, Option, Some, None, option_to_list, fold, length, slice_index, get_or, map, refl, ap, sym, subst, ◌∙◌, arith, append-nil, append_assoc, length-append}
+use Rattle.std.proofs.Common.{◌≡◌, ◌≤◌, ◌<◌, ℕ, suc, ◌+◌, ◌-◌, ◌*◌, ◌/◌, ◌%◌, ◌^◌, ◌==◌, Bool, true, false, cond}
+use Rattle.std.proofs.Common.{if◌then◌else◌, nat_lt, List, [], ◌∷◌, ◌++◌, Option, Some, None, option_to_list, fold}
+use Rattle.std.proofs.Common.{length, slice_index, get_or, map, refl, ap, sym, subst, ◌∙◌, arith, append-nil}
+use Rattle.std.proofs.Common.{append_assoc, length-append}
 use Rattle.std.proofs.lemmas.Bool.Decides.{nat_tests}
 use Rattle.gp0_packets.specs.declared.note.Note.{Note}
 use Rattle.gp0_packets.specs.Packets.{packet_of}
-use Rattle.gp0_words.specs.Kinds.{class_of, opcode_of, kind_of, start_len, first_len_of, polygon_len_of, rectangle_len_of}
+use Rattle.gp0_words.specs.Kinds.{class_of, opcode_of, kind_of, start_len, first_len_of, polygon_len_of}
+use Rattle.gp0_words.specs.Kinds.{rectangle_len_of}
 use Rattle.gp0_words.specs.Next.{next_pending, next_item, collected_pending, collected_item, IsPending}
 use Rattle.gp0_words.specs.Pushed.{IsPushed}
 use Rattle.gp0_words.specs.declared.item.Item.{Item}
@@ -26,18 +30,21 @@ use Rattle.gpu_core.proofs.Link.{collected-linked}
 -- ---- its kind
 
 tests_plain : (a b c d : Bool) (k m n : ℕ) →
-    let kind = cond a (Plain k) (cond b (Plain m) (cond c (Plain 4) (cond d (Plain 3) (Plain n)))) in kind ≡ Plain (start_len kind)
+    let kind = cond a (Plain k) (cond b (Plain m) (cond c (Plain 4) (cond d (Plain 3) (Plain n)))) in kind
+        ≡ Plain (start_len kind)
 tests_plain true b c d k m n = refl
 tests_plain false true c d k m n = refl
 tests_plain false false true d k m n = refl
 tests_plain false false false true k m n = refl
 tests_plain false false false false k m n = refl
 
-pub plain_kind : (word : ℕ) → (word / 2 ^ 29 ≡ 2 → ⊥) → (word / 2 ^ 29 ≡ 5 → ⊥) → kind_of word ≡ Plain (first_len_of word)
+pub plain_kind : (word : ℕ) → (word / 2 ^ 29 ≡ 2 → ⊥) → (word / 2 ^ 29 ≡ 5 → ⊥)
+    → kind_of word ≡ Plain (first_len_of word)
 plain_kind word line load =
     let no_line : (word / 2 ^ 29 == 2) ≡ false = grind (arith, nat_tests) in
     let no_load : (word / 2 ^ 29 == 5) ≡ false = grind (arith, nat_tests) in
-    rw (no_line, no_load) (tests_plain (class_of word == 1) (class_of word == 3) (class_of word == 4) (class_of word == 6)
+    rw (no_line, no_load)
+        (tests_plain (class_of word == 1) (class_of word == 3) (class_of word == 4) (class_of word == 6)
     (polygon_len_of word) (rectangle_len_of word) (if opcode_of word == 2 then 3 else 1))
 
 -- ---- its words, one after another
@@ -66,14 +73,16 @@ same_first : (held : List ℕ) (word : ℕ) (words : List ℕ)
 same_first [] word words = refl
 same_first (first ∷ held) word words = refl
 
-begun_bounds : (held : List ℕ) (word : ℕ) (words : List ℕ) (n : ℕ) → kind_of (slice_index (held ++ word ∷ words) 0) ≡ Plain n
+begun_bounds : (held : List ℕ) (word : ℕ) (words : List ℕ) (n : ℕ) → kind_of (slice_index (held ++ word ∷ words) 0)
+    ≡ Plain n
     → length held < n → IsPending (begun held)
 begun_bounds [] word words n kind lt = tt
 begun_bounds (first ∷ held) word words n kind lt = (omega arith, rw kind lt)
 
 -- these are the words of a packet that were still to come
 record IsTaken (s : State) (p : Parts) (first : ℕ) (words all : List ℕ) : Type 0 where
-  pub feed : kept_of (fold Feed s words) ≡ record { parts = after_item p (Some (item.Whole all)); pending = pending.Idle }
+  pub feed : kept_of (fold Feed s words)
+      ≡ record { parts = after_item p (Some (item.Whole all)); pending = pending.Idle }
   pub notes : feed_notes s first words ≡ note_of p.regs (capped (first + (length words - 1))) (item.Whole all) ∷ []
   pub cost : feeds_cost s words ≡ item_cost p (Some (item.Whole all))
 
@@ -86,9 +95,11 @@ taken (word ∷ []) s p first held n some e kind len =
     let bounds = begun_bounds held word [] n kind (omega (arith, len, length-append held (word ∷ []))) in
     let whole : nat_lt (length all) n ≡ false = grind (arith, nat_tests, len) in
     let idle : pending.Idle ≡ next_pending (begun held) word = sym (begun_pending held word ∙ rw (kind, whole) refl) in
-    let is_item : Some (item.Whole all) ≡ next_item (begun held) word = sym (begun_item held word ∙ rw (kind, whole) refl) in
+    let is_item : Some (item.Whole all) ≡ next_item (begun held) word = sym
+        (begun_item held word ∙ rw (kind, whole) refl) in
     let push = pushed (begun held) pending.Idle word (Some (item.Whole all)) bounds idle is_item in
-    let is = fed s (record { parts = p; pending = begun held }) pending.Idle (capped first) word (Some (item.Whole all)) e push in
+    let is = fed s (record { parts = p; pending = begun held }) pending.Idle (capped first) word
+        (Some (item.Whole all)) e push in
     let number : first + (length (word ∷ []) - 1) ≡ first = omega arith in
     record {
       feed = is.feed;
@@ -99,7 +110,8 @@ taken (word ∷ next ∷ words) s p first held n some e kind len =
     let all = held ++ word ∷ [] in
     let long = length-append held (word ∷ next ∷ words) in
     let bounds = begun_bounds held word (next ∷ words) n kind (omega (arith, len, long)) in
-    let kind_now : kind_of (slice_index all 0) ≡ Plain n = ap kind_of (sym (same_first held word (next ∷ words))) ∙ kind in
+    let kind_now : kind_of (slice_index all 0) ≡ Plain n = ap kind_of (sym (same_first held word (next ∷ words)))
+        ∙ kind in
     let part : nat_lt (length all) n ≡ true =
     let more = length-append held (word ∷ []) in grind (arith, nat_tests, len, long, more) in
     let held_now : begun all ≡ next_pending (begun held) word =
@@ -129,7 +141,8 @@ pub plain_taken : (s : State) (p : Parts) (h : Pending) (now : Parts) (note : No
     → note ≡ note_of p.regs event (item.Whole words) → now ≡ after_item p (Some (item.Whole words))
     → heard_now ≡ map (reading_after note) heard → steps_now ≤ steps + item_cost p (Some (item.Whole words))
     → TakesWords s (played + 1) words (record { parts = now; pending = h }) heard heard_now steps steps_now
-plain_taken s p h now note event played words heard heard_now steps steps_now e idle some kind number noted effect told cost =
+plain_taken s p h now note event played words heard heard_now steps steps_now e idle some kind number noted effect told
+    cost =
     let f : Pending → Kept = λ h. record { parts = p; pending = h } in
     let is = taken words s p (played + 1) [] (length words) some (e ∙ ap f idle) kind refl in
     let same : capped (played + 1 + (length words - 1)) ≡ event = omega (arith, some, number) in
@@ -140,7 +153,8 @@ plain_taken s p h now note event played words heard heard_now steps steps_now e 
       cost = let c = is.cost in omega (arith, c, cost);
     }
 
-pub plain_load : (height : ℕ) (words : List ℕ) (p : Parts) → 0 < length words → kind_of (slice_index words 0) ≡ Plain (length words)
+pub plain_load : (height : ℕ) (words : List ℕ) (p : Parts) → 0 < length words → kind_of (slice_index words 0)
+    ≡ Plain (length words)
     → p.load ≡ None → (Effect p (packet_of height (item.Whole words))).load ≡ None
 plain_load height words p some kind none =
     let whole : nat_lt (length words) (length words) ≡ false = grind (arith, nat_tests) in

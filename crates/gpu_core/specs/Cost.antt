@@ -19,8 +19,9 @@ pixels_of (Some job) = pixels_next job
 
 -- ---- the second table
 
--- A row of a fill of width w costs w / 16; a chunk of a copy 3, and 3 a cell where it reads what it writes; what is drawn
--- its spans and points; a data word of a load 2 for each pixel that it plots; a read 1 for each pixel that it gives.
+-- A row of a fill of width w costs w / 16; a chunk of a copy 3, and 3 a cell where it reads what it writes; what is
+-- drawn its spans and points; a data word of a load 2 for each pixel that it plots; a read 1 for each pixel that it
+-- gives.
 unfoldable pub packet_cost : Parts → Packet → ℕ
 packet_cost p (packet.Fill color x y w h) = fill_cost w h
 packet_cost p (packet.Copy from to w h) = copy_cost (height_of p.m) from to w h
@@ -51,8 +52,8 @@ TakeCost s = pixels_of s.parts.store
 
 -- ---- the first table
 
--- Four for each cell of a box that is drawn and of the rectangle of a fill or copy, for each pixel that a data word of a
--- load plots and for each that a read gives.
+-- Four for each cell of a box that is drawn and of the rectangle of a fill or copy, for each pixel that a data word of
+-- a load plots and for each that a read gives.
 unfoldable pub packet_box_cost : Parts → Packet → ℕ
 packet_box_cost p (packet.Fill color x y w h) = 4 * w * h
 packet_box_cost p (packet.Copy from to w h) = 4 * w * h

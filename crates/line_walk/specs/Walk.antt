@@ -1,7 +1,7 @@
 -- Segments that are walked point by point: each value is stepped in parts of 1 (psx-spx, "GPU Render Line Commands";
 -- which points, is our own rule).
-use Rattle.std.specs.Prelude.{ℕ, ◌+◌, ◌*◌, ◌/◌, ◌%◌, ◌^◌, ◌≤◌, ◌<◌, ◌≡◌, max, unsigned_abs, ℤ, pos, ◌+ℤ◌, ◌-ℤ◌, ◌*ℤ◌}
-use Rattle.std.specs.Prelude.{◌≤ℤ◌}
+use Rattle.std.specs.Prelude.{ℕ, ◌+◌, ◌*◌, ◌/◌, ◌%◌, ◌^◌, ◌≤◌, ◌<◌, ◌≡◌, max, unsigned_abs}
+use Rattle.std.specs.Prelude.{ℤ, pos, ◌+ℤ◌, ◌-ℤ◌, ◌*ℤ◌, ◌≤ℤ◌}
 use Rattle.std.specs.Int.Signed.{shr_z}
 use Rattle.line_walk.specs.Line.{Ends, IsNear, len_of, steps_of}
 use Rattle.line_walk.specs.declared.slope.Slope.{Slope}
@@ -43,8 +43,10 @@ pub record AreBytes (t : Tones) : Type 0 where
 
 -- the colour that the channels have come to
 abbrev pub tint_of : Tones → ℕ
-tint_of t = unsigned_abs (value_of t.red) + 2 ^ 8 * unsigned_abs (value_of t.green) + 2 ^ 16 * unsigned_abs
-    (value_of t.blue)
+tint_of t =
+    unsigned_abs (value_of t.red)
+    + 2 ^ 8 * unsigned_abs (value_of t.green)
+    + 2 ^ 16 * unsigned_abs (value_of t.blue)
 
 -- slopes of both coordinates and of the colour at the point that comes next; a segment of one point is cut into one
 -- step too

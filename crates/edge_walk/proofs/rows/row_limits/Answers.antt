@@ -7,4 +7,5 @@ pub returns : goal.returns
 unfolding is_within
 returns c x =
     let y_fits = c.ranges.y in
-    three_iff _ _ _ (simp to_z-of_z at (c.within_edge-first.ensures x)) (simp to_z-of_z at (c.within_edge-second.ensures x)) (simp to_z-of_z at (c.within_edge.ensures x))
+    three_iff _ _ _ (simp to_z-of_z at (c.within_edge-first.ensures x))
+        (simp to_z-of_z at (c.within_edge-second.ensures x)) (simp to_z-of_z at (c.within_edge.ensures x))

@@ -1,4 +1,5 @@
-use Rattle.std.proofs.Common.{◌≡◌, ◌≤◌, ◌+◌, ◌-◌, ℕ, List, take, drop, length, length-drop, ap, sym, ◌∙◌, subst, map, arith}
+use Rattle.std.proofs.Common.{◌≡◌, ◌≤◌, ◌+◌, ◌-◌, ℕ, List, take, drop, length, length-drop, ap, sym, ◌∙◌, subst, map}
+use Rattle.std.proofs.Common.{arith}
 use Rattle.std.proofs.Math.Seq.{take-add}
 use Rattle.std.proofs.lemmas.List.{take_all}
 use Rattle.event_play.specs.PlayedWords.{IsTold, after_words}
@@ -37,7 +38,8 @@ words-preserved g c =
 
 pub returns : goal.returns
 returns g c = λ t first told.
-    let all : take c.words.at c.args.words.now ≡ c.args.words.now = take_all c.words.at c.args.words.now c.words-test.false in
+    let all : take c.words.at c.args.words.now
+        ≡ c.args.words.now = take_all c.words.at c.args.words.now c.words-test.false in
     let P : List ℕ → Type 0 = λ words. IsTold (after_words t words) first
     (without_sink (map g.T.Listener.heard c.words.taps.items) c.words.steps) c.words.gpu c.words.number in
     subst P all (c.words.invariant.told t first told)

@@ -8,7 +8,8 @@ abbrev pub invariant-words : goal.invariant-words
 invariant-words g l = record {
   within : l.at ≤ length l.words;
   told : (t : Tale) (first : Outlets)
-      → IsTold t first (without_sink (map g.T.Listener.heard l.initial.taps.items) l.initial.steps) l.initial.gpu l.played
+      → IsTold t first (without_sink (map g.T.Listener.heard l.initial.taps.items) l.initial.steps) l.initial.gpu
+          l.played
       → IsTold (after_words t (take l.at l.words)) first
       (without_sink (map g.T.Listener.heard l.taps.items) l.steps) l.gpu l.number;
 }

@@ -14,5 +14,6 @@ returns-clause-told g c = λ t first told.
     (without_sink (map g.T.Listener.heard c.take_first.new.taps.items) c.take_first.new.steps) c.take_first.new.self
     (number_behind c.args.played count) in
     subst Q long
-    (words_told t first _ _ c.args.gpu.now c.take_first.new.self c.args.played words (omega (arith, c.ranges.played.fits)) told
+    (words_told t first _ _ c.args.gpu.now c.take_first.new.self c.args.played words
+        (omega (arith, c.ranges.played.fits)) told
     c.take_first.ensures.takes)

@@ -4,4 +4,5 @@ use Rattle.gpu_core.proofs.Plain.{plain_kind}
 use Rattle.gpu_core.proofs.block.plain_count.Goals as goal
 
 pub returns-clause-kind : goal.returns-clause-kind
-returns-clause-kind c = λ _. plain_kind c.args.word c.if-class-eq2.false c.if-class-eq5.false ∙ ap Plain (sym c.first_len.ensures)
+returns-clause-kind c = λ _. plain_kind c.args.word c.if-class-eq2.false c.if-class-eq5.false
+    ∙ ap Plain (sym c.first_len.ensures)

@@ -31,7 +31,9 @@ returns-clause-drawn c =
     is_drawn-yes _ (record { small = c.if-not-is_small.ensures.0 refl; area = omega (arith, ints, is) })
 
 pub returns-then-not-is_small-clause-drawn : goal.returns-then-not-is_small-clause-drawn
-returns-then-not-is_small-clause-drawn c = is_drawn-no _ (λ h. let e : IsTrue false = c.if-not-is_small.ensures.1 h.small in absurd cc)
+returns-then-not-is_small-clause-drawn c = is_drawn-no _
+    (λ h. let e : IsTrue false = c.if-not-is_small.ensures.1 h.small in absurd cc)
 
 pub returns-then-area-eq0-clause-drawn : goal.returns-then-area-eq0-clause-drawn
-returns-then-area-eq0-clause-drawn c = let is = c.doubled_area-area.ensures in is_drawn-no _ (λ h. h.area (omega (arith, ints, is)))
+returns-then-area-eq0-clause-drawn c = let is = c.doubled_area-area.ensures in
+    is_drawn-no _ (λ h. h.area (omega (arith, ints, is)))

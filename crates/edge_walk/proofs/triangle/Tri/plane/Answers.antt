@@ -10,7 +10,8 @@ use Rattle.edge_walk.proofs.PlaneLemmas.{plane_line}
 use Rattle.edge_walk.proofs.triangle.Tri.plane.Goals as goal
 use Rattle.edge_walk.proofs.triangle.Tri.plane.Goals.{After-upright-t}
 
-area : (c : After-upright-t) → IsAreaOf c.args.divisor.now (corners c.upright-t.result.a c.upright-t.result.b c.upright-t.result.c)
+area : (c : After-upright-t)
+    → IsAreaOf c.args.divisor.now (corners c.upright-t.result.a c.upright-t.result.b c.upright-t.result.c)
 area c = area_held _ _ _ _ _ c.requires.divisor c.upright-t.ensures.same c.upright-t.ensures.upright
 
 pub of-requires-clause-divisor : goal.of-requires-clause-divisor
@@ -31,9 +32,12 @@ returns c = record {
       let ay : SFits w32 t.a.y = search rules in
       let by : SFits w32 t.b.y = search rules in
       let cy : SFits w32 t.c.y = search rules in
-      plane_line t.a t.b t.c c.args.which c.args.divisor.now.area c.args.divisor.now.reciprocal c.of.result c.upright-t.ensures.upright c.of.ensures.bytes held.is held.divisor.some held.divisor.most held.divisor.reciprocal
+      plane_line t.a t.b t.c c.args.which c.args.divisor.now.area c.args.divisor.now.reciprocal c.of.result
+          c.upright-t.ensures.upright c.of.ensures.bytes held.is held.divisor.some held.divisor.most
+          held.divisor.reciprocal
       (record { across = c.of.ensures.across; down_is = c.of.ensures.down; base = c.of.ensures.base })
-      x y here (omega (arith, ints)) (omega (arith, ints)) (omega (arith, ints, clamps, box.0.0)) (omega (arith, ints, clamps, box.1.0))
+      x y here (omega (arith, ints)) (omega (arith, ints)) (omega (arith, ints, clamps, box.0.0))
+          (omega (arith, ints, clamps, box.1.0))
       at j lt (sym (inside_is c.args.self.now t.a t.b t.c same (x +ℤ pos (at + j)) y) ∙ there)
       ∙ ap (λ w. mixed_of w c.args.which (x +ℤ pos (at + j)) y) same;
 }

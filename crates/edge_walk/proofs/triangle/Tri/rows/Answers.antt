@@ -11,16 +11,21 @@ use Rattle.edge_walk.proofs.triangle.Tri.rows.Goals.{After-bounds-own}
 small : (c : After-bounds-own) → IsSmall (oriented c.args.self.now)
 small c = subst (λ w. IsSmall w) c.upright-t.ensures.same c.upright-t.ensures.upright.small
 
-near : (c : After-bounds-own) → AreReached (corners c.upright-t.result.a c.upright-t.result.b c.upright-t.result.c) c.args.clip.now.y1
+near : (c : After-bounds-own)
+    → AreReached (corners c.upright-t.result.a c.upright-t.result.b c.upright-t.result.c) c.args.clip.now.y1
 near c =
     let clip = c.args.clip.now in
-    subst (λ w. AreReached w clip.y1) (sym c.upright-t.ensures.same) (reached c.args.self.now clip clip.y1 (small c) c.requires (omega (arith, ints)) (omega (arith, ints, c.requires.some)))
+    subst (λ w. AreReached w clip.y1) (sym c.upright-t.ensures.same)
+        (reached c.args.self.now clip clip.y1 (small c) c.requires (omega (arith, ints))
+        (omega (arith, ints, c.requires.some)))
 
-beside : (c : After-bounds-own) → AreAcross (corners c.upright-t.result.a c.upright-t.result.b c.upright-t.result.c) c.bounds-own.result.x1
+beside : (c : After-bounds-own)
+    → AreAcross (corners c.upright-t.result.a c.upright-t.result.b c.upright-t.result.c) c.bounds-own.result.x1
 beside c =
     let t = c.args.self.now in
     let is = ap (λ b. b.x1) c.bounds-own.ensures.value in
-    subst (λ w. AreAcross w c.bounds-own.result.x1) (sym c.upright-t.ensures.same) (rw is (across t (bounding_box t).x1 (small c) (omega (arith, ints)) (in_order t)))
+    subst (λ w. AreAcross w c.bounds-own.result.x1) (sym c.upright-t.ensures.same)
+        (rw is (across t (bounding_box t).x1 (small c) (omega (arith, ints)) (in_order t)))
 
 pub at-requires-clause-reach : goal.at-requires-clause-reach
 at-requires-clause-reach c =
@@ -75,7 +80,10 @@ returns c =
       right_fits = rw right_is at right_fits;
       low = c.of.ensures.low ∙ ap (λ x. in_parts own.x1 (int_max clip.x1 x)) left_is;
       high = c.of.ensures.high ∙ ap (λ x. in_parts own.x1 (int_min clip.x2 x)) right_is;
-      first = subst (λ (w : Corners). IsSide w.first w.second own.x1 clip.y1 c.at.result) same (simp to_z-of_z at c.at.ensures);
-      second = subst (λ (w : Corners). IsSide w.second w.third own.x1 clip.y1 c.at-2.result) same (simp to_z-of_z at c.at-2.ensures);
-      third = subst (λ (w : Corners). IsSide w.third w.first own.x1 clip.y1 c.at-3.result) same (simp to_z-of_z at c.at-3.ensures);
+      first = subst (λ (w : Corners). IsSide w.first w.second own.x1 clip.y1 c.at.result) same
+          (simp to_z-of_z at c.at.ensures);
+      second = subst (λ (w : Corners). IsSide w.second w.third own.x1 clip.y1 c.at-2.result) same
+          (simp to_z-of_z at c.at-2.ensures);
+      third = subst (λ (w : Corners). IsSide w.third w.first own.x1 clip.y1 c.at-3.result) same
+          (simp to_z-of_z at c.at-3.ensures);
     })
