@@ -24,13 +24,20 @@ sum_of_edges a b c x y = same (add (add (poly_edge a b x y) (poly_edge b c x y))
     (poly_edge a b c.x c.y) (omega arith)
 
 pub IsSmall-turned : (a b c : Vertex) → IsSmall (corners a b c) → IsSmall (corners a c b)
-IsSmall-turned a b c h = record { one = IsNear-sym c a h.three; two = IsNear-sym b c h.two; three = IsNear-sym a b
-    h.one }
+IsSmall-turned a b c h = record {
+  one = IsNear-sym c a h.three;
+  two = IsNear-sym b c h.two;
+  three = IsNear-sym a b
+      h.one;
+}
 
 pub IsUpright-turned : (a b c : Vertex) → IsSmall (corners a b c) → doubled_area (corners a b c) <ℤ pos 0
     → IsUpright (corners a c b)
-IsUpright-turned a b c h less = record { small = IsSmall-turned a b c h; area = let e = area_turned a b c in
-    omega (arith, ints) }
+IsUpright-turned a b c h less = record {
+  small = IsSmall-turned a b c h;
+  area = let e = area_turned a b c in
+      omega (arith, ints);
+}
 
 module _ (t : Corners) where
   pub oriented_turned : true ≡ int_lt (doubled_area t) (pos 0) → corners t.first t.third t.second ≡ oriented t
@@ -55,7 +62,7 @@ inside_is t a b c e x y = ap (λ w. is_within w x y) (sym e)
 
 pub three_sides : (v : Corners) (a b c : Vertex) (x y : ℤ) (one two three all : Bool) → corners a b c ≡ oriented v
     → one ≡ is_on_side a b x y → two ≡ is_on_side b c x y → three ≡ is_on_side c a x y → all ≡ (one && two && three)
-        → all ≡ is_inside v x y
+    → all ≡ is_inside v x y
 unfolding is_within
 three_sides v a b c x y one two three all same_as first second third all_is =
     all_is ∙ (rw (first, second, third) (ap (λ w. is_within w x y) same_as))

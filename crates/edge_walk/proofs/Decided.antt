@@ -23,8 +23,11 @@ is_near-iff p q = (
 )
 
 not_zero : (z : ℤ) → IsTrue (not (eqb (unsigned_abs z) 0)) ↔ (z ≢ pos 0)
-not_zero z = (λ h e. some_to (unsigned_abs z) h (omega (arith, ints)), λ h. some_from (unsigned_abs z)
-    (omega (arith, ints)))
+not_zero z = (
+  λ h e. some_to (unsigned_abs z) h (omega (arith, ints)),
+  λ h. some_from (unsigned_abs z)
+      (omega (arith, ints)),
+)
   where
     some_to : (n : ℕ) → IsTrue (not (eqb n 0)) → n ≢ 0
     some_to n h = grind (arith, nat_tests)
@@ -39,9 +42,13 @@ is_drawn-iff t = (
     small = record { one = (is_near-iff _ _).0 w.0; two = (is_near-iff _ _).0 w.1; three = (is_near-iff _ _).0 v.1 };
     area = (not_zero (doubled_area t)).0 u.1;
   },
-  λ h. (both_true _ _).1
-      ((both_true _ _).1 ((both_true _ _).1 ((is_near-iff _ _).1 h.small.one, (is_near-iff _ _).1 h.small.two),
-      (is_near-iff _ _).1 h.small.three), (not_zero (doubled_area t)).1 h.area),
+  λ h. (both_true _ _).1 (
+    (both_true _ _).1 (
+      (both_true _ _).1 ((is_near-iff _ _).1 h.small.one, (is_near-iff _ _).1 h.small.two),
+      (is_near-iff _ _).1 h.small.three,
+    ),
+    (not_zero (doubled_area t)).1 h.area,
+  ),
 )
 
 not_true : (b : Bool) → (IsTrue b → ⊥) → b ≡ false

@@ -41,11 +41,11 @@ module _ (w start r i n s : ℕ) (some : 0 < w) (small : s * r < w) where
 
   further : (falls : Bool) (turn : ℕ → ℕ) → ((size : ℕ) → turn size ≡ cond falls ((w - size) % w) size)
       → (falls ≡ true → s + n * i ≡ start) → (falls ≡ false → s ≡ start + n * i)
-          → (start * r + turn (n * r % w) * i) % w ≡ s * r
+      → (start * r + turn (n * r % w) * i) % w ≡ s * r
   further true turn is down up =
       let t = turned (n * r % w) w low in
       rw (is (n * r % w))
-          (falling w start r i n s (n * r / w) (n * r % w) halves small (down refl) t.0 ((w - n * r % w) % w) t.1)
+      (falling w start r i n s (n * r / w) (n * r % w) halves small (down refl) t.0 ((w - n * r % w) % w) t.1)
   further false turn is down up = rw (is (n * r % w))
       (rising w start r i n s (n * r / w) (n * r % w) halves small (up refl))
 
@@ -82,7 +82,7 @@ module _ (s a r q sum : ℕ) (low : q * a ≤ s) (high : s < q * a + a) (over : 
       let four = mul-le-mul_right (2 ^ 56) next in
       let five = mul-le-mul_left a near_sum.below in
       let less : 2 ^ 32 * sum < q * 2 ^ 56 + 2 ^ 56 = lt_of_mul-lt-mul_left a
-          (omega (arith, one, two, three, four, five, most)) in
+      (omega (arith, one, two, three, four, five, most)) in
       omega (arith, less)
 
 near_exact : (s a r sum : ℕ) → 0 < a → a ≤ 1045506 → s ≤ 255 * a → r ≡ 2 ^ 56 / a + 1 → IsNear sum (s * r)
@@ -101,7 +101,7 @@ near_exact s a r sum some most bound r_is near_sum =
 pub line_is : (start at j area r : ℕ) (step : ℤ) → j < 16 → 0 < area → area ≤ 1045506 → r ≡ 2 ^ 56 / area + 1
     → pos 0 ≤ℤ (pos start +ℤ step *ℤ pos (at + j)) → unsigned_abs (pos start +ℤ step *ℤ pos (at + j)) ≤ 255 * area
     → line_value (record { first = start * r; step = scaled step r }) at j
-        ≡ unsigned_abs (pos start +ℤ step *ℤ pos (at + j)) / area
+    ≡ unsigned_abs (pos start +ℤ step *ℤ pos (at + j)) / area
 unfolding scaled line_value
 line_is start at j area r step lt some most r_is low high =
     let s : ℕ = unsigned_abs (pos start +ℤ step *ℤ pos (at + j)) in
@@ -111,9 +111,9 @@ line_is start at j area r step lt some most r_is low high =
     let small : s * r < 2 ^ 64 = omega (arith, bound, most) in
     let room : s * r + 12 * 2 ^ 32 < 2 ^ 64 = omega (arith, bound, most) in
     let sum = further (2 ^ 64) start r (at + j) (unsigned_abs step) s (omega arith) small (int_lt step (pos 0))
-        (wrapped (int_lt step (pos 0))) (λ size. refl)
+    (wrapped (int_lt step (pos 0))) (λ size. refl)
     (goes_down start (at + j) s step meant) (goes_up start (at + j) s step meant) in
     let there : (start * r + by * at + by * j) % 2 ^ 64 ≡ s * r = ap (λ z. z % 2 ^ 64) (omega arith) ∙ sum in
     let ninth : by * (at + 8) ≡ by * at + by * 8 = omega arith in
     rw ninth (near_exact s area r (short_sum j (start * r) (by * at) by) some most high r_is
-        (near j (start * r) (by * at) by (s * r) lt there room))
+    (near j (start * r) (by * at) by (s * r) lt there room))

@@ -49,7 +49,7 @@ area_small a b c ab ca =
     let e = edge_is a b c.x c.y in
     let one = product_bound (b.x -ℤ a.x) (c.y -ℤ a.y) (omega (arith, ints, ab.across)) (omega (arith, ints, ca.down)) in
     let two = product_bound_turned (b.y -ℤ a.y) (c.x -ℤ a.x) (omega (arith, ints, ab.down))
-        (omega (arith, ints, ca.across)) in
+    (omega (arith, ints, ca.across)) in
     omega (arith, ints, e, one, two)
 
 pub area_bound : (a b c : Vertex) → IsNear a b → IsNear c a → doubled_area (corners a b c) ≤ℤ pos 1045506
@@ -84,7 +84,7 @@ sum_is a b c x y m n k e f g = let sum = sum_of_edges a b c x y in omega (arith,
 pub mixed_is : (a b c : Vertex) (which : ℕ) (x y : ℤ) (m n k p q s r : ℕ) → pos m ≡ edge b c x y → pos n ≡ edge c a x y
     → pos k ≡ edge a b x y → pos (m + n + k) ≡ doubled_area (corners a b c)
     → p ≡ attribute which a → q ≡ attribute which b → s ≡ attribute which c → r ≡ (m * p + n * q + k * s) / (m + n + k)
-        → r ≡ mixed_of (corners a b c) which x y
+    → r ≡ mixed_of (corners a b c) which x y
 unfolding mixed_of weight
 mixed_is a b c which x y m n k p q s r e f g h p_is q_is s_is r_is =
     let e' : unsigned_abs (edge b c x y) ≡ m = sym (ap unsigned_abs e) in
@@ -100,8 +100,8 @@ unfolding oriented
 area_oriented t =
     let e = area_turned t.first t.second t.third in
     elim (int_lt (doubled_area t) (pos 0)) as
-        (λ turned. unsigned_abs (doubled_area (cond turned (corners t.first t.third t.second) t))
-        ≡ unsigned_abs (doubled_area t))
+    (λ turned. unsigned_abs (doubled_area (cond turned (corners t.first t.third t.second) t))
+    ≡ unsigned_abs (doubled_area t))
     [ true ↦ omega (arith, ints) | false ↦ refl ]
 
 pub record IsAreaOf (d : Divisor) (t : Corners) : Type 0 where
@@ -112,7 +112,7 @@ pub area_held : (v : Corners) (d : Divisor) (a b c : Vertex) → d ≡ divisor_f
     → IsUpright (corners a b c) → IsAreaOf d (corners a b c)
 area_held v d a b c is same_as upright =
     let whole : d.area ≡ unsigned_abs (doubled_area (corners a b c)) = ap (λ e. e.area) is ∙ sym (area_oriented v)
-        ∙ ap (λ w. unsigned_abs (doubled_area w)) (sym same_as) in
+    ∙ ap (λ w. unsigned_abs (doubled_area w)) (sym same_as) in
     let bound = area_bound a b c upright.small.one upright.small.three in record {
       divisor = record {
         some = omega (arith, ints, whole, upright.area);
@@ -130,22 +130,27 @@ part m m' j d e = omega (arith, ints)
 sum_further : (p q s m n k m' n' k' j : ℕ) (d e f : ℤ) → pos m' ≡ (pos m -ℤ d *ℤ pos j)
     → pos n' ≡ (pos n -ℤ e *ℤ pos j) → pos k' ≡ (pos k -ℤ f *ℤ pos j)
     → pos (m' * p + n' * q + k' * s)
-        ≡ (pos (m * p + n * q + k * s) +ℤ (pos 0 -ℤ pos p *ℤ d -ℤ pos q *ℤ e -ℤ pos s *ℤ f) *ℤ pos j)
+    ≡ (pos (m * p + n * q + k * s) +ℤ (pos 0 -ℤ pos p *ℤ d -ℤ pos q *ℤ e -ℤ pos s *ℤ f) *ℤ pos j)
 sum_further p q s m n k m' n' k' j d e f is_m is_n is_k =
     same (at (pos (m' * p + n' * q + k' * s)))
     (add (at (pos (m * p + n * q + k * s)))
-        (mul (sub (sub (sub (at (pos 0)) (mul (at (pos p)) (at d))) (mul (at (pos q)) (at e)))
-        (mul (at (pos s)) (at f))) (at (pos j))))
-    (omega (arith, ap (λ z. z * p) (part m m' j d is_m), ap (λ z. z * q) (part n n' j e is_n), ap (λ z. z * s)
-        (part k k' j f is_k)))
+    (mul (sub (sub (sub (at (pos 0)) (mul (at (pos p)) (at d))) (mul (at (pos q)) (at e)))
+    (mul (at (pos s)) (at f))) (at (pos j))))
+    (omega (
+      arith,
+      ap (λ z. z * p) (part m m' j d is_m),
+      ap (λ z. z * q) (part n n' j e is_n),
+      ap (λ z. z * s)
+          (part k k' j f is_k),
+    ))
 
 edge_further : (p q : Vertex) (x y z : ℤ) → edge p q (x +ℤ z) y ≡ (edge p q x y -ℤ (q.y -ℤ p.y) *ℤ z)
 unfolding edge
 edge_further p q x y z =
     same (sub (mul (sub (at q.x) (at p.x)) (sub (at y) (at p.y)))
-        (mul (sub (at q.y) (at p.y)) (sub (add (at x) (at z)) (at p.x))))
+    (mul (sub (at q.y) (at p.y)) (sub (add (at x) (at z)) (at p.x))))
     (sub (sub (mul (sub (at q.x) (at p.x)) (sub (at y) (at p.y))) (mul (sub (at q.y) (at p.y)) (sub (at x) (at p.x))))
-        (mul (sub (at q.y) (at p.y)) (at z)))
+    (mul (sub (at q.y) (at p.y)) (at z)))
     (omega arith)
 
 pub weight_is : (p q : Vertex) (x y : ℤ) → pos 0 ≤ℤ edge p q x y → pos (weight p q x y) ≡ edge p q x y
@@ -163,10 +168,10 @@ bytes_bound m n k p q s a b c = grind arith
 pub lane_is : (a b c : Vertex) (which : ℕ) (x y : ℤ) (j m n k start area : ℕ) (step : ℤ) → IsUpright (corners a b c)
     → IsTrue (is_within (corners a b c) (x +ℤ pos j) y)
     → pos m ≡ edge b c x y → pos n ≡ edge c a x y → pos k ≡ edge a b x y → pos (m + n + k)
-        ≡ doubled_area (corners a b c)
+    ≡ doubled_area (corners a b c)
     → AreBytes which (corners a b c)
     → start ≡ m * attribute which a + n * attribute which b + k * attribute which c → area ≡ m + n + k
-        → step ≡ step_of (corners a b c) which
+    → step ≡ step_of (corners a b c) which
     → IsLane (corners a b c) which (x +ℤ pos j) y (pos start +ℤ step *ℤ pos j) area
 unfolding mixed_of
 lane_is a b c which x y j m n k start area step upright inside is_m is_n is_k sum bytes start_is area_is step_is =
@@ -212,10 +217,10 @@ same_mixed a b c which p x y upright inside e f g =
     let n = weight c a x y in
     let k = weight a b x y in
     let sum = sum_is a b c x y m n k (weight_is b c x y edges.bc_low) (weight_is c a x y edges.ca_low)
-        (weight_is a b x y edges.ab_low) in
+    (weight_is a b x y edges.ab_low) in
     let whole : unsigned_abs (doubled_area (corners a b c)) ≡ m + n + k = ap unsigned_abs (sym sum) in
     rw (e, f, g)
-        (same_over m n k p (unsigned_abs (doubled_area (corners a b c))) whole (omega (arith, ints, upright.area)))
+    (same_over m n k p (unsigned_abs (doubled_area (corners a b c))) whole (omega (arith, ints, upright.area)))
 
 -- the colour of a cell of such a triangle
 pub same_color : (a b c : Vertex) (t : Corners) (color : ℕ) (x y : ℤ) → corners a b c ≡ oriented t

@@ -6,7 +6,7 @@ use Rattle.std.proofs.Common.{ℕ, zero, suc, ◌+◌, ◌-◌, ◌*◌, ◌/◌
 abbrev pub short_sum : ℕ → ℕ → ℕ → ℕ → ℕ
 short_sum j first w step =
     ((j + (2 ^ 32 - 8)) % 2 ^ 32 * ((step + 2 ^ 31) % 2 ^ 64 / 2 ^ 32) % 2 ^ 32 +
-        ((first + (w + step * 8)) % 2 ^ 64 / 2 ^ 32 + 8) % 2 ^ 32) % 2 ^ 32
+    ((first + (w + step * 8)) % 2 ^ 64 / 2 ^ 32 + 8) % 2 ^ 32) % 2 ^ 32
 
 -- it is above the exact sum, and by no more than twelve units
 pub record IsNear (sum exact : ℕ) : Type 0 where
@@ -16,12 +16,21 @@ pub record IsNear (sum exact : ℕ) : Type 0 where
 pub near : (j first w step exact : ℕ) → j < 16 → (first + w + step * j) % 2 ^ 64 ≡ exact → exact + 12 * 2 ^ 32 < 2 ^ 64
     → IsNear (short_sum j first w step) exact
 near zero first w step exact lt e small = record { above = omega (arith, e, small); below = omega (arith, e, small) }
-near (suc zero) first w step exact lt e small = record { above = omega (arith, e, small); below = omega
-    (arith, e, small) }
-near (suc (suc zero)) first w step exact lt e small = record { above = omega (arith, e, small); below = omega
-    (arith, e, small) }
-near (suc (suc (suc zero))) first w step exact lt e small = record { above = omega (arith, e, small); below = omega
-    (arith, e, small) }
+near (suc zero) first w step exact lt e small = record {
+  above = omega (arith, e, small);
+  below = omega
+      (arith, e, small);
+}
+near (suc (suc zero)) first w step exact lt e small = record {
+  above = omega (arith, e, small);
+  below = omega
+      (arith, e, small);
+}
+near (suc (suc (suc zero))) first w step exact lt e small = record {
+  above = omega (arith, e, small);
+  below = omega
+      (arith, e, small);
+}
 near (suc (suc (suc (suc zero)))) first w step exact lt e small =
     record { above = omega (arith, e, small); below = omega (arith, e, small) }
 near (suc (suc (suc (suc (suc zero))))) first w step exact lt e small =

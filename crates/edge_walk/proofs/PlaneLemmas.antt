@@ -27,8 +27,12 @@ scaled_by : (falls : Bool) (step : ℤ) (r : ℕ) → falls ≡ int_lt step (pos
 scaled_by true step r e =
     let size : down step ≡ up step + unsigned_abs step = omega (arith, ints, e) in
     let product = ap (λ z. z * r) size in
-    record { less = 0; more = (unsigned_abs step * r % 2 ^ 64 + (2 ^ 64 - unsigned_abs step * r % 2 ^ 64) % 2 ^ 64) / 2
-        ^ 64 + unsigned_abs step * r / 2 ^ 64; is = omega (arith, product) }
+    record {
+      less = 0;
+      more = (unsigned_abs step * r % 2 ^ 64 + (2 ^ 64 - unsigned_abs step * r % 2 ^ 64) % 2 ^ 64) / 2
+          ^ 64 + unsigned_abs step * r / 2 ^ 64;
+      is = omega (arith, product);
+    }
 scaled_by false step r e =
     let size : up step ≡ down step + unsigned_abs step = omega (arith, ints, e) in
     let product = ap (λ z. z * r) size in
@@ -49,25 +53,25 @@ module _ (base across down_ s start r m xa ya x y ua da ud dd : ℕ) where
       → across + da * r + al * m ≡ ua * r + am * m → down_ + dd * r + dl * m ≡ ud * r + dm * m
       → start + ua * xa + da * x + ud * ya + dd * y ≡ s + ua * x + da * xa + ud * y + dd * ya
       → base + across * x + down_ * y + (k + al * x + am * xa + dl * y + dm * ya) * m
-          ≡ start * r + (l + am * x + al * xa + dm * y + dl * ya) * m
+      ≡ start * r + (l + am * x + al * xa + dm * y + dl * ya) * m
   moved k l al am dl dm e f g h =
       omega (arith, e, ap (λ z. z * x) f, ap (λ z. z * xa) f, ap (λ z. z * y) g, ap (λ z. z * ya) g, ap (λ z. z * r) h)
 
 -- the number of a plane at (x, y)
 pub number_is : (base across down_ s start r xa ya x y : ℕ) (step fall : ℤ) → s * r < 2 ^ 64 → start * r < 2 ^ 64
     → (base + across * xa + down_ * ya) % 2 ^ 64 ≡ s * r → IsScaled across step r (2 ^ 64)
-        → IsScaled down_ fall r (2 ^ 64)
+    → IsScaled down_ fall r (2 ^ 64)
     → start + up step * xa + down step * x + up fall * ya + down fall * y
-        ≡ s + up step * x + down step * xa + up fall * y + down fall * ya
+    ≡ s + up step * x + down step * xa + up fall * y + down fall * ya
     → (base + across * x + down_ * y) % 2 ^ 64 ≡ start * r
 number_is base across down_ s start r xa ya x y step fall fits small e f g h =
     let at_first : base + across * xa + down_ * ya + 0 * 2 ^ 64
-        ≡ s * r + (base + across * xa + down_ * ya) / 2 ^ 64 * 2 ^ 64 = omega (arith, e) in
+    ≡ s * r + (base + across * xa + down_ * ya) / 2 ^ 64 * 2 ^ 64 = omega (arith, e) in
     let all = moved base across down_ s start r (2 ^ 64) xa ya x y (up step) (down step) (up fall) (down fall) 0
-        ((base + across * xa + down_ * ya) / 2 ^ 64) f.less f.more g.less g.more at_first f.is g.is h in
+    ((base + across * xa + down_ * ya) / 2 ^ 64) f.less f.more g.less g.more at_first f.is g.is h in
     same_rest (base + across * x + down_ * y) (start * r) (0 + f.less * x + f.more * xa + g.less * y + g.more * ya)
-        ((base + across * xa + down_ * ya) / 2 ^ 64 + f.more * x + f.less * xa + g.more * y + g.less * ya)
-        (2 ^ 64) small all
+    ((base + across * xa + down_ * ya) / 2 ^ 64 + f.more * x + f.less * xa + g.more * y + g.less * ya)
+    (2 ^ 64) small all
 
 -- ---- the sum of an attribute at (x, y), from that at the first vertex
 
@@ -77,8 +81,8 @@ unfolding edge
 edge_from p q x y xa ya =
     same (sub (mul (sub (at q.x) (at p.x)) (sub (at y) (at p.y))) (mul (sub (at q.y) (at p.y)) (sub (at x) (at p.x))))
     (sub (sub (sub (mul (sub (at q.x) (at p.x)) (sub (at ya) (at p.y)))
-        (mul (sub (at q.y) (at p.y)) (sub (at xa) (at p.x)))) (mul (sub (at q.y) (at p.y)) (sub (at x) (at xa))))
-        (mul (sub (at p.x) (at q.x)) (sub (at y) (at ya))))
+    (mul (sub (at q.y) (at p.y)) (sub (at xa) (at p.x)))) (mul (sub (at q.y) (at p.y)) (sub (at x) (at xa))))
+    (mul (sub (at p.x) (at q.x)) (sub (at y) (at ya))))
     (omega arith)
 
 spread : (d : ℤ) (x xa : ℕ) → d *ℤ (pos x -ℤ pos xa) ≡ (d *ℤ pos x -ℤ d *ℤ pos xa)
@@ -95,14 +99,14 @@ module _ (p q s m n k m' n' k' xa ya x y : ℕ) (d e f d' e' f' : ℤ) where
       → pos n' ≡ (pos n -ℤ e *ℤ (pos x -ℤ pos xa) -ℤ e' *ℤ (pos y -ℤ pos ya))
       → pos k' ≡ (pos k -ℤ f *ℤ (pos x -ℤ pos xa) -ℤ f' *ℤ (pos y -ℤ pos ya))
       → (step fall : ℤ) → step ≡ (pos 0 -ℤ pos p *ℤ d -ℤ pos q *ℤ e -ℤ pos s *ℤ f)
-          → fall ≡ (pos 0 -ℤ pos p *ℤ d' -ℤ pos q *ℤ e' -ℤ pos s *ℤ f')
+      → fall ≡ (pos 0 -ℤ pos p *ℤ d' -ℤ pos q *ℤ e' -ℤ pos s *ℤ f')
       → (m' * p + n' * q + k' * s) + up step * xa + down step * x + up fall * ya + down fall * y
       ≡ (m * p + n * q + k * s) + up step * x + down step * xa + up fall * y + down fall * ya
   sum_moved is_m is_n is_k step fall step_is fall_is =
       let across : up step + p * up d + q * up e + s * up f ≡ down step + p * down d + q * down e + s * down f = omega
-          (arith, ints, step_is) in
+      (arith, ints, step_is) in
       let downward : up fall + p * up d' + q * up e' + s * up f'
-          ≡ down fall + p * down d' + q * down e' + s * down f' = omega (arith, ints, fall_is) in
+      ≡ down fall + p * down d' + q * down e' + s * down f' = omega (arith, ints, fall_is) in
       omega (
         arith,
         ap (λ z. z * p) (weight_part m m' xa ya x y d d' is_m),
@@ -118,13 +122,13 @@ edge_at_first : (p q : Vertex) → edge p q p.x p.y ≡ pos 0
 unfolding edge
 edge_at_first p q =
     same (sub (mul (sub (at q.x) (at p.x)) (sub (at p.y) (at p.y)))
-        (mul (sub (at q.y) (at p.y)) (sub (at p.x) (at p.x)))) (at (pos 0)) (omega arith)
+    (mul (sub (at q.y) (at p.y)) (sub (at p.x) (at p.x)))) (at (pos 0)) (omega arith)
 
 edge_at_second : (p q : Vertex) → edge p q q.x q.y ≡ pos 0
 unfolding edge
 edge_at_second p q =
     same (sub (mul (sub (at q.x) (at p.x)) (sub (at q.y) (at p.y)))
-        (mul (sub (at q.y) (at p.y)) (sub (at q.x) (at p.x)))) (at (pos 0)) (omega arith)
+    (mul (sub (at q.y) (at p.y)) (sub (at q.x) (at p.x)))) (at (pos 0)) (omega arith)
 
 edge_apart : (p q : Vertex) (x y xa ya dx dy : ℤ) → (x -ℤ xa) ≡ dx → (y -ℤ ya) ≡ dy
     → edge p q x y ≡ (edge p q xa ya -ℤ (q.y -ℤ p.y) *ℤ dx -ℤ (p.x -ℤ q.x) *ℤ dy)
@@ -142,7 +146,7 @@ pub record IsPlaneOf (a b c : Vertex) (which area r : ℕ) (plane : Plane) : Typ
 module _ (a b c : Vertex) (which area r : ℕ) (plane : Plane) (upright : IsUpright (corners a b c))
     (bytes : AreBytes which (corners a b c))
     (area_is : pos area ≡ doubled_area (corners a b c)) (some : 0 < area) (most : area ≤ 1045506)
-        (r_is : r ≡ 2 ^ 56 / area + 1) (of : IsPlaneOf a b c which area r plane)
+    (r_is : r ≡ 2 ^ 56 / area + 1) (of : IsPlaneOf a b c which area r plane)
     (x y : ℤ) (inside : IsTrue (is_within (corners a b c) x y))
     (xa_is : pos (from_least a.x) ≡ (a.x +ℤ pos (2 ^ 31))) (ya_is : pos (from_least a.y) ≡ (a.y +ℤ pos (2 ^ 31)))
     (x_is : pos (from_least x) ≡ (x +ℤ pos (2 ^ 31))) (y_is : pos (from_least y) ≡ (y +ℤ pos (2 ^ 31))) where
@@ -153,8 +157,8 @@ module _ (a b c : Vertex) (which area r : ℕ) (plane : Plane) (upright : IsUpri
       (step_of (corners a b c) which) * from_least x + up (row_step_of (corners a b c) which) * from_least a.y + down
       (row_step_of (corners a b c) which) * from_least y
       ≡ area * attribute which a + up (step_of (corners a b c) which) * from_least x + down
-          (step_of (corners a b c) which) * from_least a.x + up (row_step_of (corners a b c) which) * from_least y
-          + down (row_step_of (corners a b c) which) * from_least a.y
+      (step_of (corners a b c) which) * from_least a.x + up (row_step_of (corners a b c) which) * from_least y
+      + down (row_step_of (corners a b c) which) * from_least a.y
   unfolding start
   sum_here =
       let edges = edges_of a b c x y upright inside in
@@ -163,19 +167,19 @@ module _ (a b c : Vertex) (which area r : ℕ) (plane : Plane) (upright : IsUpri
       let ab = edge_at_first a b in
       let ca = edge_at_second c a in
       let bc : edge b c a.x a.y ≡ pos area = let sum = sum_of_edges a b c a.x a.y in
-          omega (arith, ints, ab, ca, sum, area_is) in
+      omega (arith, ints, ab, ca, sum, area_is) in
       let all = sum_moved (attribute which a) (attribute which b) (attribute which c) area 0 0 (weight b c x y)
-          (weight c a x y) (weight a b x y) (from_least a.x) (from_least a.y) (from_least x) (from_least y)
+      (weight c a x y) (weight a b x y) (from_least a.x) (from_least a.y) (from_least x) (from_least y)
       (c.y -ℤ b.y) (a.y -ℤ c.y) (b.y -ℤ a.y) (b.x -ℤ c.x) (c.x -ℤ a.x) (a.x -ℤ b.x)
       (weight_is b c x y edges.bc_low ∙ edge_apart b c x y a.x a.y _ _ dx dy
-          ∙ ap (λ e. e -ℤ (c.y -ℤ b.y) *ℤ (pos (from_least x) -ℤ pos (from_least a.x)) -ℤ (b.x -ℤ c.x) *ℤ
-          (pos (from_least y) -ℤ pos (from_least a.y))) bc)
+      ∙ ap (λ e. e -ℤ (c.y -ℤ b.y) *ℤ (pos (from_least x) -ℤ pos (from_least a.x)) -ℤ (b.x -ℤ c.x) *ℤ
+      (pos (from_least y) -ℤ pos (from_least a.y))) bc)
       (weight_is c a x y edges.ca_low ∙ edge_apart c a x y a.x a.y _ _ dx dy
-          ∙ ap (λ e. e -ℤ (a.y -ℤ c.y) *ℤ (pos (from_least x) -ℤ pos (from_least a.x)) -ℤ (c.x -ℤ a.x) *ℤ
-          (pos (from_least y) -ℤ pos (from_least a.y))) ca)
+      ∙ ap (λ e. e -ℤ (a.y -ℤ c.y) *ℤ (pos (from_least x) -ℤ pos (from_least a.x)) -ℤ (c.x -ℤ a.x) *ℤ
+      (pos (from_least y) -ℤ pos (from_least a.y))) ca)
       (weight_is a b x y edges.ab_low ∙ edge_apart a b x y a.x a.y _ _ dx dy
-          ∙ ap (λ e. e -ℤ (b.y -ℤ a.y) *ℤ (pos (from_least x) -ℤ pos (from_least a.x)) -ℤ (a.x -ℤ b.x) *ℤ
-          (pos (from_least y) -ℤ pos (from_least a.y))) ab)
+      ∙ ap (λ e. e -ℤ (b.y -ℤ a.y) *ℤ (pos (from_least x) -ℤ pos (from_least a.x)) -ℤ (a.x -ℤ b.x) *ℤ
+      (pos (from_least y) -ℤ pos (from_least a.y))) ab)
       (step_of (corners a b c) which) (row_step_of (corners a b c) which) refl refl in
       omega (arith, all)
 
@@ -184,7 +188,7 @@ module _ (a b c : Vertex) (which area r : ℕ) (plane : Plane) (upright : IsUpri
   start_small =
       let edges = edges_of a b c x y upright inside in
       let sum = sum_is a b c x y (weight b c x y) (weight c a x y) (weight a b x y) (weight_is b c x y edges.bc_low)
-          (weight_is c a x y edges.ca_low) (weight_is a b x y edges.ab_low) in
+      (weight_is c a x y edges.ca_low) (weight_is a b x y edges.ab_low) in
       let one = mul-le-mul_left (weight b c x y) bytes.first in
       let two = mul-le-mul_left (weight c a x y) bytes.second in
       let three = mul-le-mul_left (weight a b x y) bytes.third in
@@ -196,12 +200,12 @@ module _ (a b c : Vertex) (which area r : ℕ) (plane : Plane) (upright : IsUpri
       let low = rw (← r_is) at (reciprocal_bound start area (2 ^ 56) some start_small) in
       let share = mul-le-mul_left area bytes.first in
       let high = rw (← r_is) at
-          (reciprocal_bound (area * attribute which a) area (2 ^ 56) some (omega (arith, share))) in
+      (reciprocal_bound (area * attribute which a) area (2 ^ 56) some (omega (arith, share))) in
       number_is plane.base plane.across plane.down (area * attribute which a) start r (from_least a.x) (from_least a.y)
-          (from_least x) (from_least y) (step_of (corners a b c) which) (row_step_of (corners a b c) which)
+      (from_least x) (from_least y) (step_of (corners a b c) which) (row_step_of (corners a b c) which)
       (omega (arith, high, most)) (omega (arith, low, most)) of.base
       (rw of.across (scaled_is (step_of (corners a b c) which) r))
-          (rw of.down_is (scaled_is (row_step_of (corners a b c) which) r)) sum_here
+      (rw of.down_is (scaled_is (row_step_of (corners a b c) which) r)) sum_here
 
   pub plane_line : (k j : ℕ) → j < 16 → IsTrue (is_within (corners a b c) (x +ℤ pos (k + j)) y)
       → line_value (line_at plane x y) k j ≡ mixed_of (corners a b c) which (x +ℤ pos (k + j)) y
@@ -213,7 +217,7 @@ module _ (a b c : Vertex) (which area r : ℕ) (plane : Plane) (upright : IsUpri
       let k_is = weight_is a b x y edges.ab_low in
       let sum = sum_is a b c x y _ _ _ m_is n_is k_is in
       let lane = lane_is a b c which x y (k + j) _ _ _ start area
-          (step_of (corners a b c) which) upright there m_is n_is k_is sum bytes refl
-          (omega (arith, ints, area_is, sum)) refl in
+      (step_of (corners a b c) which) upright there m_is n_is k_is sum bytes refl
+      (omega (arith, ints, area_is, sum)) refl in
       rw (first_is, of.across)
-          (line_is start k j area r (step_of (corners a b c) which) lt some most r_is lane.low lane.high) ∙ lane.value
+      (line_is start k j area r (step_of (corners a b c) which) lt some most r_is lane.low lane.high) ∙ lane.value

@@ -58,7 +58,7 @@ floor_small (pos n) a (pos b) m h f le =
 floor_small (negsuc n) a (pos b) m h f le =
     let b_pos : 0 < b = omega (arith, ints) in
     let turned = same (mul (add (at (negsuc n)) (at (pos 1))) (at (pos b)))
-        (sub (at (pos 0)) (mul (at (pos n)) (at (pos b)))) (omega arith) in
+    (sub (at (pos 0)) (mul (at (pos n)) (at (pos b)))) (omega arith) in
     omega (arith, ints, f.next, turned, le-mul_of_pos_right n b_pos)
 floor_small q a (negsuc b) m h f le = absurd (omega (arith, ints))
 

@@ -79,7 +79,7 @@ module _ (rows scale : ℕ) (some : 1 ≤ rows) (most : rows ≤ 511) (enough : 
       same (mul (mul (at (pos rows)) (at k)) (at (pos scale))) (mul (at (pos (scale * rows))) (at k)) (omega arith)
       ∙ ap (λ n. pos n *ℤ k) over_is
       ∙ same (mul (at (pos (2 ^ 30 + over))) (at k))
-          (add (mul (at k) (at (pos (2 ^ 30)))) (mul (at (pos over)) (at k))) (omega arith)
+      (add (mul (at k) (at (pos (2 ^ 30)))) (mul (at (pos over)) (at k))) (omega arith)
 
   one_more : (w : ℤ) → (w +ℤ pos 1) *ℤ pos scale ≡ (w *ℤ pos scale +ℤ pos scale)
   one_more w = same (mul (add (at w) (at (pos 1))) (at (pos scale)))
@@ -101,7 +101,7 @@ module _ (rows scale : ℕ) (some : 1 ≤ rows) (most : rows ≤ 511) (enough : 
           let m = mul_mono (pos scale) (w +ℤ pos 1) (pos rows *ℤ k) above (omega (arith, ints, less)) in
           let least = steep in
           beyond ((pos rows *ℤ k) *ℤ pos scale) (k *ℤ pos (2 ^ 30)) (w *ℤ pos scale) (pos scale) (pos over *ℤ k)
-              (product_is k) (rw one_more at m) (omega (arith, ints, least)) (bit_small k near)
+          (product_is k) (rw one_more at m) (omega (arith, ints, least)) (bit_small k near)
 
       from : (k *ℤ pos (2 ^ 30)) ≤ℤ (w *ℤ pos scale +ℤ pos (2 ^ 19)) → (pos rows *ℤ k) ≤ℤ w
       from h = by_lt_z w (pos rows *ℤ k) (λ less. let far = out less in absurd (omega (arith, ints, far, h))) (λ le. le)
@@ -111,14 +111,14 @@ module _ (rows scale : ℕ) (some : 1 ≤ rows) (most : rows ≤ 511) (enough : 
   rises k w near =
       let turned = falls (pos 0 -ℤ k) w (omega (arith, ints, near)) in
       let product : (pos 0 -ℤ pos rows) *ℤ k
-          ≡ pos rows *ℤ (pos 0 -ℤ k) = same (mul (sub (at (pos 0)) (at (pos rows))) (at k))
-          (mul (at (pos rows)) (sub (at (pos 0)) (at k))) (omega arith) in
+      ≡ pos rows *ℤ (pos 0 -ℤ k) = same (mul (sub (at (pos 0)) (at (pos rows))) (at k))
+      (mul (at (pos rows)) (sub (at (pos 0)) (at k))) (omega arith) in
       let far : w *ℤ (pos 0 -ℤ pos scale) ≡ (pos 0 -ℤ w *ℤ pos scale) = same
-          (mul (at w) (sub (at (pos 0)) (at (pos scale)))) (sub (at (pos 0)) (mul (at w) (at (pos scale))))
-          (omega arith) in
+      (mul (at w) (sub (at (pos 0)) (at (pos scale)))) (sub (at (pos 0)) (mul (at w) (at (pos scale))))
+      (omega arith) in
       let parts : (pos 0 -ℤ k) *ℤ pos (2 ^ 30) ≡ (pos 0 -ℤ k *ℤ pos (2 ^ 30)) = same
-          (mul (sub (at (pos 0)) (at k)) (at (pos (2 ^ 30)))) (sub (at (pos 0)) (mul (at k) (at (pos (2 ^ 30)))))
-          (omega arith) in (
+      (mul (sub (at (pos 0)) (at k)) (at (pos (2 ^ 30)))) (sub (at (pos 0)) (mul (at k) (at (pos (2 ^ 30)))))
+      (omega arith) in (
         λ h. let t = turned.0 (rw (← product) h) in opened (w *ℤ pos scale) (k *ℤ pos (2 ^ 30)) _ _ far parts t,
         λ h. rw product (turned.1 (closed (w *ℤ pos scale) (k *ℤ pos (2 ^ 30)) _ _ far parts h)),
       )
@@ -169,36 +169,50 @@ module _ (rows scale : ℕ) (some : 1 ≤ rows) (most : rows ≤ 511) (enough : 
           ↔ ((v *ℤ (pos 0 -ℤ pos scale) +ℤ pos (2 ^ 30 - 2 ^ 19 - 1)) <ℤ (k *ℤ pos (2 ^ 30) +ℤ pos (2 ^ 30)))
       solves k v near =
           let f = rises k v near in
-          rw (least, fall)
-              (λ h. f.0 (under_none v ((pos 0 -ℤ pos rows) *ℤ k) h), λ h. above_none v ((pos 0 -ℤ pos rows) *ℤ k)
-              (f.1 h))
+          rw (least, fall) (
+            λ h. f.0 (under_none v ((pos 0 -ℤ pos rows) *ℤ k) h),
+            λ h. above_none v ((pos 0 -ℤ pos rows) *ℤ k)
+                (f.1 h),
+          )
 
 no_fall : (k : ℤ) → pos 0 *ℤ k ≡ pos 0
 no_fall k = same (mul (at (pos 0)) (at k)) (at (pos 0)) (omega arith)
 
 level_right : (k v : ℤ) → unsigned_abs k ≤ 1023 → (pos 0 ≤ℤ (v -ℤ pos 0 *ℤ k))
     ↔ ((k *ℤ pos (2 ^ 30)) ≤ℤ (v *ℤ pos (2 ^ 41) +ℤ pos (2 ^ 40)))
-level_right k v near = let e = no_fall k in
-    (λ h. omega (arith, ints, near, h, e), λ h. by_lt_z v (pos 0) (λ less. absurd (omega (arith, ints, near, h, less)))
-    (λ le. omega (arith, ints, e, le)))
+level_right k v near = let e = no_fall k in (
+  λ h. omega (arith, ints, near, h, e),
+  λ h. by_lt_z v (pos 0) (λ less. absurd (omega (arith, ints, near, h, less)))
+      (λ le. omega (arith, ints, e, le)),
+)
 
 level_left : (k v : ℤ) → unsigned_abs k ≤ 1023 → (pos 1 ≤ℤ (v -ℤ pos 0 *ℤ k))
     ↔ ((k *ℤ pos (2 ^ 30)) ≤ℤ (v *ℤ pos (2 ^ 41) +ℤ negsuc (2 ^ 40 - 1)))
-level_left k v near = let e = no_fall k in
-    (λ h. omega (arith, ints, near, h, e), λ h. by_lt_z v (pos 1) (λ less. absurd (omega (arith, ints, near, h, less)))
-    (λ le. omega (arith, ints, e, le)))
+level_left k v near = let e = no_fall k in (
+  λ h. omega (arith, ints, near, h, e),
+  λ h. by_lt_z v (pos 1) (λ less. absurd (omega (arith, ints, near, h, less)))
+      (λ le. omega (arith, ints, e, le)),
+)
 
 pub level_is : (p q : Vertex) (right : Bool) (slack : ℤ) → q.y ≡ p.y → int_lt p.x q.x ≡ right
     → slack ≡ cond right (pos (2 ^ 40)) (negsuc (2 ^ 40 - 1))
     → IsSlope p q (record { bound = AtMost; scale = pos (2 ^ 41); slack = slack })
 level_is p q true slack level to is =
     let fall : (q.y -ℤ p.y) ≡ pos 0 = omega (arith, ints, level) in
-    rw is (record { solves = λ k v near. rw (least_level p q level ∙ ap (λ b. cond b (pos 0) (pos 1)) to, fall)
-        (level_right k v near); scale = omega (arith, ints); slack = omega (arith, ints) })
+    rw is (record {
+      solves = λ k v near. rw (least_level p q level ∙ ap (λ b. cond b (pos 0) (pos 1)) to, fall)
+          (level_right k v near);
+      scale = omega (arith, ints);
+      slack = omega (arith, ints);
+    })
 level_is p q false slack level to is =
     let fall : (q.y -ℤ p.y) ≡ pos 0 = omega (arith, ints, level) in
-    rw is (record { solves = λ k v near. rw (least_level p q level ∙ ap (λ b. cond b (pos 0) (pos 1)) to, fall)
-        (level_left k v near); scale = omega (arith, ints); slack = omega (arith, ints) })
+    rw is (record {
+      solves = λ k v near. rw (least_level p q level ∙ ap (λ b. cond b (pos 0) (pos 1)) to, fall)
+          (level_left k v near);
+      scale = omega (arith, ints);
+      slack = omega (arith, ints);
+    })
 
 -- a number by its sign and its size
 pub by_sign : (z : ℤ) (size : ℕ) → size ≡ unsigned_abs z → z ≡ cond (int_lt z (pos 0)) (pos 0 -ℤ pos size) (pos size)

@@ -11,7 +11,7 @@ not_true false h = refl
 
 module _ (v : Corners) (y x1 x2 low high : ℤ) (clip : Box2)
     (is_x1 : x1 ≡ clip.x1) (is_x2 : x2 ≡ clip.x2) (inside : ℤ → Bool)
-        (is_inside_is : (x : ℤ) → is_inside v x y ≡ inside x)
+    (is_inside_is : (x : ℤ) → is_inside v x y ≡ inside x)
     (cells : (x : ℤ) → (IsBetween x1 x2 x × IsTrue (inside x)) ↔ IsBetween low high x) where
   pub ends : low ≤ℤ high → (clip.x1 ≤ℤ low) × (high ≤ℤ clip.x2)
   ends order =

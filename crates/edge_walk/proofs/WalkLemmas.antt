@@ -47,7 +47,7 @@ grown a b d c e = rw e
 stepped : (held by raised next : ℕ) (start far step far' slack : ℤ) → pos held ≡ (start +ℤ (far +ℤ slack))
     → pos raised ≡ (step +ℤ pos (2 ^ 62)) → by ≡ (raised + (2 ^ 64 - 2 ^ 62)) % 2 ^ 64
     → next ≡ (held + by) % 2 ^ 64 → far' ≡ (far +ℤ step) → pos 0 ≤ℤ (start +ℤ (far' +ℤ slack))
-        → (start +ℤ (far' +ℤ slack)) <ℤ pos (2 ^ 63) → pos next ≡ (start +ℤ (far' +ℤ slack))
+    → (start +ℤ (far' +ℤ slack)) <ℤ pos (2 ^ 63) → pos next ≡ (start +ℤ (far' +ℤ slack))
 stepped held by raised next start far step far' slack is step_is by_is next_is more low high = omega
     (arith, ints, is, step_is, by_is, next_is, more, low, high)
 
@@ -80,7 +80,7 @@ moved_with p q origin y s next near reach h next_is =
     let small = value_small p q (y +ℤ pos 1) near reach in
     let far = far_small (start_value p q (y +ℤ pos 1)) h.slope.scale (omega (arith, small)) h.is_slope.scale in
     let reached = in_reach origin p.x (start_value p q (y +ℤ pos 1) *ℤ h.slope.scale) h.slope.slack h.start far
-        h.is_slope.slack in record {
+    h.is_slope.slack in record {
       slope = h.slope;
       is_slope = h.is_slope;
       bound = h.bound;
@@ -88,8 +88,8 @@ moved_with p q origin y s next near reach h next_is =
       at = stepped s.at s.by h.raised next (in_parts origin p.x) (start_value p q y *ℤ h.slope.scale)
           ((q.x -ℤ p.x) *ℤ h.slope.scale) (start_value p q (y +ℤ pos 1) *ℤ h.slope.scale) h.slope.slack
           h.at h.step h.by next_is
-              (grown (start_value p q y) (start_value p q (y +ℤ pos 1)) (q.x -ℤ p.x) h.slope.scale
-              (one_more (q.x -ℤ p.x) y p.y)) reached.0 reached.1;
+          (grown (start_value p q y) (start_value p q (y +ℤ pos 1)) (q.x -ℤ p.x) h.slope.scale
+          (one_more (q.x -ℤ p.x) y p.y)) reached.0 reached.1;
       raised = h.raised;
       by = h.by;
       step = h.step;
@@ -116,14 +116,16 @@ bounded p q origin x y s h near =
     let on = on_side_iff p q x y in
     let solved = h.is_slope.solves (x -ℤ p.x) (start_value p q y) near in
     let shift = shifted h.slope.bound (in_parts origin p.x) (start_value p q y *ℤ h.slope.scale +ℤ h.slope.slack)
-        ((x -ℤ p.x) *ℤ pos (2 ^ 30)) (pos s.at) (in_parts origin x) h.at (parts_apart origin p.x x) in
+    ((x -ℤ p.x) *ℤ pos (2 ^ 30)) (pos s.at) (in_parts origin x) h.at (parts_apart origin p.x x) in
     rw h.bound (λ t. shift.0 (solved.0 (on.0 t)), λ b. on.1 (solved.1 (shift.1 b)))
 
 within_ends : (ends : Ends) (origin x : ℤ) → IsWithin ends (in_parts origin x)
     ↔ IsBetween (pos (ends.low / 2 ^ 30)) (pos (ends.high / 2 ^ 30)) (raised_column origin x)
-within_ends ends origin x =
-    (λ h. (omega (arith, ints, h.0), omega (arith, ints, h.1)), λ h.
-    (omega (arith, ints, h.0), omega (arith, ints, h.1)))
+within_ends ends origin x = (
+  λ h. (omega (arith, ints, h.0), omega (arith, ints, h.1)),
+  λ h.
+      (omega (arith, ints, h.0), omega (arith, ints, h.1)),
+)
 
 -- ---- columns and rows that a triangle has are near its vertices
 
@@ -224,7 +226,7 @@ module _ (t : Corners) (clip : Box2) (x y : ℤ) (rows : RowWalk) (h : AreRows t
   unfolding is_within
   on_sides u =
       let outer = both_true (is_on_side u.first u.second x y && is_on_side u.second u.third x y)
-          (is_on_side u.third u.first x y) in
+      (is_on_side u.third u.first x y) in
       let inner = both_true (is_on_side u.first u.second x y) (is_on_side u.second u.third x y) in
       (λ t. let o = outer.0 t in let i = inner.0 o.0 in (i.0, i.1, o.1), λ s. outer.1 (inner.1 (s.0, s.1), s.2))
 
@@ -250,15 +252,17 @@ module _ (t : Corners) (clip : Box2) (x y : ℤ) (rows : RowWalk) (h : AreRows t
         let near = across t x h.small b.0.0 b.0.1 in
         let on = (on_sides (oriented t)).0 i.1 in
         (left (in_parts rows.origin x)).0
-            (own_columns.1 (i.0, b.0), (first_bound near).0 on.0, (second_bound near).0 on.1, (third_bound near).0 on.2)
+        (own_columns.1 (i.0, b.0), (first_bound near).0 on.0, (second_bound near).0 on.1, (third_bound near).0 on.2)
 
     from : IsWithin ends (in_parts rows.origin x) → (IsBetween clip.x1 clip.x2 x × IsTrue (is_inside t x y))
     from w =
         let parts = (left (in_parts rows.origin x)).1 w in
         let own = own_columns.0 parts.0 in
-        let near = across t x h.small own.1.0 own.1.1 in
-        (own.0, (on_sides (oriented t)).1
-            ((first_bound near).1 parts.1, (second_bound near).1 parts.2, (third_bound near).1 parts.3))
+        let near = across t x h.small own.1.0 own.1.1 in (
+          own.0,
+          (on_sides (oriented t)).1
+              ((first_bound near).1 parts.1, (second_bound near).1 parts.2, (third_bound near).1 parts.3),
+        )
 
     pub columns_are : (IsBetween clip.x1 clip.x2 x × IsTrue (is_inside t x y))
         ↔ IsBetween (pos (ends.low / 2 ^ 30)) (pos (ends.high / 2 ^ 30)) (raised_column rows.origin x)
@@ -277,10 +281,12 @@ back origin raised = same (at (pos raised))
 
 unraised : (origin : ℤ) (low high : ℕ) (x : ℤ)
     → IsBetween (pos low) (pos high) (raised_column origin x)
-        ↔ IsBetween ((pos low -ℤ pos (2 ^ 32)) +ℤ origin) ((pos high -ℤ pos (2 ^ 32)) +ℤ origin) x
-unraised origin low high x =
-    (λ b. (omega (arith, ints, b.0), omega (arith, ints, b.1)), λ b.
-    (omega (arith, ints, b.0), omega (arith, ints, b.1)))
+    ↔ IsBetween ((pos low -ℤ pos (2 ^ 32)) +ℤ origin) ((pos high -ℤ pos (2 ^ 32)) +ℤ origin) x
+unraised origin low high x = (
+  λ b. (omega (arith, ints, b.0), omega (arith, ints, b.1)),
+  λ b.
+      (omega (arith, ints, b.0), omega (arith, ints, b.1)),
+)
 
 -- what a column that is held raised is
 abbrev pub Lowers : ℤ → ℕ → ℤ → Type 0
@@ -289,7 +295,7 @@ Lowers origin raised column = (x : ℤ) → FitsSigned w32 x → origin ≤ℤ x
 
 module _ (t : Corners) (clip : Box2) (y : ℤ) (rows : RowWalk) (h : AreRows t clip y rows) (low high : ℕ)
     (cells : (x : ℤ) → (IsBetween clip.x1 clip.x2 x × IsTrue (is_inside t x y))
-        ↔ IsBetween (pos low) (pos high) (raised_column rows.origin x)) where
+    ↔ IsBetween (pos low) (pos high) (raised_column rows.origin x)) where
   abbrev from_origin : ℕ → ℤ
   from_origin raised = (pos raised -ℤ pos (2 ^ 32)) +ℤ rows.origin
 
@@ -309,8 +315,8 @@ module _ (t : Corners) (clip : Box2) (y : ℤ) (rows : RowWalk) (h : AreRows t c
       let left_fits = h.left_fits in
       let right_fits = h.right_fits in
       lowers (from_origin raised) (omega (arith, ints, own.0.0, own.0.1, left_fits, right_fits))
-          (omega (arith, ints, own.0.0, h.origin)) (omega (arith, ints, own.0.1, h.origin, most))
-          (back rows.origin raised)
+      (omega (arith, ints, own.0.0, h.origin)) (omega (arith, ints, own.0.1, h.origin, most))
+      (back rows.origin raised)
 
   pub span_of : low ≤ high → y ≤ℤ clip.y2 → (first last : ℤ) → Lowers rows.origin low first
       → Lowers rows.origin high last → IsRowSpan t y clip first last
@@ -319,8 +325,8 @@ module _ (t : Corners) (clip : Box2) (y : ℤ) (rows : RowWalk) (h : AreRows t c
       let first_is = lowered low first (omega (arith, ints), ordered) to_first in
       let last_is = lowered high last (ordered, omega (arith, ints)) to_last in
       rw (first_is, last_is)
-          (span_is t y clip.x1 clip.x2 (from_origin low) (from_origin high) clip refl refl (λ x. is_inside t x y)
-          (λ x. refl) plain_cells ordered h.above more)
+      (span_is t y clip.x1 clip.x2 (from_origin low) (from_origin high) clip refl refl (λ x. is_inside t x y)
+      (λ x. refl) plain_cells ordered h.above more)
 
   pub none_of : high < low → (x : ℤ) → IsInBox clip x y → is_inside t x y ≡ false
   none_of empty = none_is t y clip.x1 clip.x2 (from_origin low) (from_origin high) clip refl refl

@@ -17,7 +17,7 @@ scaled step by = wrapped (int_lt step (pos 0)) (unsigned_abs step * by % 2 ^ 64)
 unfoldable pub line_value : RowLine → ℕ → ℕ → ℕ
 line_value line at j =
     ((j + (2 ^ 32 - 8)) % 2 ^ 32 * ((line.step + 2 ^ 31) % 2 ^ 64 / 2 ^ 32) % 2 ^ 32 +
-        ((line.first + line.step * (at + 8)) % 2 ^ 64 / 2 ^ 32 + 8) % 2 ^ 32) % 2 ^ 32 / 2 ^ 24
+    ((line.first + line.step * (at + 8)) % 2 ^ 64 / 2 ^ 32 + 8) % 2 ^ 32) % 2 ^ 32 / 2 ^ 24
 
 -- a line is that of an attribute from (x, y) to the right, as far as cells are inside
 abbrev pub IsRowLine : Corners → ℕ → ℤ → ℤ → RowLine → Type 0

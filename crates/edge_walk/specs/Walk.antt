@@ -37,7 +37,7 @@ IsWithin ends x = IsBounded AtLeast (pos ends.low) x × IsBounded AtMost (pos en
 pub record IsSlope (p q : Vertex) (slope : Slope) : Type 0 where
   pub solves : (k v : ℤ) → unsigned_abs k ≤ 1023
       → (least_value p q ≤ℤ (v -ℤ (q.y -ℤ p.y) *ℤ k)) ↔ IsBounded slope.bound (v *ℤ slope.scale +ℤ slope.slack)
-          (k *ℤ pos (2 ^ 30))
+      (k *ℤ pos (2 ^ 30))
   pub scale : unsigned_abs slope.scale ≤ 2 ^ 41
   pub slack : unsigned_abs slope.slack ≤ 2 ^ 40
 

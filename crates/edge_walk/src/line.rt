@@ -131,8 +131,8 @@ fn plus(a: u32x16, b: u32) -> u32x16
 #[inline(always)]
 fn stepped(middle: u32, step: u32) -> u32x16
     ensures long { length result ≡ 16 }
-    ensures value
-        { EachLane (λ j. slice_index result j ≡ ((j + (2 ^ 32 - 8)) % 2 ^ 32 * step % 2 ^ 32 + middle) % 2 ^ 32) }
+    ensures value { EachLane (λ j. slice_index result j
+        ≡ ((j + (2 ^ 32 - 8)) % 2 ^ 32 * step % 2 ^ 32 + middle) % 2 ^ 32) }
 {
     plus(times(ramp(), step), middle)
 }

@@ -39,8 +39,13 @@ impl Model for Tri {
 
     ghost inverse = { λ t. record { a = t.first; b = t.second; c = t.third; turned = is_turned t; area = size_of t } };
 
-    ghost inverse_ok =
-        { λ t h. ap (λ s. record { a = t.a; b = t.b; c = t.c; turned = s; area = size_of (corners t.a t.b t.c) })
+    ghost inverse_ok = { λ t h. ap (λ s. record {
+      a = t.a;
+      b = t.b;
+      c = t.c;
+      turned = s;
+      area = size_of (corners t.a t.b t.c);
+    })
         (sym h.turned_is) ∙ ap (λ s. record { a = t.a; b = t.b; c = t.c; turned = t.turned; area = s })
         (sym h.area_is) };
 }

@@ -67,14 +67,14 @@ pub words_told : (t : Tale) (first before now : Outlets) (was gpu : Kept) (playe
     → played < 2 ^ 64
     → IsTold t first before was played
     → ((s : State) → kept_of s ≡ was
-        → TakesWords s (played + 1) words gpu before.heard now.heard before.steps now.steps)
+    → TakesWords s (played + 1) words gpu before.heard now.heard before.steps now.steps)
     → IsTold (after_words t words) first now gpu (number_behind played (length words))
 words_told t first before now was gpu played words lt told takes =
     let did = takes t.state.gpu told.state in
     let number = told.number in
     let notes = feed_notes t.state.gpu (played + 1) words in
     let same : feed_notes t.state.gpu (t.played + 1) words
-        ≡ notes = ap (λ n. feed_notes t.state.gpu (n + 1) words) number in
+    ≡ notes = ap (λ n. feed_notes t.state.gpu (n + 1) words) number in
     record {
       state = ap kept_of (state_is t words) ∙ did.feed;
       number = number_is t words (omega (arith, number, lt)) ∙ ap (λ n. number_behind n (length words)) number;

@@ -45,8 +45,13 @@ unfolding Step StepCost StepBoxCost
 word_is t word =
     let n = next_number t.played in
     let note = option_to_list (FeedNote t.state.gpu n word) in
-    rw (append-nil t.shown, append-nil note, add-zero (FeedCost t.state.gpu word), add-zero
-        (FeedBoxCost t.state.gpu word))
+    rw (
+      append-nil t.shown,
+      append-nil note,
+      add-zero (FeedCost t.state.gpu word),
+      add-zero
+          (FeedBoxCost t.state.gpu word),
+    )
     refl
 
 -- a replay of words goes on from the tale behind them

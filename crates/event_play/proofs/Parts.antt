@@ -89,7 +89,7 @@ lines_fed_on mode t before words =
     lines_fed mode t (before ++ words)
     ∙ ap (λ notes. lines_of mode t ++ lines_of_notes mode notes) (fed_notes-append s n before words)
     ∙ ap (λ xs. lines_of mode t ++ xs)
-        (lines_of_notes-append mode (fed_notes s n before) (fed_notes (fed s before) n words))
+    (lines_of_notes-append mode (fed_notes s n before) (fed_notes (fed s before) n words))
     ∙ sym (append_assoc (lines_of mode t) first more)
     ∙ ap (λ xs. xs ++ more) (sym (lines_fed mode t before))
 

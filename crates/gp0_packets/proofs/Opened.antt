@@ -42,14 +42,14 @@ no_load-environment : (word : ℕ) → IsOfNoLoad (environment_of word)
 unfolding environment_of
 no_load-environment word =
     IsOfNoLoad-cond (nat_le 0xe1 (opcode_of word) && nat_le (opcode_of word) 0xe6)
-        (packet.Env (opcode_of word - 0xe0) (low_24 word)) packet.Nop tt tt
+    (packet.Env (opcode_of word - 0xe0) (low_24 word)) packet.Nop tt tt
 
 no_load-other : (height : ℕ) (words : List ℕ) → IsOfNoLoad (other_of height words)
 unfolding other_of
 no_load-other height words =
     let opcode = opcode_of (slice_index words 0) in
     IsOfNoLoad-cond (opcode == 0x02) (fill_of height words) (cond (opcode == 0x1f) packet.Irq packet.Nop)
-        (no_load-fill height words)
+    (no_load-fill height words)
     (IsOfNoLoad-cond (opcode == 0x1f) packet.Irq packet.Nop tt tt)
 
 line_kind-opens : (height : ℕ) (words : List ℕ) (w : ℕ) (p : Packet) → IsOfNoLoad p
@@ -61,13 +61,13 @@ line_kind-opens height words w p none = cond_both (is_set w 27) _ _ (λ k. Opens
 by_class : (height : ℕ) (words : List ℕ) (w n : ℕ) (b1 b2 b3 b4 b5 b6 : Bool) (p : Packet) → IsOfNoLoad p →
     OpensLoad height
     (cond b1 (Plain (polygon_len_of w))
-        (cond b2 (line_kind_of w)
-        (cond b3 (Plain (rectangle_len_of w)) (cond b4 (Plain 4) (cond b5 Load (cond b6 (Plain 3) (Plain n)))))))
+    (cond b2 (line_kind_of w)
+    (cond b3 (Plain (rectangle_len_of w)) (cond b4 (Plain 4) (cond b5 Load (cond b6 (Plain 3) (Plain n)))))))
     words
     (cond b1 (polygon_of words)
-        (cond b2 (line_of words)
-        (cond b3 (rectangle_of words)
-        (cond b4 (copy_of height words) (cond b5 (load_of height words) (cond b6 (store_of height words) p))))))
+    (cond b2 (line_of words)
+    (cond b3 (rectangle_of words)
+    (cond b4 (copy_of height words) (cond b5 (load_of height words) (cond b6 (store_of height words) p))))))
 by_class height words w n true b2 b3 b4 b5 b6 p none = no_load-polygon words
 by_class height words w n false true b3 b4 b5 b6 p none = line_kind-opens height words w (line_of words)
     (no_load-line words)
@@ -83,5 +83,5 @@ unfolding whole_of
 whole-opens height words =
     by_class height words (slice_index words 0) _ _ _ _ _ _ _ _
     (IsOfNoLoad-cond (class_of (slice_index words 0) == 7) (environment_of (slice_index words 0))
-        (other_of height words)
+    (other_of height words)
     (no_load-environment (slice_index words 0)) (no_load-other height words))

@@ -43,7 +43,7 @@ polygon_of words =
     let four = is_set command 27 in
     let textured = is_set command 26 in
     packet.Poly four (corner_of words 0) (corner_of words 1) (corner_of words 2)
-        (corner_of words (if four then 3 else 2))
+    (corner_of words (if four then 3 else 2))
     (is_set command 28) textured (is_set command 25) (is_set command 24 && textured)
     (attribute_of words 0) (attribute_of words 1)
 

@@ -105,7 +105,7 @@ begins words some part =
     elim (cases_lt (length words) n) [
       | inr long ↦
           let short : length (drop n words) < tail_need k (take n words) (drop n words) = grind
-              (arith, nat_tests, length-drop) in
+          (arith, nat_tests, length-drop) in
           let on = tail_completes k (take n words) (drop n words) short in
           record {
             more = on.last;
@@ -113,7 +113,7 @@ begins words some part =
             packet = packet_by k (words ++ on.last) (take n words) (drop n words ++ on.last)
                 (kind_front words on.last some)
                 (ap (λ xs. xs ++ on.last) (sym (take-append-drop n words))
-                    ∙ append_assoc (take n words) (drop n words) on.last)
+                ∙ append_assoc (take n words) (drop n words) on.last)
                 (length-take-le n words long) on.is;
           }
       | inl few ↦
@@ -125,8 +125,8 @@ begins words some part =
             some = omega (arith, length-append zeros tail, length-replicate {A = ℕ} (n - length words) 0);
             packet = packet_by k (words ++ (zeros ++ tail)) start tail (kind_front words (zeros ++ tail) some)
                 (sym (append_assoc words zeros tail))
-                    (omega (arith, length-append words zeros, length-replicate {A = ℕ} (n - length words) 0))
-                    (shortest_tail-is k start);
+                (omega (arith, length-append words zeros, length-replicate {A = ℕ} (n - length words) 0))
+                (shortest_tail-is k start);
           }
     ]
 
@@ -151,7 +151,7 @@ shaded_cut : (more : List ℕ) → shaded_need more ≤ length more → IsShaded
 shaded_cut [] h = absurd (omega arith)
 shaded_cut (c ∷ []) h =
     cond_both (is_end c) 1 2 (λ n. IsShadedTail (take n (c ∷ []))) (λ e. e)
-        (λ e. let fits : 2 ≤ 1 = rw e at h in absurd (omega arith))
+    (λ e. let fits : 2 ≤ 1 = rw e at h in absurd (omega arith))
 shaded_cut (c ∷ v ∷ ws) h =
     cond_both (is_end c) 1 (suc (suc (shaded_need ws))) (λ n. IsShadedTail (take n (c ∷ v ∷ ws)))
     (λ e. e)
@@ -203,8 +203,14 @@ cut_up fuel [] h = record { packets = []; rest = []; parts = refl; whole = tt; p
 cut_up zero (w ∷ ws) h = absurd (omega arith)
 cut_up (suc fuel) (w ∷ ws) h =
     elim (cases_lt (length (w ∷ ws)) (packet_need (kind_of w) (w ∷ ws))) [
-      | inl part ↦ record { packets = []; rest = w ∷ ws; parts = refl; whole = tt; part = inr
-          (begins (w ∷ ws) (omega arith) part) }
+      | inl part ↦ record {
+        packets = [];
+        rest = w ∷ ws;
+        parts = refl;
+        whole = tt;
+        part = inr
+            (begins (w ∷ ws) (omega arith) part);
+      }
       | inr whole ↦
           let f = front (w ∷ ws) (omega arith) whole in
           let on = cut_up fuel f.rest (omega (arith, ap length f.parts, length-append f.packet f.rest, f.some)) in

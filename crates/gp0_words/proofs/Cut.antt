@@ -44,7 +44,7 @@ flat_joints-part c v (w ∷ ws) x f h = grind (arith, nat_tests, common_steps, f
 
 pub flat_rest-part : (c v : ℕ) (more : List ℕ) (x : ℕ) → (is_set c 28) ≡ false → length more < flat_need more →
     cond (nat_lt (length (more ++ x ∷ [])) (flat_need (more ++ x ∷ []))) (flat_rest c v (more ++ x ∷ [])) pending.Idle
-        ≡ next_pending (flat_rest c v more) x
+    ≡ next_pending (flat_rest c v more) x
 flat_rest-part c v [] x f h = grind (arith, nat_tests, common_steps)
 flat_rest-part c v (w ∷ ws) x f h = grind (arith, nat_tests, common_steps, flat_rest-part c w ws x)
 
@@ -70,14 +70,14 @@ shaded_need-part (c ∷ v ∷ ws) x h = grind (arith, nat_tests, shaded_need-par
 
 pub shaded_joints-part : (m c v : ℕ) (more : List ℕ) (x : ℕ) → (is_set m 28) ≡ true → length more < shaded_need more →
     shaded_joints m c v (more ++ x ∷ []) ≡ shaded_joints m c v more ++ option_to_list
-        (next_item (shaded_rest m c v more) x)
+    (next_item (shaded_rest m c v more) x)
 shaded_joints-part m c v [] x f h = grind (arith, nat_tests, common_steps)
 shaded_joints-part m c v (d ∷ []) x f h = grind (arith, nat_tests, common_steps)
 shaded_joints-part m c v (d ∷ w ∷ ws) x f h = grind (arith, nat_tests, common_steps, shaded_joints-part m d w ws x)
 
 pub shaded_rest-part : (m c v : ℕ) (more : List ℕ) (x : ℕ) → (is_set m 28) ≡ true → length more < shaded_need more →
     cond (nat_lt (length (more ++ x ∷ [])) (shaded_need (more ++ x ∷ [])))
-        (shaded_rest m c v (more ++ x ∷ [])) pending.Idle ≡ next_pending (shaded_rest m c v more) x
+    (shaded_rest m c v (more ++ x ∷ [])) pending.Idle ≡ next_pending (shaded_rest m c v more) x
 shaded_rest-part m c v [] x f h = grind (arith, nat_tests, common_steps)
 shaded_rest-part m c v (d ∷ []) x f h = grind (arith, nat_tests, common_steps)
 shaded_rest-part m c v (d ∷ w ∷ ws) x f h = grind (arith, nat_tests, common_steps, shaded_rest-part m d w ws x)
@@ -115,11 +115,11 @@ tail_need-part (Polyline false) start more x h = flat_need-part more x h
 pub tail_items-part : (k : Kind) (start more : List ℕ) (x : ℕ) → IsKindOf k (slice_index start 0)
     → length more < tail_need k start more →
     tail_items k start (more ++ x ∷ []) ≡ tail_items k start more ++ option_to_list
-        (next_item (tail_rest k start more) x)
+    (next_item (tail_rest k start more) x)
 tail_items-part (Plain n) start more x f h = absurd (omega arith)
 tail_items-part Load start more x f h =
     let whole : take (data_words_of (slice_index start 2)) (more ++ x ∷ [])
-        ≡ more ++ x ∷ [] = take_all _ _ (omega (arith, length_push more x)) in
+    ≡ more ++ x ∷ [] = take_all _ _ (omega (arith, length_push more x)) in
     let part : take (data_words_of (slice_index start 2)) more ≡ more = take_all _ _ (omega arith) in
     rw (whole, part) (map_push Pixels more x)
 tail_items-part (Polyline true) start more x f h = shaded_joints-part _ _ _ more x f h
@@ -128,7 +128,7 @@ tail_items-part (Polyline false) start more x f h = flat_joints-part _ _ more x 
 pub tail_rest-part : (k : Kind) (start more : List ℕ) (x : ℕ) → IsKindOf k (slice_index start 0)
     → length more < tail_need k start more →
     cond (nat_lt (length (more ++ x ∷ [])) (tail_need k start (more ++ x ∷ [])))
-        (tail_rest k start (more ++ x ∷ [])) pending.Idle ≡ next_pending (tail_rest k start more) x
+    (tail_rest k start (more ++ x ∷ [])) pending.Idle ≡ next_pending (tail_rest k start more) x
 tail_rest-part (Plain n) start more x f h = absurd (omega arith)
 tail_rest-part Load start more x f h = grind (arith, nat_tests, length_push)
 tail_rest-part (Polyline true) start more x f h = shaded_rest-part _ _ _ more x f h
@@ -197,7 +197,7 @@ packet_need-part k words x h =
       | inr long ↦
           let front : take (start_len k) (words ++ x ∷ []) ≡ take (start_len k) words = take-append-le _ _ _ long in
           let back : drop (start_len k) (words ++ x ∷ [])
-              ≡ drop (start_len k) words ++ x ∷ [] = drop-append-le _ _ _ long in
+          ≡ drop (start_len k) words ++ x ∷ [] = drop-append-le _ _ _ long in
           let more = tail_need-part k (take (start_len k) words) (drop (start_len k) words) x in
           rw (front, back) (grind (arith, nat_tests, length_push, length-drop, more))
       | inl short ↦ grind (arith, nat_tests, length_push)
@@ -212,7 +212,7 @@ packet_items-part k words x some kind is h =
       | inr long ↦
           let front : take (start_len k) (words ++ x ∷ []) ≡ take (start_len k) words = take-append-le _ _ _ long in
           let back : drop (start_len k) (words ++ x ∷ [])
-              ≡ drop (start_len k) words ++ x ∷ [] = drop-append-le _ _ _ long in
+          ≡ drop (start_len k) words ++ x ∷ [] = drop-append-le _ _ _ long in
           let first : slice_index (take (start_len k) words) 0 ≡ slice_index words 0 = get_or-take _ _ _ _ some in
           let more = tail_items-part k (take (start_len k) words) (drop (start_len k) words) x (rw first is) in
           rw (front, back) (grind (arith, nat_tests, length_push, length-drop, more))
@@ -227,13 +227,13 @@ pub packet_rest-part : (k : Kind) (words : List ℕ) (x : ℕ) → 0 < start_len
     → IsKindOf k (slice_index words 0) →
     length words < packet_need k words →
     cond (nat_lt (length (words ++ x ∷ [])) (packet_need k (words ++ x ∷ [])))
-        (packet_rest k (words ++ x ∷ [])) pending.Idle ≡ next_pending (packet_rest k words) x
+    (packet_rest k (words ++ x ∷ [])) pending.Idle ≡ next_pending (packet_rest k words) x
 packet_rest-part k words x some kind is h =
     elim (cases_lt (length words) (start_len k)) [
       | inr long ↦
           let front : take (start_len k) (words ++ x ∷ []) ≡ take (start_len k) words = take-append-le _ _ _ long in
           let back : drop (start_len k) (words ++ x ∷ [])
-              ≡ drop (start_len k) words ++ x ∷ [] = drop-append-le _ _ _ long in
+          ≡ drop (start_len k) words ++ x ∷ [] = drop-append-le _ _ _ long in
           let first : slice_index (take (start_len k) words) 0 ≡ slice_index words 0 = get_or-take _ _ _ _ some in
           let more = tail_rest-part k (take (start_len k) words) (drop (start_len k) words) x (rw first is) in
           rw (front, back) (grind (arith, nat_tests, length_push, length-drop, more))
@@ -271,9 +271,15 @@ other_len-positive : (w : ℕ) → 0 < cond (opcode_of w == 2) 3 1
 other_len-positive w = grind (arith, nat_tests)
 
 kind_of-readable : (w : ℕ) → IsReadable w (kind_of w)
-kind_of-readable w = search
-    (arith, IsReadable-cond, Plain-readable, Load-readable, line_kind_of-readable, polygon_len_of-positive,
-    other_len-positive)
+kind_of-readable w = search (
+  arith,
+  IsReadable-cond,
+  Plain-readable,
+  Load-readable,
+  line_kind_of-readable,
+  polygon_len_of-positive,
+  other_len-positive,
+)
 
 kind_of-is : (w : ℕ) → IsKindOf (kind_of w) w
 kind_of-is w = (kind_of-readable w).is
@@ -304,13 +310,13 @@ items_from-push zero (w ∷ ws) x h =
           let rest = items_from-push (packet_need k (w ∷ ws) - 1) ws x (omega arith) in
           let test : nat_lt (length (w ∷ ws)) (packet_need k (w ∷ ws)) ≡ false = le-ltb _ _ whole in
           rw (need, items, rest, test)
-              (sym (append_assoc (packet_items k (w ∷ ws)) (items_from (packet_need k (w ∷ ws) - 1) ws)
-              (option_to_list (next_item (rest_from (packet_need k (w ∷ ws) - 1) ws) x))))
+          (sym (append_assoc (packet_items k (w ∷ ws)) (items_from (packet_need k (w ∷ ws) - 1) ws)
+          (option_to_list (next_item (rest_from (packet_need k (w ∷ ws) - 1) ws) x))))
       | inl part ↦
           let need = packet_need-part k (w ∷ ws) x part in
           let items = packet_items-part k (w ∷ ws) x (start_len-positive w) refl (kind_of-is w) part in
           let past = items_from-past (packet_need k (w ∷ ws ++ x ∷ []) - 1) (ws ++ x ∷ [])
-              (omega (arith, length_push ws x)) in
+          (omega (arith, length_push ws x)) in
           let past_old = items_from-past (packet_need k (w ∷ ws) - 1) ws (omega arith) in
           let test : nat_lt (length (w ∷ ws)) (packet_need k (w ∷ ws)) ≡ true = lt-ltb _ _ part in
           rw (items, past, past_old, test, append-nil, append-nil) refl
@@ -329,13 +335,13 @@ rest_from-push zero (w ∷ ws) x h =
           let rest = rest_from-push (packet_need k (w ∷ ws) - 1) ws x (omega arith) in
           let test : nat_lt (length (w ∷ ws)) (packet_need k (w ∷ ws)) ≡ false = le-ltb _ _ whole in
           let longer : nat_lt (length (w ∷ ws ++ x ∷ [])) (packet_need k (w ∷ ws))
-              ≡ false = le-ltb _ _ (omega (arith, length_push ws x)) in
+          ≡ false = le-ltb _ _ (omega (arith, length_push ws x)) in
           rw (need, longer, test) rest
       | inl part ↦
           let need = packet_need-part k (w ∷ ws) x part in
           let held = packet_rest-part k (w ∷ ws) x (start_len-positive w) refl (kind_of-is w) part in
           let past = rest_from-past (packet_need k (w ∷ ws ++ x ∷ []) - 1) (ws ++ x ∷ [])
-              (omega (arith, length_push ws x)) in
+          (omega (arith, length_push ws x)) in
           let test : nat_lt (length (w ∷ ws)) (packet_need k (w ∷ ws)) ≡ true = lt-ltb _ _ part in
           rw (past, test) held
     ]
@@ -383,10 +389,10 @@ next_pending-kept (pending.Packet words) x kept = collected_pending-kept (kind_o
     (ap kind_of (sym (get_or_append_left words (x ∷ []) 0 0 kept.0)))
 next_pending-kept (pending.Pixels left) x kept =
     cond_both (nat_lt 1 left) (pending.Pixels (left - 1)) pending.Idle IsPending
-        (λ e. (omega (arith, ltb-true _ _ e), omega (arith, kept.1))) (λ e. tt)
+    (λ e. (omega (arith, ltb-true _ _ e), omega (arith, kept.1))) (λ e. tt)
 next_pending-kept (pending.Poly command color vertex None) x kept =
     cond_both (is_end x) pending.Idle _ IsPending (λ e. tt)
     (λ e. cond_both (is_set command 28) (pending.Poly command color vertex (Some x))
-        (pending.Poly command command x None) IsPending
+    (pending.Poly command command x None) IsPending
     (λ s. (kept.0, s, e)) (λ s. (kept.0, λ f. refl)))
 next_pending-kept (pending.Poly command color vertex (Some half)) x kept = (kept.0, λ e. let shaded = kept.1 in cc)

@@ -20,7 +20,7 @@ flat_joints-tail command vertex [] h = absurd h
 flat_joints-tail command vertex (w ∷ []) h = rw h refl
 flat_joints-tail command vertex (w ∷ v ∷ ws) h =
     rw h.0 (ap (λ (items : List Item). Joint command command vertex command w ∷ items)
-        (flat_joints-tail command w (v ∷ ws) h.1))
+    (flat_joints-tail command w (v ∷ ws) h.1))
 
 shaded_joints-tail : (command color vertex : ℕ) (more : List ℕ) → IsShadedTail more
     → shaded_joints command color vertex more ≡ shaded_tail_items command color vertex more
@@ -42,7 +42,7 @@ packet_items-is k start more len tail =
     let front : take (start_len k) (start ++ more) ≡ start = take_at _ _ _ len in
     let back : drop (start_len k) (start ++ more) ≡ more = drop_at _ _ _ len in
     let test : nat_lt (length (start ++ more)) (start_len k)
-        ≡ false = le-ltb _ _ (omega (arith, length-append start more)) in
+    ≡ false = le-ltb _ _ (omega (arith, length-append start more)) in
     rw (test, front, back) (ap (λ (items : List Item). Whole start ∷ items) (tail_items-tail k start more tail))
 
 -- the items of a packet alone are those at the front

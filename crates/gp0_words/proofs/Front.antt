@@ -33,7 +33,7 @@ need_of k start more len tail =
     let front : take (start_len k) (start ++ more) ≡ start = take_at _ _ _ len in
     let back : drop (start_len k) (start ++ more) ≡ more = drop_at _ _ _ len in
     let test : nat_lt (length (start ++ more)) (start_len k)
-        ≡ false = le-ltb _ _ (omega (arith, length-append start more)) in
+    ≡ false = le-ltb _ _ (omega (arith, length-append start more)) in
     rw (test, front, back, tail_need-tail k start more tail, length-append) (omega arith)
 
 pub packet_need-is : (p : List ℕ) → IsPacket p → packet_need (kind_of (slice_index p 0)) p ≡ length p
@@ -48,7 +48,7 @@ need-more k words [] h = rw append-nil refl
 need-more k words (x ∷ xs) h =
     let one = packet_need-whole k words x h in
     ap (packet_need k) (sym (append_assoc words (x ∷ []) xs)) ∙ need-more k (words ++ x ∷ []) xs
-        (omega (arith, length_push words x, one)) ∙ one
+    (omega (arith, length_push words x, one)) ∙ one
 
 items-more : (k : Kind) (words more : List ℕ) → packet_need k words ≤ length words → packet_items k (words ++ more)
     ≡ packet_items k words
@@ -56,7 +56,7 @@ items-more k words [] h = rw append-nil refl
 items-more k words (x ∷ xs) h =
     let one = packet_need-whole k words x h in
     ap (packet_items k) (sym (append_assoc words (x ∷ []) xs)) ∙ items-more k (words ++ x ∷ []) xs
-        (omega (arith, length_push words x, one)) ∙ packet_items-whole k words x h
+    (omega (arith, length_push words x, one)) ∙ packet_items-whole k words x h
 
 -- skipped words
 items_from-skip : (front words : List ℕ) → items_from (length front) (front ++ words) ≡ items_from 0 words
@@ -87,7 +87,7 @@ rest_front (x ∷ xs) words h =
     let same = need-more k (x ∷ xs) words (omega (arith, need)) in
     let skip : packet_need k (x ∷ xs) - 1 ≡ length xs = omega (arith, need) in
     let test : nat_lt (length (x ∷ xs ++ words)) (packet_need k (x ∷ xs))
-        ≡ false = le-ltb _ _ (omega (arith, need, length-append xs words)) in
+    ≡ false = le-ltb _ _ (omega (arith, need, length-append xs words)) in
     rw (same, test, skip) (rest_from-skip xs words)
 
 -- a packet has a word
@@ -102,7 +102,7 @@ no_prefix p q a b hp hq e =
     let first : slice_index p 0 ≡ slice_index q 0 = sym first_p ∙ ap (λ l. slice_index l 0) e ∙ first_q in
     let k = kind_of (slice_index q 0) in
     let need_p : packet_need k p ≡ length p = subst (λ w. packet_need (kind_of w) p ≡ length p) first
-        (packet_need-is p hp) in
+    (packet_need-is p hp) in
     let need_q : packet_need k q ≡ length q = packet_need-is q hq in
     let more_p : packet_need k (p ++ a) ≡ packet_need k p = need-more k p a (omega (arith, need_p)) in
     let more_q : packet_need k (q ++ b) ≡ packet_need k q = need-more k q b (omega (arith, need_q)) in

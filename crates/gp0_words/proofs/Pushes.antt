@@ -59,5 +59,5 @@ pub register_pushed : (h : Pending) (word : ℕ) → IsIdle h → word / 2 ^ 29 
     → IsPushed h h word (Some (Whole (word ∷ [])))
 register_pushed h word idle class =
     rw (idle_is h idle)
-        (pushed pending.Idle pending.Idle word (Some (Whole (word ∷ []))) tt (rw (register_kind word class) refl)
-        (rw (register_kind word class) refl))
+    (pushed pending.Idle pending.Idle word (Some (Whole (word ∷ []))) tt (rw (register_kind word class) refl)
+    (rw (register_kind word class) refl))

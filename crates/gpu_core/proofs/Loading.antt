@@ -41,7 +41,7 @@ one : (s : State) (p : Parts) (job : Transfer) (left word : ℕ) → kept_of s �
 one s p job left word e open_load kept =
     let push : IsPushed (pending.Pixels left) (next_pending (pending.Pixels left) word) word (Some (item.Pixels word)) =
     pushed (pending.Pixels left) (next_pending (pending.Pixels left) word) word
-        (Some (item.Pixels word)) kept refl refl in
+    (Some (item.Pixels word)) kept refl refl in
     let is = λ (event : ℕ). fed s (loading p left) (next_pending (pending.Pixels left) word) event word
     (Some (item.Pixels word)) e push in
     let f : Parts → Kept = λ p. record { parts = p; pending = next_pending (pending.Pixels left) word } in

@@ -31,7 +31,7 @@ use Rattle.gpu_core.proofs.Link.{collected-linked}
 
 tests_plain : (a b c d : Bool) (k m n : ℕ) →
     let kind = cond a (Plain k) (cond b (Plain m) (cond c (Plain 4) (cond d (Plain 3) (Plain n)))) in kind
-        ≡ Plain (start_len kind)
+    ≡ Plain (start_len kind)
 tests_plain true b c d k m n = refl
 tests_plain false true c d k m n = refl
 tests_plain false false true d k m n = refl
@@ -44,7 +44,7 @@ plain_kind word line load =
     let no_line : (word / 2 ^ 29 == 2) ≡ false = grind (arith, nat_tests) in
     let no_load : (word / 2 ^ 29 == 5) ≡ false = grind (arith, nat_tests) in
     rw (no_line, no_load)
-        (tests_plain (class_of word == 1) (class_of word == 3) (class_of word == 4) (class_of word == 6)
+    (tests_plain (class_of word == 1) (class_of word == 3) (class_of word == 4) (class_of word == 6)
     (polygon_len_of word) (rectangle_len_of word) (if opcode_of word == 2 then 3 else 1))
 
 -- ---- its words, one after another
@@ -96,10 +96,10 @@ taken (word ∷ []) s p first held n some e kind len =
     let whole : nat_lt (length all) n ≡ false = grind (arith, nat_tests, len) in
     let idle : pending.Idle ≡ next_pending (begun held) word = sym (begun_pending held word ∙ rw (kind, whole) refl) in
     let is_item : Some (item.Whole all) ≡ next_item (begun held) word = sym
-        (begun_item held word ∙ rw (kind, whole) refl) in
+    (begun_item held word ∙ rw (kind, whole) refl) in
     let push = pushed (begun held) pending.Idle word (Some (item.Whole all)) bounds idle is_item in
     let is = fed s (record { parts = p; pending = begun held }) pending.Idle (capped first) word
-        (Some (item.Whole all)) e push in
+    (Some (item.Whole all)) e push in
     let number : first + (length (word ∷ []) - 1) ≡ first = omega arith in
     record {
       feed = is.feed;
@@ -111,7 +111,7 @@ taken (word ∷ next ∷ words) s p first held n some e kind len =
     let long = length-append held (word ∷ next ∷ words) in
     let bounds = begun_bounds held word (next ∷ words) n kind (omega (arith, len, long)) in
     let kind_now : kind_of (slice_index all 0) ≡ Plain n = ap kind_of (sym (same_first held word (next ∷ words)))
-        ∙ kind in
+    ∙ kind in
     let part : nat_lt (length all) n ≡ true =
     let more = length-append held (word ∷ []) in grind (arith, nat_tests, len, long, more) in
     let held_now : begun all ≡ next_pending (begun held) word =

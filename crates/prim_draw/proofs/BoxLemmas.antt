@@ -1,5 +1,6 @@
 -- Boxes that were cut by the drawing area.
-use Rattle.std.proofs.Common.{◌≡◌, ℕ, ℤ, ◌≤ℤ◌, int_lt, Bool, true, false, cond, ◌||◌, Option, None, Some, IfSome, refl, arith}
+use Rattle.std.proofs.Common.{◌≡◌, ℕ, ℤ, ◌≤ℤ◌, int_lt, Bool, true, false, cond, ◌||◌, Option, None, Some, IfSome, refl}
+use Rattle.std.proofs.Common.{arith}
 use Rattle.std.proofs.lemmas.Int.{ints, clamps}
 use Rattle.px_num.specs.declared.shape.Box2.{Box2}
 use Rattle.prim_draw.specs.Boxes.{some_box, overlap, block_of, IsOnScreen, LiesIn}
@@ -10,7 +11,8 @@ use Rattle.prim_draw.specs.Settings.{IsArea}
 not_less : (a b : ℤ) → false ≡ int_lt b a → a ≤ℤ b
 not_less a b e = grind (arith, ints)
 
-some_on : (height : ℕ) (b : Box2) (across down : Bool) → across ≡ int_lt b.x2 b.x1 → down ≡ int_lt b.y2 b.y1 → IsArea height b
+some_on : (height : ℕ) (b : Box2) (across down : Bool) → across ≡ int_lt b.x2 b.x1 → down ≡ int_lt b.y2 b.y1
+    → IsArea height b
     → IfSome (cond (across || down) None (Some b)) (IsOnScreen height)
 some_on height b true down e f area = tt
 some_on height b false true e f area = tt
@@ -33,11 +35,13 @@ overlap_in height b area h = record {
   reach = h.reach;
 }
 
-pub on_screen : (height : ℕ) (b area : Box2) → IsArea height area → IfSome (some_box (overlap b area)) (IsOnScreen height)
+pub on_screen : (height : ℕ) (b area : Box2) → IsArea height area
+    → IfSome (some_box (overlap b area)) (IsOnScreen height)
 unfolding some_box
 on_screen height b area h = some_on height (overlap b area) _ _ refl refl (overlap_in height b area h)
 
-some_in : (outer b : Box2) (across down : Bool) → LiesIn outer b → IfSome (cond (across || down) None (Some b)) (LiesIn outer)
+some_in : (outer b : Box2) (across down : Bool) → LiesIn outer b
+    → IfSome (cond (across || down) None (Some b)) (LiesIn outer)
 some_in outer b true q h = tt
 some_in outer b false true h = tt
 some_in outer b false false h = h
@@ -58,12 +62,14 @@ lies_in b area =
     some_in b c (int_lt c.x2 c.x1) (int_lt c.y2 c.y1) (overlap_lies b area)
 
 -- what two facts of a value that may be none give together
-pub if_both : {A : Type 0} {P Q R : A → Type 0} (value : Option A) → ((a : A) → P a → Q a → R a) → IfSome value P → IfSome value Q → IfSome value R
+pub if_both : {A : Type 0} {P Q R : A → Type 0} (value : Option A) → ((a : A) → P a → Q a → R a) → IfSome value P
+    → IfSome value Q → IfSome value R
 if_both None f p q = tt
 if_both (Some a) f p q = f a p q
 
 -- a part of a rectangle, by its block
-pub part_of : (e : Extent) (height : ℕ) (b : Box2) → IsExtent e → IsOnScreen height b → LiesIn (cells_box e) b → IsPartOf e (block_of b)
+pub part_of : (e : Extent) (height : ℕ) (b : Box2) → IsExtent e → IsOnScreen height b → LiesIn (cells_box e) b
+    → IsPartOf e (block_of b)
 unfolding block_of
 part_of e height b is on lies = record {
   left = omega (arith, ints, on.left, lies.left);

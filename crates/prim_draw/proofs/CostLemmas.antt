@@ -1,5 +1,6 @@
 -- What is drawn costs at most four steps for each cell of its boxes.
-use Rattle.std.proofs.Common.{◌≡◌, ◌≤◌, ℕ, zero, suc, ◌+◌, ◌*◌, List, [], ◌∷◌, length, Option, None, Some, Bool, true, false, cond, arith}
+use Rattle.std.proofs.Common.{◌≡◌, ◌≤◌, ℕ, zero, suc, ◌+◌, ◌*◌, List, [], ◌∷◌, length, Option, None, Some, Bool, true}
+use Rattle.std.proofs.Common.{false, cond, arith}
 use Rattle.std.specs.List.{filter}
 use Rattle.std.proofs.lemmas.List.FromFn.{length-map-range_with_len}
 use Rattle.std.proofs.Math.Nat.{mul-suc}
@@ -12,7 +13,8 @@ use Rattle.line_walk.specs.Line.{Ends, is_near}
 use Rattle.span_lanes.specs.Cells.{cell_in_row, row_cells}
 use Rattle.span_lanes.proofs.CostLemmas.{cost_law as span_small}
 use Rattle.prim_draw.specs.Boxes.{block_of, count_in}
-use Rattle.prim_draw.specs.Costs.{side_by_side, triangle_rows_cost, inside_cost, triangle_cost, polygon_cost, tile_rows_cost, tile_span, all_cost, rectangle_cost, ends_cost, draw_cost, box_cost}
+use Rattle.prim_draw.specs.Costs.{side_by_side, triangle_rows_cost, inside_cost, triangle_cost, polygon_cost}
+use Rattle.prim_draw.specs.Costs.{tile_rows_cost, tile_span, all_cost, rectangle_cost, ends_cost, draw_cost, box_cost}
 use Rattle.prim_draw.specs.Laws.{CostLaw}
 use Rattle.prim_draw.specs.Lines.{placed_ends, segment_box}
 use Rattle.prim_draw.specs.Parts.{polygon, polygon_style, rectangle_style}
@@ -30,15 +32,18 @@ use Rattle.prim_draw.proofs.PointCounts.{points_small}
 
 side_small : (coat : Coat) (cells : List Cell) → side_by_side coat cells ≤ 4 * length cells
 side_small coat [] = omega arith
-side_small coat (cell ∷ cells) = span_small (record { x = cell.x; y = cell.y; n = length (cell ∷ cells); paint = coat.paint; brush = coat.brush })
+side_small coat (cell ∷ cells) = span_small
+    (record { x = cell.x; y = cell.y; n = length (cell ∷ cells); paint = coat.paint; brush = coat.brush })
 
-kept_one : (b : Bool) (cell : Cell) (cells : List Cell) (n : ℕ) → length cells ≤ n → length (cond b (cell ∷ cells) cells) ≤ suc n
+kept_one : (b : Bool) (cell : Cell) (cells : List Cell) (n : ℕ) → length cells ≤ n
+    → length (cond b (cell ∷ cells) cells) ≤ suc n
 kept_one true cell cells n le = omega arith
 kept_one false cell cells n le = omega arith
 
 filter_small : (test : Cell → Bool) (cells : List Cell) → length (filter test cells) ≤ length cells
 filter_small test [] = omega arith
-filter_small test (cell ∷ cells) = kept_one (test cell) cell (filter test cells) (length cells) (filter_small test cells)
+filter_small test (cell ∷ cells) = kept_one (test cell) cell (filter test cells) (length cells)
+    (filter_small test cells)
 
 row_length : (x y n : ℕ) → length (row_cells x y n) ≡ n
 unfolding row_cells
@@ -54,13 +59,15 @@ triangle_rows_small coat t b (suc h) =
     let row = side_small coat (filter (draws t) cells) in
     let few = filter_small (draws t) cells in
     let long = row_length b.x (b.y + h) b.w in
-    more (triangle_rows_cost coat t b h) (side_by_side coat (filter (draws t) cells)) b.w h (triangle_rows_small coat t b h) (omega (arith, row, few, long))
+    more (triangle_rows_cost coat t b h) (side_by_side coat (filter (draws t) cells)) b.w h
+    (triangle_rows_small coat t b h) (omega (arith, row, few, long))
 
 inside_small : (coat : Coat) (t : Corners) (box : Option Box2) → inside_cost coat t box ≤ 4 * count_in box
 inside_small coat t None = omega arith
 inside_small coat t (Some b) = triangle_rows_small coat t (block_of b) (block_of b).h
 
-triangle_small : (r : Registers) (style : Style) (t : Corners) → triangle_cost r style t ≤ 4 * count_in (triangle_box r t)
+triangle_small : (r : Registers) (style : Style) (t : Corners)
+    → triangle_cost r style t ≤ 4 * count_in (triangle_box r t)
 unfolding triangle_cost
 triangle_small r style t = inside_small (triangle_coat r style t) t (triangle_box r t)
 
@@ -79,13 +86,15 @@ all_small : (tile : Tile) (e : Extent) (box : Option Box2) → all_cost tile e b
 all_small tile e None = omega arith
 all_small tile e (Some b) = tile_rows_small tile e (block_of b) (block_of b).h
 
-rectangle_small : (r : Registers) (tile : Tile) (e : Extent) → rectangle_cost r tile e ≤ 4 * count_in (rectangle_box r e)
+rectangle_small : (r : Registers) (tile : Tile) (e : Extent)
+    → rectangle_cost r tile e ≤ 4 * count_in (rectangle_box r e)
 unfolding rectangle_cost
 rectangle_small r tile e = all_small tile e (rectangle_box r e)
 
 -- ---- segments
 
-admitted : (near : Bool) (cost : ℕ) (box : Option Box2) → cost ≤ 4 * count_in box → cond near cost 0 ≤ 4 * count_in (cond near box None)
+admitted : (near : Bool) (cost : ℕ) (box : Option Box2) → cost ≤ 4 * count_in box
+    → cond near cost 0 ≤ 4 * count_in (cond near box None)
 admitted true cost box le = le
 admitted false cost box le = omega arith
 

@@ -1,5 +1,6 @@
 -- Segments whose points are all drawn as one halfword, and walks along segments.
-use Rattle.std.proofs.Common.{◌≡◌, ◌≤◌, ◌+◌, ◌%◌, ◌^◌, ℕ, zero, suc, ℤ, pos, ◌≤ℤ◌, List, Option, None, Some, Bool, true, false, cond, refl, ap, sym, ◌∙◌, arith, add-one}
+use Rattle.std.proofs.Common.{◌≡◌, ◌≤◌, ◌+◌, ◌%◌, ◌^◌, ℕ, zero, suc, ℤ, pos, ◌≤ℤ◌, List, Option, None, Some, Bool, true}
+use Rattle.std.proofs.Common.{false, cond, refl, ap, sym, ◌∙◌, arith, add-one}
 use Rattle.std.specs.Prelude.{IfSome}
 use Rattle.std.proofs.lemmas.Int.{ints, clamps}
 use Rattle.px_num.specs.declared.shape.Box2.{Box2}
@@ -19,29 +20,36 @@ use Rattle.prim_draw.proofs.PointLemmas.{columns_of, rows_of}
 
 -- ---- a walk
 
-pub next_point : (w : Walking) (p : Vertex) (s : Ends) (k : ℕ) → ◌≡◌ {A = Walking} w (record { ends = s; at = k }) → p ≡ point_of w.ends w.at → p ≡ point_of s k
+pub next_point : (w : Walking) (p : Vertex) (s : Ends) (k : ℕ) → ◌≡◌ {A = Walking} w (record { ends = s; at = k })
+    → p ≡ point_of w.ends w.at → p ≡ point_of s k
 next_point w p s k here is = is ∙ ap (λ (v : Walking). point_of v.ends v.at) here
 
 pub next_walk : (w now : Walking) (s : Ends) (k : ℕ) → ◌≡◌ {A = Walking} w (record { ends = s; at = k })
-    → ◌≡◌ {A = Walking} now (record { ends = w.ends; at = w.at + 1 }) → ◌≡◌ {A = Walking} now (record { ends = s; at = k + 1 })
+    → ◌≡◌ {A = Walking} now (record { ends = w.ends; at = w.at + 1 })
+    → ◌≡◌ {A = Walking} now (record { ends = s; at = k + 1 })
 next_walk w now s k here on = on ∙ ap (λ (v : Walking). record { ends = v.ends; at = v.at + 1 }) here
 
-pub points_next : (area : Box2) (brush : Brush) (s : Ends) (k : ℕ) (m now new : List ℕ) (p : Vertex) → now ≡ drawn_points area brush s k m → p ≡ point_of s k
+pub points_next : (area : Box2) (brush : Brush) (s : Ends) (k : ℕ) (m now new : List ℕ) (p : Vertex)
+    → now ≡ drawn_points area brush s k m → p ≡ point_of s k
     → new ≡ drawn_point area brush p now → new ≡ drawn_points area brush s (k + 1) m
 points_next area brush s k m now new p so_far at drawn =
     drawn ∙ ap (λ (v : Vertex). drawn_point area brush v now) at ∙ ap (drawn_point area brush (point_of s k)) so_far
     ∙ sym (each_below-next (λ i. drawn_point area brush (point_of s i)) k m)
 
-pub cost_next : (area : Box2) (s : Ends) (k start now new : ℕ) (p : Vertex) → now ≤ start + points_cost area s k → p ≡ point_of s k
+pub cost_next : (area : Box2) (s : Ends) (k start now new : ℕ) (p : Vertex) → now ≤ start + points_cost area s k
+    → p ≡ point_of s k
     → new ≤ now + cond (is_in area p) 2 0 → new ≤ start + points_cost area s (k + 1)
 cost_next area s k start now new p so_far at step =
-    let here : ◌≡◌ {A = ℕ} (cond (is_in area p) 2 0) (cond (is_in area (point_of s k)) 2 0) = ap (λ (v : Vertex). cond (is_in area v) 2 0) at in
+    let here : ◌≡◌ {A = ℕ} (cond (is_in area p) 2 0) (cond (is_in area (point_of s k)) 2 0) = ap
+    (λ (v : Vertex). cond (is_in area v) 2 0) at in
     rw (add-one k) (omega (arith, here, so_far, step))
 
-pub inked_next : (s : Ends) (ink k : ℕ) (m now new : List ℕ) (p : Vertex) → now ≡ inked_points s ink k m → p ≡ point_of s k
+pub inked_next : (s : Ends) (ink k : ℕ) (m now new : List ℕ) (p : Vertex) → now ≡ inked_points s ink k m
+    → p ≡ point_of s k
     → new ≡ set now (cell_of p).x (cell_of p).y ink → new ≡ inked_points s ink (k + 1) m
 inked_next s ink k m now new p so_far at put =
-    put ∙ ap (λ (v : Vertex). set now (cell_of v).x (cell_of v).y ink) at ∙ ap (λ cells. set cells (cell_of (point_of s k)).x (cell_of (point_of s k)).y ink) so_far
+    put ∙ ap (λ (v : Vertex). set now (cell_of v).x (cell_of v).y ink) at
+    ∙ ap (λ cells. set cells (cell_of (point_of s k)).x (cell_of (point_of s k)).y ink) so_far
     ∙ sym (each_below-next (λ i cells. set cells (cell_of (point_of s i)).x (cell_of (point_of s i)).y ink) k m)
 
 -- ---- points between two that lie in a box
@@ -49,47 +57,59 @@ inked_next s ink k m now new p so_far at put =
 is_within : (low high z : ℤ) → low ≤ℤ z → z ≤ℤ high → is_between low high z ≡ true
 is_within low high z from to = grind (arith, ints)
 
-within_box : (b : Box2) (p : Vertex) → is_between b.x1 b.x2 p.x ≡ true → is_between b.y1 b.y2 p.y ≡ true → is_in b p ≡ true
+within_box : (b : Box2) (p : Vertex) → is_between b.x1 b.x2 p.x ≡ true → is_between b.y1 b.y2 p.y ≡ true
+    → is_in b p ≡ true
 unfolding is_in
 within_box b p columns rows = rw (columns, rows) refl
 
-all_within : (b : Box2) (s : Ends) (p : Vertex) → is_in b s.first ≡ true → is_in b s.second ≡ true → IsBetweenEnds s p → is_in b p ≡ true
+all_within : (b : Box2) (s : Ends) (p : Vertex) → is_in b s.first ≡ true → is_in b s.second ≡ true → IsBetweenEnds s p
+    → is_in b p ≡ true
 all_within b s p first second amid =
     let a = columns_of b s.first first in
     let c = columns_of b s.second second in
     let d = rows_of b s.first first in
     let e = rows_of b s.second second in
     within_box b p
-    (is_within b.x1 b.x2 p.x (omega (arith, ints, clamps, amid.across.0, a.from, c.from)) (omega (arith, ints, clamps, amid.across.1, a.to, c.to)))
-    (is_within b.y1 b.y2 p.y (omega (arith, ints, clamps, amid.down.0, d.from, e.from)) (omega (arith, ints, clamps, amid.down.1, d.to, e.to)))
+    (is_within b.x1 b.x2 p.x (omega (arith, ints, clamps, amid.across.0, a.from, c.from))
+    (omega (arith, ints, clamps, amid.across.1, a.to, c.to)))
+    (is_within b.y1 b.y2 p.y (omega (arith, ints, clamps, amid.down.0, d.from, e.from))
+    (omega (arith, ints, clamps, amid.down.1, d.to, e.to)))
 
 -- ---- one halfword
 
-drawn_inked : (area : Box2) (brush : Brush) (p : Vertex) (color ink : ℕ) (m : List ℕ) → is_in area p ≡ true → p.color ≡ color → IsInk brush color ink
+drawn_inked : (area : Box2) (brush : Brush) (p : Vertex) (color ink : ℕ) (m : List ℕ) → is_in area p ≡ true
+    → p.color ≡ color → IsInk brush color ink
     → drawn_point area brush p m ≡ set m (cell_of p).x (cell_of p).y ink
 unfolding drawn_point
-drawn_inked area brush p color ink m inside same is = rw inside (ap (λ c. plotted brush (cell_of p) c m) same ∙ is (cell_of p) m)
+drawn_inked area brush p color ink m inside same is = rw inside
+    (ap (λ c. plotted brush (cell_of p) c m) same ∙ is (cell_of p) m)
 
-pub all_inked : (area : Box2) (brush : Brush) (s : Ends) (color ink : ℕ) → color ≡ s.first.color % 2 ^ 24 → s.first.color ≡ s.second.color
+pub all_inked : (area : Box2) (brush : Brush) (s : Ends) (color ink : ℕ) → color ≡ s.first.color % 2 ^ 24
+    → s.first.color ≡ s.second.color
     → is_in area s.first ≡ true → is_in area s.second ≡ true → IsInk brush color ink → AreInked area brush s ink
 all_inked area brush s color ink is same first second inks k lt =
     let inside = all_within area s (point_of s k) first second (point_of-between s k lt) in
     let tint : (point_of s k).color ≡ color =
-    ap (λ c. color_along s.first.color c (steps_of s) k) (sym same) ∙ color-same s.first.color (steps_of s) k ∙ sym is in
+    ap (λ c. color_along s.first.color c (steps_of s) k) (sym same) ∙ color-same s.first.color (steps_of s) k
+    ∙ sym is in
     record { inside = inside; drawn = λ m. drawn_inked area brush (point_of s k) color ink m inside tint inks }
 
-pub some_inked : (area : Box2) (brush : Brush) (s : Ends) (color : ℕ) (found : Option ℕ) → ((ink : ℕ) → IsInk brush color ink → AreInked area brush s ink)
+pub some_inked : (area : Box2) (brush : Brush) (s : Ends) (color : ℕ) (found : Option ℕ)
+    → ((ink : ℕ) → IsInk brush color ink → AreInked area brush s ink)
     → IfSome found (λ ink. IsInk brush color ink) → IfSome found (λ ink. AreInked area brush s ink)
 some_inked area brush s color None all is = tt
 some_inked area brush s color (Some ink) all is = all ink is
 
-pub inked_are : (area : Box2) (brush : Brush) (s : Ends) (ink n : ℕ) (m : List ℕ) → AreInked area brush s ink → n ≤ len_of s
+pub inked_are : (area : Box2) (brush : Brush) (s : Ends) (ink n : ℕ) (m : List ℕ) → AreInked area brush s ink
+    → n ≤ len_of s
     → inked_points s ink n m ≡ drawn_points area brush s n m
 inked_are area brush s ink n m inked le =
-    each_below-same (λ k cells. set cells (cell_of (point_of s k)).x (cell_of (point_of s k)).y ink) (λ k. drawn_point area brush (point_of s k)) n m
+    each_below-same (λ k cells. set cells (cell_of (point_of s k)).x (cell_of (point_of s k)).y ink)
+    (λ k. drawn_point area brush (point_of s k)) n m
     (λ k cells lt. sym ((inked k (omega (arith, lt, le))).drawn cells))
 
-pub inked_cost : (area : Box2) (brush : Brush) (s : Ends) (ink n : ℕ) → AreInked area brush s ink → n ≤ len_of s → n ≤ points_cost area s n
+pub inked_cost : (area : Box2) (brush : Brush) (s : Ends) (ink n : ℕ) → AreInked area brush s ink → n ≤ len_of s
+    → n ≤ points_cost area s n
 inked_cost area brush s ink zero inked le = omega arith
 inked_cost area brush s ink (suc n) inked le =
     let so_far = inked_cost area brush s ink n inked (omega (arith, le)) in

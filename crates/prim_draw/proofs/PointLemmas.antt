@@ -25,7 +25,8 @@ pub record LiesBetween (low high z : ℤ) : Type 0 where
   pub to : z ≤ℤ high
 
 between : (low high z : ℤ) → is_between low high z ≡ true → LiesBetween low high z
-between low high z e = let h = two (le_z low z) (le_z z high) e in record { from = at_most low z h.0; to = at_most z high h.1 }
+between low high z e = let h = two (le_z low z) (le_z z high) e in
+    record { from = at_most low z h.0; to = at_most z high h.1 }
 
 pub columns_of : (b : Box2) (p : Vertex) → is_in b p ≡ true → LiesBetween b.x1 b.x2 p.x
 unfolding is_in
@@ -36,16 +37,19 @@ unfolding is_in
 rows_of b p e = between b.y1 b.y2 p.y (two (is_between b.x1 b.x2 p.x) (is_between b.y1 b.y2 p.y) e).1
 
 -- one cell of one colour
-pub point_cost : (x y color : ℕ) (brush : Brush) → span_cost (record { x = x; y = y; n = 1; paint = Flat color; brush = brush }) ≡ 2
+pub point_cost : (x y color : ℕ) (brush : Brush)
+    → span_cost (record { x = x; y = y; n = 1; paint = Flat color; brush = brush }) ≡ 2
 unfolding span_cost has_hazard
 point_cost x y color brush = refl
 
 -- ---- cells that are not looked at
 
-pub opaque_pixel : (brush : Brush) (color : ℕ) (shift : ℤ) (back : ℕ) → brush.semi ≡ false → flat_pixel brush color shift 0 ≡ flat_pixel brush color shift back
+pub opaque_pixel : (brush : Brush) (color : ℕ) (shift : ℤ) (back : ℕ) → brush.semi ≡ false
+    → flat_pixel brush color shift 0 ≡ flat_pixel brush color shift back
 unfolding flat_pixel blended_if
 opaque_pixel brush color shift back opaque = rw opaque refl
 
-pub plot_untested : (m : List ℕ) (mask x y color : ℕ) → is_testing mask ≡ false → set m x y (forced mask color) ≡ plot m mask x y color
+pub plot_untested : (m : List ℕ) (mask x y color : ℕ) → is_testing mask ≡ false → set m x y (forced mask color)
+    ≡ plot m mask x y color
 unfolding plot is_kept
 plot_untested m mask x y color untested = rw untested refl

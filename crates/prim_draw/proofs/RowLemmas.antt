@@ -1,5 +1,7 @@
 -- The cells of a row that a triangle draws, as a run of cells.
-use Rattle.std.proofs.Common.{◌≡◌, ◌<◌, ◌≤◌, ℕ, zero, suc, ◌+◌, ◌-◌, min, ℤ, pos, ◌≤ℤ◌, ◌-ℤ◌, unsigned_abs, List, [], Option, length, ◌∷◌, ◌++◌, Bool, true, false, IsTrue, cond, map, inl, inr, refl, sym, ap, ◌∙◌, arith, add-one, append-nil}
+use Rattle.std.proofs.Common.{◌≡◌, ◌<◌, ◌≤◌, ℕ, zero, suc, ◌+◌, ◌-◌, min, ℤ, pos, ◌≤ℤ◌, ◌-ℤ◌, unsigned_abs, List, []}
+use Rattle.std.proofs.Common.{Option, length, ◌∷◌, ◌++◌, Bool, true, false, IsTrue, cond, map, inl, inr, refl, sym, ap}
+use Rattle.std.proofs.Common.{◌∙◌, arith, add-one, append-nil}
 use Rattle.std.specs.List.{filter, range_with_len}
 use Rattle.std.proofs.lemmas.Bool.{cases_lt}
 use Rattle.std.proofs.lemmas.Int.{ints}
@@ -25,19 +27,23 @@ pub record HoldsInRun (test : Cell → Bool) (x y w first count : ℕ) : Type 0 
   pub beyond : (i : ℕ) → i < w → first + count ≤ x + i → test (cell_in_row x y i) ≡ false
 
 module _ (test : Cell → Bool) (x y w first count : ℕ) (left : x ≤ first) (h : HoldsInRun test x y w first count) where
-  more : (n : ℕ) → filter test (row_cells x y (suc n)) ≡ filter test (row_cells x y n) ++ cond (test (cell_in_row x y n)) (cell_in_row x y n ∷ []) []
+  more : (n : ℕ) → filter test (row_cells x y (suc n)) ≡ filter test (row_cells x y n) ++ cond
+      (test (cell_in_row x y n)) (cell_in_row x y n ∷ []) []
   more n = ap (filter test) (row_more x y n) ∙ filter-append test (row_cells x y n) (cell_in_row x y n ∷ [])
 
-  outside : (n : ℕ) → test (cell_in_row x y n) ≡ false → filter test (row_cells x y (suc n)) ≡ filter test (row_cells x y n)
+  outside : (n : ℕ) → test (cell_in_row x y n) ≡ false → filter test (row_cells x y (suc n))
+      ≡ filter test (row_cells x y n)
   outside n e = more n ∙ rw e (append-nil _)
 
-  kept : (n : ℕ) → test (cell_in_row x y n) ≡ true → filter test (row_cells x y (suc n)) ≡ filter test (row_cells x y n) ++ cell_in_row x y n ∷ []
+  kept : (n : ℕ) → test (cell_in_row x y n) ≡ true → filter test (row_cells x y (suc n))
+      ≡ filter test (row_cells x y n) ++ cell_in_row x y n ∷ []
   kept n e = more n ∙ rw e refl
 
   part : ℕ → ℕ
   part n = min (x + n - first) count
 
-  one : (n : ℕ) → n < w → filter test (row_cells x y n) ≡ row_cells first y (part n) → filter test (row_cells x y (suc n)) ≡ row_cells first y (part (suc n))
+  one : (n : ℕ) → n < w → filter test (row_cells x y n) ≡ row_cells first y (part n)
+      → filter test (row_cells x y (suc n)) ≡ row_cells first y (part (suc n))
   unfolding part
   one n lt so_far = elim (cases_lt (x + n) first) [
     | inl below ↦ let same : min (x + suc n - first) count ≡ min (x + n - first) count = omega (arith, below) in
@@ -59,13 +65,15 @@ module _ (test : Cell → Bool) (x y w first count : ℕ) (left : x ≤ first) (
 
   all : (n : ℕ) → n ≤ w → filter test (row_cells x y n) ≡ row_cells first y (part n)
   unfolding part
-  all zero le = let none : min (x + zero - first) count ≡ 0 = omega arith in rw (none, row_none x y, row_none first y) refl
+  all zero le = let none : min (x + zero - first) count ≡ 0 = omega arith in
+      rw (none, row_none x y, row_none first y) refl
   all (suc n) le = one n (omega arith) (all n (omega arith))
 
   -- the cells where the test holds
   pub filtered : first + count ≤ x + w → filter test (row_cells x y w) ≡ row_cells first y count
   unfolding part
-  filtered right = let whole : min (x + w - first) count ≡ count = omega (arith, left) in all w (omega arith) ∙ ap (row_cells first y) whole
+  filtered right = let whole : min (x + w - first) count ≡ count = omega (arith, left) in all w (omega arith)
+      ∙ ap (row_cells first y) whole
 
 not_true : (b : Bool) → (IsTrue b → ⊥) → b ≡ false
 not_true true h = absurd (h refl)
@@ -79,7 +87,8 @@ pub record IsFound (t : Corners) (b : Block) (y x n : ℕ) : Type 0 where
   pub inside : (i : ℕ) → i < n → IsTrue (is_inside t (pos (x + i)) (pos y))
   pub cells : HoldsInRun (draws t) b.x y b.w x n
 
-module _ (t : Corners) (b : Block) (y : ℕ) (first last : ℤ) (some : 1 ≤ b.w) (h : IsRowSpan t (pos y) (row_box b y) first last) where
+module _ (t : Corners) (b : Block) (y : ℕ) (first last : ℤ) (some : 1 ≤ b.w)
+    (h : IsRowSpan t (pos y) (row_box b y) first last) where
   pub first_in : (pos b.x ≤ℤ first) × (first ≤ℤ pos (b.x + b.w - 1))
   first_in = (((h.cells first).1 (omega (arith, ints), h.order)).0).0
 
@@ -97,33 +106,46 @@ module _ (t : Corners) (b : Block) (y : ℕ) (first last : ℤ) (some : 1 ≤ b.
         some = omega arith;
         left = omega (arith, ints, f.0);
         right = omega (arith, ints, f.0, f.1, l.0, l.1, h.order);
-        inside = λ i lt. ((h.cells (pos (unsigned_abs first + i))).1 (omega (arith, ints, f.0, lt), omega (arith, ints, f.0, lt, h.order))).1;
+        inside = λ i lt.
+            ((h.cells (pos (unsigned_abs first + i))).1
+            (omega (arith, ints, f.0, lt), omega (arith, ints, f.0, lt, h.order))).1;
         cells = record {
-          below = λ i lt under. not_true _ (λ inside. let u = (h.cells (pos (b.x + i))).0 (in_box (b.x + i) (omega arith) (omega (arith, lt)), inside) in absurd (omega (arith, ints, u.0, under, f.0)));
-          here = λ i lt from to. ((h.cells (pos (b.x + i))).1 (omega (arith, ints, from, f.0), omega (arith, ints, to, f.0, h.order))).1;
-          beyond = λ i lt over. not_true _ (λ inside. let u = (h.cells (pos (b.x + i))).0 (in_box (b.x + i) (omega arith) (omega (arith, lt)), inside) in absurd (omega (arith, ints, u.1, over, f.0, h.order)));
+          below = λ i lt under. not_true _
+              (λ inside. let u = (h.cells (pos (b.x + i))).0
+              (in_box (b.x + i) (omega arith) (omega (arith, lt)), inside) in
+              absurd (omega (arith, ints, u.0, under, f.0)));
+          here = λ i lt from to.
+              ((h.cells (pos (b.x + i))).1 (omega (arith, ints, from, f.0), omega (arith, ints, to, f.0, h.order))).1;
+          beyond = λ i lt over. not_true _
+              (λ inside. let u = (h.cells (pos (b.x + i))).0
+              (in_box (b.x + i) (omega arith) (omega (arith, lt)), inside) in
+              absurd (omega (arith, ints, u.1, over, f.0, h.order)));
         };
       }
 
 -- no cell of a row is inside
-pub none_found : (t : Corners) (b : Block) (y : ℕ) → 1 ≤ b.w → ((x : ℤ) → IsInBox (row_box b y) x (pos y) → is_inside t x (pos y) ≡ false)
+pub none_found : (t : Corners) (b : Block) (y : ℕ) → 1 ≤ b.w
+    → ((x : ℤ) → IsInBox (row_box b y) x (pos y) → is_inside t x (pos y) ≡ false)
     → filter (draws t) (row_cells b.x y b.w) ≡ []
 none_found t b y some none =
     filtered (draws t) b.x y b.w b.x 0 (omega arith)
     (record {
       below = λ i lt under. absurd (omega (arith, under));
       here = λ i lt from to. absurd (omega (arith, from, to));
-      beyond = λ i lt over. none (pos (b.x + i)) ((omega (arith, ints), omega (arith, ints, lt)), (omega (arith, ints), omega (arith, ints)));
+      beyond = λ i lt over. none (pos (b.x + i))
+          ((omega (arith, ints), omega (arith, ints, lt)), (omega (arith, ints), omega (arith, ints)));
     })
     (omega arith)
     ∙ row_none b.x y
 
 -- ---- rows that are drawn one after another
 
-rows_more : (test : Cell → Bool) (x y w j : ℕ) → filter test (cells_in_rows x y w (j + 1)) ≡ filter test (cells_in_rows x y w j) ++ filter test (row_cells x (y + j) w)
+rows_more : (test : Cell → Bool) (x y w j : ℕ) → filter test (cells_in_rows x y w (j + 1))
+    ≡ filter test (cells_in_rows x y w j) ++ filter test (row_cells x (y + j) w)
 rows_more test x y w j = rw (add-one j) (filter-append test (cells_in_rows x y w j) (row_cells x (y + j) w))
 
-pub row_drawn : (pixel : Cell → List ℕ → Option ℕ) (mask : ℕ) (test : Cell → Bool) (x y w j : ℕ) (first before after : List ℕ)
+pub row_drawn : (pixel : Cell → List ℕ → Option ℕ) (mask : ℕ) (test : Cell → Bool) (x y w j : ℕ)
+    (first before after : List ℕ)
     → before ≡ Cells pixel mask (filter test (cells_in_rows x y w j)) first
     → after ≡ Cells pixel mask (filter test (row_cells x (y + j) w)) before
     → after ≡ Cells pixel mask (filter test (cells_in_rows x y w (j + 1))) first
@@ -135,22 +157,33 @@ row_drawn pixel mask test x y w j first before after so_far here =
 
 -- cells that stand side by side cost what their span does
 pub span_of_row : (coat : Coat) (x y n : ℕ) → 1 ≤ n
-    → side_by_side coat (row_cells x y n) ≡ span_cost (record { x = x; y = y; n = n; paint = coat.paint; brush = coat.brush })
+    → side_by_side coat (row_cells x y n)
+    ≡ span_cost (record { x = x; y = y; n = n; paint = coat.paint; brush = coat.brush })
 unfolding row_cells
 span_of_row coat x y zero some = absurd (omega arith)
 span_of_row coat x y (suc n) some =
     let here : x + 0 ≡ x = omega arith in
-    let count : length (map (cell_in_row x y) (range_with_len 0 (suc n))) ≡ suc n = length-map-range_with_len (cell_in_row x y) 0 (suc n) in
-    ap (λ (column : ℕ). span_cost (record { x = column; y = y; n = length (map (cell_in_row x y) (range_with_len 0 (suc n))); paint = coat.paint; brush = coat.brush })) here
+    let count : length (map (cell_in_row x y) (range_with_len 0 (suc n))) ≡ suc n = length-map-range_with_len
+    (cell_in_row x y) 0 (suc n) in
+    ap (λ (column : ℕ). span_cost
+    (record {
+      x = column;
+      y = y;
+      n = length (map (cell_in_row x y) (range_with_len 0 (suc n)));
+      paint = coat.paint;
+      brush = coat.brush;
+    })) here
     ∙ ap (λ (k : ℕ). span_cost (record { x = x; y = y; n = k; paint = coat.paint; brush = coat.brush })) count
 
 -- a span of such a paint is its cells
 pub span_pixels : (coat : Coat) (x y n : ℕ) (m : List ℕ) → IsAlike coat.paint
-    → Cells (shade_at (record { x = x; y = y; n = n; paint = coat.paint; brush = coat.brush })) coat.brush.mask (row_cells x y n) m
+    → Cells (shade_at (record { x = x; y = y; n = n; paint = coat.paint; brush = coat.brush })) coat.brush.mask
+    (row_cells x y n) m
     ≡ Cells (pixel_at coat) coat.brush.mask (row_cells x y n) m
 unfolding shade
 span_pixels coat x y n m h =
-    row_same (shade_at (record { x = x; y = y; n = n; paint = coat.paint; brush = coat.brush })) (pixel_at coat) coat.brush.mask x y n m
+    row_same (shade_at (record { x = x; y = y; n = n; paint = coat.paint; brush = coat.brush }))
+    (pixel_at coat) coat.brush.mask x y n m
     (λ i lt now.
     let back : x + ((x + i) - x) ≡ x + i = omega arith in
     ap (λ (column : ℕ). paint_pixel coat.paint coat.brush column y ((x + i) - x) now) back

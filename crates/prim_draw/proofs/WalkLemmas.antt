@@ -24,7 +24,8 @@ pub record IsBoxOf (clip : Box2) (x y w h : ℕ) : Type 0 where
   pub rows : 1 ≤ h
   pub in_row : x + w ≤ 1024
 
-pub box_is : (clip : Box2) → IsOnScreen 1024 clip → IsBoxOf clip (block_of clip).x (block_of clip).y (block_of clip).w (block_of clip).h
+pub box_is : (clip : Box2) → IsOnScreen 1024 clip → IsBoxOf clip (block_of clip).x (block_of clip).y (block_of clip).w
+    (block_of clip).h
 unfolding block_of
 box_is clip h = record {
   left = omega (arith, ints, h.left);
@@ -38,30 +39,39 @@ box_is clip h = record {
 
 module _ (t : Corners) (clip : Box2) (y : ℕ) (rows : RowWalk) (h : IsRowOf t clip y rows) where
   in_clip : (x : ℤ) → IsInBox (row_box (block_of clip) y) x (pos y) → IsInBox clip x (pos y)
-  in_clip x i = let b = box_is clip h.on_screen in ((omega (arith, ints, i.0.0, b.left), omega (arith, ints, i.0.1, b.right)), (h.stands.above, h.in_box))
+  in_clip x i = let b = box_is clip h.on_screen in
+      ((omega (arith, ints, i.0.0, b.left), omega (arith, ints, i.0.1, b.right)), (h.stands.above, h.in_box))
 
   in_row : (x : ℤ) → IsInBox clip x (pos y) → IsInBox (row_box (block_of clip) y) x (pos y)
-  in_row x i = let b = box_is clip h.on_screen in ((omega (arith, ints, i.0.0, b.left), omega (arith, ints, i.0.1, b.right)), (omega (arith, ints), omega (arith, ints)))
+  in_row x i = let b = box_is clip h.on_screen in (
+    (omega (arith, ints, i.0.0, b.left), omega (arith, ints, i.0.1, b.right)),
+    (omega (arith, ints), omega (arith, ints)),
+  )
 
-  pub row_span : (first last : ℤ) → IsRowSpan t (pos y) clip first last → IsRowSpan t (pos y) (row_box (block_of clip) y) first last
+  pub row_span : (first last : ℤ) → IsRowSpan t (pos y) clip first last
+      → IsRowSpan t (pos y) (row_box (block_of clip) y) first last
   row_span first last s = record {
     order = s.order;
     cells = λ x. (λ i. (s.cells x).0 (in_clip x i.0, i.1), λ i. let r = (s.cells x).1 i in (in_row x r.0, r.1));
   }
 
-  pub row_none : ((x : ℤ) → IsInBox clip x (pos y) → is_inside t x (pos y) ≡ false) → (x : ℤ) → IsInBox (row_box (block_of clip) y) x (pos y) → is_inside t x (pos y) ≡ false
+  pub row_none : ((x : ℤ) → IsInBox clip x (pos y) → is_inside t x (pos y) ≡ false) → (x : ℤ)
+      → IsInBox (row_box (block_of clip) y) x (pos y) → is_inside t x (pos y) ≡ false
   row_none none x i = none x (in_clip x i)
 
 pub has_rows : (t : Corners) (clip : Box2) → IsOnScreen 1024 clip → LiesIn (bounding_box t) clip → HasRows t clip
 has_rows t clip h lies = record { top = lies.top; some = h.down; bottom = lies.bottom }
 
 -- a run of a triangle can be drawn with its paint
-pub can_draw : (t : Corners) (paint : Paint) (y : ℕ) (found : Option Run) → FitsTriangle t paint → IfSome found (IsRun t y) → IfSome found (CanDraw paint y)
+pub can_draw : (t : Corners) (paint : Paint) (y : ℕ) (found : Option Run) → FitsTriangle t paint
+    → IfSome found (IsRun t y) → IfSome found (CanDraw paint y)
 can_draw t paint y None fits run = tt
-can_draw t paint y (Some run) fits is = record { some = is.some; in_row = is.in_row; inside = fits.inside run.x y run.n is.inside }
+can_draw t paint y
+    (Some run) fits is = record { some = is.some; in_row = is.in_row; inside = fits.inside run.x y run.n is.inside }
 
 -- row j of a box
-pub row_at : (t : Corners) (clip : Box2) (b : Block) (j : ℕ) (rows : RowWalk) → IsOnScreen 1024 clip → b ≡ block_of clip → j < b.h → AreRows t clip (pos (b.y + j)) rows → IsRowOf t clip (b.y + j) rows
+pub row_at : (t : Corners) (clip : Box2) (b : Block) (j : ℕ) (rows : RowWalk) → IsOnScreen 1024 clip
+    → b ≡ block_of clip → j < b.h → AreRows t clip (pos (b.y + j)) rows → IsRowOf t clip (b.y + j) rows
 row_at t clip b j rows on is lt stands =
     let box = box_is clip on in
     let y_is : b.y ≡ (block_of clip).y = ap (λ k. k.y) is in

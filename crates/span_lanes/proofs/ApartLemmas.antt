@@ -1,5 +1,6 @@
 -- Spans that lie apart from their texels and from their palette.
-use Rattle.std.proofs.Common.{◌≡◌, ◌≢◌, ◌<◌, ◌≤◌, ℕ, None, Some, Bool, true, false, cond, eqb, ◌+◌, ◌-◌, ◌*◌, ◌/◌, ◌%◌, ◌⊎◌, inl, inr, map, refl, ◌∙◌, arith}
+use Rattle.std.proofs.Common.{◌≡◌, ◌≢◌, ◌<◌, ◌≤◌, ℕ, None, Some, Bool, true, false, cond, eqb, ◌+◌, ◌-◌, ◌*◌, ◌/◌, ◌%◌}
+use Rattle.std.proofs.Common.{◌⊎◌, inl, inr, map, refl, ◌∙◌, arith}
 use Rattle.std.specs.Option.{MatchOption}
 use Rattle.std.specs.List.{range_with_len}
 use Rattle.std.proofs.lemmas.List.FromFn.{get_or-map-range_with_len, length-map-range_with_len}
@@ -32,7 +33,8 @@ column_small depth u lt = by_depth (eqb depth 0) (eqb depth 1)
 
 -- a row of cells and a page
 abbrev Beside : ℕ → ℕ → ℕ → Texture → Type 0
-Beside x y n t = ((y < t.page.y) ⊎ (t.page.y + 255 < y)) ⊎ ((t.page.x + page_width t.page.depth ≤ 1024) × ((x + n ≤ t.page.x) ⊎ (t.page.x + page_width t.page.depth ≤ x)))
+Beside x y n t = ((y < t.page.y) ⊎ (t.page.y + 255 < y))
+    ⊎ ((t.page.x + page_width t.page.depth ≤ 1024) × ((x + n ≤ t.page.x) ⊎ (t.page.x + page_width t.page.depth ≤ x)))
 
 texel_apart : (t : Texture) (x y n u v cx : ℕ) → IsTexture t → Beside x y n t → x ≤ cx → cx < x + n
     → (texel_place t.page t.window u v).x ≡ cx → (texel_place t.page t.window u v).y ≡ y → ⊥
@@ -41,27 +43,34 @@ texel_apart t x y n u v cx is (inl (inr below)) low high across down =
     let row = windowed_small t.window.mask_y t.window.off_y v is.window.mask_y in
     omega (arith, row)
 texel_apart t x y n u v cx is (inr beside) low high across down =
-    let col = column_small t.page.depth (windowed t.window.mask_x t.window.off_x u) (windowed_small t.window.mask_x t.window.off_x u is.window.mask_x) in
+    let col = column_small t.page.depth (windowed t.window.mask_x t.window.off_x u)
+    (windowed_small t.window.mask_x t.window.off_x u is.window.mask_x) in
     elim beside.1 [
       | inl left ↦ omega (arith, col, beside.0)
       | inr right ↦ omega (arith, col, beside.0)
     ]
 
 abbrev StripHazard : Bool → Bool → ℕ → Cell → ℕ → Type 0
-StripHazard four eight clut to n = MatchOption (cond four (Some (clut_strip clut 16)) (cond eight (Some (clut_strip clut 256)) None)) ⊥ (λ strip. HasStripHazard strip to n)
+StripHazard four eight clut to n = MatchOption
+    (cond four (Some (clut_strip clut 16)) (cond eight (Some (clut_strip clut 256)) None)) ⊥
+    (λ strip. HasStripHazard strip to n)
 
-strip_off : (four eight : Bool) (clut y : ℕ) (to : Cell) (n : ℕ) → clut / 64 % 512 ≢ y → to.y ≡ y → StripHazard four eight clut to n → ⊥
+strip_off : (four eight : Bool) (clut y : ℕ) (to : Cell) (n : ℕ) → clut / 64 % 512 ≢ y → to.y ≡ y
+    → StripHazard four eight clut to n → ⊥
 strip_off true eight clut y to n off row h = off (h.2.2.1 ∙ row)
 strip_off false true clut y to n off row h = off (h.2.2.1 ∙ row)
 strip_off false false clut y to n off row h = h
 
-no_strip : (four eight : Bool) (clut : ℕ) (to : Cell) (n : ℕ) → four ≡ false → eight ≡ false → StripHazard four eight clut to n → ⊥
+no_strip : (four eight : Bool) (clut : ℕ) (to : Cell) (n : ℕ) → four ≡ false → eight ≡ false
+    → StripHazard four eight clut to n → ⊥
 no_strip false false clut to n e f h = h
 no_strip true eight clut to n e f h = absurd (cc)
 no_strip false true clut to n e f h = absurd (cc)
 
-strip_apart : (depth clut y : ℕ) (to : Cell) (n : ℕ) → (2 ≤ depth) ⊎ (clut / 64 % 512 ≢ y) → to.y ≡ y → StripHazard (eqb depth 0) (eqb depth 1) clut to n → ⊥
-strip_apart depth clut y to n (inl deep) row h = no_strip (eqb depth 0) (eqb depth 1) clut to n (grind (arith, nat_tests)) (grind (arith, nat_tests)) h
+strip_apart : (depth clut y : ℕ) (to : Cell) (n : ℕ) → (2 ≤ depth) ⊎ (clut / 64 % 512 ≢ y) → to.y ≡ y
+    → StripHazard (eqb depth 0) (eqb depth 1) clut to n → ⊥
+strip_apart depth clut y to n (inl deep) row h = no_strip (eqb depth 0) (eqb depth 1) clut to n
+    (grind (arith, nat_tests)) (grind (arith, nat_tests)) h
 strip_apart depth clut y to n (inr off) row h = strip_off (eqb depth 0) (eqb depth 1) clut y to n off row h
 
 pub span_apart : (span : Span) (t : Texture) → IsSpan span → IsTexture t → texture_of span.paint ≡ Some t
@@ -74,12 +83,16 @@ span_apart span t is texture of_paint beside off = record {
   ];
 }
   where
-    read_none : (first n : ℕ) → first + n ≤ span.n → HasTexelHazard (map (paint_texel span.paint t span.x span.y) (range_with_len first n)) (target span.x span.y first) → ⊥
+    read_none : (first n : ℕ) → first + n ≤ span.n
+        → HasTexelHazard (map (paint_texel span.paint t span.x span.y) (range_with_len first n))
+        (target span.x span.y first) → ⊥
     read_none first n within h =
         let j : ℕ = h.0 in
         let f : ℕ → Cell = paint_texel span.paint t span.x span.y in
         let long = length-map-range_with_len f first n in
         let lt : j < n = omega (arith, h.1, long) in
-        let here : cell_at (map f (range_with_len first n)) j ≡ f (first + j) = get_or-map-range_with_len f first n j (first + j) _ lt refl in
+        let here : cell_at (map f (range_with_len first n)) j ≡ f (first + j) = get_or-map-range_with_len f first n j
+        (first + j) _ lt refl in
         let written : WrittenBefore (target span.x span.y first) j (f (first + j)) = rw here at h.2 in
-        texel_apart t span.x span.y span.n _ _ (span.x + first + written.0) texture beside (omega arith) (omega (arith, written.1)) written.2.0 written.2.1
+        texel_apart t span.x span.y span.n _ _ (span.x + first + written.0) texture beside (omega arith)
+        (omega (arith, written.1)) written.2.0 written.2.1

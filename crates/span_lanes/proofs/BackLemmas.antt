@@ -6,7 +6,8 @@ use Rattle.span_lanes.specs.Shade.{flat_pixel, textured_pixel, blended_if}
 use Rattle.span_lanes.specs.Lanes.{DoesFor}
 
 -- the pixel of a colour
-pub flat_back : (brush : Brush) (color : ℕ) (shift : ℤ) (cell h : ℕ) → DoesFor brush cell h → flat_pixel brush color shift cell ≡ flat_pixel brush color shift h
+pub flat_back : (brush : Brush) (color : ℕ) (shift : ℤ) (cell h : ℕ) → DoesFor brush cell h
+    → flat_pixel brush color shift cell ≡ flat_pixel brush color shift h
 unfolding flat_pixel blended_if
 flat_back brush color shift cell h (inl e) = rw e refl
 flat_back brush color shift cell h (inr free) = rw free.0 refl

@@ -1,5 +1,6 @@
 -- A chunk without a hazard reads nothing that an earlier lane of it writes.
-use Rattle.std.proofs.Common.{◌≡◌, ◌<◌, ◌≤◌, ℕ, zero, suc, List, None, Some, Bool, true, false, cond, ltb, eqb, ◌+◌, ◌-◌, ◌*◌, ◌%◌, map, length, get_or, refl, ap, ◌∙◌, inl, inr, arith}
+use Rattle.std.proofs.Common.{◌≡◌, ◌<◌, ◌≤◌, ℕ, zero, suc, List, None, Some, Bool, true, false, cond, ltb, eqb, ◌+◌}
+use Rattle.std.proofs.Common.{◌-◌, ◌*◌, ◌%◌, map, length, get_or, refl, ap, ◌∙◌, inl, inr, arith}
 use Rattle.std.specs.List.{range_with_len}
 use Rattle.std.specs.Option.{MatchOption}
 use Rattle.std.proofs.lemmas.Bool.{cases_lt}
@@ -15,7 +16,8 @@ use Rattle.span_lanes.specs.declared.span.Paint.TheVariants.{Flat, Shaded, Textu
 use Rattle.span_lanes.specs.declared.span.Span.{Span}
 use Rattle.vram_store.specs.Plot.{later}
 use Rattle.vram_store.specs.Chunk.{AgreesApart, IsBlind}
-use Rattle.span_lanes.specs.Shade.{IsSpan, at_cell, texel, row_u, paint_pixel, shade, flat_pixel, shift_of, color_in, attribute_in}
+use Rattle.span_lanes.specs.Shade.{IsSpan, at_cell, texel, row_u, paint_pixel, shade, flat_pixel, shift_of, color_in}
+use Rattle.span_lanes.specs.Shade.{attribute_in}
 use Rattle.span_lanes.specs.Guard.{paint_texel, paint_texels, target, clut_strip, palette_of, PaintHazard, HasHazard}
 
 -- a cell that none of j lanes of a row writes
@@ -38,12 +40,16 @@ same_cell m now x y j cx cy agree low room apart = elim (cases_lt cy y) [
 -- the palette of a depth
 abbrev palette_at : ℕ → ℕ → (Cell → ℕ → Type 0)
 palette_at depth clut target n =
-    MatchOption (cond (eqb depth 0) (Some (clut_strip clut 16)) (cond (eqb depth 1) (Some (clut_strip clut 256)) None)) ⊥ (λ strip. HasStripHazard strip target n)
+    MatchOption (cond (eqb depth 0) (Some (clut_strip clut 16)) (cond (eqb depth 1) (Some (clut_strip clut 256)) None))
+    ⊥ (λ strip. HasStripHazard strip target n)
 
 entry_apart : (depth clut u h : ℕ) (target : Cell) (n : ℕ) → depth < 2 → (palette_at depth clut target n → ⊥)
-    → (i : ℕ) → i < n → (clut % 64 * 16 + index_in depth u h) % 1024 ≡ target.x + i → (clut_place clut 0).y ≡ target.y → ⊥
-entry_apart zero clut u h target n low none i lt across down = none (index_in 0 u h, omega arith, (i, lt, (across, down)))
-entry_apart (suc zero) clut u h target n low none i lt across down = none (index_in 1 u h, omega arith, (i, lt, (across, down)))
+    → (i : ℕ) → i < n → (clut % 64 * 16 + index_in depth u h) % 1024 ≡ target.x + i → (clut_place clut 0).y ≡ target.y
+    → ⊥
+entry_apart zero clut u h target n low none i lt across down = none
+    (index_in 0 u h, omega arith, (i, lt, (across, down)))
+entry_apart (suc zero) clut u h target n low none i lt across down = none
+    (index_in 1 u h, omega arith, (i, lt, (across, down)))
 entry_apart (suc (suc depth)) clut u h target n low none i lt across down = omega arith
 
 choose : (b : Bool) (p q s t : ℕ) → (b ≡ true → p ≡ q) → s ≡ t → cond b p s ≡ cond b q t
@@ -54,8 +60,10 @@ low_depth : (n : ℕ) → ltb n 2 ≡ true → n < 2
 low_depth n e = grind (arith, nat_tests)
 
 -- a texel of a chunk without a hazard
-texel_same : (t : Texture) (u v : ℕ) (m now : List ℕ) (x y j k : ℕ) → AgreesApart (1024 * y + x) j m now → x + k ≤ 1024 → j < k
-    → ((i : ℕ) → i < j → Writes (record { x = x; y = y }) i (texel_place t.page t.window u v).x (texel_place t.page t.window u v).y → ⊥)
+texel_same : (t : Texture) (u v : ℕ) (m now : List ℕ) (x y j k : ℕ) → AgreesApart (1024 * y + x) j m now → x + k ≤ 1024
+    → j < k
+    → ((i : ℕ) → i < j → Writes (record { x = x; y = y }) i (texel_place t.page t.window u v).x
+    (texel_place t.page t.window u v).y → ⊥)
     → (palette_at t.page.depth t.clut (record { x = x; y = y }) k → ⊥)
     → texel t u v now ≡ texel t u v m
 unfolding texel
@@ -65,13 +73,19 @@ texel_same t u v m now x y j k agree room lt apart none = choose (ltb t.page.dep
     cell = texel_place t.page t.window u v
 
     direct : at_cell now (texel_place t.page t.window u v) ≡ at_cell m (texel_place t.page t.window u v)
-    direct = same_cell m now x y j (texel_place t.page t.window u v).x (texel_place t.page t.window u v).y agree (omega arith) (omega arith) (λ i less e f. apart i less (e, f))
+    direct = same_cell m now x y j (texel_place t.page t.window u v).x (texel_place t.page t.window u v).y agree
+        (omega arith) (omega arith) (λ i less e f. apart i less (e, f))
 
-    entry : (h : ℕ) → t.page.depth < 2 → at_cell now (clut_place t.clut (index_at t.page t.window u h)) ≡ at_cell m (clut_place t.clut (index_at t.page t.window u h))
-    entry h low = same_cell m now x y j (clut_place t.clut (index_at t.page t.window u h)).x (clut_place t.clut (index_at t.page t.window u h)).y agree (omega arith) (omega arith)
-        (λ i less e f. entry_apart t.page.depth t.clut (windowed t.window.mask_x t.window.off_x u) h (record { x = x; y = y }) k low none i (omega arith) e f)
+    entry : (h : ℕ) → t.page.depth < 2 → at_cell now (clut_place t.clut (index_at t.page t.window u h))
+        ≡ at_cell m (clut_place t.clut (index_at t.page t.window u h))
+    entry h low = same_cell m now x y j (clut_place t.clut (index_at t.page t.window u h)).x
+        (clut_place t.clut (index_at t.page t.window u h)).y agree (omega arith) (omega arith)
+        (λ i less e f. entry_apart t.page.depth t.clut (windowed t.window.mask_x t.window.off_x u) h
+        (record { x = x; y = y }) k low none i (omega arith) e f)
 
-    palette : ltb t.page.depth 2 ≡ true → at_cell now (clut_place t.clut (index_at t.page t.window u (at_cell now (texel_place t.page t.window u v)))) ≡ at_cell m (clut_place t.clut (index_at t.page t.window u (at_cell m (texel_place t.page t.window u v))))
+    palette : ltb t.page.depth 2 ≡ true
+        → at_cell now (clut_place t.clut (index_at t.page t.window u (at_cell now (texel_place t.page t.window u v))))
+        ≡ at_cell m (clut_place t.clut (index_at t.page t.window u (at_cell m (texel_place t.page t.window u v))))
     palette e =
         ap (λ (h : ℕ). at_cell now (clut_place t.clut (index_at t.page t.window u h))) direct
         ∙ entry (at_cell m (texel_place t.page t.window u v)) (low_depth t.page.depth e)
@@ -83,18 +97,21 @@ module _ (t : Texture) (f : ℕ → Cell) (x y first k : ℕ) (room : x + first 
   pub texel_blind : (u v : ℕ) → f (first + j) ≡ texel_place t.page t.window u v → texel t u v now ≡ texel t u v m
   texel_blind u v e =
       let cells : List Cell = map f (range_with_len first k) in
-      let here : cell_at cells j ≡ texel_place t.page t.window u v = get_or-map-range_with_len f first k j (first + j) _ lt refl ∙ e in
+      let here : cell_at cells j ≡ texel_place t.page t.window u v = get_or-map-range_with_len f first k j
+      (first + j) _ lt refl ∙ e in
       let long : length cells ≡ k = length-map-range_with_len f first k in
       texel_same t u v m now (x + first) y j k agree (omega arith) lt
       (λ i less w. none (inl (j, omega arith, (i, less, rw here w)))) (λ h. none (inr h))
 
   pub back_blind : get_or now (1024 * y + (x + (first + j))) 0 ≡ get_or m (1024 * y + (x + (first + j))) 0
-  back_blind = same_cell m now (x + first) y j (x + (first + j)) y agree (omega arith) (omega arith) (λ i less e f. omega arith)
+  back_blind = same_cell m now (x + first) y j (x + (first + j)) y agree (omega arith) (omega arith)
+      (λ i less e f. omega arith)
 
 paint_blind : (paint : Paint) (brush : Brush) (x y first k : ℕ) (m : List ℕ) → x + first + k ≤ 1024
     → (PaintHazard paint x y first k → ⊥)
     → (j : ℕ) → j < k → (now : List ℕ) → AgreesApart (1024 * y + (x + first)) j m now
-    → paint_pixel paint brush (x + (first + j)) y (first + j) now ≡ paint_pixel paint brush (x + (first + j)) y (first + j) m
+    → paint_pixel paint brush (x + (first + j)) y (first + j) now ≡ paint_pixel paint brush (x + (first + j)) y
+    (first + j) m
 unfolding paint_texels
 paint_blind (Flat color) brush x y first k m room none j lt now agree =
     ap (flat_pixel brush color (shift_of brush.dither (x + (first + j)) y))
@@ -104,16 +121,20 @@ paint_blind (Shaded tri) brush x y first k m room none j lt now agree =
     (same_cell m now (x + first) y j (x + (first + j)) y agree (omega arith) (omega arith) (λ i less e f. omega arith))
 paint_blind (TexturedTri tri t) brush x y first k m room none j lt now agree =
     let back = back_blind t (paint_texel (TexturedTri tri t) t x y) x y first k room none m now j lt agree in
-    let same = texel_blind t (paint_texel (TexturedTri tri t) t x y) x y first k room none m now j lt agree (attribute_in tri 3 (x + (first + j)) y) (attribute_in tri 4 (x + (first + j)) y) refl in
+    let same = texel_blind t (paint_texel (TexturedTri tri t) t x y) x y first k room none m now j lt agree
+    (attribute_in tri 3 (x + (first + j)) y) (attribute_in tri 4 (x + (first + j)) y) refl in
     rw (back, same) refl
 paint_blind (TexturedRow color t u v flip) brush x y first k m room none j lt now agree =
     let back = back_blind t (paint_texel (TexturedRow color t u v flip) t x y) x y first k room none m now j lt agree in
-    let same = texel_blind t (paint_texel (TexturedRow color t u v flip) t x y) x y first k room none m now j lt agree (row_u u flip (first + j)) v refl in
+    let same = texel_blind t (paint_texel (TexturedRow color t u v flip) t x y) x y first k room none m now j lt agree
+    (row_u u flip (first + j)) v refl in
     rw (back, same) refl
 
-pub span_blind : (span : Span) (first k : ℕ) (m : List ℕ) → IsSpan span → first + k ≤ span.n → (HasHazard span first k → ⊥)
+pub span_blind : (span : Span) (first k : ℕ) (m : List ℕ) → IsSpan span → first + k ≤ span.n
+    → (HasHazard span first k → ⊥)
     → IsBlind (later (shade span) first) (1024 * span.y + (span.x + first)) k m
 unfolding shade
 span_blind span first k m is within none = record {
-  blind = λ j lt now agree. paint_blind span.paint span.brush span.x span.y first k m (omega (arith, is.in_row)) none j lt now agree;
+  blind = λ j lt now agree. paint_blind span.paint span.brush span.x span.y first k m
+      (omega (arith, is.in_row)) none j lt now agree;
 }

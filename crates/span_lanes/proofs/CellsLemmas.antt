@@ -1,5 +1,6 @@
 -- Cells of a list against lanes that are numbered.
-use Rattle.std.proofs.Common.{◌≡◌, ◌<◌, ℕ, zero, suc, List, [], ◌∷◌, ◌++◌, Option, ◌+◌, ◌-◌, ◌*◌, map, refl, sym, ap, ◌∙◌, arith, add-one}
+use Rattle.std.proofs.Common.{◌≡◌, ◌<◌, ℕ, zero, suc, List, [], ◌∷◌, ◌++◌, Option, ◌+◌, ◌-◌, ◌*◌, map, refl, sym, ap}
+use Rattle.std.proofs.Common.{◌∙◌, arith, add-one}
 use Rattle.std.specs.List.{range_with_len}
 use Rattle.std.proofs.lemmas.List.FromFn.{map-range_with_len_more}
 use Rattle.px_num.specs.declared.shape.Cell.{Cell}
@@ -12,7 +13,8 @@ use Rattle.vram_store.proofs.Drawn.{drawn_none, drawn_more}
 pub cells_append : (by_cell : Cell → List ℕ → Option ℕ) (mask : ℕ) (cells more : List Cell) (m : List ℕ)
     → Cells by_cell mask (cells ++ more) m ≡ Cells by_cell mask more (Cells by_cell mask cells m)
 cells_append by_cell mask [] more m = refl
-cells_append by_cell mask (cell ∷ cells) more m = cells_append by_cell mask cells more (draw_at mask (1024 * cell.y + cell.x) (by_cell cell m) m)
+cells_append by_cell mask (cell ∷ cells) more m = cells_append by_cell mask cells more
+    (draw_at mask (1024 * cell.y + cell.x) (by_cell cell m) m)
 
 -- one cell more
 pub row_more : (x y n : ℕ) → row_cells x y (suc n) ≡ row_cells x y n ++ cell_in_row x y n ∷ []
@@ -31,7 +33,8 @@ module _ (one two : Cell → List ℕ → Option ℕ) (mask x y : ℕ) where
       → Cells one mask (cell_in_row x y n ∷ []) now ≡ Cells two mask (cell_in_row x y n ∷ []) now
   last_same n now same = ap (λ (pixel : Option ℕ). draw_at mask (1024 * y + (x + n)) pixel now) same
 
-  pub row_same : (n : ℕ) (m : List ℕ) → ((i : ℕ) → i < n → (now : List ℕ) → one (cell_in_row x y i) now ≡ two (cell_in_row x y i) now)
+  pub row_same : (n : ℕ) (m : List ℕ)
+      → ((i : ℕ) → i < n → (now : List ℕ) → one (cell_in_row x y i) now ≡ two (cell_in_row x y i) now)
       → Cells one mask (row_cells x y n) m ≡ Cells two mask (row_cells x y n) m
   row_same zero m same = rw (row_none x y) refl
   row_same (suc n) m same =
@@ -44,13 +47,15 @@ module _ (one two : Cell → List ℕ → Option ℕ) (mask x y : ℕ) where
 
 module _ (by_cell : Cell → List ℕ → Option ℕ) (by_lane : ℕ → List ℕ → Option ℕ) (mask x y : ℕ) (m : List ℕ)
     (same : (i : ℕ) (now : List ℕ) → by_lane i now ≡ by_cell (cell_in_row x y i) now) where
-  one_same : (n : ℕ) (now : List ℕ) → draw_lane by_lane mask (1024 * y + x) n now ≡ draw_at mask (1024 * y + (x + n)) (by_cell (cell_in_row x y n) now) now
+  one_same : (n : ℕ) (now : List ℕ) → draw_lane by_lane mask (1024 * y + x) n now ≡ draw_at mask (1024 * y + (x + n))
+      (by_cell (cell_in_row x y n) now) now
   one_same n now =
       let place : 1024 * y + x + n ≡ 1024 * y + (x + n) = omega arith in
       rw (place, same n now) refl
 
   pub row_is_lanes : (n : ℕ) → drawn_lanes by_lane mask (1024 * y + x) n m ≡ Cells by_cell mask (row_cells x y n) m
-  row_is_lanes zero = drawn_none by_lane mask (1024 * y + x) m ∙ ap (λ (cells : List Cell). Cells by_cell mask cells m) (sym (row_none x y))
+  row_is_lanes zero = drawn_none by_lane mask (1024 * y + x) m ∙ ap (λ (cells : List Cell). Cells by_cell mask cells m)
+      (sym (row_none x y))
   row_is_lanes (suc n) =
       ap (λ (k : ℕ). drawn_lanes by_lane mask (1024 * y + x) k m) (sym (add-one n))
       ∙ drawn_more by_lane mask (1024 * y + x) n m

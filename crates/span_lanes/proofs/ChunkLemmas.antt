@@ -29,7 +29,8 @@ drawn_begun span before steps m le = record {
 }
 
 -- one chunk more
-pub drawn_next : (span : Span) (c before steps after : ℕ) (m now next : List ℕ) (first k : ℕ) → AreDrawn span c before steps m now
+pub drawn_next : (span : Span) (c before steps after : ℕ) (m now next : List ℕ) (first k : ℕ)
+    → AreDrawn span c before steps m now
     → first ≡ 16 * c → k ≡ min (span.n - 16 * c) 16 → 16 * c < span.n
     → next ≡ drawn_lanes (later (shade span) first) span.brush.mask (1024 * span.y + (span.x + first)) k now
     → length next ≡ length now → after ≤ steps + chunk_cost span first k
@@ -37,10 +38,13 @@ pub drawn_next : (span : Span) (c before steps after : ℕ) (m now next : List �
 drawn_next span c before steps after m now next first k so_far at_first few room cells long cost = record {
   cells =
       (rw at_first at cells)
-      ∙ ap (drawn_lanes (later (shade span) (16 * c)) span.brush.mask (1024 * span.y + (span.x + 16 * c)) k) (so_far.cells ∙ ap (λ (i : ℕ). drawn_span span i m) reached)
-      ∙ drawn_later (shade span) span.brush.mask (1024 * span.y + span.x) (16 * c) (1024 * span.y + (span.x + 16 * c)) k m (omega arith)
+      ∙ ap (drawn_lanes (later (shade span) (16 * c)) span.brush.mask (1024 * span.y + (span.x + 16 * c)) k)
+      (so_far.cells ∙ ap (λ (i : ℕ). drawn_span span i m) reached)
+      ∙ drawn_later (shade span) span.brush.mask (1024 * span.y + span.x) (16 * c)
+      (1024 * span.y + (span.x + 16 * c)) k m (omega arith)
       ∙ ap (λ (i : ℕ). drawn_span span i m) further;
-  cost = cost_more span c k before steps after few so_far.cost (subst (λ (i : ℕ). after ≤ steps + chunk_cost span i k) at_first cost);
+  cost = cost_more span c k before steps after few so_far.cost
+      (subst (λ (i : ℕ). after ≤ steps + chunk_cost span i k) at_first cost);
   long = long ∙ so_far.long;
 }
   where
@@ -51,9 +55,11 @@ drawn_next span c before steps after m now next first k so_far at_first few room
     further = omega (arith, few)
 
 -- all chunks
-module _ (span : Span) (c before steps : ℕ) (m now : List ℕ) (drawn : AreDrawn span c before steps m now) (all : c ≡ (span.n + 15) / 16) where
+module _ (span : Span) (c before steps : ℕ) (m now : List ℕ) (drawn : AreDrawn span c before steps m now)
+    (all : c ≡ (span.n + 15) / 16) where
   pub all_cells : now ≡ drawn_span span span.n m
-  all_cells = let whole : min (16 * c) span.n ≡ span.n = omega (arith, all) in drawn.cells ∙ ap (λ (i : ℕ). drawn_span span i m) whole
+  all_cells = let whole : min (16 * c) span.n ≡ span.n = omega (arith, all) in drawn.cells
+      ∙ ap (λ (i : ℕ). drawn_span span i m) whole
 
   pub all_cost : steps ≤ before + span_cost span
   unfolding span_cost

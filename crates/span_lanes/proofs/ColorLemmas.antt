@@ -1,5 +1,6 @@
 -- Colours by their channels.
-use Rattle.std.proofs.Common.{◌≡◌, ◌≤◌, ◌<◌, ℕ, ◌+◌, ◌*◌, ◌%◌, ◌^◌, ◌∙◌, ap, refl, Bool, false, List, map, length, get_or, pos, ℤ, to_z, of_z, w16, SFits, arith}
+use Rattle.std.proofs.Common.{◌≡◌, ◌≤◌, ◌<◌, ℕ, ◌+◌, ◌*◌, ◌%◌, ◌^◌, ◌∙◌, ap, refl, Bool, false, List, map, length}
+use Rattle.std.proofs.Common.{get_or, pos, ℤ, to_z, of_z, w16, SFits, arith}
 use Rattle.std.proofs.lemmas.Int.{ints, to_z-of_z}
 use Rattle.std.proofs.lemmas.List.{get_or-map, length-map}
 use Rattle.px_num.specs.Lanes.{EachLane}
@@ -25,7 +26,8 @@ inside_more tri x y n first k within inside i lt =
     rw same (inside (first + i) (omega arith))
 
 -- cells of a later chunk are inside
-pub inside_later : (paint : Paint) (x y n first k : ℕ) → first + k ≤ n → HasInside paint x y n → HasInside paint (x + first) y k
+pub inside_later : (paint : Paint) (x y n first k : ℕ) → first + k ≤ n → HasInside paint x y n
+    → HasInside paint (x + first) y k
 inside_later (Flat color) x y n first k within inside = inside
 inside_later (Shaded tri) x y n first k within inside = inside_more tri x y n first k within inside
 inside_later (TexturedTri tri texture) x y n first k within inside = inside_more tri x y n first k within inside
@@ -58,11 +60,13 @@ unfolding shift_of
 no_shift dither x y none = rw none refl
 
 -- they repeat after four cells
-pub shift_again : (dither : Bool) (x next y j : ℕ) → next % 4 ≡ (x + j) % 4 → shift_of dither (x + j) y ≡ shift_of dither next y
+pub shift_again : (dither : Bool) (x next y j : ℕ) → next % 4 ≡ (x + j) % 4 → shift_of dither (x + j) y
+    ≡ shift_of dither next y
 unfolding shift_of
 shift_again dither x next y j e = rw e refl
 
 -- a triangle of one colour
-pub one_in : (tri : Corners) (x y color : ℕ) → color < 2 ^ 24 → HasColor tri (pos x) (pos y) color → color ≡ color_in tri x y
+pub one_in : (tri : Corners) (x y color : ℕ) → color < 2 ^ 24 → HasColor tri (pos x) (pos y) color
+    → color ≡ color_in tri x y
 unfolding color_in
 one_in tri x y color low has = rw (has.red, has.green, has.blue) (omega (arith, low))

@@ -1,5 +1,6 @@
 -- What a span costs at most.
-use Rattle.std.proofs.Common.{◌≡◌, ◌≤◌, ℕ, zero, suc, List, Option, None, Some, Bool, true, false, cond, ltb, ◌+◌, ◌-◌, ◌*◌, ◌/◌, min, refl, subst, add-one, arith}
+use Rattle.std.proofs.Common.{◌≡◌, ◌≤◌, ℕ, zero, suc, List, Option, None, Some, Bool, true, false, cond, ltb, ◌+◌, ◌-◌}
+use Rattle.std.proofs.Common.{◌*◌, ◌/◌, min, refl, subst, add-one, arith}
 use Rattle.span_lanes.specs.declared.span.Texture.{Texture}
 use Rattle.span_lanes.specs.declared.span.Span.{Span}
 use Rattle.span_lanes.specs.Guard.{has_hazard, paint_texels, palette_of, target}
@@ -32,10 +33,12 @@ chunks_small span zero le = omega arith
 chunks_small span (suc c) le =
     let so_far = chunks_small span c (omega arith) in
     let k : ℕ = min (span.n - 16 * c) 16 in
-    let next = steps_small (has_hazard span (16 * c) (min (span.n - 16 * c) 16)) (paint_steps span.paint) (min (span.n - 16 * c) 16) (texture_small (texture_of span.paint)) (omega arith) in
+    let next = steps_small (has_hazard span (16 * c) (min (span.n - 16 * c) 16)) (paint_steps span.paint)
+    (min (span.n - 16 * c) 16) (texture_small (texture_of span.paint)) (omega arith) in
     joined (chunks_cost span c) (chunk_cost span (16 * c) (min (span.n - 16 * c) 16)) c span.n le so_far next
   where
-    joined : (a b c n : ℕ) → suc c ≤ (n + 15) / 16 → a ≤ 4 * min (16 * c) n → b ≤ 4 * min (n - 16 * c) 16 → a + b ≤ 4 * min (16 * suc c) n
+    joined : (a b c n : ℕ) → suc c ≤ (n + 15) / 16 → a ≤ 4 * min (16 * c) n → b ≤ 4 * min (n - 16 * c) 16
+        → a + b ≤ 4 * min (16 * suc c) n
     joined a b c n le f g = omega arith
 
 pub cost_law : CostLaw
@@ -46,10 +49,13 @@ cost_law span =
 
 -- one chunk more
 pub cost_more : (span : Span) (at k before now next : ℕ) → k ≡ min (span.n - 16 * at) 16
-    → now ≤ before + chunks_cost span at → next ≤ now + chunk_cost span (16 * at) k → next ≤ before + chunks_cost span (at + 1)
+    → now ≤ before + chunks_cost span at → next ≤ now + chunk_cost span (16 * at) k
+    → next ≤ before + chunks_cost span (at + 1)
 cost_more span at k before now next e so_far here =
-    let spent : next ≤ now + chunk_cost span (16 * at) (min (span.n - 16 * at) 16) = subst (λ (i : ℕ). next ≤ now + chunk_cost span (16 * at) i) e here in
-    let more : chunks_cost span (at + 1) ≡ chunks_cost span at + chunk_cost span (16 * at) (min (span.n - 16 * at) 16) = rw (add-one at) refl in
+    let spent : next ≤ now + chunk_cost span (16 * at) (min (span.n - 16 * at) 16) = subst
+    (λ (i : ℕ). next ≤ now + chunk_cost span (16 * at) i) e here in
+    let more : chunks_cost span (at + 1) ≡ chunks_cost span at + chunk_cost span (16 * at)
+    (min (span.n - 16 * at) 16) = rw (add-one at) refl in
     rw more (joined before now next _ _ so_far spent)
   where
     joined : (before now next d e : ℕ) → now ≤ before + d → next ≤ now + e → next ≤ before + (d + e)
@@ -61,8 +67,10 @@ unfolding has_hazard
 plain_cost span first k e = rw e refl
 
 -- chunks whose texels are known
-pub textured_cost : (span : Span) (t : Texture) (first k : ℕ) (cells : List Cell) → texture_of span.paint ≡ Some t → paint_texels span.paint t span.x span.y first k ≡ cells
-    → chunk_cost span first k ≡ steps_of (has_texture_hazard cells (palette_of t) (target span.x span.y first) k) (texel_steps t.page.depth) k
+pub textured_cost : (span : Span) (t : Texture) (first k : ℕ) (cells : List Cell) → texture_of span.paint ≡ Some t
+    → paint_texels span.paint t span.x span.y first k ≡ cells
+    → chunk_cost span first k ≡ steps_of (has_texture_hazard cells (palette_of t) (target span.x span.y first) k)
+    (texel_steps t.page.depth) k
 unfolding has_hazard
 textured_cost span t first k cells e same = rw (e, same) refl
 

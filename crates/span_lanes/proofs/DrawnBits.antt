@@ -1,5 +1,6 @@
 -- The bits of a comparison of sixteen lanes with 0.
-use Rattle.std.proofs.Common.{◌≡◌, ℕ, ◌-◌, ◌%◌, ◌^◌, ◌<◌, List, false, cond, not, eqb, length, get_or, replicate, map, w16, ap, ◌∙◌, arith}
+use Rattle.std.proofs.Common.{◌≡◌, ℕ, ◌-◌, ◌%◌, ◌^◌, ◌<◌, List, false, cond, not, eqb, length, get_or, replicate, map}
+use Rattle.std.proofs.Common.{w16, ap, ◌∙◌, arith}
 use lib.Lanes.{zip2, mask_l, top}
 use mir.Val.{hbits, bits}
 use Rattle.std.proofs.lemmas.Bool.Decides.{nat_tests}
@@ -11,7 +12,8 @@ one_drawn : (t : ℕ) → ◌≡◌ {A = ℕ} (cond (not (eqb t 0)) 1 0) (cond (
 one_drawn t = grind (arith, nat_tests)
 
 unfoldable pub mask_of : List ℕ → ℕ
-mask_of texels = mask_l (map (top (hbits w16)) (zip2 (λ a b. cond (not (eqb a b)) (2 ^ bits w16 - 1) 0) texels (replicate 16 0))) % 2 ^ 64
+mask_of texels = mask_l
+    (map (top (hbits w16)) (zip2 (λ a b. cond (not (eqb a b)) (2 ^ bits w16 - 1) 0) texels (replicate 16 0))) % 2 ^ 64
 
 module _ (texels : List ℕ) (long : length texels ≡ 16) where
   whole : mask_of texels ≡ mask_l (map (λ t. not (eqb t 0)) texels)

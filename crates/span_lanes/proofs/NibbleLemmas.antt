@@ -1,5 +1,6 @@
 -- Four and eight bits of a halfword, and tables of sixteen bytes.
-use Rattle.std.proofs.Common.{◌≡◌, ◌<◌, ℕ, zero, suc, ◌+◌, ◌-◌, ◌*◌, ◌/◌, ◌%◌, ◌^◌, List, [], ◌∷◌, length, get_or, w8, refl, ap, ◌∙◌, arith}
+use Rattle.std.proofs.Common.{◌≡◌, ◌<◌, ℕ, zero, suc, ◌+◌, ◌-◌, ◌*◌, ◌/◌, ◌%◌, ◌^◌, List, [], ◌∷◌, length, get_or, w8}
+use Rattle.std.proofs.Common.{refl, ap, ◌∙◌, arith}
 use lib.Lanes.{Each1}
 use borrow.Rule.Simd.Moves.{SwzOk, swz_l}
 use Rattle.std.proofs.lemmas.Simd.{SwzOk-from_below, length-swz_l, get_or-swz_l_below}
@@ -56,7 +57,8 @@ each1 P (x ∷ xs) f = (f 0 (omega arith), each1 P xs (λ i lt. f (suc i) (omega
 -- positions in a table
 module _ (table at : List ℕ) (long : length at ≡ 16) (low : EachLane (λ i. get_or at i 0 < 16)) where
   pub table_fits : SwzOk w8 16 16 0 at
-  table_fits = SwzOk-from_below w8 16 1 16 0 at refl (omega (arith, long)) (each1 (λ j. j < 16) at (λ i lt. low i (omega (arith, long))))
+  table_fits = SwzOk-from_below w8 16 1 16 0 at refl (omega (arith, long))
+      (each1 (λ j. j < 16) at (λ i lt. low i (omega (arith, long))))
 
   pub table_long : length (swz_l w8 16 table 0 at) ≡ 16
   table_long = length-swz_l w8 16 table 0 at ∙ long

@@ -1,5 +1,6 @@
 -- Pixels without a texture.
-use Rattle.std.proofs.Common.{◌≡◌, ◌<◌, ℕ, ℤ, List, Option, None, Some, Bool, true, false, cond, ◌+◌, ◌^◌, refl, ap, ◌∙◌, arith}
+use Rattle.std.proofs.Common.{◌≡◌, ◌<◌, ℕ, ℤ, List, Option, None, Some, Bool, true, false, cond, ◌+◌, ◌^◌, refl, ap}
+use Rattle.std.proofs.Common.{◌∙◌, arith}
 use Rattle.vram_store.specs.Vram.{at}
 use Rattle.vram_store.specs.Plot.{is_kept, forced, written_over}
 use Rattle.vram_store.specs.Chunk.{IsLane}
@@ -19,21 +20,24 @@ paint_plain (TexturedTri tri texture) brush x y i m none = absurd (cc)
 paint_plain (TexturedRow color texture u v flip) brush x y i m none = absurd (cc)
 
 pub shade_plain : (span : Span) (i x : ℕ) (m : List ℕ) → texture_of span.paint ≡ None → x ≡ span.x + i
-    → shade span i m ≡ flat_pixel span.brush (paint_color span.paint x span.y) (shift_of span.brush.dither x span.y) (at m x span.y)
+    → shade span i m ≡ flat_pixel span.brush (paint_color span.paint x span.y) (shift_of span.brush.dither x span.y)
+    (at m x span.y)
 unfolding shade
 shade_plain span i x m none e = rw e (paint_plain span.paint span.brush (span.x + i) span.y i m none)
 
 packed_low : (p x : ℕ) → x ≡ p → x < 2 ^ 15 → packed_pixel p false false ≡ x
 packed_low p x e lt = omega arith
 
-pub plain_is : (brush : Brush) (color : ℕ) (shift : ℤ) (back t h : ℕ) → t ≡ tone_of (red_of color) (green_of color) (blue_of color) shift
+pub plain_is : (brush : Brush) (color : ℕ) (shift : ℤ) (back t h : ℕ)
+    → t ≡ tone_of (red_of color) (green_of color) (blue_of color) shift
     → h ≡ blended_if brush.semi brush.mode back t → h < 2 ^ 15 → flat_pixel brush color shift back ≡ Some h
 unfolding flat_pixel
 plain_is brush color shift back t h tone e low =
     ap (λ (n : ℕ). Some n) (packed_low _ h (e ∙ ap (blended_if brush.semi brush.mode back) tone) low)
 
 -- a lane whose pixel is there
-pub plain_lane : (mask c : ℕ) (pixel : Option ℕ) (p b h : ℕ) → pixel ≡ Some p → b ≡ cond (is_kept mask c) 0 1 → h ≡ forced mask p → IsLane (written_over mask c pixel) b h
+pub plain_lane : (mask c : ℕ) (pixel : Option ℕ) (p b h : ℕ) → pixel ≡ Some p → b ≡ cond (is_kept mask c) 0 1
+    → h ≡ forced mask p → IsLane (written_over mask c pixel) b h
 plain_lane mask c pixel p b h e f g = rw e (by_kept (is_kept mask c) (forced mask p) f g)
   where
     by_kept : (kept : Bool) (q : ℕ) → b ≡ cond kept 0 1 → h ≡ q → IsLane (cond kept None (Some q)) b h

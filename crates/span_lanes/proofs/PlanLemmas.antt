@@ -18,9 +18,12 @@ use Rattle.span_lanes.specs.Paints.{paint_u, paint_v}
 use Rattle.span_lanes.proofs.CostLemmas.{textured_cost}
 
 -- the coordinates of a triangle's texels
-pub track_inside : (paint : Paint) (tri : Corners) (t : Texture) (x y n : ℕ) (track : Track) → paint ≡ TexturedTri tri t → HasInside paint x y n
-    → ((at j : ℕ) → j < 16 → IsTrue (is_inside tri (pos (x + (at + j))) (pos y)) → along_at track.u at j ≡ attribute_in tri 3 (x + (at + j)) y)
-    → ((at j : ℕ) → j < 16 → IsTrue (is_inside tri (pos (x + (at + j))) (pos y)) → along_at track.v at j ≡ attribute_in tri 4 (x + (at + j)) y)
+pub track_inside : (paint : Paint) (tri : Corners) (t : Texture) (x y n : ℕ) (track : Track)
+    → paint ≡ TexturedTri tri t → HasInside paint x y n
+    → ((at j : ℕ) → j < 16 → IsTrue (is_inside tri (pos (x + (at + j))) (pos y)) → along_at track.u at j
+    ≡ attribute_in tri 3 (x + (at + j)) y)
+    → ((at j : ℕ) → j < 16 → IsTrue (is_inside tri (pos (x + (at + j))) (pos y)) → along_at track.v at j
+    ≡ attribute_in tri 4 (x + (at + j)) y)
     → IsTrack paint x y n track
 track_inside paint tri t x y n track is inside u v =
     let cells : AreInside tri x y n = rw is at inside in
@@ -30,29 +33,39 @@ track_inside paint tri t x y n track is inside u v =
     })
 
 -- the coordinates of a chunk by those of its span
-pub coordinates_here : (paint : Paint) (x y n first k : ℕ) (track : Track) (us vs : List ℕ) → IsTrack paint x y n track → first + k ≤ n → k ≤ 16
+pub coordinates_here : (paint : Paint) (x y n first k : ℕ) (track : Track) (us vs : List ℕ) → IsTrack paint x y n track
+    → first + k ≤ n → k ≤ 16
     → AreCoordinates us → AreCoordinates vs
-    → ((j : ℕ) → j < 16 → get_or us j 0 ≡ along_at track.u first j) → ((j : ℕ) → j < 16 → get_or vs j 0 ≡ along_at track.v first j)
+    → ((j : ℕ) → j < 16 → get_or us j 0 ≡ along_at track.u first j)
+    → ((j : ℕ) → j < 16 → get_or vs j 0 ≡ along_at track.v first j)
     → HasCoordinates paint (x + first) y first k us vs
 coordinates_here paint x y n first k track us vs is within few across down u v = record {
   across = across;
   down = down;
-  u = λ j lt. u j (omega arith) ∙ is.u first j (omega arith) (omega arith) ∙ ap (λ (c : ℕ). paint_u paint c y (first + j)) (omega arith);
-  v = λ j lt. v j (omega arith) ∙ is.v first j (omega arith) (omega arith) ∙ ap (λ (c : ℕ). paint_v paint c y (first + j)) (omega arith);
+  u = λ j lt. u j (omega arith) ∙ is.u first j (omega arith) (omega arith)
+      ∙ ap (λ (c : ℕ). paint_u paint c y (first + j)) (omega arith);
+  v = λ j lt. v j (omega arith) ∙ is.v first j (omega arith) (omega arith)
+      ∙ ap (λ (c : ℕ). paint_v paint c y (first + j)) (omega arith);
 }
 
 -- the texels of a chunk by their coordinates
-pub texels_here : (span : Span) (t : Texture) (first k : ℕ) (us vs m lanes : List ℕ) → HasCoordinates span.paint (span.x + first) span.y first k us vs → length lanes ≡ 16
-    → ((j : ℕ) → j < k → get_or lanes j 0 ≡ texel t (get_or us j 0) (get_or vs j 0) m) → HasTexels span t first k m lanes
+pub texels_here : (span : Span) (t : Texture) (first k : ℕ) (us vs m lanes : List ℕ)
+    → HasCoordinates span.paint (span.x + first) span.y first k us vs → length lanes ≡ 16
+    → ((j : ℕ) → j < k → get_or lanes j 0 ≡ texel t (get_or us j 0) (get_or vs j 0) m)
+    → HasTexels span t first k m lanes
 texels_here span t first k us vs m lanes at long read = record {
   long = long;
   value = λ j lt. rw (at.u j lt, at.v j lt) at (read j lt);
 }
 
 -- the cost of a chunk that lies apart
-pub apart_cost : (span : Span) (t : Texture) (first k : ℕ) → IsApart span → first + k ≤ span.n → texture_of span.paint ≡ Some t
+pub apart_cost : (span : Span) (t : Texture) (first k : ℕ) → IsApart span → first + k ≤ span.n → texture_of span.paint
+    ≡ Some t
     → chunk_cost span first k ≡ 2 + texel_steps t.page.depth * k
 apart_cost span t first k apart within of_paint =
-    let none = false_of (has_texture_hazard (paint_texels span.paint t span.x span.y first k) (palette_of t) (target span.x span.y first) k)
-    (texture_iff (paint_texels span.paint t span.x span.y first k) (palette_of t) (target span.x span.y first) k) (λ h. apart.free first k within (rw of_paint h)) in
+    let none = false_of
+    (has_texture_hazard (paint_texels span.paint t span.x span.y first k) (palette_of t)
+    (target span.x span.y first) k)
+    (texture_iff (paint_texels span.paint t span.x span.y first k) (palette_of t) (target span.x span.y first) k)
+    (λ h. apart.free first k within (rw of_paint h)) in
     textured_cost span t first k _ of_paint refl ∙ rw none refl

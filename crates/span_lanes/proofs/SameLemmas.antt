@@ -1,5 +1,6 @@
 -- Vectors that are the same.
-use Rattle.std.proofs.Common.{◌≡◌, ℕ, ◌-◌, ◌/◌, ◌%◌, ◌^◌, List, Bool, cond, not, eqb, length, get_or, map, w16, IsTrue, sym, ap, ◌∙◌, arith}
+use Rattle.std.proofs.Common.{◌≡◌, ℕ, ◌-◌, ◌/◌, ◌%◌, ◌^◌, List, Bool, cond, not, eqb, length, get_or, map, w16, IsTrue}
+use Rattle.std.proofs.Common.{sym, ap, ◌∙◌, arith}
 use lib.Lanes.{zip2, mask_l, top}
 use mir.Val.{hbits, bits}
 use Rattle.std.proofs.Math.Nat.{zero-div}
@@ -18,12 +19,15 @@ no_bit : (n p : ℕ) → n ≡ 0 → n / p % 2 ≡ 0
 no_bit n p e = rw (e, zero-div p) (omega arith)
 
 pub same_lanes : (a b : List ℕ) → length a ≡ 16 → length b ≡ 16
-    → IsTrue (eqb (mask_l (map (top (hbits w16)) (zip2 (λ x y. cond (not (eqb x y)) (2 ^ bits w16 - 1) 0) a b)) % 2 ^ 64) 0)
+    → IsTrue (eqb
+    (mask_l (map (top (hbits w16)) (zip2 (λ x y. cond (not (eqb x y)) (2 ^ bits w16 - 1) 0) a b)) % 2 ^ 64) 0)
     → EachLane (λ i. get_or a i 0 ≡ get_or b i 0)
 same_lanes a b long_a long_b h i lt =
     let t : ℕ → ℕ → Bool = (λ x y. not (eqb x y)) in
-    let none : mask_l (zip2 t a b) % 2 ^ 64 ≡ 0 = ap (λ ms. mask_l ms % 2 ^ 64) (sym (tops_compared w16 t a b)) ∙ is_zero _ h in
+    let none : mask_l (zip2 t a b) % 2 ^ 64 ≡ 0 = ap (λ ms. mask_l ms % 2 ^ 64) (sym (tops_compared w16 t a b))
+    ∙ is_zero _ h in
     let few = rw (long_tested a b long_a long_b t) at (mask_l-lt (zip2 t a b)) in
     let all : mask_l (zip2 t a b) ≡ 0 = omega (arith, none, few) in
     equal (get_or a i 0) (get_or b i 0)
-    (ap (λ m. cond m 1 0) (sym (at_tested a b long_a long_b t i lt)) ∙ sym (bit_mask_l (zip2 t a b) i) ∙ no_bit (mask_l (zip2 t a b)) (2 ^ i) all)
+    (ap (λ m. cond m 1 0) (sym (at_tested a b long_a long_b t i lt)) ∙ sym (bit_mask_l (zip2 t a b) i)
+    ∙ no_bit (mask_l (zip2 t a b)) (2 ^ i) all)

@@ -1,5 +1,6 @@
 -- Texels that stand side by side.
-use Rattle.std.proofs.Common.{◌≡◌, ◌<◌, ◌≤◌, ℕ, List, Bool, false, ◌+◌, ◌*◌, ◌/◌, ◌%◌, get_or, refl, sym, ap, ◌∙◌, arith}
+use Rattle.std.proofs.Common.{◌≡◌, ◌<◌, ◌≤◌, ℕ, List, Bool, false, ◌+◌, ◌*◌, ◌/◌, ◌%◌, get_or, refl, sym, ap, ◌∙◌}
+use Rattle.std.proofs.Common.{arith}
 use Rattle.std.specs.Int.Bits.{and_zero_r, or_zero_r}
 use Rattle.std.proofs.lemmas.Bool.Decides.{nat_tests}
 use Rattle.std.proofs.lemmas.Nat.{and_mask}
@@ -30,8 +31,10 @@ deep_column : (depth u : ℕ) → 2 ≤ depth → column depth u ≡ u
 deep_column depth u deep = grind (arith, nat_tests)
 
 -- a texel of fifteen bits
-pub whole_texel : (span : Span) (t : Texture) (s : Stretch) (x i h : ℕ) (m : List ℕ) → IsStretch span t s → 2 ≤ t.page.depth → i < span.n
-    → h ≡ get_or m (1024 * s.y + (t.page.x + (s.u + i))) 0 → h ≡ texel t (paint_u span.paint x span.y i) (paint_v span.paint x span.y i) m
+pub whole_texel : (span : Span) (t : Texture) (s : Stretch) (x i h : ℕ) (m : List ℕ) → IsStretch span t s
+    → 2 ≤ t.page.depth → i < span.n
+    → h ≡ get_or m (1024 * s.y + (t.page.x + (s.u + i))) 0
+    → h ≡ texel t (paint_u span.paint x span.y i) (paint_v span.paint x span.y i) m
 whole_texel span t s x i h m is deep lt read =
     let column = is.column x i lt in
     let row = is.row x i lt in
@@ -39,11 +42,16 @@ whole_texel span t s x i h m is deep lt read =
     let room = is.wholes deep in
     let here : (t.page.x + (s.u + i)) % 1024 ≡ t.page.x + (s.u + i) = omega arith in
     read
-    ∙ rw (column, row, wide, here) at (texel_direct t (paint_u span.paint x span.y i) (paint_v span.paint x span.y i) m (texel_place t.page t.window (paint_u span.paint x span.y i) (paint_v span.paint x span.y i)) deep refl)
+    ∙ rw (column, row, wide, here) at
+    (texel_direct t (paint_u span.paint x span.y i) (paint_v span.paint x span.y i) m
+    (texel_place t.page t.window (paint_u span.paint x span.y i) (paint_v span.paint x span.y i)) deep refl)
 
 -- a texel of four bits, by its entry
-pub four_texel : (span : Span) (t : Texture) (s : Stretch) (x i e : ℕ) (m : List ℕ) → IsStretch span t s → t.page.depth ≡ 0 → i < span.n
-    → e ≡ get_or m (1024 * (t.clut / 64 % 512) + (t.clut % 64 * 16 + index_in 0 (s.u + i) (get_or m (1024 * s.y + (t.page.x + (s.u + i) / 4)) 0)) % 1024) 0
+pub four_texel : (span : Span) (t : Texture) (s : Stretch) (x i e : ℕ) (m : List ℕ) → IsStretch span t s
+    → t.page.depth ≡ 0 → i < span.n
+    → e ≡ get_or m
+    (1024 * (t.clut / 64 % 512) +
+    (t.clut % 64 * 16 + index_in 0 (s.u + i) (get_or m (1024 * s.y + (t.page.x + (s.u + i) / 4)) 0)) % 1024) 0
     → e ≡ texel t (paint_u span.paint x span.y i) (paint_v span.paint x span.y i) m
 four_texel span t s x i e m is four lt entry =
     let column = is.column x i lt in
@@ -62,9 +70,11 @@ pub deep_steps : (depth : ℕ) → 2 ≤ depth → texel_steps depth ≡ 1
 deep_steps depth deep = grind (arith, nat_tests)
 
 -- where the texels of a row stand side by side
-pub row_stretch : (span : Span) (t : Texture) (color u v : ℕ) (flip : Bool) (s : Stretch) → span.paint ≡ TexturedRow color t u v flip → flip ≡ false → t.window.mask_x ≡ 0
+pub row_stretch : (span : Span) (t : Texture) (color u v : ℕ) (flip : Bool) (s : Stretch)
+    → span.paint ≡ TexturedRow color t u v flip → flip ≡ false → t.window.mask_x ≡ 0
     → s.u ≡ u → s.y ≡ t.page.y + windowed t.window.mask_y t.window.off_y v → s.y ≤ t.page.y + 255 → u + span.n ≤ 256
-    → (2 ≤ t.page.depth → t.page.x + (u + span.n) ≤ 1024) → (t.page.depth ≡ 0 → t.page.x + (u + span.n) / 4 + 16 ≤ 1024) → IsStretch span t s
+    → (2 ≤ t.page.depth → t.page.x + (u + span.n) ≤ 1024)
+    → (t.page.depth ≡ 0 → t.page.x + (u + span.n) / 4 + 16 ≤ 1024) → IsStretch span t s
 row_stretch span t color u v flip s paint rises clear at row low in_page wholes fours = record {
   low = low;
   in_page = rw at in_page;
@@ -78,12 +88,15 @@ row_stretch span t color u v flip s paint rises clear at row low in_page wholes 
 }
 
 -- sixteen cells of texels of fifteen bits do not wrap
-pub beside_room : (t : Texture) (at : Coordinates) → 2 ≤ t.page.depth → AreBeside t at → t.page.x + get_or at.us 0 0 + 16 ≤ 1024
+pub beside_room : (t : Texture) (at : Coordinates) → 2 ≤ t.page.depth → AreBeside t at
+    → t.page.x + get_or at.us 0 0 + 16 ≤ 1024
 beside_room t at deep is = let wide = deep_column t.page.depth (get_or at.us 0 0) deep in rw wide at is.in_row
 
 -- one of sixteen texels of fifteen bits side by side
-pub beside_texel : (t : Texture) (at : Coordinates) (j h : ℕ) (m : List ℕ) → 2 ≤ t.page.depth → AreBeside t at → get_or at.us j 0 ≤ 255 → get_or at.vs j 0 ≤ 255 → j < 16
-    → h ≡ get_or m (1024 * (t.page.y + get_or at.vs 0 0) + (t.page.x + get_or at.us 0 0) + j) 0 → h ≡ texel t (get_or at.us j 0) (get_or at.vs j 0) m
+pub beside_texel : (t : Texture) (at : Coordinates) (j h : ℕ) (m : List ℕ) → 2 ≤ t.page.depth → AreBeside t at
+    → get_or at.us j 0 ≤ 255 → get_or at.vs j 0 ≤ 255 → j < 16
+    → h ≡ get_or m (1024 * (t.page.y + get_or at.vs 0 0) + (t.page.x + get_or at.us 0 0) + j) 0
+    → h ≡ texel t (get_or at.us j 0) (get_or at.vs j 0) m
 beside_texel t at j h m deep is low_u low_v lane read =
     let u = open_window t.window.mask_x t.window.off_x (get_or at.us j 0) is.window_x low_u in
     let v = open_window t.window.mask_y t.window.off_y (get_or at.vs j 0) is.window_y low_v in
@@ -92,13 +105,18 @@ beside_texel t at j h m deep is low_u low_v lane read =
     let down = is.rows j lane in
     let room = beside_room t at deep is in
     let here : (t.page.x + get_or at.us j 0) % 1024 ≡ t.page.x + get_or at.us j 0 = omega arith in
-    let place : 1024 * (t.page.y + get_or at.vs 0 0) + (t.page.x + get_or at.us 0 0) + j ≡ 1024 * (t.page.y + get_or at.vs j 0) + (t.page.x + get_or at.us j 0) = omega arith in
+    let place : 1024 * (t.page.y + get_or at.vs 0 0) + (t.page.x + get_or at.us 0 0) + j
+    ≡ 1024 * (t.page.y + get_or at.vs j 0) + (t.page.x + get_or at.us j 0) = omega arith in
     read ∙ ap (λ (k : ℕ). get_or m k 0) place
-    ∙ rw (u, v, wide, here) at (texel_direct t (get_or at.us j 0) (get_or at.vs j 0) m (texel_place t.page t.window (get_or at.us j 0) (get_or at.vs j 0)) deep refl)
+    ∙ rw (u, v, wide, here) at
+    (texel_direct t (get_or at.us j 0) (get_or at.vs j 0) m
+    (texel_place t.page t.window (get_or at.us j 0) (get_or at.vs j 0)) deep refl)
 
 -- the index of one of sixteen texels of four bits side by side
-pub beside_index : (t : Texture) (at : Coordinates) (j h : ℕ) (m : List ℕ) → t.page.depth ≡ 0 → AreBeside t at → get_or at.us j 0 ≤ 255 → get_or at.vs j 0 ≤ 255 → j < 16
-    → h ≡ index_in 0 (get_or at.us 0 0 + j) (get_or m (1024 * (t.page.y + get_or at.vs 0 0) + (t.page.x + (get_or at.us 0 0 + j) / 4)) 0)
+pub beside_index : (t : Texture) (at : Coordinates) (j h : ℕ) (m : List ℕ) → t.page.depth ≡ 0 → AreBeside t at
+    → get_or at.us j 0 ≤ 255 → get_or at.vs j 0 ≤ 255 → j < 16
+    → h ≡ index_in 0 (get_or at.us 0 0 + j)
+    (get_or m (1024 * (t.page.y + get_or at.vs 0 0) + (t.page.x + (get_or at.us 0 0 + j) / 4)) 0)
     → h ≡ index_in 0 (windowed t.window.mask_x t.window.off_x (get_or at.us j 0)) (at_cell m (lane_place t at j))
 beside_index t at j h m four is low_u low_v lane read =
     let u = open_window t.window.mask_x t.window.off_x (get_or at.us j 0) is.window_x low_u in
@@ -106,5 +124,6 @@ beside_index t at j h m four is low_u low_v lane read =
     let across = is.columns j lane in
     let down = is.rows j lane in
     let room = rw four at is.in_row in
-    let here : (t.page.x + (get_or at.us 0 0 + j) / 4) % 1024 ≡ t.page.x + (get_or at.us 0 0 + j) / 4 = omega (arith, room) in
+    let here : (t.page.x + (get_or at.us 0 0 + j) / 4) % 1024 ≡ t.page.x + (get_or at.us 0 0 + j) / 4 = omega
+    (arith, room) in
     rw (u, v, four, across, down, here) read

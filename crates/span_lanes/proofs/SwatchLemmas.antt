@@ -9,7 +9,8 @@ use Rattle.span_lanes.specs.Swatches.{AreSwatches}
 use Rattle.span_lanes.proofs.BlindLemmas.{same_cell}
 
 -- cells of another row leave it as it is
-pub swatches_kept : (t : Texture) (x y k : ℕ) (m now : List ℕ) (swatches : Swatches) → AgreesApart (1024 * y + x) k m now → x + k ≤ 1024 → t.clut / 64 % 512 ≢ y
+pub swatches_kept : (t : Texture) (x y k : ℕ) (m now : List ℕ) (swatches : Swatches)
+    → AgreesApart (1024 * y + x) k m now → x + k ≤ 1024 → t.clut / 64 % 512 ≢ y
     → AreSwatches t m swatches → AreSwatches t now swatches
 swatches_kept t x y k m now swatches agree room other is = record {
   long = is.long;
@@ -19,4 +20,5 @@ swatches_kept t x y k m now swatches agree room other is = record {
 }
   where
     cell : (i : ℕ) → at_cell now (clut_place t.clut i) ≡ at_cell m (clut_place t.clut i)
-    cell i = same_cell m now x y k (clut_place t.clut i).x (clut_place t.clut i).y agree (omega arith) room (λ j less e f. other f)
+    cell i = same_cell m now x y k (clut_place t.clut i).x (clut_place t.clut i).y agree (omega arith) room
+        (λ j less e f. other f)

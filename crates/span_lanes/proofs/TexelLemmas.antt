@@ -1,5 +1,7 @@
 -- Texels of a chunk.
-use Rattle.std.proofs.Common.{◌≡◌, ◌<◌, ◌≤◌, ℕ, ℤ, zero, suc, List, [], ◌∷◌, ◌++◌, Option, None, Some, Bool, true, false, cond, eqb, ◌&&◌, not, ◌+◌, ◌-◌, ◌*◌, take, ltb, min, map, get_or, refl, sym, ap, ◌∙◌, arith, add-one}
+use Rattle.std.proofs.Common.{◌≡◌, ◌<◌, ◌≤◌, ℕ, ℤ, zero, suc, List, [], ◌∷◌, ◌++◌, Option, None, Some, Bool, true}
+use Rattle.std.proofs.Common.{false, cond, eqb, ◌&&◌, not, ◌+◌, ◌-◌, ◌*◌, take, ltb, min, map, get_or, refl, sym, ap}
+use Rattle.std.proofs.Common.{◌∙◌, arith, add-one}
 use Rattle.std.specs.List.{range_with_len}
 use Rattle.std.proofs.lemmas.List.FromFn.{map-range_with_len_more, get_or-map-range_with_len}
 use Rattle.std.proofs.lemmas.List.{get_or-take}
@@ -18,7 +20,8 @@ use Rattle.span_lanes.specs.declared.span.Texture.{Texture}
 use Rattle.span_lanes.specs.declared.span.Paint.{Paint}
 use Rattle.span_lanes.specs.declared.span.Paint.TheVariants.{Flat, Shaded, TexturedTri, TexturedRow}
 use Rattle.span_lanes.specs.declared.span.Span.{Span}
-use Rattle.span_lanes.specs.Shade.{texture_of, at_cell, texel, textured_pixel, blended_if, front_of, is_high, shift_of, paint_pixel, shade}
+use Rattle.span_lanes.specs.Shade.{texture_of, at_cell, texel, textured_pixel, blended_if, front_of, is_high, shift_of}
+use Rattle.span_lanes.specs.Shade.{paint_pixel, shade}
 use Rattle.span_lanes.specs.Paints.{paint_color, paint_u, paint_v}
 use Rattle.span_lanes.specs.Lanes.{HasCoordinates}
 use Rattle.span_lanes.specs.Guard.{paint_texel, paint_texels, texel_cells}
@@ -32,14 +35,16 @@ windowed_low mask off v low few =
     or_of_8 (bit_and v (255 - mask * 8)) (bit_and off mask * 8) (omega (arith, rows)) (omega (arith, offs))
 
 -- one of the cells of texels
-pub place_of : (t : Texture) (us vs : List ℕ) (k : ℕ) (cells : List Cell) (j : ℕ) → take k cells ≡ texel_cells t us vs k → j < k
+pub place_of : (t : Texture) (us vs : List ℕ) (k : ℕ) (cells : List Cell) (j : ℕ)
+    → take k cells ≡ texel_cells t us vs k → j < k
     → cell_at cells j ≡ texel_place t.page t.window (get_or us j 0) (get_or vs j 0)
 unfolding texel_cells
 place_of t us vs k cells j e lt =
     let none : Cell = record { x = 0; y = 0 } in
     sym (get_or-take k cells j none lt)
     ∙ ap (λ (l : List Cell). get_or l j none) e
-    ∙ get_or-map-range_with_len (λ i. texel_place t.page t.window (get_or us i 0) (get_or vs i 0)) 0 k j j none lt (omega arith)
+    ∙ get_or-map-range_with_len (λ i. texel_place t.page t.window (get_or us i 0) (get_or vs i 0)) 0 k j j none lt
+    (omega arith)
 
 low_depth : (n : ℕ) → n < 2 → ltb n 2 ≡ true
 low_depth n lt = grind (arith, nat_tests)
@@ -48,81 +53,110 @@ high_depth : (n : ℕ) → 2 ≤ n → ltb n 2 ≡ false
 high_depth n le = grind (arith, nat_tests)
 
 -- a texel by the cell that it stands in
-pub texel_direct : (t : Texture) (u v : ℕ) (m : List ℕ) (cell : Cell) → 2 ≤ t.page.depth → cell ≡ texel_place t.page t.window u v
+pub texel_direct : (t : Texture) (u v : ℕ) (m : List ℕ) (cell : Cell) → 2 ≤ t.page.depth
+    → cell ≡ texel_place t.page t.window u v
     → at_cell m cell ≡ texel t u v m
 unfolding texel
 texel_direct t u v m cell deep e = rw (high_depth t.page.depth deep) (ap (at_cell m) e)
 
-pub texel_entry : (t : Texture) (u v : ℕ) (m : List ℕ) (cell : Cell) (h : ℕ) → t.page.depth < 2 → cell ≡ texel_place t.page t.window u v → h ≡ at_cell m cell
+pub texel_entry : (t : Texture) (u v : ℕ) (m : List ℕ) (cell : Cell) (h : ℕ) → t.page.depth < 2
+    → cell ≡ texel_place t.page t.window u v → h ≡ at_cell m cell
     → at_cell m (clut_place t.clut (index_at t.page t.window u h)) ≡ texel t u v m
 unfolding texel
 texel_entry t u v m cell h low e read =
-    rw (low_depth t.page.depth low) (ap (λ (k : ℕ). at_cell m (clut_place t.clut (index_at t.page t.window u k))) (read ∙ ap (at_cell m) e))
+    rw (low_depth t.page.depth low)
+    (ap (λ (k : ℕ). at_cell m (clut_place t.clut (index_at t.page t.window u k))) (read ∙ ap (at_cell m) e))
 
 -- a texel of four bits by the entry of its index
-pub texel_four : (t : Texture) (u v : ℕ) (m : List ℕ) (across h e : ℕ) → t.page.depth ≡ 0 → across ≡ windowed t.window.mask_x t.window.off_x u
-    → h ≡ at_cell m (texel_place t.page t.window u v) → e ≡ at_cell m (clut_place t.clut (index_in 0 across h)) → e ≡ texel t u v m
+pub texel_four : (t : Texture) (u v : ℕ) (m : List ℕ) (across h e : ℕ) → t.page.depth ≡ 0
+    → across ≡ windowed t.window.mask_x t.window.off_x u
+    → h ≡ at_cell m (texel_place t.page t.window u v) → e ≡ at_cell m (clut_place t.clut (index_in 0 across h))
+    → e ≡ texel t u v m
 texel_four t u v m across h e four window read entry =
     let here : index_in 0 across h ≡ index_at t.page t.window u h = rw (window, four) refl in
-    entry ∙ ap (λ (i : ℕ). at_cell m (clut_place t.clut i)) here ∙ texel_entry t u v m (texel_place t.page t.window u v) h (omega (arith, four)) refl read
+    entry ∙ ap (λ (i : ℕ). at_cell m (clut_place t.clut i)) here
+    ∙ texel_entry t u v m (texel_place t.page t.window u v) h (omega (arith, four)) refl read
 
 -- a texel of eight bits by the entry of its index
-pub texel_eight : (t : Texture) (u v : ℕ) (m : List ℕ) (across h e : ℕ) → t.page.depth ≡ 1 → across ≡ windowed t.window.mask_x t.window.off_x u
-    → h ≡ at_cell m (texel_place t.page t.window u v) → e ≡ at_cell m (clut_place t.clut (index_in 1 across h)) → e ≡ texel t u v m
+pub texel_eight : (t : Texture) (u v : ℕ) (m : List ℕ) (across h e : ℕ) → t.page.depth ≡ 1
+    → across ≡ windowed t.window.mask_x t.window.off_x u
+    → h ≡ at_cell m (texel_place t.page t.window u v) → e ≡ at_cell m (clut_place t.clut (index_in 1 across h))
+    → e ≡ texel t u v m
 texel_eight t u v m across h e eight window read entry =
     let here : index_in 1 across h ≡ index_at t.page t.window u h = rw (window, eight) refl in
-    entry ∙ ap (λ (i : ℕ). at_cell m (clut_place t.clut i)) here ∙ texel_entry t u v m (texel_place t.page t.window u v) h (omega (arith, eight)) refl read
+    entry ∙ ap (λ (i : ℕ). at_cell m (clut_place t.clut i)) here
+    ∙ texel_entry t u v m (texel_place t.page t.window u v) h (omega (arith, eight)) refl read
 
 -- the cells of texels by their coordinates are those of the paint
-pub cells_same : (paint : Paint) (t : Texture) (x y first : ℕ) (us vs : List ℕ) (k n : ℕ) → HasCoordinates paint (x + first) y first n us vs → k ≤ n
+pub cells_same : (paint : Paint) (t : Texture) (x y first : ℕ) (us vs : List ℕ) (k n : ℕ)
+    → HasCoordinates paint (x + first) y first n us vs → k ≤ n
     → paint_texels paint t x y first k ≡ texel_cells t us vs k
 unfolding paint_texels texel_cells
 cells_same paint t x y first us vs zero n has le = refl
 cells_same paint t x y first us vs (suc k) n has le =
     let so_far = cells_same paint t x y first us vs k n has (omega arith) in
-    let across : get_or us k 0 ≡ paint_u paint (x + (first + k)) y (first + k) = has.u k (omega arith) ∙ ap (λ (c : ℕ). paint_u paint c y (first + k)) (omega arith) in
-    let down : get_or vs k 0 ≡ paint_v paint (x + (first + k)) y (first + k) = has.v k (omega arith) ∙ ap (λ (c : ℕ). paint_v paint c y (first + k)) (omega arith) in
+    let across : get_or us k 0 ≡ paint_u paint (x + (first + k)) y (first + k) = has.u k (omega arith)
+    ∙ ap (λ (c : ℕ). paint_u paint c y (first + k)) (omega arith) in
+    let down : get_or vs k 0 ≡ paint_v paint (x + (first + k)) y (first + k) = has.v k (omega arith)
+    ∙ ap (λ (c : ℕ). paint_v paint c y (first + k)) (omega arith) in
     let by_paint = map-range_with_len_more (paint_texel paint t x y) first k (first + k) refl in
-    let by_lane = map-range_with_len_more (λ j. texel_place t.page t.window (get_or us j 0) (get_or vs j 0)) 0 k k (omega arith) in
-    let here : paint_texel paint t x y (first + k) ≡ texel_place t.page t.window (get_or us k 0) (get_or vs k 0) = rw (across, down) refl in
-    let by_paint_and_lane : paint_texels paint t x y first k ++ paint_texel paint t x y (first + k) ∷ [] ≡ texel_cells t us vs k ++ texel_place t.page t.window (get_or us k 0) (get_or vs k 0) ∷ [] = rw (so_far, here) refl in
+    let by_lane = map-range_with_len_more (λ j. texel_place t.page t.window (get_or us j 0) (get_or vs j 0)) 0 k k
+    (omega arith) in
+    let here : paint_texel paint t x y (first + k) ≡ texel_place t.page t.window (get_or us k 0)
+    (get_or vs k 0) = rw (across, down) refl in
+    let by_paint_and_lane : paint_texels paint t x y first k ++ paint_texel paint t x y (first + k) ∷ []
+    ≡ texel_cells t us vs k ++ texel_place t.page t.window (get_or us k 0)
+    (get_or vs k 0) ∷ [] = rw (so_far, here) refl in
     ap (λ (n : ℕ). map (paint_texel paint t x y) (range_with_len first n)) (sym (add-one k))
     ∙ by_paint
     ∙ by_paint_and_lane
     ∙ sym by_lane
-    ∙ ap (λ (n : ℕ). map (λ j. texel_place t.page t.window (get_or us j 0) (get_or vs j 0)) (range_with_len 0 n)) (add-one k)
+    ∙ ap (λ (n : ℕ). map (λ j. texel_place t.page t.window (get_or us j 0) (get_or vs j 0)) (range_with_len 0 n))
+    (add-one k)
 
 paint_textured : (paint : Paint) (t : Texture) (brush : Brush) (x y i : ℕ) (m : List ℕ) → texture_of paint ≡ Some t
     → paint_pixel paint brush x y i m
-    ≡ textured_pixel brush t.raw (paint_color paint x y) (shift_of (brush.dither && not t.raw) x y) (at m x y) (texel t (paint_u paint x y i) (paint_v paint x y i) m)
+    ≡ textured_pixel brush t.raw (paint_color paint x y) (shift_of (brush.dither && not t.raw) x y) (at m x y)
+    (texel t (paint_u paint x y i) (paint_v paint x y i) m)
 paint_textured (Flat color) t brush x y i m is = absurd (cc)
 paint_textured (Shaded tri) t brush x y i m is = absurd (cc)
 paint_textured (TexturedTri tri texture) t brush x y i m is = let e : texture ≡ t = cc in rw e refl
 paint_textured (TexturedRow color texture u v flip) t brush x y i m is = let e : texture ≡ t = cc in rw e refl
 
-pub shade_textured : (span : Span) (t : Texture) (i x : ℕ) (m : List ℕ) → texture_of span.paint ≡ Some t → x ≡ span.x + i
+pub shade_textured : (span : Span) (t : Texture) (i x : ℕ) (m : List ℕ) → texture_of span.paint ≡ Some t
+    → x ≡ span.x + i
     → shade span i m
-    ≡ textured_pixel span.brush t.raw (paint_color span.paint x span.y) (shift_of (span.brush.dither && not t.raw) x span.y) (at m x span.y)
+    ≡ textured_pixel span.brush t.raw (paint_color span.paint x span.y)
+    (shift_of (span.brush.dither && not t.raw) x span.y) (at m x span.y)
     (texel t (paint_u span.paint x span.y i) (paint_v span.paint x span.y i) m)
 unfolding shade
 shade_textured span t i x m is e = rw e (paint_textured span.paint t span.brush (span.x + i) span.y i m is)
 
 -- a lane whose texel may be none
-pub textured_lane : (mask c : ℕ) (pixel : Option ℕ) (brush : Brush) (raw : Bool) (color : ℕ) (shift : ℤ) (back t p front b open_bit texel_bit h : ℕ)
+pub textured_lane : (mask c : ℕ) (pixel : Option ℕ) (brush : Brush) (raw : Bool) (color : ℕ) (shift : ℤ)
+    (back t p front b open_bit texel_bit h : ℕ)
     → pixel ≡ textured_pixel brush raw color shift back t
     → front ≡ front_of raw color shift t
     → p ≡ packed_pixel (blended_if (brush.semi && is_high t) brush.mode back front) (is_high t) false
-    → b ≡ min open_bit texel_bit → open_bit ≡ cond (is_kept mask c) 0 1 → texel_bit ≡ cond (eqb t 0) 0 1 → h ≡ forced mask p
+    → b ≡ min open_bit texel_bit → open_bit ≡ cond (is_kept mask c) 0 1 → texel_bit ≡ cond (eqb t 0) 0 1
+    → h ≡ forced mask p
     → IsLane (written_over mask c pixel) b h
 unfolding textured_pixel
-textured_lane mask c pixel brush raw color shift back t p front b open_bit texel_bit h is front_is plotted bits shown drawn stored =
-    rw is (by_texel (eqb t 0) (packed_pixel (blended_if (brush.semi && is_high t) brush.mode back (front_of raw color shift t)) (is_high t) false)
-    (plotted ∙ ap (λ (f : ℕ). packed_pixel (blended_if (brush.semi && is_high t) brush.mode back f) (is_high t) false) front_is) drawn)
+textured_lane mask c pixel brush raw color shift back t p front b open_bit texel_bit h is front_is plotted bits shown
+    drawn stored =
+    rw is (by_texel (eqb t 0)
+    (packed_pixel (blended_if (brush.semi && is_high t) brush.mode back (front_of raw color shift t))
+    (is_high t) false)
+    (plotted ∙ ap (λ (f : ℕ). packed_pixel (blended_if (brush.semi && is_high t) brush.mode back f) (is_high t) false)
+    front_is) drawn)
   where
-    by_kept : (kept : Bool) (q : ℕ) → open_bit ≡ cond kept 0 1 → texel_bit ≡ 1 → h ≡ q → IsLane (cond kept None (Some q)) b h
+    by_kept : (kept : Bool) (q : ℕ) → open_bit ≡ cond kept 0 1 → texel_bit ≡ 1 → h ≡ q
+        → IsLane (cond kept None (Some q)) b h
     by_kept true q e one f = λ got. absurd (omega arith)
     by_kept false q e one f = (omega arith, f)
 
-    by_texel : (none : Bool) (q : ℕ) → p ≡ q → texel_bit ≡ cond none 0 1 → IsLane (written_over mask c (cond none None (Some q))) b h
+    by_texel : (none : Bool) (q : ℕ) → p ≡ q → texel_bit ≡ cond none 0 1
+        → IsLane (written_over mask c (cond none None (Some q))) b h
     by_texel true q same bit_is = λ got. absurd (omega arith)
-    by_texel false q same bit_is = by_kept (is_kept mask c) (forced mask q) shown bit_is (stored ∙ ap (forced mask) same)
+    by_texel false q same bit_is = by_kept (is_kept mask c) (forced mask q) shown bit_is
+        (stored ∙ ap (forced mask) same)

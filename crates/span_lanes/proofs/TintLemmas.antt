@@ -18,7 +18,8 @@ use Rattle.span_lanes.specs.declared.span.Texture.{Texture}
 use Rattle.span_lanes.specs.declared.slopes.Slopes.{Slopes}
 
 -- one colour
-pub plain_hues : (paint : Paint) (color x y n : ℕ) → IsTint paint (Plain color) → HasInside paint x y n → AreHues paint x y n (One color)
+pub plain_hues : (paint : Paint) (color x y n : ℕ) → IsTint paint (Plain color) → HasInside paint x y n
+    → AreHues paint x y n (One color)
 plain_hues (Flat own) color x y n is inside = λ at j lane lt. let e : color ≡ own = cc in e
 plain_hues (Shaded tri) color x y n is inside = λ at j lane lt. is (x + (at + j)) y (inside (at + j) lt)
 plain_hues (TexturedTri tri texture) color x y n is inside = λ at j lane lt. is (x + (at + j)) y (inside (at + j) lt)
@@ -29,16 +30,21 @@ first_cell : (tri : Corners) (x y n : ℕ) → 1 ≤ n → AreInside tri x y n �
 first_cell tri x y n some inside = let e : x + 0 ≡ x = omega arith in rw e at (inside 0 (omega arith))
 
 -- three channels
-pub planes_hues : (paint : Paint) (red green blue : Plane) (x y n : ℕ) (hues : Hues) → 1 ≤ n → IsTint paint (Planes red green blue) → HasInside paint x y n
-    → ((tri : Corners) → IsTintOf tri (Planes red green blue) → IsTrue (is_inside tri (pos x) (pos y)) → AreHuesOf tri x y hues)
+pub planes_hues : (paint : Paint) (red green blue : Plane) (x y n : ℕ) (hues : Hues) → 1 ≤ n
+    → IsTint paint (Planes red green blue) → HasInside paint x y n
+    → ((tri : Corners) → IsTintOf tri (Planes red green blue) → IsTrue (is_inside tri (pos x) (pos y))
+    → AreHuesOf tri x y hues)
     → AreHues paint x y n hues
 planes_hues (Flat own) red green blue x y n hues some is inside of = absurd (cc)
-planes_hues (Shaded tri) red green blue x y n hues some is inside of = λ at j lane lt. of tri is (first_cell tri x y n some inside) at j lane (inside (at + j) lt)
-planes_hues (TexturedTri tri texture) red green blue x y n hues some is inside of = λ at j lane lt. of tri is (first_cell tri x y n some inside) at j lane (inside (at + j) lt)
+planes_hues (Shaded tri) red green blue x y n hues some is inside of = λ at j lane lt. of tri is
+    (first_cell tri x y n some inside) at j lane (inside (at + j) lt)
+planes_hues (TexturedTri tri texture) red green blue x y n hues some is inside of = λ at j lane lt. of tri is
+    (first_cell tri x y n some inside) at j lane (inside (at + j) lt)
 planes_hues (TexturedRow own texture u v flip) red green blue x y n hues some is inside of = absurd (cc)
 
 -- the halfword of a span
-pub solid_here : (paint : Paint) (brush : Brush) (x y n : ℕ) (solid : Option ℕ) (h : ℕ) → HasHalfword paint brush solid → solid ≡ Some h
+pub solid_here : (paint : Paint) (brush : Brush) (x y n : ℕ) (solid : Option ℕ) (h : ℕ) → HasHalfword paint brush solid
+    → solid ≡ Some h
     → IsSolid (record { x = x; y = y; n = n; paint = paint; brush = brush }) h
 solid_here (Flat color) brush x y n solid h has is = rw is at has x y n
 solid_here (Shaded tri) brush x y n solid h has is = absurd (cc (has, is))
@@ -46,7 +52,8 @@ solid_here (TexturedTri tri texture) brush x y n solid h has is = absurd (cc (ha
 solid_here (TexturedRow color texture u v flip) brush x y n solid h has is = absurd (cc (has, is))
 
 -- what is ready for a row of texels is ready for another
-pub row_ready : (paint : Paint) (brush : Brush) (color : ℕ) (texture : Texture) (u old v : ℕ) (flip : Bool) (solid : Option ℕ) (tint : Tint) (slopes : Option Slopes)
+pub row_ready : (paint : Paint) (brush : Brush) (color : ℕ) (texture : Texture) (u old v : ℕ) (flip : Bool)
+    (solid : Option ℕ) (tint : Tint) (slopes : Option Slopes)
     → IsReady (record { paint = paint; brush = brush }) solid tint slopes → paint ≡ TexturedRow color texture u old flip
     → IsReady (record { paint = TexturedRow color texture u v flip; brush = brush }) solid tint slopes
 row_ready paint brush color texture u old v flip solid tint slopes ready is = record {

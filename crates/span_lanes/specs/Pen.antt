@@ -75,6 +75,7 @@ pub record IsReady (ink : Ink) (solid : Option ℕ) (tint : Tint) (slopes : Opti
   pub coordinates : HasSlopes ink.paint slopes
 
 -- the same with a palette under a colour
-pub record IsPen (ink : Ink) (solid : Option ℕ) (tint : Tint) (slopes : Option Slopes) (swatches : Swatches) : Type 0 where
+pub record IsPen (ink : Ink) (solid : Option ℕ) (tint : Tint) (slopes : Option Slopes)
+    (swatches : Swatches) : Type 0 where
   pub ready : IsReady ink solid tint slopes
   pub colored : AreColored swatches

@@ -37,7 +37,8 @@ StandNear xs ys x y =
     × EachLane (λ i. (x ≤ slice_index xs i) × (slice_index xs i < x + 16))
     × EachLane (λ i. slice_index ys i ≡ y)
 
--- sixteen texels that stand side by side, seen without a window, and sixteen cells from the first one's that do not wrap
+-- sixteen texels that stand side by side, seen without a window, and sixteen cells from the first one's that do not
+-- wrap
 pub record AreBeside (t : Texture) (at : Coordinates) : Type 0 where
   pub window_x : t.window.mask_x ≡ 0
   pub window_y : t.window.mask_y ≡ 0

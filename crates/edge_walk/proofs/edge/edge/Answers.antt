@@ -22,7 +22,7 @@ returns c =
     let five : SFits w64 c.product-across.result = search rules in
     let six : SFits w64 c.product-down.result = search rules in
     let all : SFits w64 (c.product-across.result -ℤ c.product-down.result) = omega
-        (arith, ints, c.product-across.ensures.bound, c.product-down.ensures.bound) in
+    (arith, ints, c.product-across.ensures.bound, c.product-down.ensures.bound) in
     let e1 = simp to_z-of_z at c.difference.ensures.value in
     let e2 = simp to_z-of_z at c.difference-2.ensures.value in
     let e3 = simp to_z-of_z at c.difference-3.ensures.value in

@@ -16,6 +16,9 @@ returns-clause-bound c =
     let b_fits = c.ranges.b in
     let fits = fits_signed_mul w64 c.args.a c.args.b 1023 (2 ^ 32) c.requires.a (omega arith) (omega arith) in
     simp to_z-of_z
-        (rw unsigned_abs-mul
-        (omega (arith, mul-le (unsigned_abs c.args.a) (unsigned_abs c.args.b) 1023 (2 ^ 32 - 1) c.requires.a
-        (omega arith))))
+    (rw unsigned_abs-mul
+    (omega (
+      arith,
+      mul-le (unsigned_abs c.args.a) (unsigned_abs c.args.b) 1023 (2 ^ 32 - 1) c.requires.a
+          (omega arith),
+    )))

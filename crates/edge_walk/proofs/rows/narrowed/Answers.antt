@@ -58,7 +58,7 @@ returns-then-row-gt0 c x =
     let result_fits : SFits w64 c.min.result = search rules in
     let sum_fits = left_fits (goal.at.returns-then-row-gt0 c).After-floor_div in
     narrow_left limits.low limits.high _ _ x row.least row.value row.down row.start c.floor_div.result
-        (omega (arith, ints, c.if-row-gt0.true)) (left_floor (goal.at.returns-then-row-gt0 c).After-floor_div)
+    (omega (arith, ints, c.if-row-gt0.true)) (left_floor (goal.at.returns-then-row-gt0 c).After-floor_div)
     (simp to_z-of_z) (simp to_z-of_z (simp to_z-of_z at c.min.ensures.value))
 
 pub returns-then-row-lt0 : goal.returns-then-row-lt0
@@ -72,18 +72,18 @@ returns-then-row-lt0 c x =
     let result_fits : SFits w64 c.max.result = search rules in
     let sum_fits = right_fits (goal.at.returns-then-row-lt0 c).After-floor_div-then-row-lt0 in
     narrow_right limits.low limits.high _ _ x row.least row.value row.down row.start c.floor_div-then-row-lt0.result
-        (omega (arith, ints, c.if-row-lt0.true))
-        (right_floor (goal.at.returns-then-row-lt0 c).After-floor_div-then-row-lt0)
+    (omega (arith, ints, c.if-row-lt0.true))
+    (right_floor (goal.at.returns-then-row-lt0 c).After-floor_div-then-row-lt0)
     (simp to_z-of_z (simp to_z-of_z at c.max.ensures.value)) (simp to_z-of_z)
 
 pub returns-then-spare-lt0 : goal.returns-then-spare-lt0
 returns-then-spare-lt0 c x =
     let row = c.args.row in
     narrow_none c.args.limits.low c.args.limits.high x row.least row.value row.down row.start (omega (arith, ints))
-        (omega (arith, ints))
+    (omega (arith, ints))
 
 pub returns-else-spare-lt0 : goal.returns-else-spare-lt0
 returns-else-spare-lt0 c x =
     let row = c.args.row in
     narrow_all c.args.limits.low c.args.limits.high x row.least row.value row.down row.start (omega (arith, ints))
-        (omega (arith, ints))
+    (omega (arith, ints))

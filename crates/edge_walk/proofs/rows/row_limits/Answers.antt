@@ -8,4 +8,4 @@ unfolding is_within
 returns c x =
     let y_fits = c.ranges.y in
     three_iff _ _ _ (simp to_z-of_z at (c.within_edge-first.ensures x))
-        (simp to_z-of_z at (c.within_edge-second.ensures x)) (simp to_z-of_z at (c.within_edge.ensures x))
+    (simp to_z-of_z at (c.within_edge-second.ensures x)) (simp to_z-of_z at (c.within_edge.ensures x))

@@ -10,10 +10,10 @@ overflow_cast-result c =
     let slack_fits = c.ranges.slack in
     let far = far_small c.args.value c.args.scale (omega arith) c.requires.scale in
     let far_fits = fits_signed_mul w64 c.args.value c.args.scale (2 ^ 20) (2 ^ 41) (omega arith) c.requires.scale
-        (omega arith) in
+    (omega arith) in
     let sum_fits : SFits w64 (c.args.value *ℤ c.args.scale +ℤ c.args.slack) = omega (arith, ints, far) in
     let all_fits : SFits w64 (c.args.value *ℤ c.args.scale +ℤ c.args.slack +ℤ pos (2 ^ 62)) = omega
-        (arith, ints, far) in
+    (arith, ints, far) in
     simp to_z-of_z (omega (arith, ints, far), omega (arith, ints, far))
 
 pub returns : goal.returns
@@ -23,8 +23,8 @@ returns c =
     let slack_fits = c.ranges.slack in
     let far = far_small c.args.value c.args.scale (omega arith) c.requires.scale in
     let far_fits = fits_signed_mul w64 c.args.value c.args.scale (2 ^ 20) (2 ^ 41) (omega arith) c.requires.scale
-        (omega arith) in
+    (omega arith) in
     let sum_fits : SFits w64 (c.args.value *ℤ c.args.scale +ℤ c.args.slack) = omega (arith, ints, far) in
     let all_fits : SFits w64 (c.args.value *ℤ c.args.scale +ℤ c.args.slack +ℤ pos (2 ^ 62)) = omega
-        (arith, ints, far) in
+    (arith, ints, far) in
     simp to_z-of_z (omega (arith, ints, far))

@@ -39,7 +39,7 @@ words-preserved g c =
 pub returns : goal.returns
 returns g c = λ t first told.
     let all : take c.words.at c.args.words.now
-        ≡ c.args.words.now = take_all c.words.at c.args.words.now c.words-test.false in
+    ≡ c.args.words.now = take_all c.words.at c.args.words.now c.words-test.false in
     let P : List ℕ → Type 0 = λ words. IsTold (after_words t words) first
     (without_sink (map g.T.Listener.heard c.words.taps.items) c.words.steps) c.words.gpu c.words.number in
     subst P all (c.words.invariant.told t first told)

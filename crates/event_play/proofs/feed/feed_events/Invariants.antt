@@ -9,7 +9,7 @@ invariant-words g l = record {
   within : l.at ≤ length l.words;
   told : (t : Tale) (first : Outlets)
       → IsTold t first (without_sink (map g.T.Listener.heard l.initial.taps.items) l.initial.steps) l.initial.gpu
-          l.played
+      l.played
       → IsTold (after_words t (take l.at l.words)) first
       (without_sink (map g.T.Listener.heard l.taps.items) l.steps) l.gpu l.number;
 }

@@ -15,5 +15,5 @@ returns-clause-told g c = λ t first told.
     (number_behind c.args.played count) in
     subst Q long
     (words_told t first _ _ c.args.gpu.now c.take_first.new.self c.args.played words
-        (omega (arith, c.ranges.played.fits)) told
+    (omega (arith, c.ranges.played.fits)) told
     c.take_first.ensures.takes)

@@ -5,8 +5,12 @@ use Rattle.gp0_words.proofs.laws.packets_are_cut.Goals as goal
 
 pub returns-clause-cut : goal.returns-clause-cut
 unfolding Items Rest
-returns-clause-cut c = λ p words h. (items_front p words h, rest_front p words h, ap Rest (sym (append-nil p))
-    ∙ rest_front p _ h)
+returns-clause-cut c = λ p words h. (
+  items_front p words h,
+  rest_front p words h,
+  ap Rest (sym (append-nil p))
+      ∙ rest_front p _ h,
+)
 
 pub returns-clause-prefix : goal.returns-clause-prefix
 returns-clause-prefix c = λ p q a b hp hq e. no_prefix p q a b hp hq e

@@ -16,31 +16,36 @@ use Rattle.prim_draw.specs.Triangles.{triangle_box, triangle_coat, triangle_pain
 use Rattle.prim_draw.proofs.laws.some_costs.Goals as goal
 
 pub returns-clause-smeared : goal.returns-clause-smeared
-unfolding draw_cost rectangle_cost rectangle_box extent_at tile_in tile_paint texture_in brush_in drawing_area some_box overlap block_of span_cost has_hazard paint_texels row_u windowed has_texel_hazard has_strip_hazard
+unfolding draw_cost rectangle_cost rectangle_box extent_at tile_in tile_paint texture_in brush_in drawing_area some_box
+    overlap block_of span_cost has_hazard paint_texels row_u windowed has_texel_hazard has_strip_hazard
 returns-clause-smeared c =
     let e : draw_cost (open_registers 0x100) (raw_rectangle 1 0 4 1) ≡ 12 = refl in
     omega (arith, e)
 
 pub returns-clause-own_palette : goal.returns-clause-own_palette
-unfolding draw_cost rectangle_cost rectangle_box extent_at tile_in tile_paint texture_in brush_in drawing_area some_box overlap block_of span_cost has_hazard paint_texels row_u windowed has_texel_hazard has_strip_hazard
+unfolding draw_cost rectangle_cost rectangle_box extent_at tile_in tile_paint texture_in brush_in drawing_area some_box
+    overlap block_of span_cost has_hazard paint_texels row_u windowed has_texel_hazard has_strip_hazard
 returns-clause-own_palette c =
     let e : draw_cost (open_registers 1) (raw_rectangle 0 0 3 1) ≡ 12 = refl in
     omega (arith, e)
 
 pub returns-clause-far : goal.returns-clause-far
-unfolding draw_cost rectangle_cost rectangle_box extent_at tile_in tile_paint texture_in brush_in drawing_area some_box overlap block_of span_cost has_hazard paint_texels row_u windowed has_texel_hazard has_strip_hazard
+unfolding draw_cost rectangle_cost rectangle_box extent_at tile_in tile_paint texture_in brush_in drawing_area some_box
+    overlap block_of span_cost has_hazard paint_texels row_u windowed has_texel_hazard has_strip_hazard
 returns-clause-far c =
     let e : draw_cost (open_registers 0x110) (raw_rectangle 0 0 32 1) ≡ 36 = refl in
     omega (arith, e)
 
 pub returns-clause-half : goal.returns-clause-half
-unfolding draw_cost polygon_cost triangle_cost triangle_box triangle_coat triangle_paint placed brush_in drawing_area some_box overlap block_of bounding_box is_drawn edge oriented is_on_side is_within row_cells span_cost has_hazard
+unfolding draw_cost polygon_cost triangle_cost triangle_box triangle_coat triangle_paint placed brush_in drawing_area
+    some_box overlap block_of bounding_box is_drawn edge oriented is_on_side is_within row_cells span_cost has_hazard
 returns-clause-half c =
     let e : draw_cost (open_registers 0) (white_half false false) ≡ 16 = refl in
     omega (arith, e)
 
 pub returns-clause-square : goal.returns-clause-square
-unfolding draw_cost polygon_cost triangle_cost triangle_box triangle_coat triangle_paint placed brush_in drawing_area some_box overlap block_of bounding_box is_drawn edge oriented is_on_side is_within row_cells span_cost has_hazard
+unfolding draw_cost polygon_cost triangle_cost triangle_box triangle_coat triangle_paint placed brush_in drawing_area
+    some_box overlap block_of bounding_box is_drawn edge oriented is_on_side is_within row_cells span_cost has_hazard
 returns-clause-square c =
     let e : draw_cost (open_registers 0) (white_half true true) ≡ 30 = refl in
     omega (arith, e)

@@ -16,7 +16,8 @@ overflow_cast-to-2 g c =
     let h = rows_of c.args.area.now c.args.point.now c.requires.inside in
     let area = c.requires.area in
     let fits : SFits w32 c.args.point.now.y = search rules in
-    simp to_z-of_z (omega (arith, ints, h.from, area.top), omega (arith, ints, h.from, h.to, area.top, area.bottom, area.reach))
+    simp to_z-of_z
+    (omega (arith, ints, h.from, area.top), omega (arith, ints, h.from, h.to, area.top, area.bottom, area.reach))
 
 pub plot_color-requires-clause-in_row : goal.plot_color-requires-clause-in_row
 plot_color-requires-clause-in_row g c =

@@ -25,5 +25,6 @@ pub returns-in_default-clause-cells : goal.returns-in_default-clause-cells
 unfolding drawn_ends
 returns-in_default-clause-cells g c =
     let no : is_near c.args.ends.now.first c.args.ends.now.second ≡ false =
-    ap (λ (s : Ends). is_near s.first s.second) (sym c.ends.view_is) ∙ sym c.new.ensures.drawn ∙ ap is_some c.in_default.is in
+    ap (λ (s : Ends). is_near s.first s.second) (sym c.ends.view_is) ∙ sym c.new.ensures.drawn
+    ∙ ap is_some c.in_default.is in
     rw no refl

@@ -11,5 +11,6 @@ returns-then-lies_in c =
     some_inked c.args.area.now c.args.brush.now s (c.first-color.result.color % 2 ^ 24) c.ink_of.result
     (λ ink inks.
     all_inked c.args.area.now c.args.brush.now s (c.first-color.result.color % 2 ^ 24) ink (ap (λ n. n % 2 ^ 24) color)
-    (sym color ∙ c.if-color-second.false ∙ last) (c.lies_in.ensures.first c.if-lies_in.true) (c.lies_in.ensures.second c.if-lies_in.true) inks)
+    (sym color ∙ c.if-color-second.false ∙ last) (c.lies_in.ensures.first c.if-lies_in.true)
+    (c.lies_in.ensures.second c.if-lies_in.true) inks)
     c.ink_of.ensures

@@ -9,10 +9,12 @@ use Rattle.prim_draw.proofs.lines.put_points.Goals.{After-next-point}
 
 module _ (g : _) (c : After-next-point g) where
   at : c.next-point.result ≡ point_of c.args.segment.now c.loop-k.k
-  at = next_point c.loop-k.walk c.next-point.result c.args.segment.now c.loop-k.k c.loop-k.invariant.here c.next-point.ensures.point
+  at = next_point c.loop-k.walk c.next-point.result c.args.segment.now c.loop-k.k c.loop-k.invariant.here
+      c.next-point.ensures.point
 
   here : IsInMemory (height_of c.args.vram.now) c.next-point.result
-  here = let lt = c.loop-k-test.true in rw at (c.requires.in_memory c.loop-k.k (omega (arith, lt, c.len-points.ensures.value)))
+  here = let lt = c.loop-k-test.true in
+      rw at (c.requires.in_memory c.loop-k.k (omega (arith, lt, c.len-points.ensures.value)))
 
 pub overflow_cast-point : goal.overflow_cast-point
 overflow_cast-point g c =
@@ -47,7 +49,8 @@ loop-k-preserved g c =
     let y : SFits w32 p.y = search rules in
     record {
       here = next_walk c.loop-k.walk c.next-point.new.self s k c.loop-k.invariant.here c.next-point.ensures.on;
-      cells = inked_next s c.args.ink k c.args.vram.now c.loop-k.vram c.put.new.self p c.loop-k.invariant.cells (at g (goal.at.loop-k-preserved g c).After-next-point) (simp to_z-of_z at c.put.ensures.cells);
+      cells = inked_next s c.args.ink k c.args.vram.now c.loop-k.vram c.put.new.self p c.loop-k.invariant.cells
+          (at g (goal.at.loop-k-preserved g c).After-next-point) (simp to_z-of_z at c.put.ensures.cells);
       cost = omega (arith, c.loop-k.invariant.cost, c.put.ensures.cost);
       long = c.put.ensures.long ∙ c.loop-k.invariant.long;
     }

@@ -13,7 +13,8 @@ returns-else-asks_for_cell c cell m =
     let no = c.if-asks_for_cell.false in
     let place = 1024 * cell.y + cell.x in
     let f : Option ℕ → List ℕ = λ p. draw_at brush.mask place p m in
-    let flat : shift_of brush.dither cell.x cell.y ≡ pos 0 = plain_shift brush.dither cell.x cell.y (c.asks_for_cell.ensures.plain no) in
+    let flat : shift_of brush.dither cell.x cell.y ≡ pos 0 = plain_shift brush.dither cell.x cell.y
+    (c.asks_for_cell.ensures.plain no) in
     let pixel : Some c.pixel_over.result ≡ flat_pixel brush c.args.color (pos 0) 0 = c.pixel_over.ensures in
     sym
     (ap (λ h. set m cell.x cell.y h) c.force.ensures

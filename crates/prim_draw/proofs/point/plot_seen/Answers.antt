@@ -19,15 +19,19 @@ returns-in-Some-clause-cells g c =
     let brush = c.args.brush.now in
     let m = c.args.vram.now in
     let fits : SFits w8 c.shift_for-shift.result = search rules in
-    let pixel : Some c.pixel_over-pixel.result ≡ flat_pixel brush c.args.color (shift_of brush.dither c.args.to.x c.args.to.y) (at m c.args.to.x c.args.to.y) =
+    let pixel : Some c.pixel_over-pixel.result
+    ≡ flat_pixel brush c.args.color (shift_of brush.dither c.args.to.x c.args.to.y) (at m c.args.to.x c.args.to.y) =
     rw (← c.shift_for-shift.ensures.value, ← c.get-back.ensures.value) (simp to_z-of_z at c.pixel_over-pixel.ensures) in
-    c.put.ensures.cells ∙ put-written m brush.mask c.args.to.x c.args.to.y _ _ _ _ c.get-back.ensures.value pixel (sym c.in-Some.is ∙ c.written_over.ensures)
+    c.put.ensures.cells ∙ put-written m brush.mask c.args.to.x c.args.to.y _ _ _ _ c.get-back.ensures.value pixel
+    (sym c.in-Some.is ∙ c.written_over.ensures)
 
 pub returns-in_default-clause-cells : goal.returns-in_default-clause-cells
 returns-in_default-clause-cells g c =
     let brush = c.args.brush.now in
     let m = c.args.vram.now in
     let fits : SFits w8 c.shift_for-shift.result = search rules in
-    let pixel : Some c.pixel_over-pixel.result ≡ flat_pixel brush c.args.color (shift_of brush.dither c.args.to.x c.args.to.y) (at m c.args.to.x c.args.to.y) =
+    let pixel : Some c.pixel_over-pixel.result
+    ≡ flat_pixel brush c.args.color (shift_of brush.dither c.args.to.x c.args.to.y) (at m c.args.to.x c.args.to.y) =
     rw (← c.shift_for-shift.ensures.value, ← c.get-back.ensures.value) (simp to_z-of_z at c.pixel_over-pixel.ensures) in
-    put-written m brush.mask c.args.to.x c.args.to.y _ _ _ _ c.get-back.ensures.value pixel (sym c.in_default.is ∙ c.written_over.ensures)
+    put-written m brush.mask c.args.to.x c.args.to.y _ _ _ _ c.get-back.ensures.value pixel
+    (sym c.in_default.is ∙ c.written_over.ensures)

@@ -21,4 +21,5 @@ returns-clause-cells g c =
     ∙ ap (λ h. set m to.x to.y h) c.force.ensures
     ∙ plot_untested m brush.mask to.x to.y c.pixel_over-pixel.result c.requires.untested
     ∙ plot_is m brush.mask to.x to.y c.pixel_over-pixel.result
-    ∙ ap f (pixel ∙ opaque_pixel brush c.args.color (shift_of brush.dither to.x to.y) (at m to.x to.y) c.requires.opaque)
+    ∙ ap f (pixel ∙ opaque_pixel brush c.args.color (shift_of brush.dither to.x to.y)
+    (at m to.x to.y) c.requires.opaque)

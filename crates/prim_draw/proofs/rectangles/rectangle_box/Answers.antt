@@ -7,9 +7,11 @@ use Rattle.prim_draw.proofs.BoxLemmas.{if_both, part_of}
 use Rattle.prim_draw.proofs.rectangles.rectangle_box.Goals as goal
 
 part : (e : Extent) (height : ℕ) (found : Option Box2) → IsExtent e
-    → IfSome found (IsOnScreen height) → IfSome found (LiesIn (cells_box e)) → IfSome found (λ b. IsPartOf e (block_of b))
+    → IfSome found (IsOnScreen height) → IfSome found (LiesIn (cells_box e))
+    → IfSome found (λ b. IsPartOf e (block_of b))
 part e height found is on lies =
-    if_both {P = IsOnScreen height} {Q = LiesIn (cells_box e)} {R = λ b. IsPartOf e (block_of b)} found (λ b. part_of e height b is) on lies
+    if_both {P = IsOnScreen height} {Q = LiesIn (cells_box e)} {R = λ b. IsPartOf e (block_of b)} found
+    (λ b. part_of e height b is) on lies
 
 pub returns-else-extent-eq0-2-clause-part : goal.returns-else-extent-eq0-2-clause-part
 returns-else-extent-eq0-2-clause-part c =

@@ -6,7 +6,9 @@ use Rattle.prim_draw.proofs.triangles.draw_run.Goals as goal
 pub returns-in-Some-clause-cells : goal.returns-in-Some-clause-cells
 returns-in-Some-clause-cells g c =
     let run = c.in-Some.run' in
-    rw c.in-Some.is (c.draw.ensures.cells ∙ span_pixels (coat_of_ink c.args.pen.now) run.x c.args.y run.n c.args.vram.now c.requires.coat.alike)
+    rw c.in-Some.is
+    (c.draw.ensures.cells
+    ∙ span_pixels (coat_of_ink c.args.pen.now) run.x c.args.y run.n c.args.vram.now c.requires.coat.alike)
 
 pub returns-in-Some-clause-cost : goal.returns-in-Some-clause-cost
 returns-in-Some-clause-cost g c =

@@ -13,4 +13,5 @@ returns-clause-value c = λ i lt.
     let is = c.requires.shifts in
     let colors = c.args.colors in
     c.modulate_lanes.ensures.value i lt
-    ∙ ap (modulated_of (slice_index c.args.texels i) (slice_index colors.red i) (slice_index colors.green i) (slice_index colors.blue i)) (read_back c.args.shifts.lanes is.long is.small i lt)
+    ∙ ap (modulated_of (slice_index c.args.texels i) (slice_index colors.red i) (slice_index colors.green i)
+    (slice_index colors.blue i)) (read_back c.args.shifts.lanes is.long is.small i lt)

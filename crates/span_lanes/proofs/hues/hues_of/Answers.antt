@@ -4,9 +4,11 @@ use Rattle.span_lanes.proofs.hues.hues_of.Goals as goal
 pub returns-in-Plain : goal.returns-in-Plain
 returns-in-Plain c =
     let span = c.args.span.now in
-    plain_hues span.paint c.in-Plain.color span.x span.y span.n (rw c.in-Plain.is at c.requires.tint) c.requires.span.inside
+    plain_hues span.paint c.in-Plain.color span.x span.y span.n
+    (rw c.in-Plain.is at c.requires.tint) c.requires.span.inside
 
 pub returns-in-Planes : goal.returns-in-Planes
 returns-in-Planes c =
     let span = c.args.span.now in
-    planes_hues span.paint _ _ _ span.x span.y span.n c.tri_lines.result c.requires.span.some (rw c.in-Planes.is at c.requires.tint) c.requires.span.inside c.tri_lines.ensures
+    planes_hues span.paint _ _ _ span.x span.y span.n c.tri_lines.result c.requires.span.some
+    (rw c.in-Planes.is at c.requires.tint) c.requires.span.inside c.tri_lines.ensures

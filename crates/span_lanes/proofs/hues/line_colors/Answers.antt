@@ -11,6 +11,8 @@ returns c =
       greens = record { long = g.long; bytes = g.bytes };
       blues = record { long = b.long; bytes = b.bytes };
       red = λ j lt. rw (← r.value j lt, ← g.value j lt, ← b.value j lt) (red_mixed _ _ _ (r.bytes j lt));
-      green = λ j lt. rw (← r.value j lt, ← g.value j lt, ← b.value j lt) (green_mixed _ _ _ (r.bytes j lt) (g.bytes j lt));
-      blue = λ j lt. rw (← r.value j lt, ← g.value j lt, ← b.value j lt) (blue_mixed _ _ _ (r.bytes j lt) (g.bytes j lt) (b.bytes j lt));
+      green = λ j lt. rw (← r.value j lt, ← g.value j lt, ← b.value j lt)
+          (green_mixed _ _ _ (r.bytes j lt) (g.bytes j lt));
+      blue = λ j lt. rw (← r.value j lt, ← g.value j lt, ← b.value j lt)
+          (blue_mixed _ _ _ (r.bytes j lt) (g.bytes j lt) (b.bytes j lt));
     }

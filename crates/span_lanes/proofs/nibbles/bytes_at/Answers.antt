@@ -12,4 +12,5 @@ pub returns-clause-value : goal.returns-clause-value
 returns-clause-value c = table_at c.args.table c.args.positions c.requires.long.1 c.requires.low
 
 pub returns-clause-bytes : goal.returns-clause-bytes
-returns-clause-bytes c i lt = rw (table_at c.args.table c.args.positions c.requires.long.1 c.requires.low i lt) (c.requires.bytes (get_or c.args.positions i 0) (c.requires.low i lt))
+returns-clause-bytes c i lt = rw (table_at c.args.table c.args.positions c.requires.long.1 c.requires.low i lt)
+    (c.requires.bytes (get_or c.args.positions i 0) (c.requires.low i lt))

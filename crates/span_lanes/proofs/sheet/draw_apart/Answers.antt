@@ -13,7 +13,8 @@ draw_texels-requires-clause-texels g c =
     let span = c.args.span.now in
     let at = c.track_lanes-at.ensures in
     texels_here span c.args.texture.now c.args.first c.args.k _ _ c.args.vram.now _
-    (coordinates_here span.paint span.x span.y span.n c.args.first c.args.k c.args.plan.now.track _ _ c.requires.planned.plan.track c.requires.chunk.within c.requires.chunk.few at.across at.down at.u at.v)
+    (coordinates_here span.paint span.x span.y span.n c.args.first c.args.k c.args.plan.now.track _ _
+    c.requires.planned.plan.track c.requires.chunk.within c.requires.chunk.few at.across at.down at.u at.v)
     c.read_apart-texels.ensures.long c.read_apart-texels.ensures.value
 
 pub draw_texels-requires-clause-free : goal.draw_texels-requires-clause-free
@@ -21,5 +22,6 @@ draw_texels-requires-clause-free g c = c.requires.apart.free c.args.first c.args
 
 pub returns-clause-cost : goal.returns-clause-cost
 returns-clause-cost g c =
-    let cost = apart_cost c.args.span.now c.args.texture.now c.args.first c.args.k c.requires.apart c.requires.chunk.within c.requires.planned.texture in
+    let cost = apart_cost c.args.span.now c.args.texture.now c.args.first c.args.k c.requires.apart
+    c.requires.chunk.within c.requires.planned.texture in
     omega (arith, cost, c.read_apart-texels.ensures.cost, c.draw_texels.ensures.cost)

@@ -13,16 +13,21 @@ loop-c-preserved g c =
     c.draw_textured.ensures.cells c.draw_textured.ensures.long c.draw_textured.ensures.cost
 
 -- the last chunk, which is not whole
-last : (g : Over) → (c : After-draw_textured-then-rest-gt0 g) → AreDrawn c.args.span.now (c.loop-c.c + 1) c.args.steps.now c.draw_textured-then-rest-gt0.new.steps c.args.vram.now c.draw_textured-then-rest-gt0.new.vram
+last : (g : Over) → (c : After-draw_textured-then-rest-gt0 g)
+    → AreDrawn c.args.span.now (c.loop-c.c + 1) c.args.steps.now c.draw_textured-then-rest-gt0.new.steps
+    c.args.vram.now c.draw_textured-then-rest-gt0.new.vram
 last g c =
     drawn_next c.args.span.now c.loop-c.c _ _ _ _ _ _ _ _ c.loop-c.invariant (omega arith) (omega arith) (omega arith)
-    c.draw_textured-then-rest-gt0.ensures.cells c.draw_textured-then-rest-gt0.ensures.long c.draw_textured-then-rest-gt0.ensures.cost
+    c.draw_textured-then-rest-gt0.ensures.cells c.draw_textured-then-rest-gt0.ensures.long
+    c.draw_textured-then-rest-gt0.ensures.cost
 
 pub returns-then-rest-gt0-clause-cells : goal.returns-then-rest-gt0-clause-cells
-returns-then-rest-gt0-clause-cells g c = all_cells c.args.span.now (c.loop-c.c + 1) _ _ _ _ (last g (goal.at.returns-then-rest-gt0-clause-cells g c).After-draw_textured-then-rest-gt0) (omega arith)
+returns-then-rest-gt0-clause-cells g c = all_cells c.args.span.now (c.loop-c.c + 1) _ _ _ _
+    (last g (goal.at.returns-then-rest-gt0-clause-cells g c).After-draw_textured-then-rest-gt0) (omega arith)
 
 pub returns-then-rest-gt0-clause-cost : goal.returns-then-rest-gt0-clause-cost
-returns-then-rest-gt0-clause-cost g c = all_cost c.args.span.now (c.loop-c.c + 1) _ _ _ _ (last g (goal.at.returns-then-rest-gt0-clause-cost g c).After-draw_textured-then-rest-gt0) (omega arith)
+returns-then-rest-gt0-clause-cost g c = all_cost c.args.span.now (c.loop-c.c + 1) _ _ _ _
+    (last g (goal.at.returns-then-rest-gt0-clause-cost g c).After-draw_textured-then-rest-gt0) (omega arith)
 
 pub returns-else-rest-gt0-clause-cells : goal.returns-else-rest-gt0-clause-cells
 returns-else-rest-gt0-clause-cells g c = all_cells c.args.span.now c.loop-c.c _ _ _ _ c.loop-c.invariant (omega arith)

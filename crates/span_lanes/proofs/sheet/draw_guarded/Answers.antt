@@ -15,27 +15,34 @@ read_texels-read-requires-clause-page g c = rw c.requires.planned.texture at c.r
 
 pub draw_texels-requires-clause-texels : goal.draw_texels-requires-clause-texels
 draw_texels-requires-clause-texels g c =
-    texels_here c.args.span.now c.args.texture.now c.args.first c.args.k _ _ c.args.vram.now _ c.requires.at c.read_texels-read.ensures.long c.read_texels-read.ensures.value
+    texels_here c.args.span.now c.args.texture.now c.args.first c.args.k _ _ c.args.vram.now _ c.requires.at
+    c.read_texels-read.ensures.long c.read_texels-read.ensures.value
 
 pub draw_texels-requires-clause-free : goal.draw_texels-requires-clause-free
 draw_texels-requires-clause-free g c =
     let span = c.args.span.now in
     let t = c.args.texture.now in
-    let cells = cells_same span.paint t span.x span.y c.args.first _ _ c.args.k c.args.k c.requires.at (omega arith) ∙ sym c.texels_at-cells.ensures in
-    λ h. let known = rw (c.requires.planned.texture, cells) at h in absurd (cc (c.reads_itself.ensures.pairs.1 known, c.if-reads_itself.false))
+    let cells = cells_same span.paint t span.x span.y c.args.first _ _ c.args.k c.args.k c.requires.at (omega arith)
+    ∙ sym c.texels_at-cells.ensures in
+    λ h. let known = rw (c.requires.planned.texture, cells) at h in
+    absurd (cc (c.reads_itself.ensures.pairs.1 known, c.if-reads_itself.false))
 
 pub returns-then-reads_itself-clause-cost : goal.returns-then-reads_itself-clause-cost
 returns-then-reads_itself-clause-cost g c =
     let span = c.args.span.now in
     let t = c.args.texture.now in
-    let cells = cells_same span.paint t span.x span.y c.args.first _ _ c.args.k c.args.k c.requires.at (omega arith) ∙ sym c.texels_at-cells.ensures in
-    let cost = rw (← c.reads_itself.ensures.value, c.if-reads_itself.true) at (textured_cost span t c.args.first c.args.k _ c.requires.planned.texture cells) in
+    let cells = cells_same span.paint t span.x span.y c.args.first _ _ c.args.k c.args.k c.requires.at (omega arith)
+    ∙ sym c.texels_at-cells.ensures in
+    let cost = rw (← c.reads_itself.ensures.value, c.if-reads_itself.true) at
+    (textured_cost span t c.args.first c.args.k _ c.requires.planned.texture cells) in
     rw cost (rw c.requires.planned.texture at c.draw_cells.ensures.cost)
 
 pub returns-else-reads_itself-clause-cost : goal.returns-else-reads_itself-clause-cost
 returns-else-reads_itself-clause-cost g c =
     let span = c.args.span.now in
     let t = c.args.texture.now in
-    let cells = cells_same span.paint t span.x span.y c.args.first _ _ c.args.k c.args.k c.requires.at (omega arith) ∙ sym c.texels_at-cells.ensures in
-    let cost = rw (← c.reads_itself.ensures.value, c.if-reads_itself.false) at (textured_cost span t c.args.first c.args.k _ c.requires.planned.texture cells) in
+    let cells = cells_same span.paint t span.x span.y c.args.first _ _ c.args.k c.args.k c.requires.at (omega arith)
+    ∙ sym c.texels_at-cells.ensures in
+    let cost = rw (← c.reads_itself.ensures.value, c.if-reads_itself.false) at
+    (textured_cost span t c.args.first c.args.k _ c.requires.planned.texture cells) in
     omega (arith, cost, c.read_texels-read.ensures.cost, c.draw_texels.ensures.cost)

@@ -12,5 +12,7 @@ draw_texels-requires-clause-free g c = c.requires.apart.free c.args.first c.args
 pub returns-clause-cost : goal.returns-clause-cost
 returns-clause-cost g c =
     let steps = deep_steps c.args.texture.now.page.depth c.requires.depth in
-    let cost = rw steps at (apart_cost c.args.span.now c.args.texture.now c.args.first c.args.k c.requires.apart c.requires.chunk.within c.requires.planned.texture) in
+    let cost = rw steps at
+    (apart_cost c.args.span.now c.args.texture.now c.args.first c.args.k c.requires.apart c.requires.chunk.within
+    c.requires.planned.texture) in
     omega (arith, cost, c.read_stretch-texels.ensures.cost, c.draw_texels.ensures.cost)

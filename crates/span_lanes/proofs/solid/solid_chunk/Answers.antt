@@ -9,8 +9,10 @@ returns-clause-cells g c =
     let span = c.args.span.now in
     chunk_law _ _ _ _ _ _ _ _
     (solid_blind span c.args.h c.requires.solid c.args.first _ c.args.k c.args.vram.now)
-    (solid_lanes span c.args.h c.requires.solid c.args.first _ c.args.k c.args.vram.now _ c.requires.chunk.few c.splat.ensures.value)
+    (solid_lanes span c.args.h c.requires.solid c.args.first _ c.args.k c.args.vram.now _ c.requires.chunk.few
+    c.splat.ensures.value)
     c.store16.ensures.cells
 
 pub returns-clause-cost : goal.returns-clause-cost
-returns-clause-cost g c = omega (arith, c.store16.ensures.cost, chunk_step c.args.span.now c.args.first c.args.k c.requires.chunk.some)
+returns-clause-cost g c = omega
+    (arith, c.store16.ensures.cost, chunk_step c.args.span.now c.args.first c.args.k c.requires.chunk.some)

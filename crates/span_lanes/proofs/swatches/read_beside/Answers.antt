@@ -17,7 +17,8 @@ returns-clause-texels g c = record {
       let s = c.args.stretch.now in
       let column : s.u + c.args.first + j ≡ s.u + (c.args.first + j) = omega arith in
       let position = rw column at (c.sixteen_indexes-index.ensures.value j in_lanes) in
-      four_texel c.args.span.now c.args.texture.now c.args.stretch.now _ (c.args.first + j) _ c.args.vram.now c.requires.stretch c.requires.depth (omega arith)
+      four_texel c.args.span.now c.args.texture.now c.args.stretch.now _
+      (c.args.first + j) _ c.args.vram.now c.requires.stretch c.requires.depth (omega arith)
       (rw position at (c.entries_at.ensures.value j in_lanes ∙ c.requires.swatches.entry _ few));
 }
 
@@ -28,5 +29,6 @@ returns-clause-fronts g c = record {
       let in_lanes : j < 16 = omega arith in
       let few = c.sixteen_indexes-index.ensures.low j in_lanes in
       c.entries_at-2.ensures.value j in_lanes ∙ c.requires.swatches.front _ few
-      ∙ ap (front_of c.args.texture.now.raw c.args.swatches.now.color (pos 0)) (sym (c.entries_at.ensures.value j in_lanes));
+      ∙ ap (front_of c.args.texture.now.raw c.args.swatches.now.color (pos 0))
+      (sym (c.entries_at.ensures.value j in_lanes));
 }

@@ -17,5 +17,6 @@ returns-clause-fronts g c = record {
       let lane : j < 16 = omega arith in
       let few = c.indexes_of-index.ensures.indexes.low j lane in
       c.entries_at-2.ensures.value j lane ∙ c.requires.swatches.front _ few
-      ∙ ap (front_of c.args.texture.now.raw c.args.swatches.now.color (pos 0)) (sym (c.entries_at.ensures.value j lane));
+      ∙ ap (front_of c.args.texture.now.raw c.args.swatches.now.color (pos 0))
+      (sym (c.entries_at.ensures.value j lane));
 }

@@ -12,5 +12,6 @@ returns-clause-texels g c =
     let span = c.args.span.now in
     let at = c.track_lanes-at.ensures in
     texels_here span c.args.texture.now c.args.first c.args.k _ _ c.args.vram.now _
-    (coordinates_here span.paint span.x span.y span.n c.args.first c.args.k c.args.plan.now.track _ _ c.requires.planned.plan.track c.requires.chunk.within c.requires.chunk.few at.across at.down at.u at.v)
+    (coordinates_here span.paint span.x span.y span.n c.args.first c.args.k c.args.plan.now.track _ _
+    c.requires.planned.plan.track c.requires.chunk.within c.requires.chunk.few at.across at.down at.u at.v)
     c.read_drawn.ensures.long c.read_drawn.ensures.texels

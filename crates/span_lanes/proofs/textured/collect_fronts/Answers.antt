@@ -15,10 +15,12 @@ returns-clause-lanes g c = record {
       let x : ℕ = span.x + c.args.first + j in
       let i : ℕ = c.args.first + j in
       let same_x : span.x + (c.args.first + j) ≡ x = omega arith in
-      let place : 1024 * span.y + (span.x + c.args.first + j) ≡ 1024 * span.y + (span.x + c.args.first) + j = omega arith in
+      let place : 1024 * span.y + (span.x + c.args.first + j)
+      ≡ 1024 * span.y + (span.x + c.args.first) + j = omega arith in
       let cell : ℕ = get_or c.args.vram.now (1024 * span.y + (span.x + c.args.first) + j) 0 in
       let back : DoesFor span.brush cell (get_or c.back_of-back.result j 0) = c.back_of-back.ensures.value j lt in
-      let here : get_or c.args.vram.now (1024 * span.y + (span.x + c.args.first + j)) 0 ≡ cell = ap (λ (k : ℕ). get_or c.args.vram.now k 0) place in
+      let here : get_or c.args.vram.now (1024 * span.y + (span.x + c.args.first + j)) 0
+      ≡ cell = ap (λ (k : ℕ). get_or c.args.vram.now k 0) place in
       let same = c.requires.texels.value j lt in
       let color : ℕ = paint_color span.paint x span.y in
       let shift : ℤ = shift_of (span.brush.dither && not t.raw) x span.y in

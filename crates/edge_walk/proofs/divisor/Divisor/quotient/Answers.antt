@@ -19,4 +19,4 @@ returns c =
     let d = c.args.self.now in
     ap (λ r. c.args.sum * r / 2 ^ 56) c.requires.divisor.reciprocal
     ∙ reciprocal_exact c.args.sum d.area (2 ^ 56) c.requires.divisor.some c.requires.sum
-        (square_bound d.area c.requires.divisor.most)
+    (square_bound d.area c.requires.divisor.most)

@@ -19,7 +19,7 @@ raised-far-requires-clause-value c =
     let across : c.difference-across.result ≡ (q.x -ℤ p.x) = simp to_z-of_z at c.difference-across.ensures.value in
     let down : c.difference.result ≡ (c.args.y -ℤ p.y) = simp to_z-of_z at c.difference.ensures.value in
     let value : c.product-value.result
-        ≡ (c.difference-across.result *ℤ c.difference.result) = simp to_z-of_z at c.product-value.ensures.value in
+    ≡ (c.difference-across.result *ℤ c.difference.result) = simp to_z-of_z at c.product-value.ensures.value in
     let is : c.product-value.result ≡ start_value p q c.args.y = rw (across, down) at value in
     simp to_z-of_z (rw is (value_small p q c.args.y c.requires.near c.requires.reach))
 
@@ -45,16 +45,16 @@ held c =
     let across : c.difference-across.result ≡ (q.x -ℤ p.x) = simp to_z-of_z at c.difference-across.ensures.value in
     let down : c.difference.result ≡ (c.args.y -ℤ p.y) = simp to_z-of_z at c.difference.ensures.value in
     let value : c.product-value.result
-        ≡ (c.difference-across.result *ℤ c.difference.result) = simp to_z-of_z at c.product-value.ensures.value in
+    ≡ (c.difference-across.result *ℤ c.difference.result) = simp to_z-of_z at c.product-value.ensures.value in
     let is : c.product-value.result ≡ start_value p q c.args.y = rw (across, down) at value in
     let small = value_small p q c.args.y c.requires.near c.requires.reach in
     let far = far_small (start_value p q c.args.y) slope.scale (omega (arith, small)) c.slope_of-slope.ensures.scale in
     let reached = in_reach c.args.origin p.x (start_value p q c.args.y *ℤ slope.scale) slope.slack c.requires.origin
-        far c.slope_of-slope.ensures.slack in
+    far c.slope_of-slope.ensures.slack in
     let start_is = simp to_z-of_z at c.in_parts.ensures in
     let far_is = simp to_z-of_z at c.raised-far.ensures in
     placed c.in_parts.result c.raised-far.result _ (start_value p q c.args.y *ℤ slope.scale) slope.slack start_is
-        (rw is at far_is) reached.0 reached.1
+    (rw is at far_is) reached.0 reached.1
 
 pub overflow_add-result : goal.overflow_add-result
 overflow_add-result c = let h = held (goal.at.overflow_add-result c).After-in_parts in omega (arith, h.fits)

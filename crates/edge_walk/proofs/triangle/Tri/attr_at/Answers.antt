@@ -11,7 +11,7 @@ weights_at-weights-requires-clause-inside c =
     let y_fits = c.ranges.y in
     let t = c.upright-t.result in
     simp to_z-of_z (sym (inside_is c.args.self.now t.a t.b t.c c.upright-t.ensures.same c.args.x c.args.y)
-        ∙ c.requires.inside)
+    ∙ c.requires.inside)
 
 pub mixed-requires-clause-divisor : goal.mixed-requires-clause-divisor
 mixed-requires-clause-divisor c =
@@ -29,6 +29,6 @@ returns-clause-value c =
     let t = c.upright-t.result in
     let weights = c.weights_at-weights.ensures in
     mixed_is t.a t.b t.c c.args.which c.args.x c.args.y _ _ _ _ _ _ _ (simp to_z-of_z at weights.first)
-        (simp to_z-of_z at weights.second) (simp to_z-of_z at weights.third) weights.sum
+    (simp to_z-of_z at weights.second) (simp to_z-of_z at weights.third) weights.sum
     c.attribute.ensures c.attribute-2.ensures c.attribute-3.ensures c.mixed.ensures
     ∙ ap (λ w. mixed_of w c.args.which c.args.x c.args.y) c.upright-t.ensures.same

@@ -11,7 +11,7 @@ returns-clause-value c =
     let t = c.upright-t.result in
     three_sides c.args.self.now t.a t.b t.c c.args.x c.args.y _ _ _ _ c.upright-t.ensures.same
     (simp to_z-of_z at c.is_on_side-first.ensures) (simp to_z-of_z at c.is_on_side-second.ensures)
-        (simp to_z-of_z at c.is_on_side-third.ensures) c.all_three.ensures
+    (simp to_z-of_z at c.is_on_side-third.ensures) c.all_three.ensures
 
 pub returns-clause-in_bounds : goal.returns-clause-in_bounds
 returns-clause-in_bounds c h =
@@ -20,5 +20,5 @@ returns-clause-in_bounds c h =
     let t = c.upright-t.result in
     let inside = three_sides c.args.self.now t.a t.b t.c c.args.x c.args.y _ _ _ _ c.upright-t.ensures.same
     (simp to_z-of_z at c.is_on_side-first.ensures) (simp to_z-of_z at c.is_on_side-second.ensures)
-        (simp to_z-of_z at c.is_on_side-third.ensures) c.all_three.ensures in
+    (simp to_z-of_z at c.is_on_side-third.ensures) c.all_three.ensures in
     inside-in_box c.args.self.now c.args.x c.args.y c.upright-t.ensures.drawn (sym inside ∙ h)

@@ -8,4 +8,4 @@ returns-then-t-color-2-clause-value c x y inside =
     let t = c.upright-t.result in
     same_color t.a t.b t.c c.args.self.now _ x y c.upright-t.ensures.same c.upright-t.ensures.upright
     (sym (inside_is c.args.self.now t.a t.b t.c c.upright-t.ensures.same x y) ∙ inside) refl c.if-t-color.true
-        c.if-t-color-2.true
+    c.if-t-color-2.true

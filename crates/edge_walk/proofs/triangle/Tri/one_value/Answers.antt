@@ -11,4 +11,4 @@ returns-then-attribute-first-2-clause-value c x y inside =
     ∙ same_mixed t.a t.b t.c c.args.which c.attribute-first.result x y c.upright-t.ensures.upright
     (sym (inside_is c.args.self.now t.a t.b t.c c.upright-t.ensures.same x y) ∙ inside)
     (sym c.attribute-first.ensures) (sym c.attribute.ensures ∙ c.if-attribute-first.true)
-        (sym c.attribute-then-attribute-first.ensures ∙ c.if-attribute-first-2.true)
+    (sym c.attribute-then-attribute-first.ensures ∙ c.if-attribute-first-2.true)

@@ -33,11 +33,11 @@ returns c = record {
       let by : SFits w32 t.b.y = search rules in
       let cy : SFits w32 t.c.y = search rules in
       plane_line t.a t.b t.c c.args.which c.args.divisor.now.area c.args.divisor.now.reciprocal c.of.result
-          c.upright-t.ensures.upright c.of.ensures.bytes held.is held.divisor.some held.divisor.most
-          held.divisor.reciprocal
+      c.upright-t.ensures.upright c.of.ensures.bytes held.is held.divisor.some held.divisor.most
+      held.divisor.reciprocal
       (record { across = c.of.ensures.across; down_is = c.of.ensures.down; base = c.of.ensures.base })
       x y here (omega (arith, ints)) (omega (arith, ints)) (omega (arith, ints, clamps, box.0.0))
-          (omega (arith, ints, clamps, box.1.0))
+      (omega (arith, ints, clamps, box.1.0))
       at j lt (sym (inside_is c.args.self.now t.a t.b t.c same (x +ℤ pos (at + j)) y) ∙ there)
       ∙ ap (λ w. mixed_of w c.args.which (x +ℤ pos (at + j)) y) same;
 }

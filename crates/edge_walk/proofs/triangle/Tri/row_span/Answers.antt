@@ -9,8 +9,8 @@ use Rattle.edge_walk.proofs.triangle.Tri.row_span.Goals.{After-row_limits-limits
 
 cells : (c : After-row_limits-limits) (x : ℤ)
     → (IsBetween c.args.clip.now.x1 c.args.clip.now.x2 x
-        × IsTrue (is_within (corners c.upright-t.result.a c.upright-t.result.b c.upright-t.result.c) x c.args.y))
-        ↔ IsBetween c.row_limits-limits.result.low c.row_limits-limits.result.high x
+    × IsTrue (is_within (corners c.upright-t.result.a c.upright-t.result.b c.upright-t.result.c) x c.args.y))
+    ↔ IsBetween c.row_limits-limits.result.low c.row_limits-limits.result.high x
 cells c x =
     let y_fits = c.ranges.y in
     let x1_fits : SFits w32 c.args.clip.now.x1 = search rules in
@@ -62,7 +62,7 @@ returns-then-limits c =
     let low_wide : SFits w64 c.row_limits-limits.result.low = omega (arith, ints, low) in
     let high_wide : SFits w64 c.row_limits-limits.result.high = omega (arith, ints, high) in
     simp to_z-of_z (span_is c.args.self.now c.args.y clip.x1 clip.x2 _ _ clip refl refl _ (inside k) (cells k) order
-        (omega (arith, ints)) (omega (arith, ints)))
+    (omega (arith, ints)) (omega (arith, ints)))
 
 pub returns-else-limits : goal.returns-else-limits
 returns-else-limits c =

@@ -16,8 +16,8 @@ near : (c : After-bounds-own)
 near c =
     let clip = c.args.clip.now in
     subst (λ w. AreReached w clip.y1) (sym c.upright-t.ensures.same)
-        (reached c.args.self.now clip clip.y1 (small c) c.requires (omega (arith, ints))
-        (omega (arith, ints, c.requires.some)))
+    (reached c.args.self.now clip clip.y1 (small c) c.requires (omega (arith, ints))
+    (omega (arith, ints, c.requires.some)))
 
 beside : (c : After-bounds-own)
     → AreAcross (corners c.upright-t.result.a c.upright-t.result.b c.upright-t.result.c) c.bounds-own.result.x1
@@ -25,7 +25,7 @@ beside c =
     let t = c.args.self.now in
     let is = ap (λ b. b.x1) c.bounds-own.ensures.value in
     subst (λ w. AreAcross w c.bounds-own.result.x1) (sym c.upright-t.ensures.same)
-        (rw is (across t (bounding_box t).x1 (small c) (omega (arith, ints)) (in_order t)))
+    (rw is (across t (bounding_box t).x1 (small c) (omega (arith, ints)) (in_order t)))
 
 pub at-requires-clause-reach : goal.at-requires-clause-reach
 at-requires-clause-reach c =

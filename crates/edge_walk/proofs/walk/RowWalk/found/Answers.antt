@@ -9,8 +9,8 @@ returns-then-columns c t clip y h more cells =
     let first_fits : SFits w32 c.column.result = search rules in
     let last_fits : SFits w32 c.column-then-columns.result = search rules in
     simp to_z-of_z
-        (span_of t clip y rows h c.args.columns.now.low c.args.columns.now.high cells
-        (omega arith) more _ _ c.column.ensures c.column-then-columns.ensures)
+    (span_of t clip y rows h c.args.columns.now.low c.args.columns.now.high cells
+    (omega arith) more _ _ c.column.ensures c.column-then-columns.ensures)
 
 pub returns-else-columns : goal.returns-else-columns
 returns-else-columns c t clip y h more cells =

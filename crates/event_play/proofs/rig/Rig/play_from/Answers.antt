@@ -43,7 +43,7 @@ returns-in-Err-read-clause-ends g c = λ s e.
     c.in-Err-read.ensures.quiet c.play_words.ensures.ram c.play_words.ensures.running
     (rw c.as_slice.ensures at c.play_words.ensures.told) c.in-Err-read.ensures.stop in
     stop_ends _ _ _ _ _ _ _ _ c.in-Err-read.stop stopped
-        (from_small s c.args.self.now.played c.args.reader.now.progress)
+    (from_small s c.args.self.now.played c.args.reader.now.progress)
     refl c.finish.result
     (c.finish.ensures.ends stopped.tale.state.gpu stopped.stands.state.gpu)
 

@@ -12,7 +12,7 @@ invariant_of-self-in-Some g c =
     let p : Parts = c.self.inside.parts in
     let load = ap (λ (p : Parts). p.load) c.take_item-note.ensures.effect in
     let link = linked p.regs.height c.self.inside.splitter c.args.word c.in-Some.item p c.in-Some.ensures.bounds.0
-        c.self.invariant (sym c.in-Some.ensures.answer) in
+    c.self.invariant (sym c.in-Some.ensures.answer) in
     rw (c.in-Some.ensures.pending, load) link
 
 pub returns-in-None-clause-feed : goal.returns-in-None-clause-feed
@@ -45,7 +45,7 @@ returns-in-Some-clause-feed g c = λ s e.
     let new = new_item-is s.words c.args.word (Some c.in-Some.item) (c.in-Some.ensures.item s.words held) in
     let rest = c.in-Some.ensures.stands s.words held in
     let parts = ap (λ (k : Kept). after_item k.parts (Some c.in-Some.item)) kept
-        ∙ sym c.take_item-note.ensures.effect in
+    ∙ sym c.take_item-note.ensures.effect in
     let f : Parts → Kept = λ p. record { parts = p; pending = c.push.new.self } in
     rw (new, rest) (ap f parts)
 
@@ -56,7 +56,7 @@ returns-in-Some-clause-note g c = λ s e.
     let held = ap (λ (k : Kept). k.pending) kept in
     let told = ap (λ (k : Kept). note_of k.parts.regs c.args.event c.in-Some.item) kept in
     rw (new_item-is s.words c.args.word (Some c.in-Some.item) (c.in-Some.ensures.item s.words held))
-        (ap Some (told ∙ sym c.take_item-note.ensures.note) ∙ sym c.tell.ensures.note)
+    (ap Some (told ∙ sym c.take_item-note.ensures.note) ∙ sym c.tell.ensures.note)
 
 pub returns-in-Some-clause-cost : goal.returns-in-Some-clause-cost
 unfolding FeedCost
@@ -65,4 +65,4 @@ returns-in-Some-clause-cost g c = λ s e.
     let held = ap (λ (k : Kept). k.pending) kept in
     let same = ap (λ (k : Kept). item_cost k.parts (Some c.in-Some.item)) kept in
     rw (new_item-is s.words c.args.word (Some c.in-Some.item) (c.in-Some.ensures.item s.words held), same)
-        c.take_item-note.ensures.cost
+    c.take_item-note.ensures.cost

@@ -10,7 +10,7 @@ pub returns-then-set-gt0-clause-takes : goal.returns-then-set-gt0-clause-takes
 returns-then-set-gt0-clause-takes g c = λ s e.
     set_taken s (c.args.played + 1) (take c.set_registers-set.result c.args.words.now) c.set_registers-set.new.self
     (map g.T.Listener.heard c.args.taps.now.items) (map g.T.Listener.heard c.tell_all_bare.new.taps.items)
-        c.args.steps.now
+    c.args.steps.now
     (c.set_registers-set.ensures.sets s (c.args.played + 1) e) c.tell_all_bare.ensures.told
 
 pub returns-then-len-gt0-clause-takes : goal.returns-then-len-gt0-clause-takes
@@ -26,15 +26,15 @@ returns-clause-takes g c = λ s e.
     let none : c.set_registers-set.result ≡ 0 = omega arith in
     let P : ℕ → Type 0 = λ n. SetsRegisters s 0 (take n words) c.set_registers-set.new.self in
     let kept : kept_of s
-        ≡ c.set_registers-set.new.self = (subst P none (c.set_registers-set.ensures.sets s 0 e)).feed in
+    ≡ c.set_registers-set.new.self = (subst P none (c.set_registers-set.ensures.sets s 0 e)).feed in
     let one : take 1 words ≡ word ∷ [] = take_more words 0 0 c.requires in
     let heard = map g.T.Listener.heard c.args.taps.now.items in
     let heard_now = map g.T.Listener.heard c.gp0.new.taps.items in
     let note = ap (λ n. FeedNote s n word) (sym c.saturating_add.ensures) ∙ c.gp0.ensures.note s kept in
     let Q : List ℕ
-        → Type 0 = λ l. TakesWords s (c.args.played + 1) l c.gp0.new.self heard heard_now c.args.steps.now
-        c.gp0.new.steps in
+    → Type 0 = λ l. TakesWords s (c.args.played + 1) l c.gp0.new.self heard heard_now c.args.steps.now
+    c.gp0.new.steps in
     subst Q (sym one)
-        (one_taken s (c.args.played + 1) word c.gp0.new.self c.gp0.result heard heard_now c.args.steps.now
-        c.gp0.new.steps
+    (one_taken s (c.args.played + 1) word c.gp0.new.self c.gp0.result heard heard_now c.args.steps.now
+    c.gp0.new.steps
     (c.gp0.ensures.feed s kept) note c.gp0.ensures.taps (c.gp0.ensures.cost s kept))

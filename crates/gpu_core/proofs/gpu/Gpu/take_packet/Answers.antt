@@ -19,9 +19,9 @@ invariant_of-self g c =
     let Q : Pending → Type 0 = λ h. IsLinked h c.take_item-note.new.self.load in
     let none : p.load ≡ None = subst P idle c.self.invariant in
     let effect = c.take_item-note.ensures.effect
-        ∙ ap (λ (w : List ℕ). after_item p (Some (item.Whole w))) c.copied.ensures in
+    ∙ ap (λ (w : List ℕ). after_item p (Some (item.Whole w))) c.copied.ensures in
     subst Q (sym idle)
-        (ap (λ (p : Parts). p.load) effect ∙ plain_load p.regs.height words p c.requires.some c.requires.kind none)
+    (ap (λ (p : Parts). p.load) effect ∙ plain_load p.regs.height words p c.requires.some c.requires.kind none)
 
 pub returns : goal.returns
 returns g c = λ s e.
@@ -30,7 +30,7 @@ returns g c = λ s e.
     let event = c.saturating_add-event.result in
     let idle : c.self.inside.splitter ≡ pending.Idle = ap (λ (k : Kept). k.pending) c.self.view_is ∙ c.requires.idle in
     plain_taken s p c.self.inside.splitter c.take_item-note.new.self c.take_item-note.result event c.args.played words
-        _ _ _ _
+    _ _ _ _
     (e ∙ sym c.self.view_is) idle c.requires.some c.requires.kind c.saturating_add-event.ensures
     (c.take_item-note.ensures.note ∙ ap (λ (w : List ℕ). note_of p.regs event (item.Whole w)) c.copied.ensures)
     (c.take_item-note.ensures.effect ∙ ap (λ (w : List ℕ). after_item p (Some (item.Whole w))) c.copied.ensures)

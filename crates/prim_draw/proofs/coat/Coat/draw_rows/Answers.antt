@@ -19,7 +19,8 @@ rows-rows-requires g c = has_rows _ _ c.requires.small c.requires.inside
 pub loop-j-init : goal.loop-j-init
 loop-j-init g c =
     let box = box_is c.args.clip.now c.requires.small in
-    let y_is : c.block_of-block.result.y ≡ (block_of c.args.clip.now).y = ap (λ b. b.y) c.block_of-block.ensures.value in
+    let y_is : c.block_of-block.result.y ≡ (block_of c.args.clip.now).y = ap
+    (λ b. b.y) c.block_of-block.ensures.value in
     let first : c.args.clip.now.y1 ≡ pos (c.block_of-block.result.y + 0) = omega (arith, ints, box.top, y_is) in
     record {
       cells = refl;
@@ -39,10 +40,12 @@ next_run-run-requires g c = record {
 
 pub draw_run-requires-clause-run : goal.draw_run-requires-clause-run
 draw_run-requires-clause-run g c =
-    let row = row_at _ _ _ _ _ c.requires.small c.block_of-block.ensures.value c.loop-j-test.true c.loop-j.invariant.stands in
+    let row = row_at _ _ _ _ _ c.requires.small c.block_of-block.ensures.value c.loop-j-test.true
+    c.loop-j.invariant.stands in
     let paint_is : c.args.self.now.paint ≡ c.loop-j.pen.paint = ap (λ k. k.paint) (sym c.loop-j.invariant.coat) in
     subst (λ paint. IfSome c.next_run-run.result (CanDraw paint (c.block_of-block.result.y + c.loop-j.j))) paint_is
-    (can_draw c.args.tri.now c.args.self.now.paint (c.block_of-block.result.y + c.loop-j.j) c.next_run-run.result c.requires.fits (c.next_run-run.ensures.inside _ _ _ row))
+    (can_draw c.args.tri.now c.args.self.now.paint (c.block_of-block.result.y + c.loop-j.j) c.next_run-run.result
+    c.requires.fits (c.next_run-run.ensures.inside _ _ _ row))
 
 pub loop-j-preserved : goal.loop-j-preserved
 loop-j-preserved g c =
@@ -53,14 +56,19 @@ loop-j-preserved g c =
     let found = c.next_run-run.result in
     let h = c.loop-j.invariant in
     let row = row_at _ _ _ _ _ c.requires.small c.block_of-block.ensures.value c.loop-j-test.true h.stands in
-    let found_is : run_cells found y ≡ row_inside t b y = c.next_run-run.ensures.cells _ _ _ row ∙ ap (λ k. row_inside t k y) (sym c.block_of-block.ensures.value) in
+    let found_is : run_cells found y ≡ row_inside t b y = c.next_run-run.ensures.cells _ _ _ row
+    ∙ ap (λ k. row_inside t k y) (sym c.block_of-block.ensures.value) in
     let next : b.y + c.loop-j.j + 1 ≡ b.y + (c.loop-j.j + 1) = omega arith in
     record {
       cells = row_drawn (pixel_at coat) coat.brush.mask (draws t) b.x b.y b.w c.loop-j.j _ _ _ h.cells
-          (c.draw_run.ensures.cells ∙ ap (λ k. painted_cells k (run_cells found y) c.loop-j.vram) h.coat ∙ ap (λ (cells : List Cell). painted_cells coat cells c.loop-j.vram) found_is);
+          (c.draw_run.ensures.cells ∙ ap (λ k. painted_cells k (run_cells found y) c.loop-j.vram) h.coat
+          ∙ ap (λ (cells : List Cell). painted_cells coat cells c.loop-j.vram) found_is);
       cost = rw (add-one c.loop-j.j) (spent _ _ _ _ _ h.cost
-          (subst (λ cost. c.draw_run.new.steps ≤ c.loop-j.steps + cost) (ap (λ k. side_by_side k (run_cells found y)) h.coat ∙ ap (λ (cells : List Cell). side_by_side coat cells) found_is) c.draw_run.ensures.cost));
+          (subst (λ cost. c.draw_run.new.steps ≤ c.loop-j.steps + cost)
+          (ap (λ k. side_by_side k (run_cells found y)) h.coat
+          ∙ ap (λ (cells : List Cell). side_by_side coat cells) found_is) c.draw_run.ensures.cost));
       long = c.draw_run.ensures.long ∙ h.long;
       coat = ap coat_of_ink c.draw_run.ensures.pen ∙ h.coat;
-      stands = subst (λ (k : ℕ). AreRows t c.args.clip.now (pos k) c.next_run-run.new.rows) next (c.next_run-run.ensures.next _ _ _ row);
+      stands = subst (λ (k : ℕ). AreRows t c.args.clip.now (pos k) c.next_run-run.new.rows) next
+          (c.next_run-run.ensures.next _ _ _ row);
     }

@@ -10,7 +10,8 @@ use Rattle.prim_draw.proofs.coat.Coat.draw_rows.Given as goal
 
 abbrev pub invariant-loop-j : goal.invariant-loop-j
 invariant-loop-j g l = record {
-  cells : l.vram ≡ Cells (pixel_at l.self) l.self.brush.mask (filter (draws l.tri) (cells_in_rows l.block.x l.block.y l.block.w l.j)) l.initial.vram;
+  cells : l.vram ≡ Cells (pixel_at l.self) l.self.brush.mask
+      (filter (draws l.tri) (cells_in_rows l.block.x l.block.y l.block.w l.j)) l.initial.vram;
   cost : l.steps ≤ l.initial.steps + triangle_rows_cost l.self l.tri l.block l.j;
   long : length l.vram ≡ length l.initial.vram;
   coat : coat_of_ink l.pen ≡ l.self;

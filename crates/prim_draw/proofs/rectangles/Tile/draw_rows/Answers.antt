@@ -19,7 +19,8 @@ draw-requires-clause-span g c =
     let b = c.args.block.now in
     let first = c.cells_before-first in
     let ink = taken tile _ _ _ _ _ c.loop-j.invariant.pen c.set_row.ensures c.texel_at.ensures in
-    let is = ap (λ k. ink_span k b.x (b.y + c.loop-j.j) b.w) ink ∙ span_is tile e b c.loop-j.j _ _ first.ensures.columns first.ensures.rows c.requires.part.top in
+    let is = ap (λ k. ink_span k b.x (b.y + c.loop-j.j) b.w) ink
+    ∙ span_is tile e b c.loop-j.j _ _ first.ensures.columns first.ensures.rows c.requires.part.top in
     subst (λ s. IsSpan s) (sym is) (can_span tile e b (b.y + c.loop-j.j) _ c.requires.tile c.requires.small)
 
 pub draw-requires-clause-height : goal.draw-requires-clause-height
@@ -28,12 +29,16 @@ draw-requires-clause-height g c =
     let e = c.args.extent.now in
     let b = c.args.block.now in
     let first = c.cells_before-first in
-    let height : height_of c.args.vram.now ≡ height_of c.loop-j.vram = ap (λ k. k / 1024) (sym c.loop-j.invariant.long) in
+    let height : height_of c.args.vram.now ≡ height_of c.loop-j.vram = ap (λ k. k / 1024)
+    (sym c.loop-j.invariant.long) in
     let ink = taken tile _ _ _ _ _ c.loop-j.invariant.pen c.set_row.ensures c.texel_at.ensures in
-    let is = ap (λ k. ink_span k b.x (b.y + c.loop-j.j) b.w) ink ∙ span_is tile e b c.loop-j.j _ _ first.ensures.columns first.ensures.rows c.requires.part.top in
-    let row : b.y + c.loop-j.j < height_of c.args.vram.now = omega (arith, c.requires.block.bottom, c.loop-j-test.true) in
+    let is = ap (λ k. ink_span k b.x (b.y + c.loop-j.j) b.w) ink
+    ∙ span_is tile e b c.loop-j.j _ _ first.ensures.columns first.ensures.rows c.requires.part.top in
+    let row : b.y + c.loop-j.j < height_of c.args.vram.now = omega
+    (arith, c.requires.block.bottom, c.loop-j-test.true) in
     let there : LiesIn (height_of c.args.vram.now) (ink_span c.set_row.new.self b.x (b.y + c.loop-j.j) b.w) =
-    subst (λ s. LiesIn (height_of c.args.vram.now) s) (sym is) (span_lies tile e b (b.y + c.loop-j.j) _ c.requires.tile row) in
+    subst (λ s. LiesIn (height_of c.args.vram.now) s) (sym is)
+    (span_lies tile e b (b.y + c.loop-j.j) _ c.requires.tile row) in
     subst (λ k. LiesIn k (ink_span c.set_row.new.self b.x (b.y + c.loop-j.j) b.w)) height there
 
 pub loop-j-preserved : goal.loop-j-preserved
@@ -45,12 +50,18 @@ loop-j-preserved g c =
     let first = c.cells_before-first in
     let h = c.loop-j.invariant in
     let ink = taken tile _ _ _ _ _ h.pen c.set_row.ensures c.texel_at.ensures in
-    let is = ap (λ k. ink_span k b.x y b.w) ink ∙ span_is tile e b c.loop-j.j _ _ first.ensures.columns first.ensures.rows c.requires.part.top in
-    let drawn = subst (λ (s : Span). c.draw.new.vram ≡ Cells (shade_at s) s.brush.mask (row_cells b.x y b.w) c.loop-j.vram) is c.draw.ensures.cells in
+    let is = ap (λ k. ink_span k b.x y b.w) ink
+    ∙ span_is tile e b c.loop-j.j _ _ first.ensures.columns first.ensures.rows c.requires.part.top in
+    let drawn = subst
+    (λ (s : Span). c.draw.new.vram ≡ Cells (shade_at s) s.brush.mask (row_cells b.x y b.w) c.loop-j.vram) is
+    c.draw.ensures.cells in
     record {
       cells = row_drawn (tile_pixel tile e) tile.brush.mask b.x b.y b.w c.loop-j.j _ _ _ h.cells
-          (drawn ∙ row_pixels tile e b y c.loop-j.vram c.requires.part.left (omega (arith, first.ensures.right, first.ensures.columns)));
-      cost = rw (add-one c.loop-j.j) (spent _ _ _ _ _ h.cost (subst (λ s. c.draw.new.steps ≤ c.loop-j.steps + span_cost s) is c.draw.ensures.cost));
+          (drawn ∙ row_pixels tile e b y c.loop-j.vram c.requires.part.left
+          (omega (arith, first.ensures.right, first.ensures.columns)));
+      cost = rw (add-one c.loop-j.j)
+          (spent _ _ _ _ _ h.cost
+          (subst (λ s. c.draw.new.steps ≤ c.loop-j.steps + span_cost s) is c.draw.ensures.cost));
       long = c.draw.ensures.long ∙ h.long;
       pen = (first.result.rows + c.loop-j.j, c.draw.ensures.pen ∙ ink);
     }

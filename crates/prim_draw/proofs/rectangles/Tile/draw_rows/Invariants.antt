@@ -8,7 +8,8 @@ use Rattle.prim_draw.proofs.rectangles.Tile.draw_rows.Given as goal
 
 abbrev pub invariant-loop-j : goal.invariant-loop-j
 invariant-loop-j g l = record {
-  cells : l.vram ≡ Cells (tile_pixel l.self l.extent) l.self.brush.mask (cells_in_rows l.block.x l.block.y l.block.w l.j) l.initial.vram;
+  cells : l.vram ≡ Cells (tile_pixel l.self l.extent) l.self.brush.mask
+      (cells_in_rows l.block.x l.block.y l.block.w l.j) l.initial.vram;
   cost : l.steps ≤ l.initial.steps + tile_rows_cost l.self l.extent l.block l.j;
   long : length l.vram ≡ length l.initial.vram;
   pen : (row : ℕ) × (l.pen ≡ tile_ink l.self l.first.columns row);

@@ -5,5 +5,7 @@ use Rattle.span_lanes.proofs.pen.Pen.draw.Goals as goal
 pub returns-clause-cells : goal.returns-clause-cells
 returns-clause-cells g c =
     let held = c.self.inside.span in
-    let drawn = c.draw_ready.ensures.cells ∙ span_law (record { x = c.args.x; y = c.args.y; n = c.args.n; paint = held.paint; brush = held.brush }) c.args.n c.args.vram.now in
+    let drawn = c.draw_ready.ensures.cells
+    ∙ span_law (record { x = c.args.x; y = c.args.y; n = c.args.n; paint = held.paint; brush = held.brush })
+    c.args.n c.args.vram.now in
     rw (← c.self.view_is) drawn
