@@ -1,5 +1,6 @@
 -- What stands in the file, record by record.
-use Rattle.std.proofs.Common.{◌≡◌, ◌<◌, ◌⊎◌, inl, inr, Some, ◌≤◌, ◌+◌, ◌++◌, ◌==◌, ℕ, List, [], ◌∷◌, Option, true, false, length, length-append, refl, ap, sym, ◌∙◌, append_assoc, append-nil, subst, arith}
+use Rattle.std.proofs.Common.{◌≡◌, ◌<◌, ◌⊎◌, inl, inr, Some, ◌≤◌, ◌+◌, ◌++◌, ◌==◌, ℕ, List, [], ◌∷◌, Option, true}
+use Rattle.std.proofs.Common.{false, length, length-append, refl, ap, sym, ◌∙◌, append_assoc, append-nil, subst, arith}
 use Rattle.dev_io.specs.Device.{appended, AppendsPart}
 use Rattle.dev_io.proofs.Appended.{appended-appended, appended-nil}
 use Rattle.gpu_capture.specs.Capture.{head_of, limit}
@@ -8,7 +9,8 @@ use Rattle.gpu_capture.proofs.Written.{word_length}
 use Rattle.gpu_capture.specs.declared.event.Event.{Event}
 use Rattle.capture_flat.specs.Out.{spell}
 use Rattle.capture_flat.proofs.Pieces.{spell-append, wrote_on}
-use Rattle.capture_slim.specs.File.{begun, head_due, head_at, due, IsFile, IsDraft, IsLacking, FailsIn, FailsNext, EndsTooLong}
+use Rattle.capture_slim.specs.File.{begun, head_due, head_at, due, IsFile, IsDraft, IsLacking, FailsIn, FailsNext}
+use Rattle.capture_slim.specs.File.{EndsTooLong}
 use Rattle.capture_slim.specs.Gathered.{BreaksOff, MakesRoom, Piece, bytes_of}
 use Rattle.capture_slim.specs.Places.{kept_of}
 use Rattle.capture_slim.specs.declared.ending.SlimEnding.{SlimEnding}
@@ -36,21 +38,27 @@ pub begun_more : (version : ℕ) (kept : List Event) (e : Event)
     → begun version (kept ++ e ∷ []) ≡ begun version kept ++ (head_due version kept ++ spelled e)
 begun_more version [] e = ap (λ bytes. head_of version ++ bytes) (append-nil (spelled e))
 begun_more version (x ∷ kept) e =
-    ap (λ bytes. head_of version ++ bytes) (spell-append (x ∷ kept) (e ∷ []) ∙ ap (λ bytes. spell (x ∷ kept) ++ bytes) (append-nil (spelled e)))
+    ap (λ bytes. head_of version ++ bytes)
+    (spell-append (x ∷ kept) (e ∷ []) ∙ ap (λ bytes. spell (x ∷ kept) ++ bytes) (append-nil (spelled e)))
     ∙ sym (append_assoc (head_of version) (spell (x ∷ kept)) (spelled e))
 
-pub begun_end : (version : ℕ) (kept : List Event) → begun version kept ++ (head_due version kept ++ spelled_end) ≡ written version kept
+pub begun_end : (version : ℕ) (kept : List Event) → begun version kept ++ (head_due version kept ++ spelled_end)
+    ≡ written version kept
 begun_end version [] = refl
 begun_end version (x ∷ kept) = refl
 
 -- a whole file is at most 8 bytes more than what stands, and an End record
-pub written_most : (version : ℕ) (kept : List Event) → length (begun version kept) + 4 ≤ limit → length (written version kept) ≤ limit
-written_most version [] fits = omega (arith, length-append (head_of version ++ spell []) spelled_end, word_length (tag_of 0 0))
-written_most version (x ∷ kept) fits = omega (arith, fits, length-append (head_of version ++ spell (x ∷ kept)) spelled_end, word_length (tag_of 0 0))
+pub written_most : (version : ℕ) (kept : List Event) → length (begun version kept) + 4 ≤ limit
+    → length (written version kept) ≤ limit
+written_most version [] fits = omega
+    (arith, length-append (head_of version ++ spell []) spelled_end, word_length (tag_of 0 0))
+written_most version (x ∷ kept) fits = omega
+    (arith, fits, length-append (head_of version ++ spell (x ∷ kept)) spelled_end, word_length (tag_of 0 0))
 
 pub written_more : (version : ℕ) (kept : List Event) (e : Event)
     → length (written version (kept ++ e ∷ [])) ≡ length (begun version (kept ++ e ∷ [])) + 4
-written_more version [] e = omega (arith, length-append (head_of version ++ spell (e ∷ [])) spelled_end, word_length (tag_of 0 0))
+written_more version [] e = omega
+    (arith, length-append (head_of version ++ spell (e ∷ [])) spelled_end, word_length (tag_of 0 0))
 written_more version (x ∷ kept) e =
     omega (arith, length-append (head_of version ++ spell ((x ∷ kept) ++ e ∷ [])) spelled_end, word_length (tag_of 0 0))
 
@@ -63,7 +71,14 @@ size_more : (file : SlimFile) (base held : Option (List ℕ)) (kept : List Event
 size_more file base held kept e is =
     let same = ap length (due_same file base held kept e is) in
     let all = ap length (begun_more file.version kept e) in
-    omega (arith, same, all, is.size_is, length-append (begun file.version kept) (head_due file.version kept ++ spelled e))
+    omega (
+      arith,
+      same,
+      all,
+      is.size_is,
+      length-append (begun file.version kept)
+          (head_due file.version kept ++ spelled e),
+    )
 
 -- ---- pieces that are split in two ways
 
@@ -74,7 +89,8 @@ none_split (x ∷ whole) p later is = cc
 abbrev Splits : (pieces whole later : List Piece) (p q : Piece) → Type 0
 Splits pieces whole later p q = ((rest : List Piece) × (pieces ≡ whole ++ q ∷ rest)) ⊎ ((whole ≡ pieces) × (q ≡ p))
 
-splits : (pieces whole later : List Piece) (p q : Piece) → pieces ++ p ∷ [] ≡ whole ++ q ∷ later → Splits pieces whole later p q
+splits : (pieces whole later : List Piece) (p q : Piece) → pieces ++ p ∷ [] ≡ whole ++ q ∷ later
+    → Splits pieces whole later p q
 splits [] [] later p q is = let same : q ≡ p = cc in inr (refl, same)
 splits [] (w ∷ whole) later p q is = let none : [] ≡ whole ++ q ∷ later = cc in absurd (none_split whole q later none)
 splits (x ∷ pieces) [] later p q is = let same : x ≡ q = cc in inl (pieces, ap (λ (y : Piece). y ∷ pieces) same)
@@ -88,7 +104,8 @@ splits (x ∷ pieces) (w ∷ whole) later p q is =
 
 bytes_more : (pieces : List Piece) (p : Piece) → bytes_of (pieces ++ p ∷ []) ≡ bytes_of pieces ++ p.bytes
 bytes_more [] p = append-nil p.bytes
-bytes_more (x ∷ pieces) p = ap (λ bytes. x.bytes ++ bytes) (bytes_more pieces p) ∙ sym (append_assoc x.bytes (bytes_of pieces) p.bytes)
+bytes_more (x ∷ pieces) p = ap (λ bytes. x.bytes ++ bytes) (bytes_more pieces p)
+    ∙ sym (append_assoc x.bytes (bytes_of pieces) p.bytes)
 
 -- the writing breaks off in one of the first pieces, or in the last one
 abbrev BreaksLast : (pieces : List Piece) (p : Piece) (held now : Option (List ℕ)) (number : ℕ) → Type 0
@@ -115,13 +132,15 @@ breaks_last pieces p held now number off =
 
 -- ---- events in their places
 
-pub fails_wider : (version : ℕ) (base held : Option (List ℕ)) (outs more : List (Option Event)) (number : ℕ) (ending : SlimEnding)
+pub fails_wider : (version : ℕ) (base held : Option (List ℕ)) (outs more : List (Option Event)) (number : ℕ)
+    (ending : SlimEnding)
     → FailsIn version base held outs number ending → FailsIn version base held (outs ++ more) number ending
 fails_wider version base held outs more number ending fails = record {
   earlier = fails.earlier;
   event = fails.event;
   later = fails.later ++ more;
-  are = ap (λ (os : List (Option Event)). os ++ more) fails.are ∙ append_assoc fails.earlier (Some fails.event ∷ fails.later) more;
+  are = ap (λ (os : List (Option Event)). os ++ more) fails.are
+      ∙ append_assoc fails.earlier (Some fails.event ∷ fails.later) more;
   number_is = fails.number_is;
   fails = fails.fails;
 }
@@ -132,7 +151,8 @@ abbrev draft_of : SlimFile → List Piece → Draft
 draft_of file pieces = record { file = file; gathered = pieces }
 
 -- nothing is gathered, and none stays
-pub first_draft : (version : ℕ) (held : Option (List ℕ)) → IsDraft (draft_of (record { version = version; size = 0 }) []) held held []
+pub first_draft : (version : ℕ) (held : Option (List ℕ))
+    → IsDraft (draft_of (record { version = version; size = 0 }) []) held held []
 first_draft version held = record {
   file_is = record {
     stands = refl;
@@ -143,7 +163,8 @@ first_draft version held = record {
 }
 
 -- all was written
-pub written_file : (draft : Draft) (base held now : Option (List ℕ)) (outs : List (Option Event)) → IsDraft draft base held outs
+pub written_file : (draft : Draft) (base held now : Option (List ℕ)) (outs : List (Option Event))
+    → IsDraft draft base held outs
     → now ≡ appended held (bytes_of draft.gathered) → IsFile draft.file base now (kept_of outs)
 written_file draft base held now outs is wrote = record {
   stands = wrote ∙ is.file_is.stands;
@@ -152,7 +173,8 @@ written_file draft base held now outs is wrote = record {
 }
 
 written_draft : (file : SlimFile) (pieces : List Piece) (base held now : Option (List ℕ)) (outs : List (Option Event))
-    → IsDraft (draft_of file pieces) base held outs → now ≡ appended held (bytes_of pieces) → IsDraft (draft_of file []) base now outs
+    → IsDraft (draft_of file pieces) base held outs → now ≡ appended held (bytes_of pieces)
+    → IsDraft (draft_of file []) base now outs
 written_draft file pieces base held now outs is wrote = record {
   file_is = record {
     stands = appended-nil now ∙ wrote ∙ is.file_is.stands;
@@ -163,7 +185,8 @@ written_draft file pieces base held now outs is wrote = record {
 }
 
 pub room_draft : (file : SlimFile) (old new : List Piece) (base held now : Option (List ℕ)) (outs : List (Option Event))
-    → IsDraft (draft_of file old) base held outs → MakesRoom old new held now → IsDraft (draft_of file new) base now outs
+    → IsDraft (draft_of file old) base held outs → MakesRoom old new held now
+    → IsDraft (draft_of file new) base now outs
 room_draft file old new base held now outs is made =
     let P : List Piece → Type 0 = λ ps. IsDraft (draft_of file ps) base now outs in
     let Q : Option (List ℕ) → Type 0 = λ h. IsDraft (draft_of file old) base h outs in
@@ -173,7 +196,8 @@ room_draft file old new base held now outs is made =
     ]
 
 -- none of these stays
-pub passed_draft : (draft : Draft) (base held : Option (List ℕ)) (outs none : List (Option Event)) → IsDraft draft base held outs
+pub passed_draft : (draft : Draft) (base held : Option (List ℕ)) (outs none : List (Option Event))
+    → IsDraft draft base held outs
     → kept_of none ≡ [] → IsDraft draft base held (outs ++ none)
 passed_draft draft base held outs none is are =
     let P : List Event → Type 0 = λ es. IsFile draft.file base (appended held (bytes_of draft.gathered)) es in
@@ -187,7 +211,8 @@ passed_draft draft base held outs none is are =
 
 -- ---- one record more
 
-module _ (file : SlimFile) (pieces : List Piece) (base held : Option (List ℕ)) (outs : List (Option Event)) (e : Event) (number after : ℕ)
+module _ (file : SlimFile) (pieces : List Piece) (base held : Option (List ℕ)) (outs : List (Option Event)) (e : Event)
+    (number after : ℕ)
     (is : IsDraft (draft_of file pieces) base held outs) (at : number ≡ length outs + 1)
     (after_is : after ≡ file.size + length (due file e)) where
   abbrev kept : List Event
@@ -202,35 +227,47 @@ module _ (file : SlimFile) (pieces : List Piece) (base held : Option (List ℕ))
   all_held : Option (List ℕ)
   all_held = appended held (bytes_of pieces)
 
-  record_lacks : (now : Option (List ℕ)) → after + 4 ≤ limit → AppendsPart (appended held (bytes_of pieces)) now (due file e)
+  record_lacks : (now : Option (List ℕ)) → after + 4 ≤ limit → AppendsPart (appended held (bytes_of pieces)) now
+      (due file e)
       → IsLacking file.version base now kept e
   record_lacks now fits part =
       let P : Option (List ℕ) → Type 0 = λ mid. AppendsPart mid now (head_due file.version kept ++ spelled e) in
       let Q : List ℕ → Type 0 = λ bytes. AppendsPart (appended held (bytes_of pieces)) now bytes in
       record {
-        stands = subst P is.file_is.stands (subst Q (due_same file base (appended held (bytes_of pieces)) kept e is.file_is) part);
-        fits = omega (arith, fits, after_is, size_more file base (appended held (bytes_of pieces)) kept e is.file_is, written_more file.version kept e);
+        stands = subst P is.file_is.stands
+            (subst Q (due_same file base (appended held (bytes_of pieces)) kept e is.file_is) part);
+        fits = omega (
+          arith,
+          fits,
+          after_is,
+          size_more file base (appended held (bytes_of pieces)) kept e is.file_is,
+          written_more file.version kept e,
+        );
       }
 
-  record_file : after + 4 ≤ limit → IsFile new_file base (appended held (bytes_of (pieces ++ piece ∷ []))) (kept ++ e ∷ [])
+  record_file : after + 4 ≤ limit → IsFile new_file base (appended held (bytes_of (pieces ++ piece ∷ [])))
+      (kept ++ e ∷ [])
   record_file fits = record {
     stands = ap (appended held) (bytes_more pieces piece)
         ∙ wrote_on base (appended held (bytes_of pieces)) _ (begun file.version kept) (due file e) is.file_is.stands
         (sym (appended-appended held (bytes_of pieces) (due file e)))
-        ∙ ap (λ bytes. appended base (begun file.version kept ++ bytes)) (due_same file base (appended held (bytes_of pieces)) kept e is.file_is)
+        ∙ ap (λ bytes. appended base (begun file.version kept ++ bytes))
+        (due_same file base (appended held (bytes_of pieces)) kept e is.file_is)
         ∙ ap (appended base) (sym (begun_more file.version kept e));
     size_is = after_is ∙ size_more file base (appended held (bytes_of pieces)) kept e is.file_is;
     fits = fits;
   }
 
-  pub added_draft : after + 4 ≤ limit → IsDraft (draft_of new_file (pieces ++ piece ∷ [])) base held (outs ++ Some e ∷ [])
+  pub added_draft : after + 4 ≤ limit → IsDraft (draft_of new_file (pieces ++ piece ∷ [])) base held
+      (outs ++ Some e ∷ [])
   added_draft fits =
       let P : List Event → Type 0 = λ es. IsFile new_file base (appended held (bytes_of (pieces ++ piece ∷ []))) es in
       record {
         file_is = subst P (sym (kept_append outs (Some e ∷ []))) (record_file fits);
         lacks = λ now n off.
             elim (breaks_last pieces piece held now n off) [
-              | inl before ↦ fails_wider file.version base now outs (Some e ∷ []) n (WriteFailed n) (is.lacks now n before)
+              | inl before ↦ fails_wider file.version base now outs (Some e ∷ []) n (WriteFailed n)
+                  (is.lacks now n before)
               | inr last ↦ record {
                 earlier = outs;
                 event = e;
@@ -242,14 +279,22 @@ module _ (file : SlimFile) (pieces : List Piece) (base held : Option (List ℕ))
             ];
       }
 
-  pub long_ends : (now : Option (List ℕ)) (ending : SlimEnding) → limit < after + 4 → EndsTooLong pieces held now number ending
+  pub long_ends : (now : Option (List ℕ)) (ending : SlimEnding) → limit < after + 4
+      → EndsTooLong pieces held now number ending
       → FailsNext file.version base now outs e ending
   long_ends now (TooLong n) long ends = (
     ends.0 ∙ at,
     record {
       stands = ends.1 ∙ is.file_is.stands;
       fits = omega (arith, is.file_is.fits, is.file_is.size_is);
-      long = omega (arith, long, after_is, size_more file base (appended held (bytes_of pieces)) kept e is.file_is, written_more file.version kept e);
+      long = omega (
+        arith,
+        long,
+        after_is,
+        size_more file base (appended held (bytes_of pieces)) kept e is.file_is,
+        written_more
+            file.version kept e,
+      );
     },
   )
   long_ends now (WriteFailed n) long ends = is.lacks now n ends

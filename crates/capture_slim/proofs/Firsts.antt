@@ -1,5 +1,7 @@
 -- What stays of the first events, by what left the window.
-use Rattle.std.proofs.Common.{◌≡◌, ◌≤◌, ◌+◌, ◌++◌, ◌&&◌, ltb, ℕ, suc, List, [], ◌∷◌, Option, None, Some, Bool, true, false, cond, take, length, length-append, refl, ap, sym, ◌∙◌, append_assoc, append-nil, subst, arith, inl, inr}
+use Rattle.std.proofs.Common.{◌≡◌, ◌≤◌, ◌+◌, ◌++◌, ◌&&◌, ltb, ℕ, suc, List, [], ◌∷◌, Option, None, Some, Bool, true}
+use Rattle.std.proofs.Common.{false, cond, take, length, length-append, refl, ap, sym, ◌∙◌, append_assoc, append-nil}
+use Rattle.std.proofs.Common.{subst, arith, inl, inr}
 use Rattle.std.proofs.Math.Seq.{take-append-add}
 use Rattle.std.proofs.lemmas.Bool.{ltb-false}
 use Rattle.dev_io.specs.Device.{appended, AppendsPart}
@@ -13,12 +15,14 @@ use Rattle.event_play.specs.Ports.{IsAtPorts, AreAtPorts}
 use Rattle.dead_drawing.specs.Control.{Control}
 use Rattle.dead_drawing.specs.Dead.{is_droppable}
 use Rattle.dead_drawing.specs.Slim.{Slim}
-use Rattle.capture_slim.specs.Came.{Came, ClosesFile, EndsPushed, EndsRefused, EndsStop, HoldWords, IsAll, FailsAny, FailsLast}
+use Rattle.capture_slim.specs.Came.{Came, ClosesFile, EndsPushed, EndsRefused, EndsStop, HoldWords, IsAll, FailsAny}
+use Rattle.capture_slim.specs.Came.{FailsLast}
 use Rattle.capture_slim.specs.File.{begun, head_due, IsDraft, IsFile, Fails, FailsIn, FailsNext, FailsRest}
 use Rattle.capture_slim.specs.Passing.{FailsAt}
 use Rattle.capture_slim.specs.Places.{kept_of, places}
 use Rattle.capture_slim.specs.Stream.{outs, behind, leaving, leaving_from, staying, staying_from}
-use Rattle.capture_slim.specs.Window.{Window, kept, kept_words, with_words, with_event, with_word, pushed_by, pushed, first_window, all_left, left_of, waiting}
+use Rattle.capture_slim.specs.Window.{Window, kept, kept_words, with_words, with_event, with_word, pushed_by, pushed}
+use Rattle.capture_slim.specs.Window.{first_window, all_left, left_of, waiting}
 use Rattle.capture_slim.specs.declared.ending.SlimEnding.{SlimEnding}
 use Rattle.capture_slim.specs.declared.ending.SlimEnding.TheVariants.{Done, Stopped, NotFlat, TooLong, WriteFailed}
 use Rattle.capture_slim.specs.declared.file.Draft.{Draft}
@@ -36,13 +40,16 @@ Outs = List (Option Event)
 
 -- ---- one event more
 
-pub outs_more : (events : List Event) (e : Event) (w : Window) → outs (events ++ e ∷ []) w ≡ outs events w ++ leaving (pushed (behind events w) e)
+pub outs_more : (events : List Event) (e : Event) (w : Window) → outs (events ++ e ∷ []) w
+    ≡ outs events w ++ leaving (pushed (behind events w) e)
 outs_more [] e w = append-nil (leaving (pushed w e))
 outs_more (x ∷ events) e w =
     ap (λ (os : Outs). leaving (pushed w x) ++ os) (outs_more events e (staying (pushed w x)))
-    ∙ sym (append_assoc (leaving (pushed w x)) (outs events (staying (pushed w x))) (leaving (pushed (behind events (staying (pushed w x))) e)))
+    ∙ sym (append_assoc (leaving (pushed w x)) (outs events (staying (pushed w x)))
+    (leaving (pushed (behind events (staying (pushed w x))) e)))
 
-pub behind_more : (events : List Event) (e : Event) (w : Window) → behind (events ++ e ∷ []) w ≡ staying (pushed (behind events w) e)
+pub behind_more : (events : List Event) (e : Event) (w : Window) → behind (events ++ e ∷ []) w
+    ≡ staying (pushed (behind events w) e)
 behind_more [] e w = refl
 behind_more (x ∷ events) e w = behind_more events e (staying (pushed w x))
 
@@ -57,39 +64,63 @@ words_size : (slots more : List Slot) (words : List ℕ) (now : Control) (part :
 words_size slots more words now true same = refl
 words_size slots more words now false same = omega (arith, same, length-append slots more)
 
-event_size : (words : List ℕ) (slots : List Slot) (now : Control) (e : Event) → size (with_event words slots now e) ≡ suc (length slots + length words)
-event_size words slots now e = omega (arith, length-append slots (kept_words words ++ kept e ∷ []), length-append (kept_words words) (kept e ∷ []), kept_count words)
+event_size : (words : List ℕ) (slots : List Slot) (now : Control) (e : Event) → size (with_event words slots now e)
+    ≡ suc (length slots + length words)
+event_size words slots now e = omega (
+  arith,
+  length-append slots (kept_words words ++ kept e ∷ []),
+  length-append (kept_words words)
+      (kept e ∷ []),
+  kept_count words,
+)
 
-word_size : (c : Control) (words : List ℕ) (slots : List Slot) (now : Control) (word : ℕ) → size (with_word c words slots now word) ≡ suc (length slots + length words)
+word_size : (c : Control) (words : List ℕ) (slots : List Slot) (now : Control) (word : ℕ)
+    → size (with_word c words slots now word) ≡ suc (length slots + length words)
 word_size c (v ∷ vs) slots now word =
-    words_size slots _ ((v ∷ vs) ++ word ∷ []) now _ (judged_long ((v ∷ vs) ++ word ∷ []) _) ∙ (omega (arith, length-append (v ∷ vs) (word ∷ [])))
+    words_size slots _ ((v ∷ vs) ++ word ∷ []) now _ (judged_long ((v ∷ vs) ++ word ∷ []) _)
+    ∙ (omega (arith, length-append (v ∷ vs) (word ∷ [])))
 word_size c [] slots now word = by_test (is_idle c.pending && is_droppable word)
   where
-    by_test : (b : Bool) → size (cond b (with_words c slots now (word ∷ [])) (with_event [] slots now (event.Gp0 word))) ≡ suc (length slots + length {A = ℕ} [])
+    by_test : (b : Bool)
+        → size (cond b (with_words c slots now (word ∷ [])) (with_event [] slots now (event.Gp0 word)))
+        ≡ suc (length slots + length {A = ℕ} [])
     by_test true = words_size slots _ (word ∷ []) now _ (judged_long (word ∷ []) _) ∙ omega arith
     by_test false = event_size [] slots now (event.Gp0 word)
 
-by_size : (c : Control) (words : List ℕ) (e : Event) (slots : List Slot) (now : Control) → size (pushed_by c words e slots now) ≡ suc (length slots + length words)
+by_size : (c : Control) (words : List ℕ) (e : Event) (slots : List Slot) (now : Control)
+    → size (pushed_by c words e slots now) ≡ suc (length slots + length words)
 by_size c words (event.Gp0 word) slots now = word_size c words slots now word
 by_size c words other slots now = event_size words slots now other
 
 pub pushed_size : (w : Window) (e : Event) → size (pushed w e) ≡ suc (size w)
 unfolding pushed
-pushed_size w e = by_size w.control w.words e _ _ ∙ ap (λ n. suc (n + length w.words)) (settled_long w.slots (length w.words) w.control e)
+pushed_size w e = by_size w.control w.words e _ _ ∙ ap (λ n. suc (n + length w.words))
+    (settled_long w.slots (length w.words) w.control e)
 
-pub leaves_size : (slots : List Slot) (words : List ℕ) → length (leaving_from slots words) + (length (staying_from slots words) + length words) ≡ length slots + length words
+pub leaves_size : (slots : List Slot) (words : List ℕ)
+    → length (leaving_from slots words) + (length (staying_from slots words) + length words)
+    ≡ length slots + length words
 leaves_size [] words = omega arith
 leaves_size (s ∷ slots) words = by_test (ltb (length slots + length words) 4096)
   where
-    by_test : (b : Bool) → length (cond b [] (left_of s.event s.mark ∷ [])) + (length (cond b (s ∷ slots) slots) + length words) ≡ length (s ∷ slots) + length words
+    by_test : (b : Bool) → length (cond b [] (left_of s.event s.mark ∷ [])) +
+        (length (cond b (s ∷ slots) slots) + length words) ≡ length (s ∷ slots) + length words
     by_test true = omega arith
     by_test false = omega arith
 
-pub counts : (events : List Event) (w : Window) → length (outs events w) + size (behind events w) ≡ size w + length events
+pub counts : (events : List Event) (w : Window) → length (outs events w) + size (behind events w)
+    ≡ size w + length events
 counts [] w = omega arith
 counts (e ∷ events) w =
     let p = pushed w e in
-    omega (arith, counts events (staying p), length-append (leaving p) (outs events (staying p)), leaves_size p.slots p.words, pushed_size w e)
+    omega (
+      arith,
+      counts events (staying p),
+      length-append (leaving p)
+          (outs events (staying p)),
+      leaves_size p.slots p.words,
+      pushed_size w e,
+    )
 
 pub waiting_size : (w : Window) → length (waiting w) ≡ size w
 waiting_size w = omega (arith, length-append w.slots (kept_words w.words), kept_count w.words)
@@ -105,13 +136,16 @@ placed all xs more e are =
     let none : length xs + 0 ≡ length xs = omega arith in
     let first = take-append-add xs (Some e ∷ more) 0 in
     record {
-      before = ap (λ os. kept_of (take (length xs) os)) are ∙ ap (λ n. kept_of (take n (xs ++ Some e ∷ more))) (sym none) ∙ ap kept_of first
+      before = ap (λ os. kept_of (take (length xs) os)) are ∙ ap (λ n. kept_of (take n (xs ++ Some e ∷ more)))
+          (sym none) ∙ ap kept_of first
           ∙ ap kept_of (append-nil xs);
-      behind = ap (λ os. kept_of (take (length xs + 1) os)) are ∙ ap kept_of (take-append-add xs (Some e ∷ more) 1) ∙ kept_append xs (Some e ∷ []);
+      behind = ap (λ os. kept_of (take (length xs + 1) os)) are ∙ ap kept_of (take-append-add xs (Some e ∷ more) 1)
+          ∙ kept_append xs (Some e ∷ []);
     }
 
 -- the record of an event in its place would be too much, or was not written
-pub fails_at : (height version : ℕ) (events : List Event) (outs : Outs) (number : ℕ) (base held : Option (List ℕ)) (ending : SlimEnding)
+pub fails_at : (height version : ℕ) (events : List Event) (outs : Outs) (number : ℕ) (base held : Option (List ℕ))
+    (ending : SlimEnding)
     → places height events ≡ outs → FailsIn version base held outs number ending
     → FailsAt height version events number base held ending
 fails_at height version events outs number base held ending is fails =
@@ -124,7 +158,8 @@ fails_at height version events outs number base held ending is fails =
       earlier = length xs;
       number_is = fails.number_is;
       event = e;
-      stays = ap (λ n. kept_of (take n all)) fails.number_is ∙ place.behind ∙ ap (λ es. es ++ e ∷ []) (sym place.before);
+      stays = ap (λ n. kept_of (take n all)) fails.number_is ∙ place.behind
+          ∙ ap (λ es. es ++ e ∷ []) (sym place.before);
       fails = subst Q (sym place.before) fails.fails;
     }
 
@@ -147,10 +182,12 @@ module _ (height : ℕ) (events : List Event) (window : Window) (draft : Draft) 
   slim_is = ap kept_of (sym all_places) ∙ places_law height events
 
   pub counted : length gone + length (waiting window) ≡ count
-  counted = omega (arith, waiting_size window, counts events (first_window height), ap size came.window_is, came.count_is)
+  counted = omega
+      (arith, waiting_size window, counts events (first_window height), ap size came.window_is, came.count_is)
 
   all_long : length (gone ++ all_left (waiting window)) ≡ length events
-  all_long = omega (arith, length-append gone (all_left (waiting window)), left_long (waiting window), counted, came.count_is)
+  all_long = omega
+      (arith, length-append gone (all_left (waiting window)), left_long (waiting window), counted, came.count_is)
 
   pub events_count : count ≡ length gone + length (waiting window)
   events_count = omega (arith, counted)
@@ -199,11 +236,13 @@ module _ (height : ℕ) (events : List Event) (window : Window) (draft : Draft) 
   rest_stopped stop now (NotFlat at) most fails = absurd fails
 
   -- all was written
-  pub rest_file : (file : SlimFile) (now : Option (List ℕ)) → IsFile file base now (kept_of (gone ++ all_left (waiting window)))
+  pub rest_file : (file : SlimFile) (now : Option (List ℕ))
+      → IsFile file base now (kept_of (gone ++ all_left (waiting window)))
       → IsFile file base now (Slim height events)
   rest_file file now is = let P : List Event → Type 0 = λ es. IsFile file base now es in subst P slim_is is
 
-  pub rest_all : (file : SlimFile) (now : Option (List ℕ)) (number : ℕ) → IsFile file base now (kept_of (gone ++ all_left (waiting window)))
+  pub rest_all : (file : SlimFile) (now : Option (List ℕ)) (number : ℕ)
+      → IsFile file base now (kept_of (gone ++ all_left (waiting window)))
       → number ≡ count + 1
       → IsAll height file.version events number base now
   rest_all file now number is at =
@@ -216,7 +255,8 @@ module _ (height : ℕ) (events : List Event) (window : Window) (draft : Draft) 
 
   -- ---- an event of the ports comes
 
-  module _ (e : Event) (next : Window) (next_is : next ≡ staying (pushed window e)) (port : IsAtPorts e) (holds : HoldsWords e) where
+  module _ (e : Event) (next : Window) (next_is : next ≡ staying (pushed window e)) (port : IsAtPorts e)
+      (holds : HoldsWords e) where
     ports_more : (es : List Event) → AreAtPorts es → AreAtPorts (es ++ e ∷ [])
     ports_more [] are = (port, tt)
     ports_more (x ∷ es) are = (are.0, ports_more es are.1)
@@ -252,8 +292,10 @@ module _ (height : ℕ) (events : List Event) (window : Window) (draft : Draft) 
         one_out None is = absurd cc
         one_out (Some x) is = let same : x ≡ left = cc in ap (λ y. Some y ∷ []) same
 
-        by_test : (b : Bool) → ltb (length slots + length words) 4096 ≡ b → left ∷ [] ≡ kept_of (cond b [] (left_of s.event s.mark ∷ []))
-            → (cond b [] (left_of s.event s.mark ∷ []) ≡ Some left ∷ []) × (4096 ≤ length (cond b (s ∷ slots) slots) + length words)
+        by_test : (b : Bool) → ltb (length slots + length words) 4096 ≡ b
+            → left ∷ [] ≡ kept_of (cond b [] (left_of s.event s.mark ∷ []))
+            → (cond b [] (left_of s.event s.mark ∷ []) ≡ Some left ∷ [])
+            × (4096 ≤ length (cond b (s ∷ slots) slots) + length words)
         by_test true e is = absurd cc
         by_test false e is = (one_out (left_of s.event s.mark) is, ltb-false _ _ e)
 
@@ -272,22 +314,37 @@ module _ (height : ℕ) (events : List Event) (window : Window) (draft : Draft) 
       pub number_is : number ≡ length gone + 1
       number_is =
           let p = pushed window e in
-          omega (arith, at, most, leaves.1, ap size next_is, counted, waiting_size window, pushed_size window e, ap length leaves.0, leaves_size p.slots p.words)
+          omega (
+            arith,
+            at,
+            most,
+            leaves.1,
+            ap size next_is,
+            counted,
+            waiting_size window,
+            pushed_size window e,
+            ap
+                length leaves.0,
+            leaves_size p.slots p.words,
+          )
 
       next_places : (later : Outs) × (places height (events ++ e ∷ []) ≡ gone ++ Some left ∷ later)
       next_places =
           let all = leaves_law height (events ++ e ∷ []) [] in (
             all.0,
-            ap (places height) (sym (append-nil (events ++ e ∷ []))) ∙ all.1 ∙ ap (λ os. os ++ all.0) (outs_now ∙ ap (λ os. gone ++ os) leaves.0)
+            ap (places height) (sym (append-nil (events ++ e ∷ []))) ∙ all.1
+                ∙ ap (λ os. os ++ all.0) (outs_now ∙ ap (λ os. gone ++ os) leaves.0)
                 ∙ append_assoc gone (Some left ∷ []) all.0,
           )
 
       -- its record would be too much, or one before it was not written
-      pub now_fails : (now : Option (List ℕ)) (ending : SlimEnding) → FailsNext draft.file.version base now gone left ending
+      pub now_fails : (now : Option (List ℕ)) (ending : SlimEnding)
+          → FailsNext draft.file.version base now gone left ending
           → EndsPushed height draft.file.version (events ++ e ∷ []) base now ending
       now_fails now (TooLong n) fails = record {
         due = omega (arith, fails.0, number_is, at, most, leaves.1, came.count_is, length-append events (e ∷ []));
-        fails = fails_at height draft.file.version (events ++ e ∷ []) (gone ++ Some left ∷ next_places.0) n base now (TooLong n) next_places.1
+        fails = fails_at height draft.file.version (events ++ e ∷ []) (gone ++ Some left ∷ next_places.0) n base now
+            (TooLong n) next_places.1
             (record {
               earlier = gone;
               event = left;
@@ -307,7 +364,8 @@ module _ (height : ℕ) (events : List Event) (window : Window) (draft : Draft) 
           came.count_is,
           length-append events (e ∷ []),
         );
-        fails = fails_at height draft.file.version (events ++ e ∷ []) (gone ++ Some left ∷ next_places.0) n base now (WriteFailed n) next_places.1
+        fails = fails_at height draft.file.version (events ++ e ∷ []) (gone ++ Some left ∷ next_places.0) n base now
+            (WriteFailed n) next_places.1
             (fails_wider draft.file.version base now gone (Some left ∷ next_places.0) n (WriteFailed n) fails);
       }
       now_fails now Done fails = absurd fails
@@ -317,14 +375,17 @@ module _ (height : ℕ) (events : List Event) (window : Window) (draft : Draft) 
 -- ---- endings
 
 -- all that stays was written, and the file is closed
-pub closes : (height : ℕ) (file : SlimFile) (events : List Event) (stop : Stop) (number : ℕ) (base mid now : Option (List ℕ)) (ending : SlimEnding)
-    → IsFile file base mid (Slim height events) → number ≡ length events + 1 → ClosesFile file stop number mid now ending
+pub closes : (height : ℕ) (file : SlimFile) (events : List Event) (stop : Stop) (number : ℕ)
+    (base mid now : Option (List ℕ)) (ending : SlimEnding)
+    → IsFile file base mid (Slim height events) → number ≡ length events + 1
+    → ClosesFile file stop number mid now ending
     → EndsStop height file.version events stop base now ending
 closes height file events stop number base mid now Done is at ends =
     let all = Slim height events in (
       ends.0,
       wrote_on base mid now (begun file.version all) _ is.stands ends.1
-          ∙ ap (λ bytes. appended base (begun file.version all ++ (bytes ++ spelled_end))) (head_same file base mid all is)
+          ∙ ap (λ bytes. appended base (begun file.version all ++ (bytes ++ spelled_end)))
+          (head_same file base mid all is)
           ∙ ap (appended base) (begun_end file.version all),
       written_most file.version all (omega (arith, is.fits, is.size_is)),
     )

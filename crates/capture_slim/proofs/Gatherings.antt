@@ -1,8 +1,10 @@
 -- Records that are cut out of the bytes that are gathered.
-use Rattle.std.proofs.Common.{◌≡◌, ◌≤◌, ◌<◌, ◌+◌, ◌-◌, ◌++◌, ℕ, List, [], ◌∷◌, Option, Bool, true, false, cond, ltb, take, drop, length, refl, ap, sym, subst, ◌∙◌, arith}
+use Rattle.std.proofs.Common.{◌≡◌, ◌≤◌, ◌<◌, ◌+◌, ◌-◌, ◌++◌, ℕ, List, [], ◌∷◌, Option, Bool, true, false, cond, ltb}
+use Rattle.std.proofs.Common.{take, drop, length, refl, ap, sym, subst, ◌∙◌, arith}
 use Rattle.std.proofs.Common.{length-drop}
 use Rattle.std.proofs.lemmas.Bool.{ltb-true, ltb-false}
-use Rattle.std.proofs.lemmas.List.{drop-append-le, length-take-le, take-append-drop, take-append-le, take-take, take_all}
+use Rattle.std.proofs.lemmas.List.{drop-append-le, length-take-le, take-append-drop, take-append-le, take-take}
+use Rattle.std.proofs.lemmas.List.{take_all}
 use Rattle.dev_io.specs.Device.{appended, AppendsPart}
 use Rattle.dev_io.proofs.Appended.{appended-appended, appended-more, appended-nil}
 use Rattle.capture_slim.specs.Gathered.{BreaksOff, Piece, bytes_of, cut, lacking, total}
@@ -10,7 +12,8 @@ use Rattle.capture_slim.specs.declared.extent.Extent.{Extent}
 
 -- ---- together they are all the bytes
 
-pub cut_bytes : (extents : List Extent) (bytes : List ℕ) → total extents ≡ length bytes → bytes_of (cut extents bytes) ≡ bytes
+pub cut_bytes : (extents : List Extent) (bytes : List ℕ) → total extents ≡ length bytes → bytes_of (cut extents bytes)
+    ≡ bytes
 cut_bytes [] [] is = refl
 cut_bytes [] (b ∷ bytes) is = absurd (omega (arith, is))
 cut_bytes (e ∷ extents) bytes is =
@@ -28,15 +31,18 @@ pub total_more : (extents : List Extent) (e : Extent) → total (extents ++ e �
 total_more [] e = omega arith
 total_more (x ∷ extents) e = let n = total_more extents e in omega (arith, n)
 
-pub cut_more : (extents : List Extent) (e : Extent) (bytes more : List ℕ) → total extents ≡ length bytes → e.len ≡ length more
+pub cut_more : (extents : List Extent) (e : Extent) (bytes more : List ℕ) → total extents ≡ length bytes
+    → e.len ≡ length more
     → cut (extents ++ e ∷ []) (bytes ++ more) ≡ cut extents bytes ++ record { number = e.number; bytes = more } ∷ []
 cut_more [] e (b ∷ bytes) more is long = absurd (omega (arith, is))
 cut_more [] e [] more is long =
-    ap (λ (bs : List ℕ). let p : Piece = record { number = e.number; bytes = bs } in p ∷ []) (take_all e.len more (omega (arith, long)))
+    ap (λ (bs : List ℕ). let p : Piece = record { number = e.number; bytes = bs } in p ∷ [])
+    (take_all e.len more (omega (arith, long)))
 cut_more (x ∷ extents) e bytes more is long =
     let fits : x.len ≤ length bytes = omega (arith, is) in
     let piece : List ℕ → Piece = λ bs. record { number = x.number; bytes = bs } in
-    ap (λ (bs : List ℕ). piece bs ∷ cut (extents ++ e ∷ []) (drop x.len (bytes ++ more))) (take-append-le x.len bytes more fits)
+    ap (λ (bs : List ℕ). piece bs ∷ cut (extents ++ e ∷ []) (drop x.len (bytes ++ more)))
+    (take-append-le x.len bytes more fits)
     ∙ ap (λ (bs : List ℕ). piece (take x.len bytes) ∷ cut (extents ++ e ∷ []) bs) (drop-append-le x.len bytes more fits)
     ∙ ap (λ (ps : List Piece). piece (take x.len bytes) ∷ ps)
     (cut_more extents e (drop x.len bytes) more (omega (arith, is, length-drop x.len bytes)) long)
@@ -46,7 +52,8 @@ cut_more (x ∷ extents) e bytes more is long =
 abbrev piece_of : Extent → List ℕ → Piece
 piece_of e bytes = record { number = e.number; bytes = take e.len bytes }
 
-breaks_first : (e : Extent) (extents : List Extent) (bytes : List ℕ) (taken : ℕ) (before now : Option (List ℕ)) → e.len ≤ length bytes
+breaks_first : (e : Extent) (extents : List Extent) (bytes : List ℕ) (taken : ℕ) (before now : Option (List ℕ))
+    → e.len ≤ length bytes
     → taken < e.len → now ≡ appended before (take taken bytes) → BreaksOff (cut (e ∷ extents) bytes) before now e.number
 breaks_first e extents bytes taken before now fits short took = record {
   whole = [];
@@ -83,11 +90,13 @@ taken_behind e bytes taken before now le took =
     let all : e.len + (taken - e.len) ≡ taken = omega (arith, le) in
     took ∙ ap (λ n. appended before (take n bytes)) (sym all) ∙ sym (appended-more before bytes e.len (taken - e.len))
 
-breaks_by : (e : Extent) (extents : List Extent) (bytes : List ℕ) (taken : ℕ) (before now : Option (List ℕ)) (b : Bool) → ltb taken e.len ≡ b
+breaks_by : (e : Extent) (extents : List Extent) (bytes : List ℕ) (taken : ℕ) (before now : Option (List ℕ)) (b : Bool)
+    → ltb taken e.len ≡ b
     → total (e ∷ extents) ≡ length bytes → taken < length bytes → now ≡ appended before (take taken bytes)
     → (total extents ≡ length (drop e.len bytes) → taken - e.len < length (drop e.len bytes)
     → now ≡ appended (appended before (take e.len bytes)) (take (taken - e.len) (drop e.len bytes))
-    → BreaksOff (cut extents (drop e.len bytes)) (appended before (take e.len bytes)) now (lacking extents (taken - e.len)))
+    → BreaksOff (cut extents (drop e.len bytes)) (appended before (take e.len bytes)) now
+    (lacking extents (taken - e.len)))
     → BreaksOff (cut (e ∷ extents) bytes) before now (cond b e.number (lacking extents (taken - e.len)))
 breaks_by e extents bytes taken before now true test is lt took later =
     breaks_first e extents bytes taken before now (omega (arith, is)) (ltb-true taken e.len test) took
@@ -97,10 +106,12 @@ breaks_by e extents bytes taken before now false test is lt took later =
     breaks_later e extents bytes before now (lacking extents (taken - e.len))
     (later (omega (arith, is, long)) (omega (arith, lt, long, le, is)) (taken_behind e bytes taken before now le took))
 
-pub breaks_off : (extents : List Extent) (bytes : List ℕ) (taken : ℕ) (before now : Option (List ℕ)) → total extents ≡ length bytes
+pub breaks_off : (extents : List Extent) (bytes : List ℕ) (taken : ℕ) (before now : Option (List ℕ))
+    → total extents ≡ length bytes
     → taken < length bytes → now ≡ appended before (take taken bytes)
     → BreaksOff (cut extents bytes) before now (lacking extents taken)
 breaks_off [] bytes taken before now is lt took = absurd (omega (arith, is, lt))
 breaks_off (e ∷ extents) bytes taken before now is lt took =
     breaks_by e extents bytes taken before now (ltb taken e.len) refl is lt took
-    (λ rest_is rest_lt rest_took. breaks_off extents (drop e.len bytes) (taken - e.len) (appended before (take e.len bytes)) now rest_is rest_lt rest_took)
+    (λ rest_is rest_lt rest_took. breaks_off extents (drop e.len bytes) (taken - e.len)
+    (appended before (take e.len bytes)) now rest_is rest_lt rest_took)

@@ -1,5 +1,6 @@
 -- The window holds events of the ports where only such ones came.
-use Rattle.std.proofs.Common.{◌≡◌, ◌+◌, ◌&&◌, ltb, ℕ, suc, List, [], ◌∷◌, ◌++◌, Option, None, Some, Bool, true, false, cond, IfSome, option_to_list, length, drop, subst}
+use Rattle.std.proofs.Common.{◌≡◌, ◌+◌, ◌&&◌, ltb, ℕ, suc, List, [], ◌∷◌, ◌++◌, Option, None, Some, Bool, true, false}
+use Rattle.std.proofs.Common.{cond, IfSome, option_to_list, length, drop, subst}
 use Rattle.px_num.specs.declared.shape.Box2.{Box2}
 use Rattle.gpu_capture.specs.declared.event.Event.{Event}
 use Rattle.gpu_capture.specs.declared.event.Event.TheVariants as event
@@ -10,7 +11,8 @@ use Rattle.dead_drawing.specs.Dead.{is_droppable}
 use Rattle.capture_slim.specs.Places.{kept_of}
 use Rattle.capture_slim.specs.Stream.{first_left, leaving_from, staying_from}
 use Rattle.capture_slim.specs.Telling.{HoldPorts}
-use Rattle.capture_slim.specs.Window.{Window, settled, kept, kept_words, judged, dropped_words, open_words, with_words, with_event, with_word, pushed_by, pushed, left_of}
+use Rattle.capture_slim.specs.Window.{Window, settled, kept, kept_words, judged, dropped_words, open_words, with_words}
+use Rattle.capture_slim.specs.Window.{with_event, with_word, pushed_by, pushed, left_of}
 use Rattle.capture_slim.specs.declared.slot.Mark.{Mark}
 use Rattle.capture_slim.specs.declared.slot.Mark.TheVariants.{Kept, Dropped, Open}
 use Rattle.capture_slim.specs.declared.slot.Slot.{Slot}
@@ -19,7 +21,8 @@ pub ports_append : (first last : List Slot) → HoldPorts first → HoldPorts la
 ports_append [] last are more = more
 ports_append (s ∷ first) last are more = (are.0, ports_append first last are.1 more)
 
-settled_ports : (slots : List Slot) (after : ℕ) (c : Control) (e : Event) → HoldPorts slots → HoldPorts (settled slots after c e)
+settled_ports : (slots : List Slot) (after : ℕ) (c : Control) (e : Event) → HoldPorts slots
+    → HoldPorts (settled slots after c e)
 settled_ports [] after c e are = tt
 settled_ports (s ∷ slots) after c e are = (are.0, settled_ports slots after c e are.1)
 
@@ -48,18 +51,21 @@ words_ports slots more words now false are added = ports_append slots more are a
 event_ports : (words : List ℕ) (slots : List Slot) (now : Control) (e : Event) → HoldPorts slots → IsAtPorts e
     → HoldPorts (with_event words slots now e).slots
 event_ports words slots now e are port =
-    ports_append slots (kept_words words ++ kept e ∷ []) are (ports_append (kept_words words) (kept e ∷ []) (kept_ports words) (port, tt))
+    ports_append slots (kept_words words ++ kept e ∷ []) are
+    (ports_append (kept_words words) (kept e ∷ []) (kept_ports words) (port, tt))
 
 word_ports : (c : Control) (words : List ℕ) (slots : List Slot) (now : Control) (word : ℕ) → HoldPorts slots
     → HoldPorts (with_word c words slots now word).slots
 word_ports c (v ∷ vs) slots now word are = words_ports slots _ _ now _ are (judged_ports ((v ∷ vs) ++ word ∷ []) _)
 word_ports c [] slots now word are = by_test (is_idle c.pending && is_droppable word)
   where
-    by_test : (b : Bool) → HoldPorts (cond b (with_words c slots now (word ∷ [])) (with_event [] slots now (event.Gp0 word))).slots
+    by_test : (b : Bool)
+        → HoldPorts (cond b (with_words c slots now (word ∷ [])) (with_event [] slots now (event.Gp0 word))).slots
     by_test true = words_ports slots _ _ now _ are (judged_ports (word ∷ []) _)
     by_test false = event_ports [] slots now (event.Gp0 word) are tt
 
-by_ports : (c : Control) (words : List ℕ) (e : Event) (slots : List Slot) (now : Control) → HoldPorts slots → IsAtPorts e
+by_ports : (c : Control) (words : List ℕ) (e : Event) (slots : List Slot) (now : Control) → HoldPorts slots
+    → IsAtPorts e
     → HoldPorts (pushed_by c words e slots now).slots
 by_ports c words (event.Gp0 word) slots now are port = word_ports c words slots now word are
 by_ports c words other slots now are port = event_ports words slots now other are port
@@ -90,7 +96,8 @@ pub drop_ports : (slots : List Slot) → HoldPorts slots → HoldPorts (drop 1 s
 drop_ports [] are = tt
 drop_ports (s ∷ slots) are = are.1
 
-one_ports : (out result : Option Event) → option_to_list result ≡ kept_of (out ∷ []) → IfSome out IsAtPorts → IfSome result IsAtPorts
+one_ports : (out result : Option Event) → option_to_list result ≡ kept_of (out ∷ []) → IfSome out IsAtPorts
+    → IfSome result IsAtPorts
 one_ports out None is port = tt
 one_ports None (Some e) is port = absurd cc
 one_ports (Some x) (Some e) is port = let same : x ≡ e = cc in subst IsAtPorts same port

@@ -1,5 +1,6 @@
 -- What is written is read again as the events that stay, and replayed alike.
-use Rattle.std.proofs.Common.{◌≡◌, ◌≤◌, ◌++◌, ◌==◌, ℕ, zero, suc, List, [], ◌∷◌, Bool, true, false, cond, length, refl, ap, sym, subst, ◌∙◌}
+use Rattle.std.proofs.Common.{◌≡◌, ◌≤◌, ◌++◌, ◌==◌, ℕ, zero, suc, List, [], ◌∷◌, Bool, true, false, cond, length, refl}
+use Rattle.std.proofs.Common.{ap, sym, subst, ◌∙◌}
 use Rattle.gpu_capture.specs.Capture.{Captured, capture, limit}
 use Rattle.gpu_capture.specs.Written.{Allows, AllowsAll, HoldsWords}
 use Rattle.gpu_capture.specs.declared.event.Event.{Event}
@@ -24,7 +25,8 @@ use Rattle.gpu_capture.proofs.Known.{AreKnown, capture_known}
 
 -- ---- what stays can be written
 
-port_allowed : (version : ℕ) (e : Event) → 1 ≤ version → IsAtPorts e → HoldsWords e → AreKnown version (e ∷ []) → Allows version e
+port_allowed : (version : ℕ) (e : Event) → 1 ≤ version → IsAtPorts e → HoldsWords e → AreKnown version (e ∷ [])
+    → Allows version e
 port_allowed version (event.Gp0 word) some port words known = record { known = some; event = tt; words = words }
 port_allowed version (event.Gp1 word) some port words known = record { known = some; event = tt; words = words }
 port_allowed version event.Read some port words known = record { known = some; event = tt; words = tt }
@@ -32,7 +34,8 @@ port_allowed version event.Stat some port words known = record { known = some; e
 port_allowed version event.Skip some port words known = record { known = known.0; event = tt; words = tt }
 port_allowed version other some port words known = absurd port
 
-ports_allowed : (version : ℕ) (events : List Event) → 1 ≤ version → AreAtPorts events → HoldWords events → AreKnown version events
+ports_allowed : (version : ℕ) (events : List Event) → 1 ≤ version → AreAtPorts events → HoldWords events
+    → AreKnown version events
     → AllowsAll version events
 ports_allowed version [] some ports words known = tt
 ports_allowed version (e ∷ events) some ports words known = (
@@ -50,9 +53,11 @@ slim_allowed : (version : ℕ) (events : List Event) (c : Control) (skip : ℕ) 
 slim_allowed version [] c skip allowed = tt
 slim_allowed version (e ∷ events) c (suc skip) allowed = slim_allowed version events (controlled c e) skip allowed.1
 slim_allowed version (e ∷ events) c zero allowed = kept_allowed version (dead_len c (e ∷ events)) e
-    (λ skip. slim_from events (controlled c e) skip) allowed.0 (λ j. slim_allowed version events (controlled c e) j allowed.1)
+    (λ skip. slim_from events (controlled c e) skip) allowed.0
+    (λ j. slim_allowed version events (controlled c e) j allowed.1)
 
-all_allowed : (version height : ℕ) (events : List Event) → AllowsAll version events → AllowsAll version (Slim height events)
+all_allowed : (version height : ℕ) (events : List Event) → AllowsAll version events
+    → AllowsAll version (Slim height events)
 unfolding Slim
 all_allowed version height events allowed = slim_allowed version events (first_control height) 0 allowed
 
@@ -73,7 +78,8 @@ raised_is version = raised_by (version == tall_version)
 -- ---- the file
 
 module _ (version : ℕ) (taken : List ℕ) (events : List Event) (some : 1 ≤ version) (most : version ≤ 3)
-    (says : (rest : List ℕ) → capture (taken ++ rest) ≡ record { version = version; events = events; ending = End; rest = rest })
+    (says : (rest : List ℕ) → capture (taken ++ rest)
+    ≡ record { version = version; events = events; ending = End; rest = rest })
     (ports : AreAtPorts events) (words : HoldWords events) (fits : length (slim_file version events) ≤ limit) where
   abbrev slim : List Event
   slim = Slim (height_for version) events
@@ -85,7 +91,8 @@ module _ (version : ℕ) (taken : List ℕ) (events : List Event) (some : 1 ≤ 
       (ports_allowed version events some ports words (subst P (says []) (capture_known (taken ++ []))))
 
   reads : (after : List ℕ)
-      → capture (slim_file version events ++ after) ≡ record { version = version; events = slim; ending = End; rest = after }
+      → capture (slim_file version events ++ after)
+      ≡ record { version = version; events = slim; ending = End; rest = after }
   reads after = written_read version slim after (some, most) allowed fits
 
   -- playing bytes that say these events

@@ -1,5 +1,6 @@
 -- Words of registers, and words inside a packet.
-use Rattle.std.proofs.Common.{◌≡◌, ◌/◌, ◌^◌, ℕ, [], ◌∷◌, Option, None, Some, Bool, true, false, cond, refl, ap, sym, ◌∙◌}
+use Rattle.std.proofs.Common.{◌≡◌, ◌/◌, ◌^◌, ℕ, [], ◌∷◌, Option, None, Some, Bool, true, false, cond, refl, ap, sym}
+use Rattle.std.proofs.Common.{◌∙◌}
 use Rattle.gp0_words.specs.Pushed.{IsPushed}
 use Rattle.gp0_words.specs.declared.item.Item.{Item}
 use Rattle.gp0_words.specs.declared.item.Item.TheVariants as item
@@ -50,17 +51,22 @@ unfolding controlled
 inside_control c new word push = rw (← push.decided, ← push.pending) refl
 
 -- a word of a register
-pub register_quiet : (c : Control) (word : ℕ) → IsPushed c.pending c.pending word (Some (item.Whole (word ∷ []))) → word / 2 ^ 29 ≡ 7
+pub register_quiet : (c : Control) (word : ℕ) → IsPushed c.pending c.pending word (Some (item.Whole (word ∷ [])))
+    → word / 2 ^ 29 ≡ 7
     → IsQuiet c word
 register_quiet c word push class =
     let is = register_packet c.regs.height word class in
     record {
-      saying = sym (environment_said word) ∙ ap said (sym is) ∙ ap (λ (i : Option Item). said_by c.regs.height i) push.decided;
-      area = sym (environment_area c.regs word) ∙ ap (area_of c.regs) (sym is) ∙ ap (λ (i : Option Item). area_by c.regs i) push.decided;
+      saying = sym (environment_said word) ∙ ap said (sym is)
+          ∙ ap (λ (i : Option Item). said_by c.regs.height i) push.decided;
+      area = sym (environment_area c.regs word) ∙ ap (area_of c.regs) (sym is)
+          ∙ ap (λ (i : Option Item). area_by c.regs i) push.decided;
     }
 
-pub register_control : (c : Control) (word : ℕ) → IsPushed c.pending c.pending word (Some (item.Whole (word ∷ []))) → word / 2 ^ 29 ≡ 7
-    → ◌≡◌ {A = Control} (record { regs = regs_after c.regs (environment_of word); pending = c.pending }) (controlled c (event.Gp0 word))
+pub register_control : (c : Control) (word : ℕ) → IsPushed c.pending c.pending word (Some (item.Whole (word ∷ [])))
+    → word / 2 ^ 29 ≡ 7
+    → ◌≡◌ {A = Control} (record { regs = regs_after c.regs (environment_of word); pending = c.pending })
+    (controlled c (event.Gp0 word))
 unfolding controlled
 register_control c word push class =
     rw (← register_packet c.regs.height word class, ← push.decided, ← push.pending) refl

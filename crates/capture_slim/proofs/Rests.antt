@@ -1,5 +1,6 @@
 -- Slots that are written, one after another.
-use Rattle.std.proofs.Common.{◌≡◌, ◌<◌, ◌≤◌, ◌+◌, ◌++◌, ℕ, suc, List, [], ◌∷◌, Option, None, Some, drop, take, length, length-append, refl, ap, sym, subst, ◌∙◌, append_assoc, append-nil, arith}
+use Rattle.std.proofs.Common.{◌≡◌, ◌<◌, ◌≤◌, ◌+◌, ◌++◌, ℕ, suc, List, [], ◌∷◌, Option, None, Some, drop, take, length}
+use Rattle.std.proofs.Common.{length-append, refl, ap, sym, subst, ◌∙◌, append_assoc, append-nil, arith}
 use Rattle.gpu_capture.specs.declared.event.Event.{Event}
 use Rattle.capture_slim.specs.File.{FailsFirst, FailsIn, FailsNext, FailsRest}
 use Rattle.capture_slim.specs.Places.{kept_of}
@@ -20,9 +21,11 @@ kept_append (Some e ∷ xs) ys = ap (λ (es : List Event). e ∷ es) (kept_appen
 
 pub left_append : (first last : List Slot) → all_left (first ++ last) ≡ all_left first ++ all_left last
 left_append [] last = refl
-left_append (s ∷ first) last = ap (λ (outs : List (Option Event)). left_of s.event s.mark ∷ outs) (left_append first last)
+left_append (s ∷ first) last = ap (λ (outs : List (Option Event)). left_of s.event s.mark ∷ outs)
+    (left_append first last)
 
-pub all_left_long : (outs : List (Option Event)) (slots : List Slot) → length (outs ++ all_left slots) ≡ length outs + length slots
+pub all_left_long : (outs : List (Option Event)) (slots : List Slot) → length (outs ++ all_left slots)
+    ≡ length outs + length slots
 all_left_long outs slots = omega (arith, length-append outs (all_left slots), left_long slots)
 
 -- the first slot, where its event stays or not
@@ -66,8 +69,10 @@ rest_are outs all done slots are =
     append_assoc outs (all_left done) (all_left slots)
     ∙ ap (λ (os : List (Option Event)). outs ++ os) (sym (left_append done slots) ∙ ap all_left (sym are))
 
-rest_fails : (version : ℕ) (base held : Option (List ℕ)) (outs : List (Option Event)) (all done slots : List Slot) (s : Slot) (e : Event) (ending : SlimEnding)
-    → all ≡ done ++ s ∷ slots → left_of s.event s.mark ≡ Some e → FailsNext version base held (outs ++ all_left done) e ending
+rest_fails : (version : ℕ) (base held : Option (List ℕ)) (outs : List (Option Event)) (all done slots : List Slot)
+    (s : Slot) (e : Event) (ending : SlimEnding)
+    → all ≡ done ++ s ∷ slots → left_of s.event s.mark ≡ Some e
+    → FailsNext version base held (outs ++ all_left done) e ending
     → FailsRest version base held outs (all_left all) ending
 rest_fails version base held outs all done slots s e (TooLong at) are left fails = (
   omega (arith, fails.0, length-append outs (all_left done)),
@@ -96,7 +101,8 @@ rest_fails version base held outs all done slots s e Done are left fails = absur
 rest_fails version base held outs all done slots s e (Stopped at stop) are left fails = absurd fails
 rest_fails version base held outs all done slots s e (NotFlat at) are left fails = absurd fails
 
-pub fails_slots : (version : ℕ) (base held : Option (List ℕ)) (outs : List (Option Event)) (all done slots : List Slot) (ending : SlimEnding)
+pub fails_slots : (version : ℕ) (base held : Option (List ℕ)) (outs : List (Option Event)) (all done slots : List Slot)
+    (ending : SlimEnding)
     → all ≡ done ++ slots → FailsFirst version base held (outs ++ all_left done) (first_left slots) ending
     → FailsRest version base held outs (all_left all) ending
 fails_slots version base held outs all done [] ending are first = let none = first.event_is in absurd cc

@@ -1,5 +1,7 @@
 -- Slots that are settled by what an event says.
-use Rattle.std.proofs.Common.{◌≡◌, ◌<◌, ◌≤◌, ◌+◌, ◌-◌, not, ltb, ℕ, suc, List, [], ◌∷◌, ◌++◌, Option, None, Some, Bool, true, false, cond, length, take, drop, slice_get, get_or, option_to_list, refl, sym, ap, subst, ◌∙◌, arith, append_assoc}
+use Rattle.std.proofs.Common.{◌≡◌, ◌<◌, ◌≤◌, ◌+◌, ◌-◌, not, ltb, ℕ, suc, List, [], ◌∷◌, ◌++◌, Option, None, Some, Bool}
+use Rattle.std.proofs.Common.{true, false, cond, length, take, drop, slice_get, get_or, option_to_list, refl, sym, ap}
+use Rattle.std.proofs.Common.{subst, ◌∙◌, arith, append_assoc}
 use Rattle.std.proofs.lemmas.Bool.{lt-ltb, le-ltb}
 use Rattle.std.proofs.lemmas.List.{length-append, drop_more, take_more}
 use Rattle.circular_buffer.specs.Buffer.{keep_last}
@@ -56,7 +58,8 @@ event_says : (c : Control) (e : Event) (b : Box2) → Says (said_at c e) b (fill
 event_says c (event.Gp0 word) b = item_says c.regs.height (next_item c.pending word) b
 event_says c other b = record { fill = refl; calm = refl }
 
-open_by : (b : Box2) (i age : ℕ) (say : Saying) → cond (covers say b) (cond (ltb (age + i) 4096) Dropped Kept) (cond (is_quiet say) (Open b i) Kept) ≡ settle_by (Open b i) age say
+open_by : (b : Box2) (i age : ℕ) (say : Saying) → cond (covers say b) (cond (ltb (age + i) 4096) Dropped Kept)
+    (cond (is_quiet say) (Open b i) Kept) ≡ settle_by (Open b i) age say
 open_by b i age Quiet = refl
 open_by b i age Loud = refl
 open_by b i age (Cover area) = refl
@@ -66,42 +69,55 @@ mark_by Kept age c e = refl
 mark_by Dropped age c e = refl
 mark_by (Open b i) age c e =
     let says = event_says c e b in
-    ap (λ (t : Bool). cond t (cond (ltb (age + i) 4096) Dropped Kept) (cond (is_calm_at c e) (Open b i) Kept)) (sym says.fill)
-    ∙ ap (λ (t : Bool). cond (covers (said_at c e) b) (cond (ltb (age + i) 4096) Dropped Kept) (cond t (Open b i) Kept)) (sym says.calm)
+    ap (λ (t : Bool). cond t (cond (ltb (age + i) 4096) Dropped Kept) (cond (is_calm_at c e) (Open b i) Kept))
+    (sym says.fill)
+    ∙ ap (λ (t : Bool). cond (covers (said_at c e) b) (cond (ltb (age + i) 4096) Dropped Kept)
+    (cond t (Open b i) Kept)) (sym says.calm)
     ∙ open_by b i age (said_at c e)
 
-pub settled_is_by : (slots : List Slot) (behind : ℕ) (c : Control) (e : Event) → settled slots behind c e ≡ settled_by slots behind (said_at c e)
+pub settled_is_by : (slots : List Slot) (behind : ℕ) (c : Control) (e : Event) → settled slots behind c e
+    ≡ settled_by slots behind (said_at c e)
 settled_is_by [] behind c e = refl
 settled_is_by (s ∷ slots) behind c e =
-    ap (λ (m : Mark). record { event = s.event; mark = m } ∷ settled slots behind c e) (mark_by s.mark (length slots + behind) c e)
-    ∙ ap (λ (ss : List Slot). record { event = s.event; mark = settle_by s.mark (length slots + behind) (said_at c e) } ∷ ss) (settled_is_by slots behind c e)
+    ap (λ (m : Mark). record { event = s.event; mark = m } ∷ settled slots behind c e)
+    (mark_by s.mark (length slots + behind) c e)
+    ∙ ap (λ (ss : List Slot). record { event = s.event; mark = settle_by s.mark (length slots + behind) (said_at c e) }
+    ∷ ss) (settled_is_by slots behind c e)
 
 -- ---- slot by slot
 
-pub settled_by_long : (slots : List Slot) (behind : ℕ) (say : Saying) → length (settled_by slots behind say) ≡ length slots
+pub settled_by_long : (slots : List Slot) (behind : ℕ) (say : Saying) → length (settled_by slots behind say)
+    ≡ length slots
 settled_by_long [] behind say = refl
 settled_by_long (s ∷ slots) behind say = ap suc (settled_by_long slots behind say)
 
 -- one slot more at the end
 pub settled_by_push : (slots : List Slot) (s : Slot) (behind : ℕ) (say : Saying)
-    → settled_by (slots ++ s ∷ []) behind say ≡ settled_by slots (suc behind) say ++ record { event = s.event; mark = settle_by s.mark behind say } ∷ []
+    → settled_by (slots ++ s ∷ []) behind say ≡ settled_by slots (suc behind) say
+    ++ record { event = s.event; mark = settle_by s.mark behind say } ∷ []
 settled_by_push [] s behind say = let age : 0 + behind ≡ behind = omega arith in rw age refl
 settled_by_push (x ∷ slots) s behind say =
-    let age : length (slots ++ s ∷ []) + behind ≡ length slots + suc behind = omega (arith, length-append slots (s ∷ [])) in
-    ap (λ (n : ℕ). record { event = x.event; mark = settle_by x.mark n say } ∷ settled_by (slots ++ s ∷ []) behind say) age
-    ∙ ap (λ (ss : List Slot). record { event = x.event; mark = settle_by x.mark (length slots + suc behind) say } ∷ ss) (settled_by_push slots s behind say)
+    let age : length (slots ++ s ∷ []) + behind ≡ length slots + suc behind = omega
+    (arith, length-append slots (s ∷ [])) in
+    ap (λ (n : ℕ). record { event = x.event; mark = settle_by x.mark n say } ∷ settled_by (slots ++ s ∷ []) behind say)
+    age
+    ∙ ap (λ (ss : List Slot). record { event = x.event; mark = settle_by x.mark (length slots + suc behind) say } ∷ ss)
+    (settled_by_push slots s behind say)
 
 -- what fits is kept whole
 pub keep_all : {X : Type 0} (n : ℕ) (xs : List X) → length xs ≤ n → keep_last n xs ≡ xs
 keep_all n xs le = let none : length xs - n ≡ 0 = omega (arith, le) in ap (λ (k : ℕ). drop k xs) none
 
 -- the first of some slots is settled and goes to the end
-pub turned_is : (items : List Slot) (s : Slot) (n age : ℕ) (say : Saying) → Some s ≡ slice_get items 0 → length items ≤ n
-    → keep_last n (drop 1 items ++ record { event = s.event; mark = settle_by s.mark age say } ∷ []) ≡ turned items age say
+pub turned_is : (items : List Slot) (s : Slot) (n age : ℕ) (say : Saying) → Some s ≡ slice_get items 0
+    → length items ≤ n
+    → keep_last n (drop 1 items ++ record { event = s.event; mark = settle_by s.mark age say } ∷ [])
+    ≡ turned items age say
 turned_is [] s n age say e le = absurd cc
 turned_is (x ∷ items) s n age say e le =
     let same : s ≡ x = cc in
-    keep_all n _ (omega (arith, le, length-append items (record { event = s.event; mark = settle_by s.mark age say } ∷ [])))
+    keep_all n _
+    (omega (arith, le, length-append items (record { event = s.event; mark = settle_by s.mark age say } ∷ [])))
     ∙ ap (λ (y : Slot). items ++ record { event = y.event; mark = settle_by y.mark age say } ∷ []) same
 
 pub turned_none : (items : List Slot) (age : ℕ) (say : Saying) → None ≡ slice_get items 0 → 0 < length items → ⊥
@@ -109,11 +125,14 @@ turned_none [] age say e some = omega (arith, some)
 turned_none (x ∷ items) age say e some = absurd cc
 
 turned_split : (settled_ones back : List Slot) (s : Slot) (age : ℕ) (say : Saying)
-    → turned ((s ∷ back) ++ settled_ones) age say ≡ back ++ (settled_ones ++ record { event = s.event; mark = settle_by s.mark age say } ∷ [])
-turned_split settled_ones back s age say = append_assoc back settled_ones (record { event = s.event; mark = settle_by s.mark age say } ∷ [])
+    → turned ((s ∷ back) ++ settled_ones) age say
+    ≡ back ++ (settled_ones ++ record { event = s.event; mark = settle_by s.mark age say } ∷ [])
+turned_split settled_ones back s age say = append_assoc back settled_ones
+    (record { event = s.event; mark = settle_by s.mark age say } ∷ [])
 
 -- one slot more of the front is settled
-pub turned_next : (items : List Slot) (i behind age : ℕ) (say : Saying) → i < length items → age ≡ length items - (i + 1) + behind
+pub turned_next : (items : List Slot) (i behind age : ℕ) (say : Saying) → i < length items
+    → age ≡ length items - (i + 1) + behind
     → turned (drop i items ++ settled_by (take i items) (length items - i + behind) say) age say
     ≡ drop (i + 1) items ++ settled_by (take (i + 1) items) (length items - (i + 1) + behind) say
 turned_next items i behind age say lt is =
@@ -137,7 +156,8 @@ quiet_mark (Open b i) age = refl
 pub quiet_stays : (slots : List Slot) (behind : ℕ) → settled_by slots behind Quiet ≡ slots
 quiet_stays [] behind = refl
 quiet_stays (s ∷ slots) behind =
-    ap (λ (m : Mark). record { event = s.event; mark = m } ∷ settled_by slots behind Quiet) (quiet_mark s.mark (length slots + behind))
+    ap (λ (m : Mark). record { event = s.event; mark = m } ∷ settled_by slots behind Quiet)
+    (quiet_mark s.mark (length slots + behind))
     ∙ ap (λ (ss : List Slot). s ∷ ss) (quiet_stays slots behind)
 
 loud_mark : (mark : Mark) (age : ℕ) → settle_by mark age Loud ≡ settle_by mark 0 Loud
@@ -148,7 +168,8 @@ loud_mark (Open b i) age = refl
 pub loud_shuts : (slots : List Slot) (behind : ℕ) → settled_by slots behind Loud ≡ all_shut slots
 loud_shuts [] behind = refl
 loud_shuts (s ∷ slots) behind =
-    ap (λ (m : Mark). record { event = s.event; mark = m } ∷ settled_by slots behind Loud) (loud_mark s.mark (length slots + behind))
+    ap (λ (m : Mark). record { event = s.event; mark = m } ∷ settled_by slots behind Loud)
+    (loud_mark s.mark (length slots + behind))
     ∙ ap (λ (ss : List Slot). shut s ∷ ss) (loud_shuts slots behind)
 
 pub shut_push : (slots : List Slot) (s : Slot) → all_shut (slots ++ s ∷ []) ≡ all_shut slots ++ shut s ∷ []
@@ -182,24 +203,32 @@ pub settled_first : (first last : List Slot) (behind : ℕ) (say : Saying) → A
     → settled_by (first ++ last) behind say ≡ first ++ settled_by last behind say
 settled_first [] last behind say are = refl
 settled_first (s ∷ first) last behind say are =
-    ap (λ (m : Mark). record { event = s.event; mark = m } ∷ settled_by (first ++ last) behind say) (settled_mark s.mark (length (first ++ last) + behind) say are.0)
+    ap (λ (m : Mark). record { event = s.event; mark = m } ∷ settled_by (first ++ last) behind say)
+    (settled_mark s.mark (length (first ++ last) + behind) say are.0)
     ∙ ap (λ (ss : List Slot). s ∷ ss) (settled_first first last behind say are.1)
 
 -- ---- words at the end
 
-pub kept_words_push : (words : List ℕ) (w : ℕ) → kept_words (words ++ w ∷ []) ≡ kept_words words ++ record { event = event.Gp0 w; mark = Kept } ∷ []
+pub kept_words_push : (words : List ℕ) (w : ℕ) → kept_words (words ++ w ∷ [])
+    ≡ kept_words words ++ record { event = event.Gp0 w; mark = Kept } ∷ []
 kept_words_push [] w = refl
-kept_words_push (v ∷ vs) w = ap (λ (ss : List Slot). record { event = event.Gp0 v; mark = Kept } ∷ ss) (kept_words_push vs w)
+kept_words_push (v ∷ vs) w = ap (λ (ss : List Slot). record { event = event.Gp0 v; mark = Kept } ∷ ss)
+    (kept_words_push vs w)
 
-dropped_push : (words : List ℕ) (w : ℕ) → dropped_words (words ++ w ∷ []) ≡ dropped_words words ++ record { event = event.Gp0 w; mark = Dropped } ∷ []
+dropped_push : (words : List ℕ) (w : ℕ) → dropped_words (words ++ w ∷ [])
+    ≡ dropped_words words ++ record { event = event.Gp0 w; mark = Dropped } ∷ []
 dropped_push [] w = refl
-dropped_push (v ∷ vs) w = ap (λ (ss : List Slot). record { event = event.Gp0 v; mark = Dropped } ∷ ss) (dropped_push vs w)
+dropped_push (v ∷ vs) w = ap (λ (ss : List Slot). record { event = event.Gp0 v; mark = Dropped } ∷ ss)
+    (dropped_push vs w)
 
-open_push : (words : List ℕ) (w i n : ℕ) (b : Box2) → n ≡ i + length words → open_words (words ++ w ∷ []) i b ≡ open_words words i b ++ record { event = event.Gp0 w; mark = Open b n } ∷ []
+open_push : (words : List ℕ) (w i n : ℕ) (b : Box2) → n ≡ i + length words → open_words (words ++ w ∷ []) i b
+    ≡ open_words words i b ++ record { event = event.Gp0 w; mark = Open b n } ∷ []
 open_push [] w i n b e = let same : n ≡ i = omega (arith, e) in rw same refl
-open_push (v ∷ vs) w i n b e = ap (λ (ss : List Slot). record { event = event.Gp0 v; mark = Open b i } ∷ ss) (open_push vs w (suc i) n b (omega (arith, e)))
+open_push (v ∷ vs) w i n b e = ap (λ (ss : List Slot). record { event = event.Gp0 v; mark = Open b i } ∷ ss)
+    (open_push vs w (suc i) n b (omega (arith, e)))
 
-pub judged_push : (area : Option Box2) (words : List ℕ) (w n : ℕ) → n ≡ length words → judged (words ++ w ∷ []) area ≡ judged words area ++ record { event = event.Gp0 w; mark = mark_of area n } ∷ []
+pub judged_push : (area : Option Box2) (words : List ℕ) (w n : ℕ) → n ≡ length words → judged (words ++ w ∷ []) area
+    ≡ judged words area ++ record { event = event.Gp0 w; mark = mark_of area n } ∷ []
 judged_push None words w n e = dropped_push words w
 judged_push (Some b) words w n e = open_push words w 0 n b (omega (arith, e))
 
@@ -271,5 +300,6 @@ passed old (x ∷ items) s n is fits are first =
     let same : s ≡ x = cc in
     let P : List Slot → Type 0 = λ l. AreSettled l in
     let all : keep_last n (old ++ s ∷ []) ≡ old ++ x ∷ [] =
-    keep_all n (old ++ s ∷ []) (omega (arith, fits, length-append old (s ∷ []))) ∙ ap (λ (y : Slot). old ++ y ∷ []) same in
+    keep_all n (old ++ s ∷ []) (omega (arith, fits, length-append old (s ∷ [])))
+    ∙ ap (λ (y : Slot). old ++ y ∷ []) same in
     subst P (sym all) (settled_more old x are first.0)

@@ -1,5 +1,6 @@
 -- What leaves the window.
-use Rattle.std.proofs.Common.{◌≡◌, ◌+◌, ltb, ℕ, List, [], ◌∷◌, ◌++◌, Option, Bool, true, false, cond, length, refl, sym, ap, ◌∙◌, append_assoc, append-nil, zero, suc}
+use Rattle.std.proofs.Common.{◌≡◌, ◌+◌, ltb, ℕ, List, [], ◌∷◌, ◌++◌, Option, Bool, true, false, cond, length, refl, sym}
+use Rattle.std.proofs.Common.{ap, ◌∙◌, append_assoc, append-nil, zero, suc}
 use Rattle.std.proofs.lemmas.Bool.{ltb-false}
 use Rattle.gpu_capture.specs.declared.event.Event.{Event}
 use Rattle.dead_drawing.specs.Control.{Control, controlled, first_control}
@@ -16,7 +17,8 @@ Outs = List (Option Event)
 
 -- ---- the events that stay are the list without its dead packets
 
-kept_places : (events : List Event) (c : Control) (skip : ℕ) → kept_of (places_from events c skip) ≡ slim_from events c skip
+kept_places : (events : List Event) (c : Control) (skip : ℕ) → kept_of (places_from events c skip)
+    ≡ slim_from events c skip
 kept_places [] c skip = refl
 kept_places (e ∷ events) c (suc skip) = kept_places events (controlled c e) skip
 kept_places (e ∷ events) c zero =
@@ -35,9 +37,11 @@ places_law height events = kept_places events (first_control height) 0
 
 -- ---- event by event
 
-left_by : (slots : List Slot) (s : Slot) (words : List ℕ) (c : Control) (more : List Event) (b : Bool) → ltb (length slots + length words) 4096 ≡ b
+left_by : (slots : List Slot) (s : Slot) (words : List ℕ) (c : Control) (more : List Event) (b : Bool)
+    → ltb (length slots + length words) 4096 ≡ b
     → value (record { slots = s ∷ slots; words = words; control = c }) more
-    ≡ cond b [] (left_of s.event s.mark ∷ []) ++ value (record { slots = cond b (s ∷ slots) slots; words = words; control = c }) more
+    ≡ cond b [] (left_of s.event s.mark ∷ []) ++ value
+    (record { slots = cond b (s ∷ slots) slots; words = words; control = c }) more
 left_by slots s words c more true e = refl
 left_by slots s words c more false e = leaving_law s slots words c more (ltb-false _ _ e)
 
@@ -57,7 +61,8 @@ outs_are (e ∷ events) more w begun =
     ∙ ap (λ (es : Outs). leaving p ++ es) (outs_are events more (staying p) (pushed_begun w e begun))
     ∙ sym (append_assoc (leaving p) (outs events (staying p)) (value (behind events (staying p)) more))
 
-pub behind_begun : (events : List Event) (w : Window) → IsBegun w.words w.control → IsBegun (behind events w).words (behind events w).control
+pub behind_begun : (events : List Event) (w : Window) → IsBegun w.words w.control
+    → IsBegun (behind events w).words (behind events w).control
 behind_begun [] w begun = begun
 behind_begun (e ∷ events) w begun = behind_begun events (staying (pushed w e)) (pushed_begun w e begun)
 
@@ -71,4 +76,5 @@ unfolding places
 stream_law height events =
     ap (λ (es : List Event). places_from es (first_control height) 0) (sym (append-nil events))
     ∙ outs_are events [] (first_window height) tt
-    ∙ ap (λ (es : Outs). outs events (first_window height) ++ es) (end_law (behind events (first_window height)) (behind_begun events (first_window height) tt))
+    ∙ ap (λ (es : Outs). outs events (first_window height) ++ es)
+    (end_law (behind events (first_window height)) (behind_begun events (first_window height) tt))

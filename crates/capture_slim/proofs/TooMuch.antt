@@ -1,5 +1,6 @@
 -- What is too long stays too long, whatever events follow.
-use Rattle.std.proofs.Common.{◌≡◌, ◌≤◌, ◌++◌, ℕ, List, [], ◌∷◌, Option, take, drop, length, length-append, ap, sym, ◌∙◌, append-nil, arith}
+use Rattle.std.proofs.Common.{◌≡◌, ◌≤◌, ◌++◌, ℕ, List, [], ◌∷◌, Option, take, drop, length, length-append, ap, sym, ◌∙◌}
+use Rattle.std.proofs.Common.{append-nil, arith}
 use Rattle.std.proofs.lemmas.List.{take-append-drop, take-append-le}
 use Rattle.gpu_capture.specs.Capture.{head_of}
 use Rattle.gpu_capture.specs.Written.{spelled_end, written}
@@ -21,7 +22,8 @@ use Rattle.capture_slim.proofs.WindowLaw.{pushed_begun}
 
 -- ---- no more events wait than the window has
 
-few_behind : (events : List Event) (w : Window) → IsBegun w.words w.control → size w ≤ 4096 → size (behind events w) ≤ 4096
+few_behind : (events : List Event) (w : Window) → IsBegun w.words w.control → size w ≤ 4096
+    → size (behind events w) ≤ 4096
 few_behind [] w begun few = few
 few_behind (e ∷ events) w begun few =
     let p = pushed w e in

@@ -1,5 +1,7 @@
 -- The window against whole lists.
-use Rattle.std.proofs.Common.{◌≡◌, ◌<◌, ◌≤◌, ◌+◌, ◌-◌, ◌&&◌, ltb, ℕ, zero, suc, List, [], ◌∷◌, ◌++◌, Option, None, Some, Bool, true, false, cond, length, drop, map, slice_index, refl, sym, ap, ◌∙◌, arith, append_assoc, append-nil}
+use Rattle.std.proofs.Common.{◌≡◌, ◌<◌, ◌≤◌, ◌+◌, ◌-◌, ◌&&◌, ltb, ℕ, zero, suc, List, [], ◌∷◌, ◌++◌, Option, None, Some}
+use Rattle.std.proofs.Common.{Bool, true, false, cond, length, drop, map, slice_index, refl, sym, ap, ◌∙◌, arith}
+use Rattle.std.proofs.Common.{append_assoc, append-nil}
 use Rattle.std.proofs.lemmas.Bool.{ltb-true, ltb-false}
 use Rattle.std.proofs.lemmas.List.{length-append, drop_at}
 use Rattle.px_num.specs.declared.shape.Box2.{Box2}
@@ -15,17 +17,21 @@ use Rattle.gpu_capture.specs.declared.event.Event.TheVariants as event
 use Rattle.gpu_core.specs.Machine.{is_idle}
 use Rattle.prim_draw.specs.Areas.{area_of}
 use Rattle.dead_drawing.specs.Control.{Control, controlled, controls, regs_after}
-use Rattle.dead_drawing.specs.Dead.{is_droppable, dead_len, dead_words, front, is_covered, is_hidden, words_of, word_before}
+use Rattle.dead_drawing.specs.Dead.{is_droppable, dead_len, dead_words, front, is_covered, is_hidden, words_of}
+use Rattle.dead_drawing.specs.Dead.{word_before}
 use Rattle.capture_slim.specs.Places.{placed_by, places_from}
 use Rattle.capture_slim.specs.declared.slot.Mark.{Mark}
 use Rattle.capture_slim.specs.declared.slot.Mark.TheVariants.{Kept, Dropped, Open}
 use Rattle.capture_slim.specs.declared.slot.Slot.{Slot}
-use Rattle.capture_slim.specs.Window.{Window, settled, kept, kept_words, judged, dropped_words, with_words, with_event, with_word, pushed_by, pushed, out_of, resolved, start_of, value, left_of, all_left, waiting, IsBegun}
+use Rattle.capture_slim.specs.Window.{Window, settled, kept, kept_words, judged, dropped_words, with_words, with_event}
+use Rattle.capture_slim.specs.Window.{with_word, pushed_by, pushed, out_of, resolved, start_of, value, left_of}
+use Rattle.capture_slim.specs.Window.{all_left, waiting, IsBegun}
 use Rattle.dead_drawing.specs.OnePacket.{IsDroppable}
 use Rattle.dead_drawing.proofs.Droppable.{shape_of, plain_kind, packet_is}
 use Rattle.dead_drawing.proofs.PacketWords.{held_of, first_of_all}
 use Rattle.dead_drawing.proofs.SlimLaw.{control_last, control_part, control_stays, whole_regs}
-use Rattle.capture_slim.proofs.WindowLemmas.{word_kept, word_gone, covered_zero, settled_is, resolved_append, kept_resolved, dropped_resolved, open_resolved, open_long}
+use Rattle.capture_slim.proofs.WindowLemmas.{word_kept, word_gone, covered_zero, settled_is, resolved_append}
+use Rattle.capture_slim.proofs.WindowLemmas.{kept_resolved, dropped_resolved, open_resolved, open_long}
 
 abbrev Outs : Type 0
 Outs = List (Option Event)
@@ -56,23 +62,29 @@ busy_front c other behind busy = refl
 
 -- the words of a begun packet stay
 rest_stays : (ws : List ℕ) (c : Control) (n v : ℕ) (vs : List ℕ) (behind : List Event)
-    → kind_of (slice_index ((v ∷ vs) ++ ws) 0) ≡ Plain n → length ((v ∷ vs) ++ ws) ≤ n → c.pending ≡ pending.Packet (v ∷ vs)
+    → kind_of (slice_index ((v ∷ vs) ++ ws) 0) ≡ Plain n → length ((v ∷ vs) ++ ws) ≤ n
+    → c.pending ≡ pending.Packet (v ∷ vs)
     → places_from (map event.Gp0 ws ++ behind) c 0
     ≡ map word_kept ws ++ places_from behind (controls (map event.Gp0 ws) c) 0
 rest_stays [] c n v vs behind kind fits held = refl
 rest_stays (w ∷ []) c n v vs behind kind fits held =
-    first_stays c (event.Gp0 w) behind (no_front c (event.Gp0 w ∷ behind) (busy_front c (event.Gp0 w) behind (ap is_idle held)))
+    first_stays c (event.Gp0 w) behind
+    (no_front c (event.Gp0 w ∷ behind) (busy_front c (event.Gp0 w) behind (ap is_idle held)))
 rest_stays (w ∷ x ∷ ws) c n v vs behind kind fits held =
-    let part = control_part c n (v ∷ vs) w kind (omega (arith, fits, length-append vs (w ∷ x ∷ ws), length-append vs (w ∷ []))) held in
+    let part = control_part c n (v ∷ vs) w kind
+    (omega (arith, fits, length-append vs (w ∷ x ∷ ws), length-append vs (w ∷ []))) held in
     let all : (v ∷ vs ++ w ∷ []) ++ x ∷ ws ≡ (v ∷ vs) ++ w ∷ x ∷ ws = append_assoc (v ∷ vs) (w ∷ []) (x ∷ ws) in
     first_stays c (event.Gp0 w) (map event.Gp0 (x ∷ ws) ++ behind)
-    (no_front c (event.Gp0 w ∷ map event.Gp0 (x ∷ ws) ++ behind) (busy_front c (event.Gp0 w) (map event.Gp0 (x ∷ ws) ++ behind) (ap is_idle held)))
+    (no_front c (event.Gp0 w ∷ map event.Gp0 (x ∷ ws) ++ behind)
+    (busy_front c (event.Gp0 w) (map event.Gp0 (x ∷ ws) ++ behind) (ap is_idle held)))
     ∙ ap (λ (outs : Outs). Some (event.Gp0 w) ∷ outs)
-    (rest_stays (x ∷ ws) (controlled c (event.Gp0 w)) n v (vs ++ w ∷ []) behind kind (omega (arith, fits, ap length all)) (ap (λ (d : Control). d.pending) part))
+    (rest_stays (x ∷ ws) (controlled c (event.Gp0 w)) n v (vs ++ w ∷ []) behind kind
+    (omega (arith, fits, ap length all)) (ap (λ (d : Control). d.pending) part))
 
 -- ---- a whole packet
 
-words_full : (words : List ℕ) (behind : List Event) → words_of (length words) (map event.Gp0 words ++ behind) ≡ Some words
+words_full : (words : List ℕ) (behind : List Event) → words_of (length words) (map event.Gp0 words ++ behind)
+    ≡ Some words
 words_full [] behind = refl
 words_full (w ∷ ws) behind = ap (word_before w) (words_full ws behind)
 
@@ -91,10 +103,15 @@ hidden_len : (s : Control) (words : List ℕ) (behind : List Event) → s.pendin
 unfolding dead_len
 hidden_len s words behind idle d =
     let events = map event.Gp0 words ++ behind in
-    let rest : drop (length words) events ≡ behind = drop_at (map event.Gp0 words) behind (length words) (words_long words) in
+    let rest : drop (length words) events ≡ behind = drop_at (map event.Gp0 words) behind (length words)
+    (words_long words) in
     ap (dead_words s events) (whole_front s words behind idle d)
-    ∙ ap (λ (es : List Event). cond (is_hidden (area_of s.regs (whole_of s.regs.height words)) es (controls (map event.Gp0 words) s) (4097 - length words)) (length words) 0) rest
-    ∙ ap (λ (c : Control). cond (is_hidden (area_of s.regs (whole_of s.regs.height words)) behind c (4097 - length words)) (length words) 0) (control_stays words s d idle)
+    ∙ ap (λ (es : List Event). cond
+    (is_hidden (area_of s.regs (whole_of s.regs.height words)) es (controls (map event.Gp0 words) s)
+    (4097 - length words)) (length words) 0) rest
+    ∙ ap (λ (c : Control). cond
+    (is_hidden (area_of s.regs (whole_of s.regs.height words)) behind c (4097 - length words)) (length words) 0)
+    (control_stays words s d idle)
 
 skipped : (words : List ℕ) (c : Control) (events : List Event)
     → places_from (map event.Gp0 words ++ events) c (length words)
@@ -102,12 +119,14 @@ skipped : (words : List ℕ) (c : Control) (events : List Event)
 skipped [] c events = refl
 skipped (w ∷ ws) c events = ap (λ (outs : Outs). None ∷ outs) (skipped ws (controlled c (event.Gp0 w)) events)
 
-chosen : (t : Bool) (s : Control) (w : ℕ) (ws : List ℕ) (behind : List Event) → s.pending ≡ pending.Idle → IsDroppable (w ∷ ws)
+chosen : (t : Bool) (s : Control) (w : ℕ) (ws : List ℕ) (behind : List Event) → s.pending ≡ pending.Idle
+    → IsDroppable (w ∷ ws)
     → dead_len s (map event.Gp0 (w ∷ ws) ++ behind) ≡ cond t (length (w ∷ ws)) 0
     → places_from (map event.Gp0 (w ∷ ws) ++ behind) s 0
     ≡ cond t (map word_gone (w ∷ ws)) (map word_kept (w ∷ ws)) ++ places_from behind s 0
 chosen true s w ws behind idle d e =
-    ap (λ (k : ℕ). placed_by k (event.Gp0 w) (λ skip. places_from (map event.Gp0 ws ++ behind) (controlled s (event.Gp0 w)) skip)) e
+    ap (λ (k : ℕ). placed_by k (event.Gp0 w)
+    (λ skip. places_from (map event.Gp0 ws ++ behind) (controlled s (event.Gp0 w)) skip)) e
     ∙ ap (λ (outs : Outs). None ∷ outs) (skipped ws (controlled s (event.Gp0 w)) behind)
     ∙ ap (λ (c : Control). map word_gone (w ∷ ws) ++ places_from behind c 0) (control_stays (w ∷ ws) s d idle)
 chosen false s w ws behind idle d e =
@@ -122,7 +141,8 @@ chosen false s w ws behind idle d e =
     behind_first (u ∷ us) d =
         let kind = plain_kind w (shape_of w d.kind) in
         let part = control_part s (first_len_of w) [] w kind (omega (arith, d.whole)) idle in
-        rest_stays (u ∷ us) (controlled s (event.Gp0 w)) (first_len_of w) w [] behind kind (omega (arith, d.whole)) (ap (λ (c : Control). c.pending) part)
+        rest_stays (u ∷ us) (controlled s (event.Gp0 w)) (first_len_of w) w [] behind kind (omega (arith, d.whole))
+        (ap (λ (c : Control). c.pending) part)
 
 zero_add : (n : ℕ) → 0 + n ≡ n
 zero_add n = omega arith
@@ -131,10 +151,12 @@ zero_add n = omega arith
 judged_is : (s : Control) (w : ℕ) (ws : List ℕ) (behind : List Event) → s.pending ≡ pending.Idle → IsDroppable (w ∷ ws)
     → places_from (map event.Gp0 (w ∷ ws) ++ behind) s 0
     ≡ resolved (judged (w ∷ ws) (area_of s.regs (whole_of s.regs.height (w ∷ ws)))) 0 s behind ++ places_from behind s 0
-judged_is s w ws behind idle d = by_area (area_of s.regs (whole_of s.regs.height (w ∷ ws))) (hidden_len s (w ∷ ws) behind idle d)
+judged_is s w ws behind idle d = by_area (area_of s.regs (whole_of s.regs.height (w ∷ ws)))
+    (hidden_len s (w ∷ ws) behind idle d)
   where
     by_area : (area : Option Box2)
-        → dead_len s (map event.Gp0 (w ∷ ws) ++ behind) ≡ cond (is_hidden area behind s (4097 - length (w ∷ ws))) (length (w ∷ ws)) 0
+        → dead_len s (map event.Gp0 (w ∷ ws) ++ behind) ≡ cond (is_hidden area behind s (4097 - length (w ∷ ws)))
+        (length (w ∷ ws)) 0
         → places_from (map event.Gp0 (w ∷ ws) ++ behind) s 0
         ≡ resolved (judged (w ∷ ws) area) 0 s behind ++ places_from behind s 0
     by_area None e =
@@ -144,21 +166,25 @@ judged_is s w ws behind idle d = by_area (area_of s.regs (whole_of s.regs.height
         let t = is_covered behind s (4097 - length (w ∷ ws)) b in
         chosen t s w ws behind idle d e
         ∙ sym (ap (λ (outs : Outs). outs ++ places_from behind s 0)
-        (open_resolved (w ∷ ws) 0 b s behind t (ap (λ (n : ℕ). is_covered behind s (4097 - n) b) (zero_add (length (w ∷ ws))))))
+        (open_resolved (w ∷ ws) 0 b s behind t
+        (ap (λ (n : ℕ). is_covered behind s (4097 - n) b) (zero_add (length (w ∷ ws))))))
 
 -- ---- a begun packet
 
 -- the words so far, from its start
-begun_control : (ws : List ℕ) (c : Control) (n : ℕ) (done : List ℕ) (w : ℕ) → kind_of (slice_index (done ++ w ∷ ws) 0) ≡ Plain n
+begun_control : (ws : List ℕ) (c : Control) (n : ℕ) (done : List ℕ) (w : ℕ) → kind_of (slice_index (done ++ w ∷ ws) 0)
+    ≡ Plain n
     → length (done ++ w ∷ ws) < n → c.pending ≡ held_of done
     → controls (map event.Gp0 (w ∷ ws)) c ≡ record { regs = c.regs; pending = held_of (done ++ w ∷ ws) }
 begun_control [] c n done w kind part held = control_part c n done w kind part held
 begun_control (v ∷ ws) c n done w kind part held =
     let first = first_of_all done w (v ∷ ws) in
-    let begun = control_part c n done w (ap kind_of (sym first) ∙ kind) (omega (arith, part, length-append done (w ∷ v ∷ ws), length-append done (w ∷ []))) held in
+    let begun = control_part c n done w (ap kind_of (sym first) ∙ kind)
+    (omega (arith, part, length-append done (w ∷ v ∷ ws), length-append done (w ∷ []))) held in
     let all : (done ++ w ∷ []) ++ v ∷ ws ≡ done ++ w ∷ v ∷ ws = append_assoc done (w ∷ []) (v ∷ ws) in
     ap (controls (map event.Gp0 (v ∷ ws))) begun
-    ∙ begun_control ws (record { regs = c.regs; pending = held_of (done ++ w ∷ []) }) n (done ++ w ∷ []) v (ap (λ (l : List ℕ). kind_of (slice_index l 0)) all ∙ kind) (omega (arith, part, ap length all)) refl
+    ∙ begun_control ws (record { regs = c.regs; pending = held_of (done ++ w ∷ []) }) n (done ++ w ∷ []) v
+    (ap (λ (l : List ℕ). kind_of (slice_index l 0)) all ∙ kind) (omega (arith, part, ap length all)) refl
     ∙ ap {B = Control} (λ (l : List ℕ). record { regs = c.regs; pending = held_of l }) all
 
 -- no word follows where one is due
@@ -180,7 +206,8 @@ words_short (suc n) (w ∷ ws) behind short cut = ap (word_before w) (words_shor
 
 cut_front : (s : Control) (w : ℕ) (ws : List ℕ) (behind : List Event) → length (w ∷ ws) < first_len_of w → IsCut behind
     → front s (map event.Gp0 (w ∷ ws) ++ behind) ≡ None
-cut_front s w ws behind short cut = rw (words_short (first_len_of w) (w ∷ ws) behind short cut) (same (is_idle s.pending && is_droppable w))
+cut_front s w ws behind short cut = rw (words_short (first_len_of w) (w ∷ ws) behind short cut)
+    (same (is_idle s.pending && is_droppable w))
   where
     same : (b : Bool) → cond {A = Option (List ℕ)} b None None ≡ None
     same true = refl
@@ -195,11 +222,13 @@ begun_stays c w ws behind begun cut =
     let kind = plain_kind w (shape_of w begun.1) in
     let none = no_front s (map event.Gp0 (w ∷ ws) ++ behind) (cut_front s w ws behind begun.2 cut) in
     let now : controls (map event.Gp0 (w ∷ ws)) s ≡ c =
-    begun_control ws s (first_len_of w) [] w kind begun.2 refl ∙ ap {B = Control} (λ (p : Pending). record { regs = c.regs; pending = p }) (sym begun.0) in
+    begun_control ws s (first_len_of w) [] w kind begun.2 refl
+    ∙ ap {B = Control} (λ (p : Pending). record { regs = c.regs; pending = p }) (sym begun.0) in
     let part = control_part s (first_len_of w) [] w kind (omega (arith, begun.2)) refl in
     first_stays s (event.Gp0 w) (map event.Gp0 ws ++ behind) none
     ∙ ap (λ (outs : Outs). word_kept w ∷ outs)
-    (rest_stays ws (controlled s (event.Gp0 w)) (first_len_of w) w [] behind kind (omega (arith, begun.2)) (ap (λ (d : Control). d.pending) part))
+    (rest_stays ws (controlled s (event.Gp0 w)) (first_len_of w) w [] behind kind (omega (arith, begun.2))
+    (ap (λ (d : Control). d.pending) part))
     ∙ ap (λ (d : Control). map word_kept (w ∷ ws) ++ places_from behind d 0) now
 
 -- ---- one event more
@@ -230,21 +259,25 @@ added slots more n c behind long =
 event_value : (slots : List Slot) (words : List ℕ) (c : Control) (e : Event) (behind : List Event)
     → places_from (map event.Gp0 words ++ e ∷ behind) (start_of words c) 0
     ≡ map word_kept words ++ Some e ∷ places_from behind (controlled c e) 0
-    → resolved slots (suc (length words)) (controlled c e) behind ++ places_from (map event.Gp0 words ++ e ∷ behind) (start_of words c) 0
+    → resolved slots (suc (length words)) (controlled c e) behind ++ places_from (map event.Gp0 words ++ e ∷ behind)
+    (start_of words c) 0
     ≡ value (with_event words slots (controlled c e) e) behind
 event_value slots words c e behind stays =
     let now = controlled c e in
     let more = kept_words words ++ kept e ∷ [] in
-    let long : length more ≡ suc (length words) = omega (arith, length-append (kept_words words) (kept e ∷ []), kept_long words) in
+    let long : length more
+    ≡ suc (length words) = omega (arith, length-append (kept_words words) (kept e ∷ []), kept_long words) in
     let all : resolved more 0 now behind ≡ map word_kept words ++ Some e ∷ [] =
     resolved_append (kept_words words) (kept e ∷ []) 0 now behind
     ∙ ap (λ (outs : Outs). outs ++ Some e ∷ []) (kept_resolved words (length (kept e ∷ []) + 0) now behind) in
     ap (λ (outs : Outs). resolved slots (suc (length words)) now behind ++ outs)
-    (stays ∙ sym (append_assoc (map word_kept words) (Some e ∷ []) (places_from behind now 0)) ∙ ap (λ (outs : Outs). outs ++ places_from behind now 0) (sym all))
+    (stays ∙ sym (append_assoc (map word_kept words) (Some e ∷ []) (places_from behind now 0))
+    ∙ ap (λ (outs : Outs). outs ++ places_from behind now 0) (sym all))
     ∙ sym (added slots more (suc (length words)) now behind long)
 
 -- a word of a packet that may be dropped
-start_some : (done : List ℕ) (w : ℕ) (c : Control) → start_of (done ++ w ∷ []) c ≡ record { regs = c.regs; pending = pending.Idle }
+start_some : (done : List ℕ) (w : ℕ) (c : Control) → start_of (done ++ w ∷ []) c
+    ≡ record { regs = c.regs; pending = pending.Idle }
 start_some [] w c = refl
 start_some (v ∷ vs) w c = refl
 
@@ -267,50 +300,71 @@ now_whole c done word t whole =
     let words = done ++ word ∷ [] in
     let shape = shape_of (slice_index words 0) t.kind in
     control_last c (first_len_of (slice_index words 0)) done word (plain_kind (slice_index words 0) shape) whole t.held
-    ∙ ap {B = Control} (λ (r : Registers). record { regs = r; pending = pending.Idle }) (ap (regs_after c.regs) (packet_is c.regs.height words whole) ∙ whole_regs c.regs c.regs.height words shape)
+    ∙ ap {B = Control} (λ (r : Registers). record { regs = r; pending = pending.Idle })
+    (ap (regs_after c.regs) (packet_is c.regs.height words whole) ∙ whole_regs c.regs c.regs.height words shape)
 
 now_part : (c : Control) (done : List ℕ) (word : ℕ) → IsTaken c done word
     → length (done ++ word ∷ []) < first_len_of (slice_index (done ++ word ∷ []) 0)
     → controlled c (event.Gp0 word) ≡ record { regs = c.regs; pending = held_of (done ++ word ∷ []) }
 now_part c done word t part =
     let words = done ++ word ∷ [] in
-    control_part c (first_len_of (slice_index words 0)) done word (plain_kind (slice_index words 0) (shape_of (slice_index words 0) t.kind)) part t.held
+    control_part c (first_len_of (slice_index words 0)) done word
+    (plain_kind (slice_index words 0) (shape_of (slice_index words 0) t.kind)) part t.held
 
 words_value : (slots : List Slot) (c : Control) (done : List ℕ) (word : ℕ) (behind : List Event) → IsTaken c done word
     → resolved slots (length (done ++ word ∷ [])) (controlled c (event.Gp0 word)) behind
     ++ places_from (map event.Gp0 (done ++ word ∷ []) ++ behind) (record { regs = c.regs; pending = pending.Idle }) 0
     ≡ value (with_words c slots (controlled c (event.Gp0 word)) (done ++ word ∷ [])) behind
-words_value slots c done word behind t = by_test (ltb (length (done ++ word ∷ [])) (first_len_of (slice_index (done ++ word ∷ []) 0))) refl
+words_value slots c done word behind t = by_test
+    (ltb (length (done ++ word ∷ [])) (first_len_of (slice_index (done ++ word ∷ []) 0))) refl
   where
     by_test : (b : Bool) → ltb (length (done ++ word ∷ [])) (first_len_of (slice_index (done ++ word ∷ []) 0)) ≡ b
         → resolved slots (length (done ++ word ∷ [])) (controlled c (event.Gp0 word)) behind
-        ++ places_from (map event.Gp0 (done ++ word ∷ []) ++ behind) (record { regs = c.regs; pending = pending.Idle }) 0
+        ++ places_from (map event.Gp0 (done ++ word ∷ []) ++ behind)
+        (record { regs = c.regs; pending = pending.Idle }) 0
         ≡ value (cond b (record { slots = slots; words = done ++ word ∷ []; control = controlled c (event.Gp0 word) })
-        (record { slots = slots ++ judged (done ++ word ∷ []) (area_of c.regs (whole_of c.regs.height (done ++ word ∷ []))); words = []; control = controlled c (event.Gp0 word) })) behind
+        (record {
+          slots = slots ++ judged (done ++ word ∷ [])
+              (area_of c.regs (whole_of c.regs.height (done ++ word ∷ [])));
+          words = [];
+          control = controlled c
+              (event.Gp0 word);
+        })) behind
     by_test true e =
         let part : length (done ++ word ∷ []) < first_len_of (slice_index (done ++ word ∷ []) 0) = ltb-true _ _ e in
-        let start : start_of (done ++ word ∷ []) (controlled c (event.Gp0 word)) ≡ record { regs = c.regs; pending = pending.Idle } =
-        start_some done word (controlled c (event.Gp0 word)) ∙ ap {B = Control} (λ (d : Control). record { regs = d.regs; pending = pending.Idle }) (now_part c done word t part) in
-        ap (λ (s : Control). resolved slots (length (done ++ word ∷ [])) (controlled c (event.Gp0 word)) behind ++ places_from (map event.Gp0 (done ++ word ∷ []) ++ behind) s 0) (sym start)
+        let start : start_of (done ++ word ∷ []) (controlled c (event.Gp0 word))
+        ≡ record { regs = c.regs; pending = pending.Idle } =
+        start_some done word (controlled c (event.Gp0 word))
+        ∙ ap {B = Control} (λ (d : Control). record { regs = d.regs; pending = pending.Idle })
+        (now_part c done word t part) in
+        ap (λ (s : Control). resolved slots (length (done ++ word ∷ [])) (controlled c (event.Gp0 word)) behind
+        ++ places_from (map event.Gp0 (done ++ word ∷ []) ++ behind) s 0) (sym start)
     by_test false e =
-        let whole : length (done ++ word ∷ []) ≡ first_len_of (slice_index (done ++ word ∷ []) 0) = omega (arith, t.fits, ltb-false _ _ e) in
+        let whole : length (done ++ word ∷ []) ≡ first_len_of (slice_index (done ++ word ∷ []) 0) = omega
+        (arith, t.fits, ltb-false _ _ e) in
         let s : Control = record { regs = c.regs; pending = pending.Idle } in
         let words = done ++ word ∷ [] in
         let more = judged words (area_of c.regs (whole_of c.regs.height words)) in
         let now = now_whole c done word t whole in
-        ap (λ (outs : Outs). resolved slots (length words) (controlled c (event.Gp0 word)) behind ++ outs) (judged_any s words behind refl (record { kind = t.kind; whole = whole }))
-        ∙ ap (λ (d : Control). resolved slots (length words) (controlled c (event.Gp0 word)) behind ++ (resolved more 0 d behind ++ places_from behind d 0)) (sym now)
-        ∙ sym (added slots more (length words) (controlled c (event.Gp0 word)) behind (judged_long words (area_of c.regs (whole_of c.regs.height words))))
+        ap (λ (outs : Outs). resolved slots (length words) (controlled c (event.Gp0 word)) behind ++ outs)
+        (judged_any s words behind refl (record { kind = t.kind; whole = whole }))
+        ∙ ap (λ (d : Control). resolved slots (length words) (controlled c (event.Gp0 word)) behind ++
+        (resolved more 0 d behind ++ places_from behind d 0)) (sym now)
+        ∙ sym (added slots more (length words) (controlled c (event.Gp0 word)) behind
+        (judged_long words (area_of c.regs (whole_of c.regs.height words))))
 
-cut_stays : (words : List ℕ) (c : Control) (e : Event) (behind : List Event) → IsBegun words c → IsCut (e ∷ behind) → dead_len c (e ∷ behind) ≡ 0
+cut_stays : (words : List ℕ) (c : Control) (e : Event) (behind : List Event) → IsBegun words c → IsCut (e ∷ behind)
+    → dead_len c (e ∷ behind) ≡ 0
     → places_from (map event.Gp0 words ++ e ∷ behind) (start_of words c) 0
     ≡ map word_kept words ++ Some e ∷ places_from behind (controlled c e) 0
 cut_stays [] c e behind begun cut none = first_stays c e behind none
 cut_stays (v ∷ vs) c e behind begun cut none =
-    begun_stays c v vs (e ∷ behind) begun cut ∙ ap (λ (outs : Outs). map word_kept (v ∷ vs) ++ outs) (first_stays c e behind none)
+    begun_stays c v vs (e ∷ behind) begun cut ∙ ap (λ (outs : Outs). map word_kept (v ∷ vs) ++ outs)
+    (first_stays c e behind none)
 
 -- the words with one more
-more_words : (words : List ℕ) (word : ℕ) (behind : List Event) → map event.Gp0 words ++ event.Gp0 word ∷ behind ≡ map event.Gp0 (words ++ word ∷ []) ++ behind
+more_words : (words : List ℕ) (word : ℕ) (behind : List Event) → map event.Gp0 words ++ event.Gp0 word ∷ behind
+    ≡ map event.Gp0 (words ++ word ∷ []) ++ behind
 more_words [] word behind = refl
 more_words (w ∷ ws) word behind = ap (λ (es : List Event). event.Gp0 w ∷ es) (more_words ws word behind)
 
@@ -320,12 +374,19 @@ taken_value : (slots : List Slot) (c : Control) (done : List ℕ) (word : ℕ) (
     ≡ value (with_words c slots (controlled c (event.Gp0 word)) (done ++ word ∷ [])) behind
 taken_value slots c done word behind t =
     let long : suc (length done) ≡ length (done ++ word ∷ []) = omega (arith, length-append done (word ∷ [])) in
-    ap (λ (n : ℕ). resolved slots n (controlled c (event.Gp0 word)) behind ++ places_from (map event.Gp0 done ++ event.Gp0 word ∷ behind) (record { regs = c.regs; pending = pending.Idle }) 0) long
-    ∙ ap (λ (es : List Event). resolved slots (length (done ++ word ∷ [])) (controlled c (event.Gp0 word)) behind ++ places_from es (record { regs = c.regs; pending = pending.Idle }) 0) (more_words done word behind)
+    ap (λ (n : ℕ). resolved slots n (controlled c (event.Gp0 word)) behind ++ places_from
+    (map event.Gp0 done ++ event.Gp0 word ∷ behind) (record { regs = c.regs; pending = pending.Idle }) 0) long
+    ∙ ap (λ (es : List Event). resolved slots (length (done ++ word ∷ [])) (controlled c (event.Gp0 word)) behind
+    ++ places_from es (record { regs = c.regs; pending = pending.Idle }) 0) (more_words done word behind)
     ∙ words_value slots c done word behind t
 
 pub taken_more : (c : Control) (v : ℕ) (vs : List ℕ) (word : ℕ) → IsBegun (v ∷ vs) c → IsTaken c (v ∷ vs) word
-taken_more c v vs word begun = record { held = begun.0; kind = begun.1; fits = omega (arith, begun.2, length-append vs (word ∷ [])) }
+taken_more c v vs word begun = record {
+  held = begun.0;
+  kind = begun.1;
+  fits = omega
+      (arith, begun.2, length-append vs (word ∷ []));
+}
 
 pub taken_first : (c : Control) (word : ℕ) → (is_idle c.pending && is_droppable word) ≡ true → IsTaken c [] word
 taken_first c word is =
@@ -333,7 +394,8 @@ taken_first c word is =
     record { held = idle_is c.pending u.0; kind = u.1; fits = omega (arith, start_len-positive word) }
 
 word_value : (words : List ℕ) (slots : List Slot) (c : Control) (word : ℕ) (behind : List Event) → IsBegun words c
-    → resolved slots (suc (length words)) (controlled c (event.Gp0 word)) behind ++ places_from (map event.Gp0 words ++ event.Gp0 word ∷ behind) (start_of words c) 0
+    → resolved slots (suc (length words)) (controlled c (event.Gp0 word)) behind ++ places_from
+    (map event.Gp0 words ++ event.Gp0 word ∷ behind) (start_of words c) 0
     ≡ value (with_word c words slots (controlled c (event.Gp0 word)) word) behind
 word_value (v ∷ vs) slots c word behind begun = taken_value slots c (v ∷ vs) word behind (taken_more c v vs word begun)
 word_value [] slots c word behind begun = by_test (is_idle c.pending && is_droppable word) refl
@@ -344,27 +406,33 @@ word_value [] slots c word behind begun = by_test (is_idle c.pending && is_dropp
         (with_event [] slots (controlled c (event.Gp0 word)) (event.Gp0 word))) behind
     by_test true is =
         let t = taken_first c word is in
-        ap (λ (p : Pending). resolved slots 1 (controlled c (event.Gp0 word)) behind ++ places_from (event.Gp0 word ∷ behind) (record { regs = c.regs; pending = p }) 0) t.held
+        ap (λ (p : Pending). resolved slots 1 (controlled c (event.Gp0 word)) behind ++ places_from
+        (event.Gp0 word ∷ behind) (record { regs = c.regs; pending = p }) 0) t.held
         ∙ taken_value slots c [] word behind t
     by_test false is =
-        event_value slots [] c (event.Gp0 word) behind (first_stays c (event.Gp0 word) behind (no_front c (event.Gp0 word ∷ behind) (rw is refl)))
+        event_value slots [] c (event.Gp0 word) behind
+        (first_stays c (event.Gp0 word) behind (no_front c (event.Gp0 word ∷ behind) (rw is refl)))
 
 pushed_value : (slots : List Slot) (words : List ℕ) (c : Control) (e : Event) (behind : List Event) → IsBegun words c
-    → resolved slots (suc (length words)) (controlled c e) behind ++ places_from (map event.Gp0 words ++ e ∷ behind) (start_of words c) 0
+    → resolved slots (suc (length words)) (controlled c e) behind ++ places_from (map event.Gp0 words ++ e ∷ behind)
+    (start_of words c) 0
     ≡ value (pushed_by c words e slots (controlled c e)) behind
 pushed_value slots words c (event.Gp0 word) behind begun = word_value words slots c word behind begun
 pushed_value slots words c other behind begun =
     event_value slots words c other behind (cut_stays words c other behind begun tt (no_front c (other ∷ behind) refl))
 
-pub one_more : (w : Window) (e : Event) (behind : List Event) → IsBegun w.words w.control → value w (e ∷ behind) ≡ value (pushed w e) behind
+pub one_more : (w : Window) (e : Event) (behind : List Event) → IsBegun w.words w.control → value w (e ∷ behind)
+    ≡ value (pushed w e) behind
 unfolding pushed
 one_more w e behind begun =
-    ap (λ (outs : Outs). outs ++ places_from (map event.Gp0 w.words ++ e ∷ behind) (start_of w.words w.control) 0) (settled_is w.slots (length w.words) w.control e behind)
+    ap (λ (outs : Outs). outs ++ places_from (map event.Gp0 w.words ++ e ∷ behind) (start_of w.words w.control) 0)
+    (settled_is w.slots (length w.words) w.control e behind)
     ∙ pushed_value (settled w.slots (length w.words) w.control e) w.words w.control e behind begun
 
 -- ---- a packet is begun where there are words
 
-begun_some : (done : List ℕ) (word : ℕ) (d : Control) → d.pending ≡ held_of (done ++ word ∷ []) → is_droppable (slice_index (done ++ word ∷ []) 0) ≡ true
+begun_some : (done : List ℕ) (word : ℕ) (d : Control) → d.pending ≡ held_of (done ++ word ∷ [])
+    → is_droppable (slice_index (done ++ word ∷ []) 0) ≡ true
     → length (done ++ word ∷ []) < first_len_of (slice_index (done ++ word ∷ []) 0) → IsBegun (done ++ word ∷ []) d
 begun_some [] word d held kind part = (held, kind, part)
 begun_some (v ∷ vs) word d held kind part = (held, kind, part)
@@ -374,14 +442,23 @@ AreBegun w = IsBegun w.words w.control
 
 taken_begun : (slots : List Slot) (c : Control) (done : List ℕ) (word : ℕ) → IsTaken c done word
     → AreBegun (with_words c slots (controlled c (event.Gp0 word)) (done ++ word ∷ []))
-taken_begun slots c done word t = by_test (ltb (length (done ++ word ∷ [])) (first_len_of (slice_index (done ++ word ∷ []) 0))) refl
+taken_begun slots c done word t = by_test
+    (ltb (length (done ++ word ∷ [])) (first_len_of (slice_index (done ++ word ∷ []) 0))) refl
   where
     by_test : (b : Bool) → ltb (length (done ++ word ∷ [])) (first_len_of (slice_index (done ++ word ∷ []) 0)) ≡ b
-        → AreBegun (cond b (record { slots = slots; words = done ++ word ∷ []; control = controlled c (event.Gp0 word) })
-        (record { slots = slots ++ judged (done ++ word ∷ []) (area_of c.regs (whole_of c.regs.height (done ++ word ∷ []))); words = []; control = controlled c (event.Gp0 word) }))
+        → AreBegun (cond b
+        (record { slots = slots; words = done ++ word ∷ []; control = controlled c (event.Gp0 word) })
+        (record {
+          slots = slots ++ judged (done ++ word ∷ [])
+              (area_of c.regs (whole_of c.regs.height (done ++ word ∷ [])));
+          words = [];
+          control = controlled c
+              (event.Gp0 word);
+        }))
     by_test true e =
         let part : length (done ++ word ∷ []) < first_len_of (slice_index (done ++ word ∷ []) 0) = ltb-true _ _ e in
-        begun_some done word (controlled c (event.Gp0 word)) (ap (λ (d : Control). d.pending) (now_part c done word t part)) t.kind part
+        begun_some done word (controlled c (event.Gp0 word))
+        (ap (λ (d : Control). d.pending) (now_part c done word t part)) t.kind part
     by_test false e = tt
 
 word_begun : (words : List ℕ) (slots : List Slot) (c : Control) (word : ℕ) → IsBegun words c
@@ -395,14 +472,17 @@ word_begun [] slots c word begun = by_test (is_idle c.pending && is_droppable wo
     by_test true is = taken_begun slots c [] word (taken_first c word is)
     by_test false is = tt
 
-pub pushed_begun : (w : Window) (e : Event) → IsBegun w.words w.control → IsBegun (pushed w e).words (pushed w e).control
+pub pushed_begun : (w : Window) (e : Event) → IsBegun w.words w.control
+    → IsBegun (pushed w e).words (pushed w e).control
 unfolding pushed
-pushed_begun w (event.Gp0 word) begun = word_begun w.words (settled w.slots (length w.words) w.control (event.Gp0 word)) w.control word begun
+pushed_begun w (event.Gp0 word) begun = word_begun w.words
+    (settled w.slots (length w.words) w.control (event.Gp0 word)) w.control word begun
 pushed_begun w other begun = tt
 
 -- ---- a slot leaves
 
-leaving_out : (e : Event) (mark : Mark) (age : ℕ) (c : Control) (behind : List Event) → 4096 ≤ age → out_of e mark age c behind ≡ left_of e mark
+leaving_out : (e : Event) (mark : Mark) (age : ℕ) (c : Control) (behind : List Event) → 4096 ≤ age
+    → out_of e mark age c behind ≡ left_of e mark
 leaving_out e Kept age c behind old = refl
 leaving_out e Dropped age c behind old = refl
 leaving_out e (Open b i) age c behind old =
@@ -415,7 +495,8 @@ pub leaving_law : (s : Slot) (slots : List Slot) (words : List ℕ) (c : Control
     → value (record { slots = s ∷ slots; words = words; control = c }) behind
     ≡ left_of s.event s.mark ∷ value (record { slots = slots; words = words; control = c }) behind
 leaving_law s slots words c behind old =
-    ap (λ (out : Option Event). (out ∷ resolved slots (length words) c behind) ++ places_from (map event.Gp0 words ++ behind) (start_of words c) 0)
+    ap (λ (out : Option Event). (out ∷ resolved slots (length words) c behind) ++ places_from
+    (map event.Gp0 words ++ behind) (start_of words c) 0)
     (leaving_out s.event s.mark (length slots + length words) c behind old)
 
 -- ---- the end
@@ -431,7 +512,8 @@ end_slots (s ∷ slots) after c =
     ap (λ (out : Option Event). out ∷ resolved slots after c []) (end_out s.event s.mark (length slots + after) c)
     ∙ ap (λ (outs : Outs). left_of s.event s.mark ∷ outs) (end_slots slots after c)
 
-end_words : (words : List ℕ) (c : Control) → IsBegun words c → places_from (map event.Gp0 words ++ []) (start_of words c) 0 ≡ map word_kept words
+end_words : (words : List ℕ) (c : Control) → IsBegun words c
+    → places_from (map event.Gp0 words ++ []) (start_of words c) 0 ≡ map word_kept words
 end_words [] c begun = refl
 end_words (w ∷ ws) c begun = begun_stays c w ws [] begun tt ∙ append-nil (map word_kept (w ∷ ws))
 
@@ -446,6 +528,7 @@ all_append (s ∷ first) last = ap (λ (outs : Outs). left_of s.event s.mark ∷
 -- where no event follows, all that waits and may stay does
 pub end_law : (w : Window) → IsBegun w.words w.control → value w [] ≡ all_left (waiting w)
 end_law w begun =
-    ap (λ (outs : Outs). outs ++ places_from (map event.Gp0 w.words ++ []) (start_of w.words w.control) 0) (end_slots w.slots (length w.words) w.control)
+    ap (λ (outs : Outs). outs ++ places_from (map event.Gp0 w.words ++ []) (start_of w.words w.control) 0)
+    (end_slots w.slots (length w.words) w.control)
     ∙ ap (λ (outs : Outs). all_left w.slots ++ outs) (end_words w.words w.control begun ∙ all_words w.words)
     ∙ sym (all_append w.slots (kept_words w.words))

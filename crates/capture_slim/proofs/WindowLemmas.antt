@@ -1,5 +1,6 @@
 -- Slots that are settled as events come.
-use Rattle.std.proofs.Common.{◌≡◌, ◌+◌, ◌-◌, ltb, ℕ, zero, suc, List, [], ◌∷◌, ◌++◌, Option, Some, None, Bool, true, false, cond, length, map, refl, sym, ap, ◌∙◌, arith}
+use Rattle.std.proofs.Common.{◌≡◌, ◌+◌, ◌-◌, ltb, ℕ, zero, suc, List, [], ◌∷◌, ◌++◌, Option, Some, None, Bool, true}
+use Rattle.std.proofs.Common.{false, cond, length, map, refl, sym, ap, ◌∙◌, arith}
 use Rattle.std.proofs.lemmas.Bool.{le-ltb, lt-ltb}
 use Rattle.std.proofs.lemmas.List.{length-append}
 use Rattle.px_num.specs.declared.shape.Box2.{Box2}
@@ -23,9 +24,11 @@ pub covered_zero : (behind : List Event) (c : Control) (b : Box2) → is_covered
 covered_zero [] c b = refl
 covered_zero (e ∷ behind) c b = refl
 
-open_settled : (n age i : ℕ) (x e : Event) (behind : List Event) (c : Control) (b : Box2) (fill calm : Bool) → fill ≡ fills_at c e b → calm ≡ is_calm_at c e → n ≡ 4096 - (age + i)
+open_settled : (n age i : ℕ) (x e : Event) (behind : List Event) (c : Control) (b : Box2) (fill calm : Bool)
+    → fill ≡ fills_at c e b → calm ≡ is_calm_at c e → n ≡ 4096 - (age + i)
     → cond (is_covered (e ∷ behind) c n b) None (Some x)
-    ≡ out_of x (cond fill (cond (ltb (age + i) 4096) Dropped Kept) (cond calm (Open b i) Kept)) (suc age) (controlled c e) behind
+    ≡ out_of x (cond fill (cond (ltb (age + i) 4096) Dropped Kept) (cond calm (Open b i) Kept)) (suc age)
+    (controlled c e) behind
 open_settled zero age i x e behind c b true calm f g h = rw (le-ltb (age + i) 4096 (omega (arith, h))) refl
 open_settled zero age i x e behind c b false true f g h =
     let none : 4096 - (suc age + i) ≡ 0 = omega (arith, h) in
@@ -41,9 +44,11 @@ mark_settled : (mark : Mark) (age : ℕ) (x e : Event) (behind : List Event) (c 
     → out_of x mark age c (e ∷ behind) ≡ out_of x (settle mark age c e) (suc age) (controlled c e) behind
 mark_settled Kept age x e behind c = refl
 mark_settled Dropped age x e behind c = refl
-mark_settled (Open b i) age x e behind c = open_settled (4096 - (age + i)) age i x e behind c b (fills_at c e b) (is_calm_at c e) refl refl refl
+mark_settled (Open b i) age x e behind c = open_settled (4096 - (age + i)) age i x e behind c b (fills_at c e b)
+    (is_calm_at c e) refl refl refl
 
-pub settled_long : (slots : List Slot) (after : ℕ) (c : Control) (e : Event) → length (settled slots after c e) ≡ length slots
+pub settled_long : (slots : List Slot) (after : ℕ) (c : Control) (e : Event) → length (settled slots after c e)
+    ≡ length slots
 settled_long [] after c e = refl
 settled_long (s ∷ slots) after c e = ap suc (settled_long slots after c e)
 
@@ -97,7 +102,8 @@ open_resolved (w ∷ ws) i b c behind t e =
     let count : 4096 - ((length (open_words ws (suc i) b) + 0) + i) ≡ 4097 - (i + length (w ∷ ws)) =
     omega (arith, open_long ws (suc i) b) in
     let next : 4097 - (suc i + length ws) ≡ 4097 - (i + length (w ∷ ws)) = omega arith in
-    ap (λ (n : ℕ). cond (is_covered behind c n b) None (word_kept w) ∷ resolved (open_words ws (suc i) b) 0 c behind) count
+    ap (λ (n : ℕ). cond (is_covered behind c n b) None (word_kept w) ∷ resolved (open_words ws (suc i) b) 0 c behind)
+    count
     ∙ ap (λ (u : Bool). cond u None (word_kept w) ∷ resolved (open_words ws (suc i) b) 0 c behind) e
     ∙ ap (λ (outs : List (Option Event)). cond t None (word_kept w) ∷ outs)
     (open_resolved ws (suc i) b c behind t (ap (λ (n : ℕ). is_covered behind c n b) next ∙ e))

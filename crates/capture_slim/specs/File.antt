@@ -49,7 +49,8 @@ pub record IsLacking (version : ℕ) (base held : Option (List ℕ)) (kept : Lis
   pub stands : AppendsPart (appended base (begun version kept)) held (head_due version kept ++ spelled event)
   pub fits : length (written version (kept ++ event ∷ [])) ≤ limit
 
-abbrev pub Fails : (version : ℕ) → (base held : Option (List ℕ)) → List Event → Event → (number : ℕ) → SlimEnding → Type 0
+abbrev pub Fails : (version : ℕ) → (base held : Option (List ℕ)) → List Event → Event → (number : ℕ) → SlimEnding
+    → Type 0
 Fails version base held kept event number (TooLong at) = (at ≡ number) × IsTooMuch version base held kept event
 Fails version base held kept event number (WriteFailed at) = (at ≡ number) × IsLacking version base held kept event
 Fails version base held kept event number ending = ⊥
@@ -95,7 +96,8 @@ pub record FailsFirst (version : ℕ) (base held : Option (List ℕ)) (outs : Li
   pub fails : FailsNext version base held outs event ending
 
 -- behind these events the record of one of the last ones would be too much, or that of any was not written
-abbrev pub FailsRest : (version : ℕ) → (base held : Option (List ℕ)) → (outs last : List (Option Event)) → SlimEnding → Type 0
+abbrev pub FailsRest : (version : ℕ) → (base held : Option (List ℕ)) → (outs last : List (Option Event)) → SlimEnding
+    → Type 0
 FailsRest version base held outs last (TooLong at) =
     (length outs < at) × FailsIn version base held (outs ++ last) at (TooLong at)
 FailsRest version base held outs last (WriteFailed at) = FailsIn version base held (outs ++ last) at (WriteFailed at)

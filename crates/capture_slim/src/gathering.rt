@@ -109,8 +109,8 @@ impl Gathered {
         });
     }
 
-    /// Writes all that is gathered, and has nothing then. The answer to a failure is the number of the first record that
-    /// lacks a byte.
+    /// Writes all that is gathered, and has nothing then. The answer to a failure is the number of the first record
+    /// that lacks a byte.
     pub(crate) fn write<K: Sink>(&mut self, out: &mut K) -> Result<(), u64>
         ensures ok { OnOk result (K.held out.new ≡ appended (K.held out.old) (bytes_of self.old)) }
         ensures none { OnOk result (self.new ≡ []) }

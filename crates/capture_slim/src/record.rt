@@ -1,5 +1,6 @@
 // Records of events that stay, one after another.
-ghost use Rattle.std.specs.Prelude.{◌≡◌, ◌≤◌, ◌<◌, ◌+◌, ◌*◌, ◌^◌, ◌++◌, ◌∷◌, [], List, ℕ, Option, Some, length, IfErr, OnOk, OnErr};
+ghost use Rattle.std.specs.Prelude.{◌≡◌, ◌≤◌, ◌<◌, ◌+◌, ◌*◌, ◌^◌, ◌++◌, ◌∷◌, [], List, ℕ, Option, Some, length, IfErr};
+ghost use Rattle.std.specs.Prelude.{OnOk, OnErr};
 ghost use Rattle.dev_io.specs.Device.{Rose, Writes};
 ghost use Rattle.gpu_capture.specs.Capture.{IsVersion};
 ghost use Rattle.gpu_capture.specs.Written.{record_words, spelled, spelled_end, word_bytes};
@@ -167,8 +168,8 @@ fn end_too_long<K: Sink>(gathered: &mut Gathered, number: u64, out: &mut K) -> S
     }
 }
 
-/// Adds the record of the event of this number behind the file so far. Where there is no room for it, what is gathered is
-/// written first.
+/// Adds the record of the event of this number behind the file so far. Where there is no room for it, what is gathered
+/// is written first.
 pub(crate) fn add_record<K: Sink>(
     draft: &mut Draft,
     number: u64,
@@ -178,9 +179,12 @@ pub(crate) fn add_record<K: Sink>(
     requires version { IsVersion draft.old.file.version }
     requires size { draft.old.file.size + 4 ≤ 2 ^ 30 }
     requires event { IsAtPorts event.now }
-    ensures ok { (base : Option (List ℕ)) (outs : List (Option SpecEvent)) → IsDraft draft.old base (K.held out.old) outs
-        → number ≡ length outs + 1 → OnOk result (IsDraft draft.new base (K.held out.new) (outs ++ Some event.now ∷ [])) }
-    ensures ends { (base : Option (List ℕ)) (outs : List (Option SpecEvent)) → IsDraft draft.old base (K.held out.old) outs
+    ensures ok { (base : Option (List ℕ)) (outs : List (Option SpecEvent))
+        → IsDraft draft.old base (K.held out.old) outs
+        → number ≡ length outs + 1
+        → OnOk result (IsDraft draft.new base (K.held out.new) (outs ++ Some event.now ∷ [])) }
+    ensures ends { (base : Option (List ℕ)) (outs : List (Option SpecEvent))
+        → IsDraft draft.old base (K.held out.old) outs
         → number ≡ length outs + 1
         → IfErr result (λ ending. FailsNext draft.old.file.version base (K.held out.new) outs event.now ending) }
     ensures few { OnOk result (draft.new.file.size + 4 ≤ 2 ^ 30) }

@@ -25,10 +25,12 @@ fn add_next<K: Sink>(
     requires version { IsVersion draft.old.file.version }
     requires size { draft.old.file.size + 4 ≤ 2 ^ 30 }
     ensures window { window.new ≡ record window.old { slots = drop 1 window.old.slots } }
-    ensures ok { (base : Option (List ℕ)) (outs : List (Option SpecEvent)) → IsDraft draft.old base (K.held out.old) outs
+    ensures ok { (base : Option (List ℕ)) (outs : List (Option SpecEvent))
+        → IsDraft draft.old base (K.held out.old) outs
         → number ≡ length outs + 1
         → OnOk result (IsDraft draft.new base (K.held out.new) (outs ++ all_left (take 1 window.old.slots))) }
-    ensures ends { (base : Option (List ℕ)) (outs : List (Option SpecEvent)) → IsDraft draft.old base (K.held out.old) outs
+    ensures ends { (base : Option (List ℕ)) (outs : List (Option SpecEvent))
+        → IsDraft draft.old base (K.held out.old) outs
         → number ≡ length outs + 1 → IfErr result (λ ending.
         FailsFirst draft.old.file.version base (K.held out.new) outs (first_left window.old.slots) ending) }
     ensures few { OnOk result (draft.new.file.size + 4 ≤ 2 ^ 30) }
@@ -53,10 +55,12 @@ fn add_rest<K: Sink>(
     requires version { IsVersion draft.old.file.version }
     requires size { draft.old.file.size + 4 ≤ 2 ^ 30 }
     requires few { length (waiting window.old) ≤ count }
-    ensures ok { (base : Option (List ℕ)) (outs : List (Option SpecEvent)) → IsDraft draft.old base (K.held out.old) outs
+    ensures ok { (base : Option (List ℕ)) (outs : List (Option SpecEvent))
+        → IsDraft draft.old base (K.held out.old) outs
         → count ≡ length outs + length (waiting window.old)
         → OnOk result (IsDraft draft.new base (K.held out.new) (outs ++ all_left (waiting window.old))) }
-    ensures ends { (base : Option (List ℕ)) (outs : List (Option SpecEvent)) → IsDraft draft.old base (K.held out.old) outs
+    ensures ends { (base : Option (List ℕ)) (outs : List (Option SpecEvent))
+        → IsDraft draft.old base (K.held out.old) outs
         → count ≡ length outs + length (waiting window.old) → IfErr result (λ ending.
         FailsRest draft.old.file.version base (K.held out.new) outs (all_left (waiting window.old)) ending) }
     ensures most { length (waiting window.old) ≤ 4096 }
@@ -77,7 +81,8 @@ fn add_rest<K: Sink>(
     Ok(())
 }
 
-/// Writes all that is gathered, and the events that wait and stay, as if no event followed, behind so many events in all.
+/// Writes all that is gathered, and the events that wait and stay, as if no event followed, behind so many events in
+/// all.
 pub(crate) fn write_rest<K: Sink>(
     window: &mut Waiting,
     draft: &mut Draft,
@@ -87,10 +92,12 @@ pub(crate) fn write_rest<K: Sink>(
     requires version { IsVersion draft.old.file.version }
     requires size { draft.old.file.size + 4 ≤ 2 ^ 30 }
     requires few { length (waiting window.old) ≤ count }
-    ensures ok { (base : Option (List ℕ)) (outs : List (Option SpecEvent)) → IsDraft draft.old base (K.held out.old) outs
+    ensures ok { (base : Option (List ℕ)) (outs : List (Option SpecEvent))
+        → IsDraft draft.old base (K.held out.old) outs
         → count ≡ length outs + length (waiting window.old) → OnOk result
         (IsFile draft.new.file base (K.held out.new) (kept_of (outs ++ all_left (waiting window.old)))) }
-    ensures ends { (base : Option (List ℕ)) (outs : List (Option SpecEvent)) → IsDraft draft.old base (K.held out.old) outs
+    ensures ends { (base : Option (List ℕ)) (outs : List (Option SpecEvent))
+        → IsDraft draft.old base (K.held out.old) outs
         → count ≡ length outs + length (waiting window.old) → IfErr result (λ ending.
         FailsRest draft.old.file.version base (K.held out.new) outs (all_left (waiting window.old)) ending) }
     ensures most { length (waiting window.old) ≤ 4096 }
@@ -107,7 +114,8 @@ pub(crate) fn write_rest<K: Sink>(
 
 // Writes all that is gathered.
 fn write_gathered<K: Sink>(draft: &mut Draft, out: &mut K) -> Result<(), SlimEnding>
-    ensures ok { (base : Option (List ℕ)) (outs : List (Option SpecEvent)) → IsDraft draft.old base (K.held out.old) outs
+    ensures ok { (base : Option (List ℕ)) (outs : List (Option SpecEvent))
+        → IsDraft draft.old base (K.held out.old) outs
         → OnOk result (IsFile draft.new.file base (K.held out.new) (kept_of outs)) }
     ensures ends { (base : Option (List ℕ)) (outs last : List (Option SpecEvent))
         → IsDraft draft.old base (K.held out.old) (outs ++ last)

@@ -39,7 +39,8 @@ fn settle_all(slots: &mut HeapCircularBuffer<Slot>, behind: usize, saying: &Sayi
 // Moves the first open slot behind the settled ones; it stays where it was open.
 fn shut_first(settled: &mut HeapCircularBuffer<Slot>, recent: &mut HeapCircularBuffer<Slot>)
     requires room { length settled.old.items < settled.old.capacity }
-    ensures settled { settled.new ≡ buffer (settled.old.items ++ all_shut (take 1 recent.old.items)) settled.old.capacity }
+    ensures settled { settled.new
+        ≡ buffer (settled.old.items ++ all_shut (take 1 recent.old.items)) settled.old.capacity }
     ensures recent { recent.new ≡ buffer (drop 1 recent.old.items) recent.old.capacity }
 {
     if let Some(slot) = recent.pop_front() {
@@ -119,7 +120,8 @@ fn cover(
     requires settled_fit { 4096 ≤ settled.old.capacity }
     requires recent_fit { 4096 ≤ recent.old.capacity }
     requires behind { behind ≤ 16 }
-    ensures slots { settled.new.items ++ recent.new.items ≡ settled.old.items ++ settled_by recent.old.items behind saying.now }
+    ensures slots { settled.new.items ++ recent.new.items
+        ≡ settled.old.items ++ settled_by recent.old.items behind saying.now }
     ensures settled { AreSettled settled.new.items }
     ensures settled_room { settled.new.capacity ≡ settled.old.capacity }
     ensures recent_room { recent.new.capacity ≡ recent.old.capacity }
@@ -141,7 +143,8 @@ pub(crate) fn heed(
     requires settled_fit { 4096 ≤ settled.old.capacity }
     requires recent_fit { 4096 ≤ recent.old.capacity }
     requires behind { behind ≤ 16 }
-    ensures slots { settled.new.items ++ recent.new.items ≡ settled_by (settled.old.items ++ recent.old.items) behind saying.now }
+    ensures slots { settled.new.items ++ recent.new.items
+        ≡ settled_by (settled.old.items ++ recent.old.items) behind saying.now }
     ensures settled { AreSettled settled.new.items }
     ensures settled_room { settled.new.capacity ≡ settled.old.capacity }
     ensures recent_room { recent.new.capacity ≡ recent.old.capacity }

@@ -1,5 +1,6 @@
 // A whole capture is read, and written without its dead drawing.
-ghost use Rattle.std.specs.Prelude.{◌≡◌, ◌≤◌, ◌<◌, ◌+◌, ◌++◌, ◌∷◌, [], ◌^◌, ◌↔◌, IsTrue, List, ℕ, Option, length, IfErr, OnOk};
+ghost use Rattle.std.specs.Prelude.{◌≡◌, ◌≤◌, ◌<◌, ◌+◌, ◌++◌, ◌∷◌, [], ◌^◌, ◌↔◌, IsTrue, List, ℕ, Option, length};
+ghost use Rattle.std.specs.Prelude.{IfErr, OnOk};
 ghost use Rattle.dev_io.specs.Device.{Rose};
 ghost use Rattle.gpu_capture.specs.Capture.{IsVersion};
 ghost use Rattle.gpu_capture.specs.Written.{HoldsWords};
@@ -64,7 +65,8 @@ fn push_event<K: Sink>(
     ensures version { draft.new.file.version ≡ draft.old.file.version }
     ensures ends { (height : ℕ) (events : List SpecEvent) (base : Option (List ℕ))
         → Came height events window.old draft.old count base (K.held out.old)
-        → IfErr result (λ ending. EndsPushed height draft.old.file.version (events ++ event ∷ []) base (K.held out.new) ending) }
+        → IfErr result
+        (λ ending. EndsPushed height draft.old.file.version (events ++ event ∷ []) base (K.held out.new) ending) }
     ensures known { IfErr result (λ ending. IsEnding ending × (MayReadFault ending → ⊥)) }
     ensures cause { IfErr result (λ ending. MayWriteFault ending → Rose (K.faults out.old) (K.faults out.new)) }
     ensures faults { K.faults out.old ≤ K.faults out.new }

@@ -1,5 +1,6 @@
 // Events that wait until it is known whether they stay.
-ghost use Rattle.std.specs.Prelude.{◌≡◌, ◌<◌, ◌≤◌, ◌+◌, ◌++◌, ◌∷◌, [], ◌&&◌, ◌||◌, ◌==◌, not, length, drop, slice_get, IfOk, IfSome, option_to_list};
+ghost use Rattle.std.specs.Prelude.{◌≡◌, ◌<◌, ◌≤◌, ◌+◌, ◌++◌, ◌∷◌, [], ◌&&◌, ◌||◌, ◌==◌, not, length, drop, slice_get};
+ghost use Rattle.std.specs.Prelude.{IfOk, IfSome, option_to_list};
 ghost use Rattle.circular_buffer.specs.Buffer.{buffer};
 ghost use Rattle.px_num.specs.Height.{short_height, tall_height};
 ghost use Rattle.event_play.specs.Ports.{IsAtPorts};
@@ -67,7 +68,8 @@ fn put_words(slots: &mut HeapCircularBuffer<Slot>, words: &[u32])
 // Puts an event that is no word of a packet that may be left out.
 fn put_event(slots: &mut HeapCircularBuffer<Slot>, words: &mut Words, event: Event)
     requires { length slots.old.items + length words.old < slots.old.capacity }
-    ensures slots { slots.new ≡ buffer (slots.old.items ++ (kept_words words.old ++ kept event ∷ [])) slots.old.capacity }
+    ensures slots { slots.new
+        ≡ buffer (slots.old.items ++ (kept_words words.old ++ kept event ∷ [])) slots.old.capacity }
     ensures words { words.new ≡ [] }
 {
     put_words(slots, words.as_slice());
@@ -191,7 +193,8 @@ fn leave(
     requires settled_fit { length settled.old.items ≤ 4128 }
     requires recent_fit { length recent.old.items ≤ 4128 }
     ensures left { option_to_list result ≡ kept_of (leaving_from (settled.old.items ++ recent.old.items) words.now) }
-    ensures slots { settled.new.items ++ recent.new.items ≡ staying_from (settled.old.items ++ recent.old.items) words.now }
+    ensures slots { settled.new.items ++ recent.new.items
+        ≡ staying_from (settled.old.items ++ recent.old.items) words.now }
     ensures settled { AreSettled settled.new.items }
     ensures settled_room { settled.new.capacity ≡ settled.old.capacity }
     ensures recent_room { recent.new.capacity ≡ recent.old.capacity }

@@ -1,5 +1,6 @@
 -- What the end of cutting a capture says, where the bytes of the source are told.
-use Rattle.std.proofs.Common.{◌≡◌, ◌≤◌, ◌<◌, ◌+◌, inl, inr, ℕ, zero, suc, ◌++◌, List, [], ◌∷◌, Some, Err, length, take, drop}
+use Rattle.std.proofs.Common.{◌≡◌, ◌≤◌, ◌<◌, ◌+◌, inl, inr, ℕ, zero, suc, ◌++◌, List, [], ◌∷◌, Some, Err, length, take}
+use Rattle.std.proofs.Common.{drop}
 use Rattle.std.proofs.Common.{refl, ap, sym, subst, ◌∙◌, append-nil, append_assoc, arith}
 use Rattle.std.proofs.lemmas.List.{length-append, take_at, drop_at}
 use Rattle.dev_io.specs.Device.{appended}
@@ -7,7 +8,8 @@ use Rattle.gpu_capture.specs.Capture.{Captured, capture, limit}
 use Rattle.gpu_capture.specs.Written.{spelled_end}
 use Rattle.gpu_capture.specs.declared.event.Event.{Event}
 use Rattle.gpu_capture.specs.declared.event.Stop.{Stop}
-use Rattle.gpu_capture.specs.declared.event.Stop.TheVariants.{End, NotCapture, Truncated, BadRecord, TooLong as LongIn, ReadFault}
+use Rattle.gpu_capture.specs.declared.event.Stop.TheVariants.{End, NotCapture, Truncated, BadRecord, TooLong as LongIn}
+use Rattle.gpu_capture.specs.declared.event.Stop.TheVariants.{ReadFault}
 use Rattle.gpu_taps.specs.Tally.{Reading}
 use Rattle.event_play.specs.Ends.{IsNotEnd}
 use Rattle.event_play.specs.Playing.{whole}
@@ -23,7 +25,8 @@ use Rattle.capture_flat.proofs.Pieces.{spell-append}
 use Rattle.capture_cut.specs.Cut.{Way, Plays, events_of, EndsCut, IsCut, MayReadFault, MayWriteFault}
 use Rattle.capture_cut.specs.File.{snapshot, begun, cut_file}
 use Rattle.capture_cut.specs.declared.ending.CutEnding.{CutEnding}
-use Rattle.capture_cut.specs.declared.ending.CutEnding.TheVariants.{Done, PastEnd, Stopped, Faulted, TooLong, WriteFailed}
+use Rattle.capture_cut.specs.declared.ending.CutEnding.TheVariants.{Done, PastEnd, Stopped, Faulted, TooLong}
+use Rattle.capture_cut.specs.declared.ending.CutEnding.TheVariants.{WriteFailed}
 use Rattle.gpu_snapshot.proofs.CutFiles.{cut_files}
 use Rattle.psxgpu_tool.specs.CutRun.{play_first, play_whole, cut_of, GoesOnAs, IsCuttable, CutWhole, EndsAsCut}
 use Rattle.psxgpu_tool.specs.First.{first, play_file, seen}
@@ -113,7 +116,8 @@ module _ (n : ℕ) (way : Way) (heard heard_now : List Reading) (rig : RigState)
         ∙ ap (cut_file way.tale) dropped_first
 
   -- fewer were played, and the next has a fault
-  module _ (event : Event) (fault : EventFault) (is : Step way.tale.state (next_number way.tale.played) event ≡ Err fault) where
+  module _ (event : Event) (fault : EventFault) (is : Step way.tale.state (next_number way.tale.played) event
+      ≡ Err fault) where
     faults_first : (more : List Event)
         → (Replay (raised first way.version) (way.played ++ event ∷ more) End []).ending
         ≡ play.Faulted (next_number way.tale.played) fault
@@ -123,7 +127,8 @@ module _ (n : ℕ) (way : Way) (heard heard_now : List Reading) (rig : RigState)
         in
         ap (λ (r : Played). r.ending) (plays.replays (event ∷ more) End []
         ∙ ap (λ r. go_on r (λ next. Replay next more End [])
-        (λ fault. record { tale = way.tale; ending = play.Faulted (next_number way.tale.played) fault; rest = [] })) after)
+        (λ fault. record { tale = way.tale; ending = play.Faulted (next_number way.tale.played) fault; rest = [] }))
+        after)
 
 -- the file of a capture that was cut goes on where it was cut
 cut_goes_on : (n : ℕ) (way : Way) (was now : Streams) (heard heard_now : List Reading) (rig : RigState)
@@ -135,7 +140,8 @@ cut_goes_on n way was now heard heard_now rig plays is =
     let whole = cut_files.whole n way was now is in
     record {
       writes = λ mode heard rest.
-          cut_files.writes_on mode heard first (raised first way.version) way.tale way.played way.later rest leads whole;
+          cut_files.writes_on mode heard first (raised first way.version) way.tale way.played way.later rest leads
+          whole;
       ends = λ rest.
           cut_files.ends_on first (raised first way.version) way.tale way.played way.later rest leads whole;
     }
@@ -167,7 +173,8 @@ module _ (n : ℕ) (small : n ≤ 4294967295) (heard heard_now : List Reading) (
       in
       let same = ap (λ (c : Captured). c.version) captured in
       let events = ap (λ (c : Captured). c.events) captured in
-      let played = first_played n way heard heard_now rig ends.plays ends.says.all (capture bytes) way.later same events in
+      let played = first_played n way heard heard_now rig ends.plays ends.says.all
+      (capture bytes) way.later same events in
       let file = file_is n way heard heard_now rig ends.plays ends.says.all (capture bytes) way.later same events in
       let size = length-append way.played way.later in
       let many = ap length events in

@@ -1,12 +1,14 @@
 -- What the end of a flat capture says, where the bytes of the source are told.
-use Rattle.std.proofs.Common.{◌≡◌, ◌≤◌, ◌<◌, ℕ, ◌++◌, List, [], ◌∷◌, Some, Result, Ok, Err, length, refl, ap, sym, subst, ◌∙◌, append-nil, append_assoc, arith}
+use Rattle.std.proofs.Common.{◌≡◌, ◌≤◌, ◌<◌, ℕ, ◌++◌, List, [], ◌∷◌, Some, Result, Ok, Err, length, refl, ap, sym}
+use Rattle.std.proofs.Common.{subst, ◌∙◌, append-nil, append_assoc, arith}
 use Rattle.std.proofs.lemmas.List.{length-append}
 use Rattle.dev_io.specs.Device.{appended}
 use Rattle.gpu_capture.specs.Capture.{Captured, capture, limit}
 use Rattle.gpu_capture.specs.Written.{written, spelled_end}
 use Rattle.gpu_capture.specs.declared.event.Event.{Event}
 use Rattle.gpu_capture.specs.declared.event.Stop.{Stop}
-use Rattle.gpu_capture.specs.declared.event.Stop.TheVariants.{End, NotCapture, Truncated, BadRecord, TooLong as LongIn, ReadFault}
+use Rattle.gpu_capture.specs.declared.event.Stop.TheVariants.{End, NotCapture, Truncated, BadRecord, TooLong as LongIn}
+use Rattle.gpu_capture.specs.declared.event.Stop.TheVariants.{ReadFault}
 use Rattle.gpu_capture.specs.Capture.{head_of}
 use Rattle.gpu_taps.specs.Tally.{Reading}
 use Rattle.event_play.specs.Ends.{IsNotEnd}
@@ -77,7 +79,8 @@ asks_none : (s : Machine) (number : ℕ) (asked : Result Work EventFault) (fault
 asks_none s number (Ok asked) fault is = absurd cc
 asks_none s number (Err other) fault is = refl
 
-fault_none : (s : Machine) (number : ℕ) (event : Event) (fault : EventFault) → Step s number event ≡ Err fault → Flat s event ≡ []
+fault_none : (s : Machine) (number : ℕ) (event : Event) (fault : EventFault) → Step s number event ≡ Err fault
+    → Flat s event ≡ []
 unfolding Step Flat
 fault_none s number event fault is = asks_none s number (work_of s.ram s.running event) fault is
 
@@ -99,12 +102,14 @@ file_on start tale version events flat more follows = ap (written (flat_version 
 
 file_of : (start tale : Tale) (version : ℕ) (events flat : List Event) → Follows start events tale flat
     → flat_file start version events ≡ written (flat_version version) flat
-file_of start tale version events flat follows = ap (written (flat_version version)) (all_flat start tale events flat follows)
+file_of start tale version events flat follows = ap (written (flat_version version))
+    (all_flat start tale events flat follows)
 
 -- ---- the ending
 
 -- the status of a stop
-stop_status : (number : ℕ) (stop : Stop) → IsNotEnd stop → status_of (ending_of number stop) ≡ flat_status (Stopped number stop)
+stop_status : (number : ℕ) (stop : Stop) → IsNotEnd stop → status_of (ending_of number stop)
+    ≡ flat_status (Stopped number stop)
 stop_status number End other = absurd other
 stop_status number (NotCapture byte) other = refl
 stop_status number (Truncated byte) other = refl
@@ -113,29 +118,39 @@ stop_status number (LongIn byte) other = refl
 stop_status number (ReadFault byte) other = refl
 
 -- a capture that fits ends as it is played
-fits_as : (bytes : List ℕ) (status : ℕ) → length (flat_of (capture bytes)) ≤ limit → status_of (play_of bytes).ending ≡ status → EndsAsFlat bytes status
+fits_as : (bytes : List ℕ) (status : ℕ) → length (flat_of (capture bytes)) ≤ limit → status_of (play_of bytes).ending
+    ≡ status → EndsAsFlat bytes status
 fits_as bytes status fits is = record { long = λ long. absurd (omega (arith, fits, long)); fits = λ few. sym is }
 
 -- what is said of bytes by what their capture is
 by_capture : (bytes : List ℕ) (captured : Captured) (status : ℕ) → capture bytes ≡ captured
-    → length (flat_of captured) ≤ limit → status_of (Replay (raised first captured.version) captured.events captured.ending captured.rest).ending ≡ status
+    → length (flat_of captured) ≤ limit
+    → status_of (Replay (raised first captured.version) captured.events captured.ending captured.rest).ending
+    ≡ status
     → EndsAsFlat bytes status
 by_capture bytes captured status is fits ends =
     fits_as bytes status (subst (λ (c : Captured). length (flat_of c) ≤ limit) (sym is) fits)
-    (subst (λ (c : Captured). status_of (Replay (raised first c.version) c.events c.ending c.rest).ending ≡ status) (sym is) ends)
+    (subst (λ (c : Captured). status_of (Replay (raised first c.version) c.events c.ending c.rest).ending ≡ status)
+    (sym is) ends)
 
 -- a stop behind the events of a way
-by_stop : (bytes rest : List ℕ) (way : Way) (number : ℕ) (stop : Stop) → Follows (raised first way.version) way.events way.tale way.flat
+by_stop : (bytes rest : List ℕ) (way : Way) (number : ℕ) (stop : Stop)
+    → Follows (raised first way.version) way.events way.tale way.flat
     → capture bytes ≡ record { version = way.version; events = way.events; ending = stop; rest = rest } → IsNotEnd stop
-    → length (flat_file (raised first way.version) way.version way.events) ≤ limit → EndsAsFlat bytes (flat_status (Stopped number stop))
+    → length (flat_file (raised first way.version) way.version way.events) ≤ limit
+    → EndsAsFlat bytes (flat_status (Stopped number stop))
 by_stop bytes rest way number stop follows is other fits =
     let replay : Replay (raised first way.version) way.events stop rest ≡ Replay way.tale [] stop rest =
-    ap (λ events. Replay (raised first way.version) events stop rest) (sym (append-nil way.events)) ∙ follows.replays [] stop rest
+    ap (λ events. Replay (raised first way.version) events stop rest) (sym (append-nil way.events))
+    ∙ follows.replays [] stop rest
     in
-    let same : flat_status (Stopped (next_number way.tale.played) stop) ≡ flat_status (Stopped number stop) = same_status stop in
-    by_capture bytes _ _ is fits (ap (λ (r : Played). status_of r.ending) replay ∙ stop_status (next_number way.tale.played) stop other ∙ same)
+    let same : flat_status (Stopped (next_number way.tale.played) stop)
+    ≡ flat_status (Stopped number stop) = same_status stop in
+    by_capture bytes _ _ is fits
+    (ap (λ (r : Played). status_of r.ending) replay ∙ stop_status (next_number way.tale.played) stop other ∙ same)
   where
-    same_status : (stop : Stop) → flat_status (Stopped (next_number way.tale.played) stop) ≡ flat_status (Stopped number stop)
+    same_status : (stop : Stop) → flat_status (Stopped (next_number way.tale.played) stop)
+        ≡ flat_status (Stopped number stop)
     same_status End = refl
     same_status (NotCapture byte) = refl
     same_status (Truncated byte) = refl
@@ -155,19 +170,23 @@ module _ (heard heard_now : List Reading) (before now : Outside) (rig : RigState
   whole_by ends =
       let way = ends.way in
       let is_cut = taken_of Done ends in
-      let captured : capture bytes ≡ record { version = way.version; events = way.events; ending = End; rest = is_cut.rest } =
+      let captured : capture bytes
+      ≡ record { version = way.version; events = way.events; ending = End; rest = is_cut.rest } =
       ap capture is_cut.all ∙ ends.says.says is_cut.rest
       in
       let is : play_of bytes ≡ whole way.tale is_cut.rest = ap play_of is_cut.all ∙ ends.says.plays is_cut.rest in
-      let flat : flat_of (capture bytes) ≡ flat_file (raised first way.version) way.version way.events = ap flat_of captured in
+      let flat : flat_of (capture bytes)
+      ≡ flat_file (raised first way.version) way.version way.events = ap flat_of captured in
       record {
         ending = ap (λ (r : Played). r.ending) is;
         left = is_cut.left_is ∙ ap (λ (r : Played). Some r.rest) (sym is);
         held = ends.says.held ∙ ap (appended before.out.held) (sym flat);
         fits = subst (λ (c : Captured). length (flat_of c) ≤ limit) (sym captured) ends.fits;
         is_flat = subst (λ (t : Tale). IsFlatCapture first t (flat_version (capture bytes).version)
-            (FlatAll (raised first (capture bytes).version) (capture bytes).events) (flat_of (capture bytes))) (ap (λ (r : Played). r.tale) (sym is))
-            (subst (λ (c : Captured). IsFlatCapture first way.tale (flat_version c.version) (FlatAll (raised first c.version) c.events) (flat_of c))
+            (FlatAll (raised first (capture bytes).version) (capture bytes).events) (flat_of (capture bytes)))
+            (ap (λ (r : Played). r.tale) (sym is))
+            (subst (λ (c : Captured). IsFlatCapture first way.tale (flat_version c.version)
+            (FlatAll (raised first c.version) c.events) (flat_of c))
             (sym captured) ends.says.is_flat);
       }
 
@@ -191,19 +210,27 @@ module _ (heard heard_now : List Reading) (before now : Outside) (rig : RigState
       let step : Step way.tale.state (next_number way.tale.played) event ≡ Err fault =
       ap (λ n. Step way.tale.state n event) (sym ends.says.number_is) ∙ ends.says.fault_is
       in
-      let after : after_event way.tale event ≡ Err fault = ap (told_on way.tale (StepCost way.tale.state event) (StepBoxCost way.tale.state event)) step in
+      let after : after_event way.tale event
+      ≡ Err fault = ap (told_on way.tale (StepCost way.tale.state event) (StepBoxCost way.tale.state event)) step in
       let replay : Replay start ((way.events ++ event ∷ []) ++ more.events) more.ending more.rest
       ≡ record { tale = way.tale; ending = play.Faulted (next_number way.tale.played) fault; rest = more.rest } =
       ap (λ events. Replay start events more.ending more.rest) (append_assoc way.events (event ∷ []) more.events)
       ∙ ends.follows.replays (event ∷ more.events) more.ending more.rest
       ∙ ap (λ r. go_on r (λ next. Replay next more.events more.ending more.rest)
-      (λ fault. record { tale = way.tale; ending = play.Faulted (next_number way.tale.played) fault; rest = more.rest })) after
+      (λ fault. record {
+        tale = way.tale;
+        ending = play.Faulted
+            (next_number way.tale.played) fault;
+        rest = more.rest;
+      })) after
       in
       let none : FlatAll way.tale (event ∷ more.events) ≡ [] =
       ap (λ r. Flat way.tale.state event ++ then_flat r (λ next. FlatAll next more.events)) after
-      ∙ append-nil (Flat way.tale.state event) ∙ fault_none way.tale.state (next_number way.tale.played) event fault step
+      ∙ append-nil (Flat way.tale.state event)
+      ∙ fault_none way.tale.state (next_number way.tale.played) event fault step
       in
-      let file : flat_file start way.version ((way.events ++ event ∷ []) ++ more.events) ≡ flat_file start way.version way.events =
+      let file : flat_file start way.version ((way.events ++ event ∷ []) ++ more.events)
+      ≡ flat_file start way.version way.events =
       ap (flat_file start way.version) (append_assoc way.events (event ∷ []) more.events)
       ∙ file_on start way.tale way.version way.events way.flat (event ∷ more.events) ends.follows
       ∙ ap (λ xs. written (flat_version way.version) (way.flat ++ xs)) none
@@ -214,8 +241,11 @@ module _ (heard heard_now : List Reading) (before now : Outside) (rig : RigState
       subst (λ (xs : List ℕ). length xs ≤ limit) (sym file) ends.fits
       in
       by_capture bytes _ 2 captured
-      (subst (λ (v : ℕ). length (flat_file (raised first v) v ((way.events ++ event ∷ []) ++ more.events)) ≤ limit) (sym said.2) few)
-      (subst (λ (v : ℕ). status_of (Replay (raised first v) ((way.events ++ event ∷ []) ++ more.events) more.ending more.rest).ending ≡ 2) (sym said.2)
+      (subst (λ (v : ℕ). length (flat_file (raised first v) v ((way.events ++ event ∷ []) ++ more.events)) ≤ limit)
+      (sym said.2) few)
+      (subst (λ (v : ℕ). status_of
+      (Replay (raised first v) ((way.events ++ event ∷ []) ++ more.events) more.ending more.rest).ending ≡ 2)
+      (sym said.2)
       (ap (λ (r : Played). status_of r.ending) replay))
 
   long_by : (number : ℕ) → Ends (TooLong number) → EndsAsFlat bytes 2
@@ -254,7 +284,8 @@ module _ (heard heard_now : List Reading) (before now : Outside) (rig : RigState
       let is_cut = taken_of (Stopped number (Truncated byte)) ends in
       let says = ends.says.0.says in
       let none = none_left now.source.left is_cut.rest is_cut.left_is says.1 in
-      stopped_by number (Truncated byte) ends [] (ap capture (all_taken bytes ends.way.taken is_cut.rest is_cut.all none) ∙ says.0)
+      stopped_by number (Truncated byte) ends []
+      (ap capture (all_taken bytes ends.way.taken is_cut.rest is_cut.all none) ∙ says.0)
   flat_complete (Stopped number (NotCapture byte)) ends read write =
       let is_cut = taken_of (Stopped number (NotCapture byte)) ends in
       stopped_by number (NotCapture byte) ends is_cut.rest (ap capture is_cut.all ∙ ends.says.0.says is_cut.rest)

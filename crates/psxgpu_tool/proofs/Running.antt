@@ -19,10 +19,12 @@ use Rattle.capture_cut.specs.Cut.{EndsCut, IsEnding as IsCutEnding, MayReadFault
 use Rattle.capture_cut.specs.Cut.{MayWriteFault as MayWriteCut}
 use Rattle.capture_cut.specs.declared.ending.CutEnding.{CutEnding}
 use Rattle.capture_cut.specs.declared.ending.CutEnding.TheVariants as cut
-use Rattle.capture_flat.specs.Passing.{EndsFlat, IsEnding as IsFlatEnding, MayReadFault as MayReadFlat, MayWriteFault as MayWriteFlat}
+use Rattle.capture_flat.specs.Passing.{EndsFlat, IsEnding as IsFlatEnding, MayReadFault as MayReadFlat}
+use Rattle.capture_flat.specs.Passing.{MayWriteFault as MayWriteFlat}
 use Rattle.capture_flat.specs.declared.ending.FlatEnding.{FlatEnding}
 use Rattle.capture_flat.specs.declared.ending.FlatEnding.TheVariants as flat
-use Rattle.capture_slim.specs.Passing.{EndsSlim, IsEnding as IsSlimEnding, MayReadFault as MayReadSlim, MayWriteFault as MayWriteSlim, streams as slim_streams}
+use Rattle.capture_slim.specs.Passing.{EndsSlim, IsEnding as IsSlimEnding, MayReadFault as MayReadSlim}
+use Rattle.capture_slim.specs.Passing.{MayWriteFault as MayWriteSlim, streams as slim_streams}
 use Rattle.capture_slim.specs.declared.ending.SlimEnding.{SlimEnding}
 use Rattle.capture_slim.specs.declared.ending.SlimEnding.TheVariants as slim
 use Rattle.gpu_snapshot.specs.PlayAny.{AnyMayReadFault, AnyMayWriteFault, EndsAny, FindsBadWord, PlaysAny}
@@ -36,7 +38,8 @@ use Rattle.psxgpu_tool.specs.Demo.{Demo, demo_words}
 use Rattle.psxgpu_tool.specs.DemoOut.{demo_bytes, demo_tale, DemoOut, DemoCost, DemoBoxCost, cells_cost}
 use Rattle.psxgpu_tool.specs.First.{first, seen}
 use Rattle.psxgpu_tool.specs.FlatRun.{FlatRun}
-use Rattle.psxgpu_tool.specs.Line.{status_of, ending_line, ending_text, flat_status, flat_text, slim_status, slim_text, usage_line}
+use Rattle.psxgpu_tool.specs.Line.{status_of, ending_line, ending_text, flat_status, flat_text, slim_status, slim_text}
+use Rattle.psxgpu_tool.specs.Line.{usage_line}
 use Rattle.psxgpu_tool.specs.Line.{cut_status, cut_text}
 use Rattle.psxgpu_tool.specs.Outside.{Outside, Says, HasFailed, HasFailedToRead, EndsTelling}
 use Rattle.psxgpu_tool.specs.PlayRun.{PlayRun}
@@ -51,7 +54,8 @@ use Rattle.psxgpu_tool.proofs.Flats.{flat_three, flat_four, flat_whole, flat_com
 use Rattle.psxgpu_tool.proofs.Commands.{same_command}
 use Rattle.psxgpu_tool.proofs.Cuts.{cut_three, cut_four, cut_whole, cut_complete}
 use Rattle.psxgpu_tool.proofs.Slims.{slim_three, slim_four, slim_whole, slim_complete}
-use Rattle.psxgpu_tool.proofs.Told.{three_starved, four_cut, if_told, whole_run, refused_run, starved_run, blocked_run, complete_run, cost_run}
+use Rattle.psxgpu_tool.proofs.Told.{three_starved, four_cut, if_told, whole_run, refused_run, starved_run, blocked_run}
+use Rattle.psxgpu_tool.proofs.Told.{complete_run, cost_run}
 use Rattle.psxgpu_tool.proofs.Told.{box_cost_run, bad_refused, bad_complete, bad_cost}
 
 -- the statuses of endings
@@ -284,16 +288,29 @@ module _ (heard heard_now : List Reading) (before now : Outside) (ending : Endin
 
 -- a flat capture
 module _ (heard heard_now : List Reading) (before now : Outside) (ending : FlatEnding)
-    (says : Says before.err now.err (flat_text ending heard_now)) (silent : flat_status ending ≡ 0 → now.err ≡ before.err) where
+    (says : Says before.err now.err (flat_text ending heard_now))
+    (silent : flat_status ending ≡ 0 → now.err ≡ before.err) where
   run_of : (rig : RigState) → EndsFlat first (seen heard before) (seen heard_now now) rig ending → IsFlatEnding ending
-      → (MayReadFlat ending → HasFailedToRead before.source now.source) → (MayWriteFlat ending → HasFailed before.out now.out)
+      → (MayReadFlat ending → HasFailedToRead before.source now.source)
+      → (MayWriteFlat ending → HasFailed before.out now.out)
       → FlatRun heard before now (flat_status ending)
   run_of rig ends is_ending read_cause write_cause = record {
-    ends = inr (record { ending = ending; rig = rig; told = heard_now; ends = ends; known = is_ending; status_is = refl; says = says });
-    whole = λ zero. if_told before.source.left _ (λ bytes told. flat_whole heard heard_now before now rig bytes told ending ends zero);
+    ends = inr (record {
+      ending = ending;
+      rig = rig;
+      told = heard_now;
+      ends = ends;
+      known = is_ending;
+      status_is =
+          refl;
+      says = says;
+    });
+    whole = λ zero. if_told before.source.left _
+        (λ bytes told. flat_whole heard heard_now before now rig bytes told ending ends zero);
     starved = λ three. read_cause (flat_three ending three);
     cut = λ four. write_cause (flat_four ending four);
-    complete = λ read write. inr (if_told before.source.left _ (λ bytes told. flat_complete heard heard_now before now rig bytes told ending ends
+    complete = λ read write. inr
+        (if_told before.source.left _ (λ bytes told. flat_complete heard heard_now before now rig bytes told ending ends
         (λ may. read (read_cause may)) (λ may. write (write_cause may))));
   }
 
@@ -308,10 +325,12 @@ module _ (heard heard_now : List Reading) (before now : Outside) (ending : FlatE
 
 -- a capture without its dead drawing
 module _ (heard : List Reading) (before now : Outside) (ending : SlimEnding)
-    (says : Says before.err now.err (slim_text ending heard)) (silent : slim_status ending ≡ 0 → now.err ≡ before.err) where
+    (says : Says before.err now.err (slim_text ending heard))
+    (silent : slim_status ending ≡ 0 → now.err ≡ before.err) where
   slim_run_of : EndsSlim (slim_streams before.source.left before.source.faults before.out.held)
       (slim_streams now.source.left now.source.faults now.out.held) ending → IsSlimEnding ending
-      → (MayReadSlim ending → HasFailedToRead before.source now.source) → (MayWriteSlim ending → HasFailed before.out now.out)
+      → (MayReadSlim ending → HasFailedToRead before.source now.source)
+      → (MayWriteSlim ending → HasFailed before.out now.out)
       → now.steps ≡ before.steps → SlimRun heard before now (slim_status ending)
   slim_run_of ends is_ending read_cause write_cause free = record {
     ends = inr (record {
@@ -320,7 +339,8 @@ module _ (heard : List Reading) (before now : Outside) (ending : SlimEnding)
       known = is_ending;
       status_is = refl;
       says = says;
-      complete = λ read write. if_told before.source.left _ (λ bytes told. slim_complete before now bytes told ending ends
+      complete = λ read write. if_told before.source.left _
+          (λ bytes told. slim_complete before now bytes told ending ends
           read (λ may. read (read_cause may)) (λ may. write (write_cause may)));
     });
     whole = λ zero. if_told before.source.left _ (λ bytes told. slim_whole before now bytes told ending ends zero);
@@ -342,7 +362,8 @@ module _ (heard : List Reading) (before now : Outside) (ending : SlimEnding)
 module _ (n : ℕ) (small : n ≤ 4294967295) (heard heard_now : List Reading) (before now : Outside) (ending : CutEnding)
     (says : Says before.err now.err (cut_text ending heard_now))
     (silent : cut_status ending ≡ 0 → now.err ≡ before.err) where
-  cut_run_of : (rig : RigState) → EndsCut n first (seen heard before) (seen heard_now now) rig ending → IsCutEnding ending
+  cut_run_of : (rig : RigState) → EndsCut n first (seen heard before) (seen heard_now now) rig ending
+      → IsCutEnding ending
       → (MayReadCut ending → HasFailedToRead before.source now.source)
       → (MayWriteCut ending → HasFailed before.out now.out)
       → CutRun n heard before now (cut_status ending)

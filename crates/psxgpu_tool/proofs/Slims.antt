@@ -14,7 +14,8 @@ use Rattle.dead_drawing.specs.Dead.{window_events}
 use Rattle.dead_drawing.specs.Laws.{height_for}
 use Rattle.dead_drawing.specs.Slim.{Slim}
 use Rattle.capture_flat.specs.Passing.{IsFlatCapture}
-use Rattle.capture_slim.specs.Passing.{EndsSlim, IsTooLong, MayReadFault, MayWriteFault, RefusesNext, SaysStop, Way, slim_file, streams}
+use Rattle.capture_slim.specs.Passing.{EndsSlim, IsTooLong, MayReadFault, MayWriteFault, RefusesNext, SaysStop, Way}
+use Rattle.capture_slim.specs.Passing.{slim_file, streams}
 use Rattle.capture_slim.specs.declared.ending.SlimEnding.{SlimEnding}
 use Rattle.capture_slim.specs.declared.ending.SlimEnding.TheVariants.{Done, Stopped, NotFlat, TooLong, WriteFailed}
 use Rattle.psxgpu_tool.specs.First.{first, play_of}

@@ -18,8 +18,8 @@ use Rattle.psxgpu_tool.specs.Outside.{Outside, Says, HasFailed, HasFailedToRead}
 abbrev pub flat_of : Captured → List ℕ
 flat_of captured = flat_file (raised first captured.version) captured.version captured.events
 
--- status 0: the capture is whole, those bytes are left that stand behind its End, and its flat capture was written, which replays to
--- the same words shown, the same status word and the same video memory, whatever stands behind it
+-- status 0: the capture is whole, those bytes are left that stand behind its End, and its flat capture was written,
+-- which replays to the same words shown, the same status word and the same video memory, whatever stands behind it
 pub record FlatWhole (bytes : List ℕ) (before now : Outside) : Type 0 where
   pub ending : (play_of bytes).ending ≡ Done
   pub left : now.source.left ≡ Some (play_of bytes).rest
@@ -28,13 +28,14 @@ pub record FlatWhole (bytes : List ℕ) (before now : Outside) : Type 0 where
   pub is_flat : IsFlatCapture first (play_of bytes).tale (flat_version (capture bytes).version)
       (FlatAll (raised first (capture bytes).version) (capture bytes).events) (flat_of (capture bytes))
 
--- the status by the capture alone: it is refused where its flat capture would be too long, and else it ends as it is played
+-- the status by the capture alone: it is refused where its flat capture would be too long, and else it ends as it is
+-- played
 pub record EndsAsFlat (bytes : List ℕ) (status : ℕ) : Type 0 where
   pub long : limit < length (flat_of (capture bytes)) → status ≡ 2
   pub fits : length (flat_of (capture bytes)) ≤ limit → status ≡ status_of (play_of bytes).ending
 
--- any status: how the flat capture ends, from a new machine, with all that was due before, what the taps were told and the store steps;
--- err says that, and behind a refusal the last items of the taps as they are then
+-- any status: how the flat capture ends, from a new machine, with all that was due before, what the taps were told and
+-- the store steps; err says that, and behind a refusal the last items of the taps as they are then
 pub record FlatEnds (heard : List Reading) (before now : Outside) (status : ℕ) : Type 0 where
   pub ending : FlatEnding
   pub rig : RigState

@@ -16,8 +16,8 @@ use Rattle.gpu_snapshot.specs.declared.ending.AnyEnding.TheVariants.{Played}
 use Rattle.psxgpu_tool.specs.Line.{ending_line, any_status, any_text}
 use Rattle.psxgpu_tool.specs.Outside.{Outside, Says, HasFailed, HasFailedToRead}
 
--- status 0: the capture is whole, or the records behind the state of the snapshot are; for a picture there is one; those
--- bytes are left that stand behind the End, and all that there is to write was written
+-- status 0: the capture is whole, or the records behind the state of the snapshot are; for a picture there is one;
+-- those bytes are left that stand behind the End, and all that there is to write was written
 pub record WholeRun (mode : Mode) (heard : List Reading) (bytes : List ℕ) (before now : Outside) : Type 0 where
   pub ending : file_ending mode bytes ≡ Played Done
   pub left : now.source.left ≡ Some (play_file bytes).rest

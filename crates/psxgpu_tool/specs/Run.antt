@@ -31,8 +31,8 @@ pub record Declined (line : List ℕ) (before now : Outside) : Type 0 where
   pub free : now.steps ≡ before.steps
   pub says : Says before.err now.err line
 
--- What a run does whose words name a command. It is never taken for usage; without memory it only says so; and where all
--- was written err stays as it was.
+-- What a run does whose words name a command. It is never taken for usage; without memory it only says so; and where
+-- all was written err stays as it was.
 pub record CommandRun (command : Command) (heard : List Reading) (before now : Outside) (status : ℕ) : Type 0 where
   pub does : RunsAs command heard before now status
   pub used : status ≡ 1 → ⊥

@@ -56,7 +56,8 @@ pub fn end_flat<E: Sink, T: Listener>(err: &mut E, ending: FlatEnding, taps: &Ve
     ensures status { result ≡ flat_status ending }
     ensures says { Says (sink_side (E.held err.old) (E.faults err.old)) (sink_side (E.held err.new) (E.faults err.new))
         (flat_text ending (map T.heard taps.now.items)) }
-    ensures silent { result ≡ 0 → sink_side (E.held err.new) (E.faults err.new) ≡ sink_side (E.held err.old) (E.faults err.old) }
+    ensures silent { result ≡ 0 → sink_side (E.held err.new) (E.faults err.new)
+        ≡ sink_side (E.held err.old) (E.faults err.old) }
 {
     let status = flat_status(ending);
     if status != 0 {

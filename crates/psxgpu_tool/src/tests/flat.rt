@@ -5,8 +5,8 @@ use dev_io::{FailSink, MemSink, MemSource, Source};
 use std::alloc::Global;
 use std::test::Fail;
 
-/// A capture, and what is to come of it: the records of its flat capture, how many bytes of that are written, and what err says. Where
-/// it is whole, both show the same words.
+/// A capture, and what is to come of it: the records of its flat capture, how many bytes of that are written, and what
+/// err says. Where it is whole, both show the same words.
 #[derive(Clone, Copy)]
 struct Case {
     head: &'static [u8],

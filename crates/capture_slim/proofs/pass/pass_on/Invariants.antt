@@ -8,7 +8,8 @@ use Rattle.capture_slim.proofs.pass.pass_on.Given as goal
 
 abbrev pub invariant-events : goal.invariant-events
 invariant-events g l = record {
-  awaits : Awaits l.version (streams (g.S.Source.left l.fn.source) (g.S.Source.faults l.fn.source) (g.K.Sink.held l.fn.out))
+  awaits : Awaits l.version
+      (streams (g.S.Source.left l.fn.source) (g.S.Source.faults l.fn.source) (g.K.Sink.held l.fn.out))
       (streams (g.S.Source.left l.source) (g.S.Source.faults l.source) (g.K.Sink.held l.out)) l.window l.draft l.count
       l.reader.progress l.next;
   few : l.draft.file.size + 4 ≤ 2 ^ 30;

@@ -11,7 +11,8 @@ returns-then-after-gt-LIMIT-clause-ends g c = λ base outs is at.
     long_ends file c.args.draft.now.gathered base (g.K.Sink.held c.args.out.now) outs c.args.event.now c.args.number
     (file.size + c.head_size.result + c.record_size.result) is at
     (omega (arith, long, c.head_size.ensures.value, c.record_size.ensures.value))
-    (g.K.Sink.held c.end_too_long.new.out) c.end_too_long.result (omega (arith, c.if-after-gt-LIMIT.true)) c.end_too_long.ensures.ends
+    (g.K.Sink.held c.end_too_long.new.out) c.end_too_long.result
+    (omega (arith, c.if-after-gt-LIMIT.true)) c.end_too_long.ensures.ends
 
 pub returns-in-Ok-clause-ok : goal.returns-in-Ok-clause-ok
 returns-in-Ok-clause-ok g c = λ base outs is at.
@@ -19,7 +20,9 @@ returns-in-Ok-clause-ok g c = λ base outs is at.
     let long = length-append (head_at file) (spelled c.args.event.now) in
     let after = file.size + c.head_size.result + c.record_size.result in
     let now = g.K.Sink.held c.make_room.new.out in
-    let roomy = room_draft file c.args.draft.now.gathered c.make_room.new.self base (g.K.Sink.held c.args.out.now) now outs is c.in-Ok.ensures.ok in
+    let roomy = room_draft file c.args.draft.now.gathered c.make_room.new.self base
+    (g.K.Sink.held c.args.out.now) now outs is c.in-Ok.ensures.ok in
     let added = added_draft file c.make_room.new.self base now outs c.args.event.now c.args.number after roomy at
-    (omega (arith, long, c.head_size.ensures.value, c.record_size.ensures.value)) (omega (arith, c.if-after-gt-LIMIT.false)) in
+    (omega (arith, long, c.head_size.ensures.value, c.record_size.ensures.value))
+    (omega (arith, c.if-after-gt-LIMIT.false)) in
     rw (c.add_due.ensures.gathered, c.add_due.ensures.file) added

@@ -14,7 +14,8 @@ returns-in-None-clause-ok g c = λ base outs is at.
 pub returns-in-Some-clause-ok : goal.returns-in-Some-clause-ok
 returns-in-Some-clause-ok g c = λ base outs is at.
     let slots = c.args.window.now.slots in
-    rw (first_some slots c.in-Some.event (sym c.pop.ensures.event ∙ c.in-Some.is)) (c.add_record.ensures.ok base outs is at)
+    rw (first_some slots c.in-Some.event (sym c.pop.ensures.event ∙ c.in-Some.is))
+    (c.add_record.ensures.ok base outs is at)
 
 pub returns-in-Some-clause-ends : goal.returns-in-Some-clause-ends
 returns-in-Some-clause-ends g c = λ base outs is at.

@@ -16,7 +16,8 @@ returns-in-Err-clause-ends g c = λ base outs is all_count.
     omega (arith, all_left_long outs at.done, at.counted, all_count, closed_long, c.len-left.ensures.value) in
     let P : ℕ → Type 0 = λ v. FailsRest v base (g.K.Sink.held c.add_next.new.out) outs (all_left all) c.in-Err.ending in
     subst P at.version
-    (fails_slots c.slots.draft.file.version base (g.K.Sink.held c.add_next.new.out) outs all at.done c.slots.window.slots c.in-Err.ending at.are
+    (fails_slots c.slots.draft.file.version base (g.K.Sink.held c.add_next.new.out) outs all at.done
+    c.slots.window.slots c.in-Err.ending at.are
     (c.in-Err.ensures.ends base (outs ++ all_left at.done) (at.added base outs is all_count) place))
 
 pub slots-preserved : goal.slots-preserved
@@ -24,7 +25,8 @@ slots-preserved g c =
     let at = c.slots.invariant in
     let all = waiting c.args.window.now in
     let closed_long = ap (λ (w : Window). length w.slots + length w.words) c.close.ensures in
-    let next = moves_on all at.done c.slots.window.slots at.are (omega (arith, at.counted, c.slots-test.true, closed_long, c.len-left.ensures.value)) in
+    let next = moves_on all at.done c.slots.window.slots at.are
+    (omega (arith, at.counted, c.slots-test.true, closed_long, c.len-left.ensures.value)) in
     let number = c.args.count - c.len-left.result + c.slots.i + 1 in
     record {
       done = at.done ++ next.next ∷ [];
@@ -33,7 +35,8 @@ slots-preserved g c =
       added = λ base outs is all_count.
           let place : number ≡ length (outs ++ all_left at.done) + 1 =
           omega (arith, all_left_long outs at.done, at.counted, all_count, closed_long, c.len-left.ensures.value) in
-          let P : List (Option Event) → Type 0 = λ os. IsDraft c.add_next.new.draft base (g.K.Sink.held c.add_next.new.out) os in
+          let P : List (Option Event)
+          → Type 0 = λ os. IsDraft c.add_next.new.draft base (g.K.Sink.held c.add_next.new.out) os in
           subst P (next.placed outs)
           (c.in-Ok.ensures.ok base (outs ++ all_left at.done) (at.added base outs is all_count) place);
       few = c.in-Ok.ensures.few;
@@ -46,8 +49,10 @@ returns-clause-ok g c = λ base outs is all_count.
     let at = c.slots.invariant in
     let all = waiting c.args.window.now in
     let closed_long = ap (λ (w : Window). length w.slots + length w.words) c.close.ensures in
-    let none = none_left all at.done c.slots.window.slots at.are (omega (arith, at.counted, c.slots-test.false, closed_long, c.len-left.ensures.value)) in
-    let P : List Slot → Type 0 = λ done. IsDraft c.slots.draft base (g.K.Sink.held c.slots.out) (outs ++ all_left done) in
+    let none = none_left all at.done c.slots.window.slots at.are
+    (omega (arith, at.counted, c.slots-test.false, closed_long, c.len-left.ensures.value)) in
+    let P : List Slot → Type 0 = λ done. IsDraft c.slots.draft base (g.K.Sink.held c.slots.out)
+    (outs ++ all_left done) in
     subst P none (at.added base outs is all_count)
 
 pub returns-clause-most : goal.returns-clause-most

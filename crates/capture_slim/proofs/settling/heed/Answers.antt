@@ -20,16 +20,19 @@ returns-in-Loud-clause-slots c =
     ∙ ap (λ (b : Buffer Slot). (old ++ all_shut more) ++ b.items) c.shut_all.ensures.recent
     ∙ append-nil (old ++ all_shut more)
     ∙ sym (ap (λ (say : Saying). settled_by (old ++ more) c.args.behind say) c.in-Loud.is
-    ∙ settled_first old more c.args.behind _ c.requires.settled ∙ ap (λ (ss : List Slot). old ++ ss) (loud_shuts more c.args.behind))
+    ∙ settled_first old more c.args.behind _ c.requires.settled ∙ ap (λ (ss : List Slot). old ++ ss)
+    (loud_shuts more c.args.behind))
 
 pub returns-in-Loud-clause-settled : goal.returns-in-Loud-clause-settled
 returns-in-Loud-clause-settled c =
     let old = c.args.settled.now.items in
     let more = c.args.recent.now.items in
     let P : Buffer Slot → Type 0 = λ b. AreSettled b.items in
-    subst P (sym c.shut_all.ensures.settled) (settled_append old (all_shut more) c.requires.settled (all_shut_settled more))
+    subst P (sym c.shut_all.ensures.settled)
+    (settled_append old (all_shut more) c.requires.settled (all_shut_settled more))
 
 pub returns-in-Cover-clause-slots : goal.returns-in-Cover-clause-slots
 returns-in-Cover-clause-slots c =
     c.cover.ensures.slots
-    ∙ sym (settled_first c.args.settled.now.items c.args.recent.now.items c.args.behind c.args.saying.now c.requires.settled)
+    ∙ sym (settled_first c.args.settled.now.items c.args.recent.now.items c.args.behind c.args.saying.now
+    c.requires.settled)

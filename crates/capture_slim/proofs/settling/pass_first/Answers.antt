@@ -11,5 +11,6 @@ returns-in-Some-clause-settled c =
     let items = c.args.recent.now.items in
     let P : Buffer Slot → Type 0 = λ b. AreSettled b.items in
     subst P (sym c.push_back.ensures.items)
-    (passed old items c.in-Some.slot c.args.settled.now.capacity (sym c.in-Some.is ∙ c.pop_front.ensures.value) c.requires.room
+    (passed old items c.in-Some.slot c.args.settled.now.capacity
+    (sym c.in-Some.is ∙ c.pop_front.ensures.value) c.requires.room
     c.requires.settled c.requires.first)

@@ -17,7 +17,8 @@ turn-requires-clause-fits c =
       slots,
       capacity,
       c.requires.fits,
-      length-append (drop c.loop-i.i init) (settled_by done (length init - c.loop-i.i + c.args.behind) c.args.saying.now),
+      length-append (drop c.loop-i.i init)
+          (settled_by done (length init - c.loop-i.i + c.args.behind) c.args.saying.now),
       settled_by_long done (length init - c.loop-i.i + c.args.behind) c.args.saying.now,
       length-drop c.loop-i.i init,
       length-take c.loop-i.i init,
@@ -30,5 +31,8 @@ loop-i-preserved c =
     record {
       slots = c.turn.ensures
           ∙ ap (λ (b : Buffer Slot). buffer (turned b.items age c.args.saying.now) b.capacity) c.loop-i.invariant.slots
-          ∙ ap (λ (l : List Slot). buffer l c.args.slots.now.capacity) (turned_next init c.loop-i.i c.args.behind age c.args.saying.now (omega (arith, c.loop-i-test.true, c.len-count.ensures.len)) (omega (arith, c.len-count.ensures.len, c.loop-i-test.true)));
+          ∙ ap (λ (l : List Slot). buffer l c.args.slots.now.capacity)
+          (turned_next init c.loop-i.i c.args.behind age c.args.saying.now
+          (omega (arith, c.loop-i-test.true, c.len-count.ensures.len))
+          (omega (arith, c.len-count.ensures.len, c.loop-i-test.true)));
     }

@@ -6,5 +6,7 @@ use Rattle.capture_slim.proofs.settling.settle_all.Given as goal
 -- those that are settled have gone to the end
 abbrev pub invariant-loop-i : goal.invariant-loop-i
 invariant-loop-i l = record {
-  slots : l.slots ≡ buffer (drop l.i l.initial.slots.items ++ settled_by (take l.i l.initial.slots.items) (length l.initial.slots.items - l.i + l.behind) l.saying) l.initial.slots.capacity;
+  slots : l.slots
+      ≡ buffer (drop l.i l.initial.slots.items ++ settled_by (take l.i l.initial.slots.items)
+      (length l.initial.slots.items - l.i + l.behind) l.saying) l.initial.slots.capacity;
 }

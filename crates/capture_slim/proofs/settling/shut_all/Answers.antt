@@ -31,11 +31,15 @@ loop-i-preserved c =
     let lt = c.loop-i-test.true in
     record {
       settled = c.shut_first.ensures.settled
-          ∙ ap (λ (b : Buffer Slot). buffer (b.items ++ all_shut (take 1 c.loop-i.recent.items)) b.capacity) c.loop-i.invariant.settled
-          ∙ ap (λ (b : Buffer Slot). buffer ((old ++ all_shut (take i all)) ++ all_shut (take 1 b.items)) c.args.settled.now.capacity) c.loop-i.invariant.rest
-          ∙ ap (λ (l : List Slot). buffer l c.args.settled.now.capacity) (append_assoc old (all_shut (take i all)) (all_shut (take 1 (drop i all)))
+          ∙ ap (λ (b : Buffer Slot). buffer (b.items ++ all_shut (take 1 c.loop-i.recent.items)) b.capacity)
+          c.loop-i.invariant.settled
+          ∙ ap (λ (b : Buffer Slot). buffer ((old ++ all_shut (take i all)) ++ all_shut (take 1 b.items))
+          c.args.settled.now.capacity) c.loop-i.invariant.rest
+          ∙ ap (λ (l : List Slot). buffer l c.args.settled.now.capacity)
+          (append_assoc old (all_shut (take i all)) (all_shut (take 1 (drop i all)))
           ∙ ap (λ (l : List Slot). old ++ l) (shut_next all i (omega (arith, lt, c.len-count.ensures.len))));
       rest = c.shut_first.ensures.recent
           ∙ ap (λ (b : Buffer Slot). buffer (drop 1 b.items) b.capacity) c.loop-i.invariant.rest
-          ∙ ap (λ (l : List Slot). buffer l c.args.recent.now.capacity) (drop_next all i (omega (arith, lt, c.len-count.ensures.len)));
+          ∙ ap (λ (l : List Slot). buffer l c.args.recent.now.capacity)
+          (drop_next all i (omega (arith, lt, c.len-count.ensures.len)));
     }

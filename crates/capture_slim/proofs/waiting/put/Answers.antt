@@ -8,4 +8,6 @@ use Rattle.capture_slim.proofs.waiting.put.Goals as goal
 pub returns : goal.returns
 returns c =
     let s : Slot = record { event = c.args.event; mark = c.args.mark } in
-    c.push_back.ensures.items ∙ ap (λ (l : List Slot). buffer l c.args.slots.now.capacity) (keep_all c.args.slots.now.capacity (c.args.slots.now.items ++ s ∷ []) (omega (arith, c.requires, length_push c.args.slots.now.items s)))
+    c.push_back.ensures.items ∙ ap (λ (l : List Slot). buffer l c.args.slots.now.capacity)
+    (keep_all c.args.slots.now.capacity (c.args.slots.now.items ++ s ∷ [])
+    (omega (arith, c.requires, length_push c.args.slots.now.items s)))

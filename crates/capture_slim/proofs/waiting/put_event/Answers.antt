@@ -11,4 +11,13 @@ put-requires c =
     let long = ap (λ (b : Buffer Slot). length b.items) c.put_words.ensures in
     let capacity = ap (λ (b : Buffer Slot). b.capacity) c.put_words.ensures in
     let words = ap length c.as_slice.ensures in
-    omega (arith, long, capacity, words, c.requires, length-append c.args.slots.now.items (kept_words c.as_slice.result.now), kept_count c.as_slice.result.now)
+    omega (
+      arith,
+      long,
+      capacity,
+      words,
+      c.requires,
+      length-append c.args.slots.now.items
+          (kept_words c.as_slice.result.now),
+      kept_count c.as_slice.result.now,
+    )

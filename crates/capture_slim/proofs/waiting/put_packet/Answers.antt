@@ -14,7 +14,17 @@ put-requires c =
     let long = ap (λ (b : Buffer Slot). length b.items) c.loop-word.invariant.slots in
     let capacity = ap (λ (b : Buffer Slot). b.capacity) c.loop-word.invariant.slots in
     let done = take c.loop-word.word-index c.args.words.now in
-    omega (arith, long, capacity, c.requires.room, c.loop-word-test.true, length-append c.args.slots.now.items (judged done c.args.area), judged_count c.args.area done, length-take c.loop-word.word-index c.args.words.now)
+    omega (
+      arith,
+      long,
+      capacity,
+      c.requires.room,
+      c.loop-word-test.true,
+      length-append c.args.slots.now.items
+          (judged done c.args.area),
+      judged_count c.args.area done,
+      length-take c.loop-word.word-index c.args.words.now,
+    )
 
 pub loop-word-preserved : goal.loop-word-preserved
 loop-word-preserved c =
@@ -25,11 +35,15 @@ loop-word-preserved c =
     let w = get_or words i 0 in
     let done = take i words in
     let s : Slot = record { event = event.Gp0 w; mark = mark_of c.args.area c.loop-word.offset } in
-    let count : c.loop-word.offset ≡ length done = omega (arith, c.loop-word.invariant.offset, length-take i words, c.loop-word-test.true) in
+    let count : c.loop-word.offset
+    ≡ length done = omega (arith, c.loop-word.invariant.offset, length-take i words, c.loop-word-test.true) in
     record {
       slots = c.put.ensures
-          ∙ ap (λ (m : Mark). buffer (c.loop-word.slots.items ++ record { event = event.Gp0 w; mark = m } ∷ []) c.loop-word.slots.capacity) c.mark_of.ensures
+          ∙ ap (λ (m : Mark). buffer (c.loop-word.slots.items ++ record { event = event.Gp0 w; mark = m } ∷ [])
+          c.loop-word.slots.capacity) c.mark_of.ensures
           ∙ ap (λ (b : Buffer Slot). buffer (b.items ++ s ∷ []) b.capacity) c.loop-word.invariant.slots
-          ∙ ap (λ (l : List Slot). buffer l cap) (append_assoc items (judged done c.args.area) (s ∷ []) ∙ ap (λ (l : List Slot). items ++ l) (sym (judged_push c.args.area done w c.loop-word.offset count) ∙ ap (λ (ws : List ℕ). judged ws c.args.area) (sym (take_more words i 0 c.loop-word-test.true))));
+          ∙ ap (λ (l : List Slot). buffer l cap) (append_assoc items (judged done c.args.area) (s ∷ [])
+          ∙ ap (λ (l : List Slot). items ++ l) (sym (judged_push c.args.area done w c.loop-word.offset count)
+          ∙ ap (λ (ws : List ℕ). judged ws c.args.area) (sym (take_more words i 0 c.loop-word-test.true))));
       offset = omega (arith, c.loop-word.invariant.offset);
     }

@@ -13,7 +13,17 @@ put-requires c =
     let long = ap (λ (b : Buffer Slot). length b.items) c.loop-word.invariant.slots in
     let capacity = ap (λ (b : Buffer Slot). b.capacity) c.loop-word.invariant.slots in
     let done = take c.loop-word.word-index c.args.words.now in
-    omega (arith, long, capacity, c.requires, c.loop-word-test.true, length-append c.args.slots.now.items (kept_words done), kept_count done, length-take c.loop-word.word-index c.args.words.now)
+    omega (
+      arith,
+      long,
+      capacity,
+      c.requires,
+      c.loop-word-test.true,
+      length-append c.args.slots.now.items
+          (kept_words done),
+      kept_count done,
+      length-take c.loop-word.word-index c.args.words.now,
+    )
 
 pub loop-word-preserved : goal.loop-word-preserved
 loop-word-preserved c =
@@ -26,5 +36,8 @@ loop-word-preserved c =
     record {
       slots = c.put.ensures
           ∙ ap (λ (b : Buffer Slot). buffer (b.items ++ s ∷ []) b.capacity) c.loop-word.invariant.slots
-          ∙ ap (λ (l : List Slot). buffer l cap) (append_assoc items (kept_words (take i words)) (s ∷ []) ∙ ap (λ (l : List Slot). items ++ l) (sym (kept_words_push (take i words) w) ∙ ap kept_words (sym (take_more words i 0 c.loop-word-test.true))));
+          ∙ ap (λ (l : List Slot). buffer l cap) (append_assoc items (kept_words (take i words)) (s ∷ [])
+          ∙ ap (λ (l : List Slot). items ++ l)
+          (sym (kept_words_push (take i words) w)
+          ∙ ap kept_words (sym (take_more words i 0 c.loop-word-test.true))));
     }

@@ -5,7 +5,8 @@ use Rattle.psxgpu_tool.proofs.command.count_of.Goals as goal
 pub returns-else-is_count : goal.returns-else-is_count
 returns-else-is_count c = λ n low high is.
     let most = c.ranges.most in
-    let same = parse-decimal 32 n _ _ (omega (arith, high, most)) (omega (arith, high, most)) is c.parse.ensures.value.0 in
+    let same = parse-decimal 32 n _ _ (omega (arith, high, most))
+    (omega (arith, high, most)) is c.parse.ensures.value.0 in
     let equal : c.in-Ok.n ≡ n = cc (same, c.in-Ok.is) in
     let spelled = is ∙ ap decimal (sym equal) in
     let counts = c.is_count.ensures.1 (omega (arith, low, equal), omega (arith, high, equal), spelled) in
@@ -14,5 +15,6 @@ returns-else-is_count c = λ n low high is.
 pub returns-in-Err : goal.returns-in-Err
 returns-in-Err c = λ n low high is.
     let most = c.ranges.most in
-    let same = parse-decimal 32 n _ _ (omega (arith, high, most)) (omega (arith, high, most)) is c.parse.ensures.value.0 in
+    let same = parse-decimal 32 n _ _ (omega (arith, high, most))
+    (omega (arith, high, most)) is c.parse.ensures.value.0 in
     absurd (cc (same, c.in-Err.is))

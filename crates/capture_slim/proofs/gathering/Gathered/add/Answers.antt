@@ -8,25 +8,29 @@ unreachable-requires c =
     let inside = c.self.inside in
     let all = ap length (cut_bytes inside.extents.items inside.bytes.items c.self.invariant) in
     let now = ap (λ (ps : List Piece). length (bytes_of ps)) c.self.view_is in
-    let fits : length inside.bytes.items + length c.args.record_bytes.now ≤ 4096 = omega (arith, all, now, c.requires.bytes) in
+    let fits : length inside.bytes.items + length c.args.record_bytes.now ≤ 4096 = omega
+    (arith, all, now, c.requires.bytes) in
     let ok = c.in-Err.ensures.variant.1 fits in cc
 
 pub push-requires : goal.push-requires
 push-requires c =
     let inside = c.self.inside in
     let now = ap (λ (ps : List Piece). length ps) c.self.view_is in
-    let n : length inside.extents.items < 512 = omega (arith, cut_count inside.extents.items inside.bytes.items, now, c.requires.records) in
+    let n : length inside.extents.items < 512 = omega
+    (arith, cut_count inside.extents.items inside.bytes.items, now, c.requires.records) in
     (lit< tt, n)
 
 pub invariant_of-self : goal.invariant_of-self
 invariant_of-self c =
     let inside = c.self.inside in
     rw (c.push.ensures.items, c.in_default.ensures.ok)
-    (total_more inside.extents.items _ ∙ omega (arith, c.self.invariant, length-append inside.bytes.items c.args.record_bytes.now))
+    (total_more inside.extents.items _
+    ∙ omega (arith, c.self.invariant, length-append inside.bytes.items c.args.record_bytes.now))
 
 pub returns : goal.returns
 returns c =
     let inside = c.self.inside in
     rw (c.push.ensures.items, c.in_default.ensures.ok)
     (cut_more inside.extents.items _ inside.bytes.items c.args.record_bytes.now c.self.invariant refl
-    ∙ ap (λ (ps : List Piece). ps ++ record { number = c.args.number; bytes = c.args.record_bytes.now } ∷ []) c.self.view_is)
+    ∙ ap (λ (ps : List Piece). ps ++ record { number = c.args.number; bytes = c.args.record_bytes.now } ∷ [])
+    c.self.view_is)

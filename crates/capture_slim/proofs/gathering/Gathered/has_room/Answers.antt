@@ -14,4 +14,10 @@ pub returns-clause-records : goal.returns-clause-records
 returns-clause-records c = λ fits.
     let inside = c.self.inside in
     let now = ap (λ (ps : List Piece). length ps) c.self.view_is in
-    omega (arith, cut_count inside.extents.items inside.bytes.items, now, c.fits.ensures.records fits, c.len-2.ensures.value)
+    omega (
+      arith,
+      cut_count inside.extents.items inside.bytes.items,
+      now,
+      c.fits.ensures.records fits,
+      c.len-2.ensures.value,
+    )

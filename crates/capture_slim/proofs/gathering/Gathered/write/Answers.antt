@@ -21,7 +21,8 @@ returns-in-Err-clause-failed g c =
     let taken = c.in-Err.taken in
     let is = c.first_lacking.ensures ∙ ap (λ (es : List Extent). lacking es taken) c.as_slice-in-Err.ensures.value in
     let part = rw c.as_slice.ensures.value at c.in-Err.ensures.part in
-    let took = c.in-Err.ensures.failed ∙ ap (λ (bs : List ℕ). appended before (take taken bs)) c.as_slice.ensures.value in
+    let took = c.in-Err.ensures.failed
+    ∙ ap (λ (bs : List ℕ). appended before (take taken bs)) c.as_slice.ensures.value in
     let P : List Piece → Type 0 = λ ps. BreaksOff ps before now c.first_lacking.result in
     let Q : ℕ → Type 0 = λ n. BreaksOff (cut inside.extents.items inside.bytes.items) before now n in
     subst P c.self.view_is

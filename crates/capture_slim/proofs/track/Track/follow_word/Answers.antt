@@ -12,19 +12,22 @@ returns-then-passes-clause-control c =
     let k : Control = record { regs = c.self.inside.regs; pending = c.self.inside.splitter } in
     let f : Registers → Control = λ regs. record { regs = regs; pending = c.self.inside.splitter } in
     ap f c.set_register.ensures
-    ∙ register_control k c.args.word (c.passes.ensures.packet c.if-passes.true) (c.passes.ensures.class c.if-passes.true)
+    ∙ register_control k c.args.word (c.passes.ensures.packet c.if-passes.true)
+    (c.passes.ensures.class c.if-passes.true)
     ∙ ap (λ (k : Control). controlled k (Gp0 c.args.word)) c.self.view_is
 
 pub returns-then-passes-clause-saying : goal.returns-then-passes-clause-saying
 returns-then-passes-clause-saying c =
     let k : Control = record { regs = c.self.inside.regs; pending = c.self.inside.splitter } in
-    let quiet = register_quiet k c.args.word (c.passes.ensures.packet c.if-passes.true) (c.passes.ensures.class c.if-passes.true) in
+    let quiet = register_quiet k c.args.word (c.passes.ensures.packet c.if-passes.true)
+    (c.passes.ensures.class c.if-passes.true) in
     c.quiet.ensures.saying ∙ quiet.saying ∙ ap (λ (k : Control). said_at k (Gp0 c.args.word)) c.self.view_is
 
 pub returns-then-passes-clause-area : goal.returns-then-passes-clause-area
 returns-then-passes-clause-area c =
     let k : Control = record { regs = c.self.inside.regs; pending = c.self.inside.splitter } in
-    let quiet = register_quiet k c.args.word (c.passes.ensures.packet c.if-passes.true) (c.passes.ensures.class c.if-passes.true) in
+    let quiet = register_quiet k c.args.word (c.passes.ensures.packet c.if-passes.true)
+    (c.passes.ensures.class c.if-passes.true) in
     c.quiet.ensures.area ∙ quiet.area ∙ ap (λ (k : Control). area_at k (Gp0 c.args.word)) c.self.view_is
 
 pub returns-then-push_inside-clause-control : goal.returns-then-push_inside-clause-control

@@ -5,4 +5,5 @@ use Rattle.dead_drawing.specs.Control.{Control}
 use Rattle.capture_slim.proofs.track.Track.is_idle.Goals as goal
 
 pub returns : goal.returns
-returns c = idle_is c.is_idle.result c.self.inside.splitter c.is_idle.ensures ∙ ap (λ (k : Control). is_idle k.pending) c.self.view_is
+returns c = idle_is c.is_idle.result c.self.inside.splitter c.is_idle.ensures
+    ∙ ap (λ (k : Control). is_idle k.pending) c.self.view_is

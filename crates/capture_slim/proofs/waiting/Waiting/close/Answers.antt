@@ -26,7 +26,9 @@ invariant_of-self c =
       settled_room_is = c.self.invariant.settled_room_is;
       recent_room_is = ap (λ (b : Buffer Slot). b.capacity) c.put_words.ensures ∙ c.self.invariant.recent_room_is;
       settled = c.self.invariant.settled;
-      ports = subst P (sym items) (subst R (append_assoc old recent (kept_words words)) (ports_append all (kept_words words) c.self.invariant.ports (kept_ports words)));
+      ports = subst P (sym items)
+          (subst R (append_assoc old recent (kept_words words))
+          (ports_append all (kept_words words) c.self.invariant.ports (kept_ports words)));
       few = omega (
         arith,
         ws,

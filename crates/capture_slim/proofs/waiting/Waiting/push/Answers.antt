@@ -42,9 +42,11 @@ leave-requires-clause-recent_fit c =
     let all = c.self.inside.settled.items ++ c.self.inside.recent.items in
     let long = ap (λ (ss : List Slot). length ss) c.heed.ensures.slots in
     let s = pushed_all (record { slots = all; words = c.self.inside.words; control = c.self.inside.track })
-    c.args.event c.as_slice-behind.result.now c.heed.new.settled.items c.heed.new.recent c.follow-told.result.saying c.follow-told.result.area
+    c.args.event c.as_slice-behind.result.now c.heed.new.settled.items c.heed.new.recent c.follow-told.result.saying
+    c.follow-told.result.area
     c.is_idle-idle.result c.follow-told.new.self (record { slots = c.add.new.slots; words = c.add.new.words })
-    c.self.invariant.begun c.as_slice-behind.ensures c.follow-told.ensures.saying c.follow-told.ensures.area c.is_idle-idle.ensures c.follow-told.ensures.control
+    c.self.invariant.begun c.as_slice-behind.ensures c.follow-told.ensures.saying c.follow-told.ensures.area
+    c.is_idle-idle.ensures c.follow-told.ensures.control
     c.heed.ensures.slots c.add.ensures in
     omega (
       arith,
@@ -55,44 +57,79 @@ leave-requires-clause-recent_fit c =
       settled_by_long all (length c.as_slice-behind.result.now) c.follow-told.result.saying,
     )
 
-step : (c : goal.After-leave) → IsPushed c.heed.new.settled.items (record { slots = c.add.new.slots; words = c.add.new.words }) c.follow-told.new.self
-    (pushed (record { slots = c.self.inside.settled.items ++ c.self.inside.recent.items; words = c.self.inside.words; control = c.self.inside.track }) c.args.event)
+step : (c : goal.After-leave)
+    → IsPushed c.heed.new.settled.items (record { slots = c.add.new.slots; words = c.add.new.words })
+    c.follow-told.new.self
+    (pushed (record {
+      slots = c.self.inside.settled.items ++ c.self.inside.recent.items;
+      words = c.self.inside.words;
+      control = c.self.inside.track;
+    }) c.args.event)
     c.heed.new.recent.capacity (length c.heed.new.recent.items + length c.self.inside.words)
 step c =
-    pushed_all (record { slots = c.self.inside.settled.items ++ c.self.inside.recent.items; words = c.self.inside.words; control = c.self.inside.track })
-    c.args.event c.as_slice-behind.result.now c.heed.new.settled.items c.heed.new.recent c.follow-told.result.saying c.follow-told.result.area
+    pushed_all (record {
+      slots = c.self.inside.settled.items
+          ++ c.self.inside.recent.items;
+      words = c.self.inside.words;
+      control = c.self.inside.track;
+    })
+    c.args.event c.as_slice-behind.result.now c.heed.new.settled.items c.heed.new.recent c.follow-told.result.saying
+    c.follow-told.result.area
     c.is_idle-idle.result c.follow-told.new.self (record { slots = c.add.new.slots; words = c.add.new.words })
-    c.self.invariant.begun c.as_slice-behind.ensures c.follow-told.ensures.saying c.follow-told.ensures.area c.is_idle-idle.ensures c.follow-told.ensures.control
+    c.self.invariant.begun c.as_slice-behind.ensures c.follow-told.ensures.saying c.follow-told.ensures.area
+    c.is_idle-idle.ensures c.follow-told.ensures.control
     c.heed.ensures.slots c.add.ensures
 
 ports : (c : goal.After-leave) → HoldPorts (c.heed.new.settled.items ++ c.add.new.slots.items)
 ports c =
-    let before : Window = record { slots = c.self.inside.settled.items ++ c.self.inside.recent.items; words = c.self.inside.words; control = c.self.inside.track } in
+    let before : Window = record {
+      slots = c.self.inside.settled.items
+          ++ c.self.inside.recent.items;
+      words = c.self.inside.words;
+      control = c.self.inside.track;
+    } in
     let P : Window → Type 0 = λ w. HoldPorts w.slots in
     subst P (sym (step c).is) (pushed_ports before c.args.event c.self.invariant.ports c.requires)
 
 pub returns-clause-ports : goal.returns-clause-ports
 returns-clause-ports c =
-    left_ports (c.heed.new.settled.items ++ c.add.new.slots.items) c.as_slice.result.now c.leave.result (ports c) c.leave.ensures.left
+    left_ports (c.heed.new.settled.items ++ c.add.new.slots.items) c.as_slice.result.now c.leave.result
+    (ports c) c.leave.ensures.left
 
 pub returns-clause-left : goal.returns-clause-left
 returns-clause-left c =
     c.leave.ensures.left
-    ∙ ap (λ (ws : List ℕ). kept_of (leaving_from (c.heed.new.settled.items ++ c.add.new.slots.items) ws)) c.as_slice.ensures
+    ∙ ap (λ (ws : List ℕ). kept_of (leaving_from (c.heed.new.settled.items ++ c.add.new.slots.items) ws))
+    c.as_slice.ensures
     ∙ ap (λ (w : Window). kept_of (leaving w)) ((step c).is ∙ ap (λ (w : Window). pushed w c.args.event) c.self.view_is)
 
 pub returns-clause-now : goal.returns-clause-now
 returns-clause-now c =
-    ap {B = Window} (λ (ss : List Slot). record { slots = ss; words = c.add.new.words; control = c.follow-told.new.self }) c.leave.ensures.slots
-    ∙ ap {B = Window} (λ (ws : List ℕ). record { slots = staying_from (c.heed.new.settled.items ++ c.add.new.slots.items) ws; words = c.add.new.words; control = c.follow-told.new.self }) c.as_slice.ensures
+    ap {B = Window}
+    (λ (ss : List Slot). record { slots = ss; words = c.add.new.words; control = c.follow-told.new.self })
+    c.leave.ensures.slots
+    ∙ ap {B = Window}
+    (λ (ws : List ℕ). record {
+      slots = staying_from (c.heed.new.settled.items ++ c.add.new.slots.items) ws;
+      words =
+          c.add.new.words;
+      control = c.follow-told.new.self;
+    }) c.as_slice.ensures
     ∙ ap staying ((step c).is ∙ ap (λ (w : Window). pushed w c.args.event) c.self.view_is)
 
 pub invariant_of-self : goal.invariant_of-self
 invariant_of-self c =
     let s = step c in
-    let items = c.leave.ensures.slots ∙ ap (staying_from (c.heed.new.settled.items ++ c.add.new.slots.items)) c.as_slice.ensures in
-    let begun : IsBegun c.add.new.words c.follow-told.new.self = subst (λ (w : Window). IsBegun w.words w.control) (sym s.is)
-    (pushed_begun (record { slots = c.self.inside.settled.items ++ c.self.inside.recent.items; words = c.self.inside.words; control = c.self.inside.track }) c.args.event c.self.invariant.begun) in
+    let items = c.leave.ensures.slots
+    ∙ ap (staying_from (c.heed.new.settled.items ++ c.add.new.slots.items)) c.as_slice.ensures in
+    let begun : IsBegun c.add.new.words c.follow-told.new.self = subst (λ (w : Window). IsBegun w.words w.control)
+    (sym s.is)
+    (pushed_begun
+    (record {
+      slots = c.self.inside.settled.items ++ c.self.inside.recent.items;
+      words = c.self.inside.words;
+      control = c.self.inside.track;
+    }) c.args.event c.self.invariant.begun) in
     let all = c.heed.new.settled.items ++ c.add.new.slots.items in
     let long = ap (λ (ss : List Slot). length ss) c.heed.ensures.slots in
     let before = c.self.inside.settled.items ++ c.self.inside.recent.items in
@@ -107,9 +144,11 @@ invariant_of-self c =
     ) in
     record {
       settled_room_is = c.leave.ensures.settled_room ∙ c.heed.ensures.settled_room ∙ c.self.invariant.settled_room_is;
-      recent_room_is = c.leave.ensures.recent_room ∙ s.capacity ∙ c.heed.ensures.recent_room ∙ c.self.invariant.recent_room_is;
+      recent_room_is = c.leave.ensures.recent_room ∙ s.capacity ∙ c.heed.ensures.recent_room
+          ∙ c.self.invariant.recent_room_is;
       settled = c.leave.ensures.settled;
       ports = rw items (staying_ports all c.add.new.words (ports c));
-      few = rw items (few_stay all c.add.new.words most (omega (arith, few_words c.add.new.words c.follow-told.new.self begun)));
+      few = rw items
+          (few_stay all c.add.new.words most (omega (arith, few_words c.add.new.words c.follow-told.new.self begun)));
       begun = begun;
     }
