@@ -148,7 +148,18 @@ fn feed_list<K: Sink, T: Listener, L: Ledger>(
         (outlets (K.held out.old) (K.faults out.old) (map T.heard taps.old.items) steps.old)
         (outlets (K.held out.new) (K.faults out.new) (map T.heard taps.new.items) steps.new) gpu.old gpu.new result }
 {
-    feed_nodes(gpu, ram, number, start, WALK_LIMIT, out, mode, taps, steps)
+    let list = NodeList {
+        start,
+        limit: WALK_LIMIT,
+    };
+    feed_nodes(gpu, ram, number, list, out, mode, taps, steps)
+}
+
+// The first nodes of a list: where it starts, and how many at the most.
+#[derive(Clone, Copy)]
+struct NodeList {
+    start: u32,
+    limit: u32,
 }
 
 // Feeds the words of the first nodes of a list. Their number is a variable here, so that no proof computes the walk.
@@ -156,19 +167,18 @@ fn feed_nodes<K: Sink, T: Listener, L: Ledger>(
     gpu: &mut Gpu,
     ram: &Ram,
     number: u64,
-    start: u32,
-    limit: u32,
+    list: NodeList,
     out: &mut K,
     mode: Mode,
     taps: &mut Vec<T>,
     steps: &mut Steps<L>,
 ) -> Result<(), Failed>
-    ensures { FeedsWords mode number (flat_map (node_words ram.now) (chain ram.now start limit))
+    ensures { FeedsWords mode number (flat_map (node_words ram.now) (chain ram.now list.start list.limit))
         (outlets (K.held out.old) (K.faults out.old) (map T.heard taps.old.items) steps.old)
         (outlets (K.held out.new) (K.faults out.new) (map T.heard taps.new.items) steps.new) gpu.old gpu.new result }
 {
-    let mut next = node_at(start);
-    'nodes: for k in 0..limit {
+    let mut next = node_at(list.start);
+    'nodes: for k in 0..list.limit {
         let _ = k;
         match next {
             None => return Ok(()),
