@@ -24,7 +24,8 @@ returns-in_err-feed_node-in-Some g c =
     let at = c.nodes.invariant in
     rw (p.1, p.2)
     (words_stop _ _ _ _ _ _ _ _ _ _ at.feeds _ _ _
-    (way_node _ _ _ c.in-Some.node _ (c.args.list.limit - (c.nodes.k + 1)) _ (omega arith) c.in-Some.is at.way) at.faults
+    (way_node _ _ _ c.in-Some.node _ (c.args.list.limit - (c.nodes.k + 1)) _ (omega arith) c.in-Some.is at.way)
+    at.faults
     c.in_err-feed_node-in-Some.ensures)
 
 pub nodes-preserved : goal.nodes-preserved

@@ -11,7 +11,8 @@ use Rattle.event_play.proofs.feed.feed_nodes.Given as goal
 abbrev pub invariant-nodes : goal.invariant-nodes
 invariant-nodes g l = record {
   done : List ℕ;
-  way : OnWay l.ram (flat_map (node_words l.ram) (chain l.ram l.list.start l.list.limit)) l.next (l.list.limit - l.k) done;
+  way : OnWay l.ram (flat_map (node_words l.ram) (chain l.ram l.fn.list.start l.fn.list.limit)) l.next
+      (l.fn.list.limit - l.k) done;
   feeds : (s : State) → kept_of s ≡ l.initial.gpu → Feeds l.mode s l.number done
       (outlets (g.K.Sink.held l.initial.out) (g.K.Sink.faults l.initial.out)
       (map g.T.Listener.heard l.initial.taps.items) l.initial.steps)
