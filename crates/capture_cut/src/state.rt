@@ -95,7 +95,7 @@ fn copied(regs: &Regs) -> Regs
 /// Each register is as wide as it is. It does nothing.
 pub(crate) fn keep_widths(regs: &Regs)
     ensures widths { KeepsWidths regs.now }
-    ensures held { regs.now.held < 2 ^ 32 }
+    ensures latch { regs.now.latch < 2 ^ 32 }
 {
     let _ = (regs.height(), regs.e1(), regs.window(), regs.top_left());
     let _ = (regs.bottom_right(), regs.offset(), regs.mask());

@@ -14,7 +14,7 @@ use Rattle.capture_cut.proofs.bounds.keep_bounds.Goals as goal
 pub returns : goal.returns
 returns c =
     let gpu : Kept = c.gpu-gpu.result.now in
-    let IsBelow : Registers → Type 0 = λ r. r.held < 2 ^ 32 in
+    let IsBelow : Registers → Type 0 = λ r. r.latch < 2 ^ 32 in
     let IsTied : Pending → Type 0 = λ p. IsLinked p gpu.parts.load in
     let Fits : Pending → Type 0 = λ p. AreWords (pending_words p None) in
     λ few. subst IsWritable
@@ -22,7 +22,7 @@ returns c =
     (rig_writable
     (record { gpu = gpu; ram = c.ram-ram.result.now; running = c.running.result; played = c.args.rig.now.played }) few
     (subst KeepsWidths c.regs.ensures c.keep_widths.ensures.widths)
-    (subst IsBelow c.regs.ensures c.keep_widths.ensures.held)
+    (subst IsBelow c.regs.ensures c.keep_widths.ensures.latch)
     (subst IsPending c.pending.ensures.value c.pending.ensures.bounds)
     (subst IsTied c.pending.ensures.value c.pending.ensures.link)
     (subst (IsOpen gpu.parts.regs.height) c.load_job.ensures.value c.load_job.ensures.bounds)

@@ -9,4 +9,4 @@ unreachable-requires c =
     let P : ℕ → Type 0 = λ height. AreAllowed height (words_of c.args.regs.now) in
     let Q : List ℕ → Type 0 = λ words. AreAllowed (height_of_profile c.is_tall.result) words in
     c.in-None.ensures.exact (subst Q (sym c.to_words.ensures) (subst P c.is_tall.ensures
-    (words-allowed c.args.regs.now c.keep_widths.ensures.widths c.keep_widths.ensures.held)))
+    (words-allowed c.args.regs.now c.keep_widths.ensures.widths c.keep_widths.ensures.latch)))
