@@ -7,13 +7,14 @@ use Rattle.gpu_capture.specs.declared.event.Event.{Event}
 use Rattle.gpu_capture.specs.declared.event.Stop.{Stop}
 use Rattle.gpu_capture.specs.declared.progress.Progress.{Progress}
 use Rattle.gpu_taps.specs.Tally.{Reading}
-use Rattle.event_play.specs.Replay.{Tale, Replay, from_state, raised, tall_version, after_event, go_on, next_number}
+use Rattle.event_play.specs.Replay.{Tale, played_events, from_state, raised, tall_version, after_event, go_on}
+use Rattle.event_play.specs.Replay.{next_number}
 use Rattle.event_play.specs.RigState.{RigState, StandsFor}
-use Rattle.event_play.specs.Step.{Machine, StepCost, StepBoxCost}
+use Rattle.event_play.specs.Step.{Machine, event_cost, event_box_cost}
 use Rattle.event_play.specs.Streams.{Outlets, Streams, streams, without_sink}
 use Rattle.event_play.specs.Told.{told_notes}
 use Rattle.event_play.specs.declared.ending.Ending.TheVariants.{Faulted as FaultedPlay}
-use Rattle.event_play.proofs.BoxCosts.{StepCost-small}
+use Rattle.event_play.proofs.BoxCosts.{event_cost-small}
 use Rattle.event_play.proofs.Feeds.{told-append}
 use Rattle.event_play.proofs.Firsts.{IsFirst, from_first, raised_first}
 use Rattle.event_play.proofs.Grows.{tale_on, after-event}
@@ -56,9 +57,9 @@ plays_on first t events event heard mid now was rig plays next few =
     let long = length-append events (event ∷ []) in
     record {
       replays = λ more stop rest.
-          ap (λ all. Replay first all stop rest) (append_assoc events (event ∷ []) more)
+          ap (λ all. played_events first all stop rest) (append_assoc events (event ∷ []) more)
           ∙ plays.replays (event ∷ more) stop rest
-          ∙ ap (λ r. go_on r (λ next. Replay next more stop rest)
+          ∙ ap (λ r. go_on r (λ next. played_events next more stop rest)
           (λ fault. record { tale = t; ending = FaultedPlay (next_number t.played) fault; rest = rest })) is;
       counts = omega (arith, plays.counts, long, few);
       stands = record { state = next.step.stands; played = sym next.played };
@@ -157,8 +158,9 @@ played_on n start version before now was rig new (Ok event) heard steps at next 
       plays = subst P at.same
           (plays_on (raised start version) at.tale at.events event before.heard mid behind was rig at.plays next
           (omega (arith, at.many, few)));
-      cost = spent_on before.steps now.steps steps at.tale.cost (StepCost at.tale.state event) at.cost next.step.cost;
-      small = both_small at.tale.cost (StepCost at.tale.state event) at.tale.box_cost (StepBoxCost at.tale.state event)
-          at.small (StepCost-small at.tale.state event);
+      cost = spent_on before.steps now.steps steps at.tale.cost (event_cost at.tale.state event) at.cost next.step.cost;
+      small = both_small at.tale.cost (event_cost at.tale.state event)
+          at.tale.box_cost (event_box_cost at.tale.state event)
+          at.small (event_cost-small at.tale.state event);
     }
 played_on n start version before now was rig new (Err stop) heard steps at next few = absurd next

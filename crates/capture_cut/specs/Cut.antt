@@ -10,9 +10,9 @@ use Rattle.gpu_capture.specs.declared.event.Stop.TheVariants.{End, ReadFault}
 use Rattle.gpu_taps.specs.Tally.{Reading}
 use Rattle.picture_out.specs.Dump.{dump_cost}
 use Rattle.event_play.specs.Ends.{IsNotEnd}
-use Rattle.event_play.specs.Replay.{Tale, Replay, raised}
+use Rattle.event_play.specs.Replay.{Tale, played_events, raised}
 use Rattle.event_play.specs.RigState.{RigState, StandsFor}
-use Rattle.event_play.specs.Step.{Step}
+use Rattle.event_play.specs.Step.{event_step}
 use Rattle.event_play.specs.Streams.{Streams}
 use Rattle.event_play.specs.Told.{told_notes}
 use Rattle.event_play.specs.declared.fault.EventFault.{EventFault}
@@ -57,7 +57,7 @@ pub record ReadsTo (way : Way) (events : List Event) : Type 0 where
 pub record Plays (first : Tale) (events : List Event) (t : Tale) (before now : List Reading) (rig : RigState) : Type 0
   where
     pub replays : (more : List Event) (stop : Stop) (rest : List ℕ)
-        → Replay first (events ++ more) stop rest ≡ Replay t more stop rest
+        → played_events first (events ++ more) stop rest ≡ played_events t more stop rest
     pub counts : t.played ≡ length events
     pub stands : StandsFor rig t
     pub heard : now ≡ told_notes t.notes before
@@ -103,7 +103,7 @@ pub record HasFault (n : ℕ) (way : Way) (number : ℕ) (fault : EventFault) (b
   pub few : length way.played < n
   pub event : Event
   pub reads : ReadsTo way (way.played ++ event ∷ [])
-  pub fault_is : Step way.tale.state number event ≡ Err fault
+  pub fault_is : event_step way.tale.state number event ≡ Err fault
   pub held : now.held ≡ before.held
 
 -- the last event that was read is not played

@@ -5,10 +5,10 @@ use Rattle.px_num.specs.Fold.{each_below}
 use Rattle.gpu_capture.specs.declared.event.Event.{Event}
 use Rattle.gpu_capture.specs.declared.event.Event.TheVariants as event
 use Rattle.gpu_capture.specs.declared.event.Stop.TheVariants.{End}
-use Rattle.gpu_core.specs.Machine.{State, Gp1, Take, TakenWord, Status}
+use Rattle.gpu_core.specs.Machine.{State, after_gp1, after_read, read_word, status_word}
 use Rattle.event_play.specs.Fed.{fed}
-use Rattle.event_play.specs.Replay.{Tale, Played, Replay, after_event, go_on, next_number}
-use Rattle.event_play.specs.Step.{Machine, Step, stepped, done, words_of}
+use Rattle.event_play.specs.Replay.{Tale, Played, played_events, after_event, go_on, next_number}
+use Rattle.event_play.specs.Step.{Machine, event_step, stepped, done, words_of}
 use Rattle.event_play.specs.Taken.{first_taken}
 use Rattle.event_play.specs.Work.{work_of}
 use Rattle.event_play.specs.declared.block.Block.{Block}
@@ -18,12 +18,12 @@ use Rattle.event_play.specs.declared.work.Work.{Work}
 use Rattle.event_play.specs.declared.work.Work.TheVariants as work
 use Rattle.event_play.specs.declared.work.Words.TheVariants.{One}
 use Rattle.event_play.proofs.Grows.{tale_on, after-event}
-use Rattle.capture_flat.specs.Flat.{Flat, FlatAll, flat_work, flat_asked, then_flat}
+use Rattle.capture_flat.specs.Flat.{flat_events, flat_replay, flat_work, flat_asked, then_flat}
 use Rattle.event_play.specs.Alike.{AreAlike}
 
 -- a list of events, and nothing more
 abbrev whole : Tale → List Event → Played
-whole t events = Replay t events End []
+whole t events = played_events t events End []
 
 -- these events have no fault, and lead to a state of the drawing processor and to shown words, whatever follows them
 record Leads (t : Tale) (events : List Event) (gpu : State) (shown : List ℕ) : Type 0 where
@@ -46,10 +46,11 @@ goes_on t next given events is =
 leads_one : (t : Tale) (given : Event) (asked : Work) → work_of t.state.ram t.state.running given ≡ Ok asked
     → let did = done t.state (next_number t.played) asked in Leads t (given ∷ []) did.machine.gpu
     (t.shown ++ option_to_list did.shown)
-unfolding Step
+unfolding event_step
 leads_one t given asked is =
     let did = done t.state (next_number t.played) asked in
-    let steps : Step t.state (next_number t.played) given ≡ Ok did = ap (stepped t.state (next_number t.played)) is in
+    let steps : event_step t.state (next_number t.played) given ≡ Ok did =
+    ap (stepped t.state (next_number t.played)) is in
     record {
       tale = tale_on t given did.machine did.shown did.notes;
       says = λ more. goes_on t (tale_on t given did.machine did.shown did.notes) given more
@@ -89,11 +90,11 @@ leads_words t (word ∷ words) =
 
 -- reads, one after another
 abbrev reads : ℕ → State → State
-reads n s = each_below (λ i s. Take s) n s
+reads n s = each_below (λ i s. after_read s) n s
 
-reads_first : (n : ℕ) (s : State) → reads n (Take s) ≡ Take (reads n s)
+reads_first : (n : ℕ) (s : State) → reads n (after_read s) ≡ after_read (reads n s)
 reads_first zero s = refl
-reads_first (suc n) s = ap Take (reads_first n s)
+reads_first (suc n) s = ap after_read (reads_first n s)
 
 -- reads that are not shown
 leads_skips : (t : Tale) (n : ℕ) → Leads t (replicate n event.Skip) (reads n t.state.gpu) t.shown
@@ -109,7 +110,7 @@ leads_skips t (suc n) =
 -- the drawing processor after reads whose words go to main memory
 reads_taken : (block : Block) (n : ℕ) (s : State) (ram : List ℕ) → (first_taken block n s ram).gpu ≡ reads n s
 reads_taken block zero s ram = refl
-reads_taken block (suc n) s ram = ap Take (reads_taken block n s ram)
+reads_taken block (suc n) s ram = ap after_read (reads_taken block n s ram)
 
 -- ---- one event
 
@@ -127,14 +128,14 @@ leads_work u s number (work.Take block next) same =
     leads_as u _ _ _ _ _ (leads_skips u block.n) (ap (reads block.n) same ∙ sym (reads_taken block block.n s.gpu s.ram))
     (sym (append-nil u.shown))
 leads_work u s number (work.Control word) same =
-    leads_as u _ _ _ _ _ (leads_one u (event.Gp1 word) (work.Control word) refl) (ap (λ g. Gp1 g word) same) refl
+    leads_as u _ _ _ _ _ (leads_one u (event.Gp1 word) (work.Control word) refl) (ap (λ g. after_gp1 g word) same) refl
 leads_work u s number work.Read same =
-    leads_as u _ _ _ _ _ (leads_one u event.Read work.Read refl) (ap Take same)
-    (ap (λ g. u.shown ++ TakenWord g ∷ []) same)
+    leads_as u _ _ _ _ _ (leads_one u event.Read work.Read refl) (ap after_read same)
+    (ap (λ g. u.shown ++ read_word g ∷ []) same)
 leads_work u s number work.Skip same =
-    leads_as u _ _ _ _ _ (leads_one u event.Skip work.Skip refl) (ap Take same) refl
+    leads_as u _ _ _ _ _ (leads_one u event.Skip work.Skip refl) (ap after_read same) refl
 leads_work u s number work.Stat same =
-    leads_as u _ _ _ _ _ (leads_one u event.Stat work.Stat refl) same (ap (λ g. u.shown ++ Status g ∷ []) same)
+    leads_as u _ _ _ _ _ (leads_one u event.Stat work.Stat refl) same (ap (λ g. u.shown ++ status_word g ∷ []) same)
 leads_work u s number (work.Clear madr n) same = leads_as u [] _ _ _ _ (leads_none u) same (sym (append-nil u.shown))
 leads_work u s number (work.Begin next) same = leads_as u [] _ _ _ _ (leads_none u) same (sym (append-nil u.shown))
 
@@ -152,44 +153,53 @@ Alike u flat t events = ((whole u flat).ending ≡ Done) × AreAlike (whole u fl
 -- one event of the list, by what it asks for
 alike_on : (u t : Tale) (given : Event) (events : List Event) (asked : Result Work EventFault)
     → work_of t.state.ram t.state.running given ≡ asked → AreSame u t → (whole t (given ∷ events)).ending ≡ Done
-    → ((v next : Tale) → AreSame v next → (whole next events).ending ≡ Done → Alike v (FlatAll next events) next events)
-    → Alike u (FlatAll t (given ∷ events)) t (given ∷ events)
-unfolding Step Flat
+    → ((v next : Tale) → AreSame v next → (whole next events).ending ≡ Done
+    → Alike v (flat_replay next events) next events)
+    → Alike u (flat_replay t (given ∷ events)) t (given ∷ events)
+unfolding event_step flat_events
 alike_on u t given events (Err fault) is same fine later =
-    let refused : Step t.state (next_number t.played) given ≡ Err fault =
+    let refused : event_step t.state (next_number t.played) given ≡ Err fault =
     ap (stepped t.state (next_number t.played)) is in
     let faulted : Faulted (next_number t.played) fault ≡ Done = rw refused at fine in absurd cc
 alike_on u t given events (Ok asked) is same fine later =
     let did = done t.state (next_number t.played) asked in
-    let steps : Step t.state (next_number t.played) given ≡ Ok did = ap (stepped t.state (next_number t.played)) is in
+    let steps : event_step t.state (next_number t.played) given ≡ Ok did =
+    ap (stepped t.state (next_number t.played)) is in
     let next = tale_on t given did.machine did.shown did.notes in
     let after = after-event t given did.machine did.shown did.notes steps in
     let goes = goes_on t next given events after in
     let flat = leads_work u t.state (next_number t.played) asked same.gpu in
-    let cut : FlatAll t (given ∷ events) ≡ flat_work t.state.ram asked ++ FlatAll next events =
-    ap (λ r. flat_asked t.state.ram r ++ then_flat (after_event t given) (λ next. FlatAll next events)) is
-    ∙ ap (λ r. flat_work t.state.ram asked ++ then_flat r (λ next. FlatAll next events)) after in
-    let says : whole u (FlatAll t (given ∷ events)) ≡ whole flat.tale (FlatAll next events) =
-    ap (whole u) cut ∙ flat.says (FlatAll next events) in
+    let cut : flat_replay t (given ∷ events) ≡ flat_work t.state.ram asked ++ flat_replay next events =
+    ap (λ r. flat_asked t.state.ram r ++ then_flat (after_event t given) (λ next. flat_replay next events)) is
+    ∙ ap (λ r. flat_work t.state.ram asked ++ then_flat r (λ next. flat_replay next events)) after in
+    let says : whole u (flat_replay t (given ∷ events)) ≡ whole flat.tale (flat_replay next events) =
+    ap (whole u) cut ∙ flat.says (flat_replay next events) in
     let alike = later flat.tale next (record {
       gpu = flat.gpu_is;
       shown = flat.shown_is ∙ ap (λ shown. shown ++ option_to_list did.shown) same.shown;
     }) (ap (λ (r : Played). r.ending) (sym goes) ∙ fine) in
     let P : Played → Played → Type 0 = λ a b. (a.ending ≡ Done) × AreAlike a.tale b.tale in
     let Q : Played → Type 0 = λ a. P a (whole t (given ∷ events)) in
-    let R : Played → Type 0 = λ b. P (whole flat.tale (FlatAll next events)) b in
+    let R : Played → Type 0 = λ b. P (whole flat.tale (flat_replay next events)) b in
     subst Q (sym says) (subst R (sym goes) alike)
 
 alike_all : (events : List Event) (u t : Tale) → AreSame u t → (whole t events).ending ≡ Done
-    → Alike u (FlatAll t events) t events
-alike_all [] u t same fine =
-    (refl, record { shown = same.shown; status = ap Status same.gpu; cells = ap (λ (s : State). s.parts.m) same.gpu })
+    → Alike u (flat_replay t events) t events
+alike_all [] u t same fine = (
+  refl,
+  record {
+    shown = same.shown;
+    status = ap status_word same.gpu;
+    cells = ap (λ (s : State). s.parts.m) same.gpu;
+  },
+)
 alike_all (given ∷ events) u t same fine =
     alike_on u t given events (work_of t.state.ram t.state.running given) refl same fine
     (λ v next alike ends. alike_all events v next alike ends)
 
 pub flat_alike : (t : Tale) (events : List Event) → (whole t events).ending ≡ Done
-    → ((whole t (FlatAll t events)).ending ≡ Done) × AreAlike (whole t (FlatAll t events)).tale (whole t events).tale
+    → ((whole t (flat_replay t events)).ending ≡ Done)
+    × AreAlike (whole t (flat_replay t events)).tale (whole t events).tale
 flat_alike t events fine = alike_all events t t (record { gpu = refl; shown = refl }) fine
 
 -- ---- whatever bytes follow
@@ -198,13 +208,15 @@ abbrev SameBut : Played → Played → Type 0
 SameBut a b = (a.ending ≡ b.ending) × (a.tale ≡ b.tale)
 
 -- the bytes behind a list of events do not matter to its replay
-pub rest_same : (events : List Event) (t : Tale) (rest : List ℕ) → SameBut (Replay t events End rest) (whole t events)
+pub rest_same : (events : List Event) (t : Tale) (rest : List ℕ)
+    → SameBut (played_events t events End rest) (whole t events)
 rest_same [] t rest = (refl, refl)
 rest_same (given ∷ events) t rest = by_case (after_event t given) (λ next. rest_same events next rest)
   where
-    by_case : (r : Result Tale EventFault) → ((next : Tale) → SameBut (Replay next events End rest) (whole next events))
+    by_case : (r : Result Tale EventFault)
+        → ((next : Tale) → SameBut (played_events next events End rest) (whole next events))
         → SameBut
-        (go_on r (λ next. Replay next events End rest)
+        (go_on r (λ next. played_events next events End rest)
         (λ fault. record { tale = t; ending = Faulted (next_number t.played) fault; rest = rest }))
         (go_on r (λ next. whole next events)
         (λ fault. record { tale = t; ending = Faulted (next_number t.played) fault; rest = [] }))

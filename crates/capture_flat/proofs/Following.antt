@@ -12,18 +12,18 @@ use Rattle.gpu_capture.specs.declared.progress.Progress.{Progress}
 use Rattle.gpu_capture.proofs.Versions.{version_from}
 use Rattle.gpu_taps.specs.Tally.{Reading}
 use Rattle.event_play.specs.Ends.{FaultsEvent}
-use Rattle.event_play.specs.Replay.{Tale, Replay, after_event, go_on, next_number, raised}
+use Rattle.event_play.specs.Replay.{Tale, played_events, after_event, go_on, next_number, raised}
 use Rattle.event_play.specs.RigState.{RigState, StandsFor}
-use Rattle.event_play.specs.Step.{StepCost, StepBoxCost}
+use Rattle.event_play.specs.Step.{event_cost, event_box_cost}
 use Rattle.event_play.specs.Streams.{Outlets, Streams}
 use Rattle.event_play.specs.Told.{told_notes}
 use Rattle.event_play.specs.declared.ending.Ending.TheVariants.{Faulted as FaultedPlay}
 use Rattle.event_play.specs.declared.fault.EventFault.{EventFault}
-use Rattle.event_play.proofs.BoxCosts.{StepCost-small}
+use Rattle.event_play.proofs.BoxCosts.{event_cost-small}
 use Rattle.event_play.proofs.Feeds.{told-append}
 use Rattle.event_play.proofs.Grows.{tale_on, after-event}
 use Rattle.event_play.proofs.Reaching.{beside}
-use Rattle.capture_flat.specs.Flat.{Flat, FlatAll, then_flat}
+use Rattle.capture_flat.specs.Flat.{flat_events, flat_replay, then_flat}
 use Rattle.capture_flat.specs.OneEvent.{PlaysFlat, PassesEvent, IsTooLong, LacksRecords, EndsEvent}
 use Rattle.capture_flat.specs.Out.{due_at, begun, flat_version, flat_file}
 use Rattle.capture_flat.specs.Passing.{Way, Follows, AreNeeded, IsLast, EndsFlat}
@@ -62,28 +62,28 @@ follows_none first =
 
 follows_on : (first tale next : Tale) (events flat : List Event) (given : Event) → Follows first events tale flat
     → after_event tale given ≡ Ok next
-    → next.played ≡ next_number tale.played → AllowsAll 2 (Flat tale.state given)
-    → Follows first (events ++ given ∷ []) next (flat ++ Flat tale.state given)
+    → next.played ≡ next_number tale.played → AllowsAll 2 (flat_events tale.state given)
+    → Follows first (events ++ given ∷ []) next (flat ++ flat_events tale.state given)
 follows_on first tale next events flat given follows is counts allows = record {
   replays = λ more stop rest.
-      ap (λ all. Replay first all stop rest) (append_assoc events (given ∷ []) more)
+      ap (λ all. played_events first all stop rest) (append_assoc events (given ∷ []) more)
       ∙ follows.replays (given ∷ more) stop rest
-      ∙ ap (λ r. go_on r (λ next. Replay next more stop rest)
+      ∙ ap (λ r. go_on r (λ next. played_events next more stop rest)
       (λ fault. record { tale = tale; ending = FaultedPlay (next_number tale.played) fault; rest = rest })) is;
   flats = λ more.
-      ap (FlatAll first) (append_assoc events (given ∷ []) more)
+      ap (flat_replay first) (append_assoc events (given ∷ []) more)
       ∙ follows.flats (given ∷ more)
-      ∙ ap (λ r. flat ++ (Flat tale.state given ++ then_flat r (λ next. FlatAll next more))) is
-      ∙ sym (append_assoc flat (Flat tale.state given) (FlatAll next more));
+      ∙ ap (λ r. flat ++ (flat_events tale.state given ++ then_flat r (λ next. flat_replay next more))) is
+      ∙ sym (append_assoc flat (flat_events tale.state given) (flat_replay next more));
   fresh = λ none. absurd (let some : 1 ≤ next.played = omega (arith, counts) in omega (arith, none, some));
-  allowed = allows_append 2 flat (Flat tale.state given) follows.allowed allows;
+  allowed = allows_append 2 flat (flat_events tale.state given) follows.allowed allows;
 }
 
 -- all flat events so far
 pub all_flat : (first tale : Tale) (events flat : List Event) → Follows first events tale flat
-    → FlatAll first events ≡ flat
+    → flat_replay first events ≡ flat
 all_flat first tale events flat follows =
-    ap (FlatAll first) (sym (append-nil events)) ∙ follows.flats [] ∙ append-nil flat
+    ap (flat_replay first) (sym (append-nil events)) ∙ follows.flats [] ∙ append-nil flat
 
 -- the whole file of the events so far is not too long
 pub file_fits : (first : Tale) (version : ℕ) (before now : Streams) (rig : RigState) (progress : Progress) (size : ℕ)
@@ -139,12 +139,12 @@ module _ (start : Tale) (version : ℕ) (before : Streams) (left_mid left : Opti
     version = version;
     taken = taken;
     events = was.events ++ given ∷ [];
-    flat = was.flat ++ Flat was.tale.state given;
+    flat = was.flat ++ flat_events was.tale.state given;
     tale = next plays;
   }
 
   follows : (plays : PlaysFlat was.tale given mid now rig)
-      → Follows first (was.events ++ given ∷ []) (next plays) (was.flat ++ Flat was.tale.state given)
+      → Follows first (was.events ++ given ∷ []) (next plays) (was.flat ++ flat_events was.tale.state given)
   follows plays =
       follows_on first was.tale (next plays) was.events was.flat given was.follows
       (after-event was.tale given plays.step.machine plays.shown plays.step.notes plays.step.is) refl plays.allowed
@@ -157,16 +157,17 @@ module _ (start : Tale) (version : ℕ) (before : Streams) (left_mid left : Opti
   heard plays = heard_on before.heard mid.heard now.heard was.tale.notes plays.step.notes was.heard plays.step.heard
 
   cost : (plays : PlaysFlat was.tale given mid now rig)
-      → now.steps ≤ before.steps + (was.tale.cost + StepCost was.tale.state given)
-  cost plays = spent_on before.steps mid.steps now.steps was.tale.cost (StepCost was.tale.state given) was.cost
+      → now.steps ≤ before.steps + (was.tale.cost + event_cost was.tale.state given)
+  cost plays = spent_on before.steps mid.steps now.steps was.tale.cost (event_cost was.tale.state given) was.cost
       plays.step.cost
 
-  small : was.tale.cost + StepCost was.tale.state given ≤ was.tale.box_cost + StepBoxCost was.tale.state given
-  small = both_small was.tale.cost (StepCost was.tale.state given) was.tale.box_cost (StepBoxCost was.tale.state given)
-      was.small (StepCost-small was.tale.state given)
+  small : was.tale.cost + event_cost was.tale.state given ≤ was.tale.box_cost + event_box_cost was.tale.state given
+  small = both_small was.tale.cost (event_cost was.tale.state given)
+      was.tale.box_cost (event_box_cost was.tale.state given)
+      was.small (event_cost-small was.tale.state given)
 
   box_cost : (plays : PlaysFlat was.tale given mid now rig)
-      → now.steps ≤ before.steps + (was.tale.box_cost + StepBoxCost was.tale.state given)
+      → now.steps ≤ before.steps + (was.tale.box_cost + event_box_cost was.tale.state given)
   box_cost plays = spent_within before.steps now.steps _ _ (cost plays) small
 
   says : (rest : List ℕ) → capture (taken ++ rest) ≡ then_events (was.events ++ given ∷ []) (capture_from new rest)
@@ -184,14 +185,14 @@ module _ (start : Tale) (version : ℕ) (before : Streams) (left_mid left : Opti
   needs = needed_on old was.events given was.taken takes.taken was.says was.needed takes.needed
 
   -- what stands behind the event
-  after_it : begun version (next_number was.tale.played) (was.flat ++ Flat was.tale.state given)
+  after_it : begun version (next_number was.tale.played) (was.flat ++ flat_events was.tale.state given)
       ≡ begun version was.tale.played was.flat ++ due_at version was.tale given
-  after_it = begun_on version was.tale.played was.flat (Flat was.tale.state given) was.follows.fresh
+  after_it = begun_on version was.tale.played was.flat (flat_events was.tale.state given) was.follows.fresh
 
   whole_length : (plays : PlaysFlat was.tale given mid now rig)
       → length (flat_file first version (was.events ++ given ∷ [])) ≡ size + length (due_at version was.tale given) + 4
   whole_length plays =
-      let flat = was.flat ++ Flat was.tale.state given in
+      let flat = was.flat ++ flat_events was.tale.state given in
       let due = due_at version was.tale given in
       let all = all_flat first (next plays) (was.events ++ given ∷ []) flat (follows plays) in
       let a = written_length version was.tale.played flat in
@@ -227,7 +228,7 @@ module _ (start : Tale) (version : ℕ) (before : Streams) (left_mid left : Opti
         says = says;
         needed = needs;
         tale = next passes.plays;
-        flat = was.flat ++ Flat was.tale.state given;
+        flat = was.flat ++ flat_events was.tale.state given;
         follows = follows passes.plays;
         stands = stands passes.plays;
         held = wrote_on before.held mid.held now.held (begun version was.tale.played was.flat) due was.held passes.held

@@ -6,14 +6,14 @@ use Rattle.gpu_capture.specs.declared.event.Event.{Event}
 use Rattle.event_play.specs.Ends.{FaultsEvent}
 use Rattle.event_play.specs.Replay.{Tale, next_number}
 use Rattle.event_play.specs.RigState.{RigState, Stands, StandsFor}
-use Rattle.event_play.specs.Step.{Machine, Stepped, Step, stepped, done}
+use Rattle.event_play.specs.Step.{Machine, Stepped, event_step, stepped, done}
 use Rattle.event_play.specs.Stepping.{HasStepped}
 use Rattle.event_play.specs.Streams.{Outlets, without_sink}
 use Rattle.event_play.specs.Work.{work_of}
 use Rattle.event_play.specs.declared.fault.EventFault.{EventFault}
 use Rattle.event_play.specs.declared.work.Work.{Work}
 use Rattle.event_play.specs.declared.work.Work.TheVariants as work
-use Rattle.capture_flat.specs.Flat.{Flat, flat_work, flat_asked}
+use Rattle.capture_flat.specs.Flat.{flat_events, flat_work, flat_asked}
 use Rattle.capture_flat.specs.Out.{spell, head_due, due_at}
 use Rattle.capture_flat.specs.OneEvent.{PlaysFlat}
 
@@ -25,8 +25,8 @@ asks rig s event asked stands is = rw (stands.ram, stands.running) (sym is)
 
 step_is : (s : Machine) (number : ℕ) (event : Event) (asked : Result Work EventFault)
     → work_of s.ram s.running event ≡ asked
-    → Step s number event ≡ stepped s number asked
-unfolding Step
+    → event_step s number event ≡ stepped s number asked
+unfolding event_step
 step_is s number event asked is = ap (stepped s number) is
 
 pub faults_event : (t : Tale) (rig now : RigState) (event : Event) (fault : EventFault) (at : Outlets)
@@ -60,8 +60,8 @@ same_flat s number (work.Begin next) = refl
 flat_is : (t : Tale) (rig now : RigState) (event : Event) (asked : Work) (shown : Option ℕ) (before behind : Outlets)
     → StandsFor rig t → Ok asked ≡ work_of rig.ram rig.running event
     → HasStepped t.state (next_number t.played) event shown before behind now
-    → flat_work now.ram asked ≡ Flat t.state event
-unfolding Flat
+    → flat_work now.ram asked ≡ flat_events t.state event
+unfolding flat_events
 flat_is t rig now event asked shown before behind stands is step =
     let s = t.state in
     let number = next_number t.played in

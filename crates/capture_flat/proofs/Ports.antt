@@ -9,7 +9,7 @@ use Rattle.event_play.specs.declared.fault.EventFault.{EventFault}
 use Rattle.event_play.specs.declared.work.Work.{Work}
 use Rattle.event_play.specs.declared.work.Work.TheVariants as work
 use Rattle.event_play.specs.Ports.{AreAtPorts}
-use Rattle.capture_flat.specs.Flat.{Flat, FlatAll, flat_work, flat_asked, then_flat}
+use Rattle.capture_flat.specs.Flat.{flat_events, flat_replay, flat_work, flat_asked, then_flat}
 
 words_ports : (words : List ℕ) → AreAtPorts (map event.Gp0 words)
 words_ports [] = tt
@@ -35,8 +35,8 @@ asked_ports : (ram : List ℕ) (asked : Result Work EventFault) → AreAtPorts (
 asked_ports ram (Ok asked) = work_ports ram asked
 asked_ports ram (Err fault) = tt
 
-event_ports : (s : Machine) (given : Event) → AreAtPorts (Flat s given)
-unfolding Flat
+event_ports : (s : Machine) (given : Event) → AreAtPorts (flat_events s given)
+unfolding flat_events
 event_ports s given = asked_ports s.ram (work_of s.ram s.running given)
 
 both_ports : (xs ys : List Event) → AreAtPorts xs → AreAtPorts ys → AreAtPorts (xs ++ ys)
@@ -48,9 +48,9 @@ then_ports : (r : Result Tale EventFault) (on : Tale → List Event) → ((next 
 then_ports (Ok next) on ports = ports next
 then_ports (Err fault) on ports = tt
 
-pub all_ports : (events : List Event) (t : Tale) → AreAtPorts (FlatAll t events)
+pub all_ports : (events : List Event) (t : Tale) → AreAtPorts (flat_replay t events)
 all_ports [] t = tt
 all_ports (given ∷ events) t =
-    both_ports (Flat t.state given) (then_flat (after_event t given) (λ next. FlatAll next events))
+    both_ports (flat_events t.state given) (then_flat (after_event t given) (λ next. flat_replay next events))
     (event_ports t.state given)
-    (then_ports (after_event t given) (λ next. FlatAll next events) (λ next. all_ports events next))
+    (then_ports (after_event t given) (λ next. flat_replay next events) (λ next. all_ports events next))

@@ -14,11 +14,12 @@ use Rattle.gpu_capture.proofs.Written.{written_read}
 use Rattle.gpu_taps.specs.Tally.{Reading}
 use Rattle.event_play.specs.Playing.{whole}
 use Rattle.event_play.specs.Ends.{IsNotEnd}
-use Rattle.event_play.specs.Replay.{Tale, Played, Replay, Play, played_from, raised, tall_version, next_number}
+use Rattle.event_play.specs.Replay.{Tale, Played, played_events, played_capture, played_from, raised, tall_version}
+use Rattle.event_play.specs.Replay.{next_number}
 use Rattle.event_play.specs.RigState.{RigState}
 use Rattle.event_play.specs.Streams.{Streams, streams}
 use Rattle.event_play.specs.declared.ending.Ending.TheVariants.{Done as PlayedWhole}
-use Rattle.capture_flat.specs.Flat.{FlatAll}
+use Rattle.capture_flat.specs.Flat.{flat_replay}
 use Rattle.event_play.specs.Alike.{AreAlike}
 use Rattle.capture_flat.specs.OneEvent.{EndsAt}
 use Rattle.capture_flat.specs.Out.{head_due, begun, flat_version, flat_file}
@@ -48,15 +49,16 @@ module _ (start t : Tale) (version : ℕ) (events flat : List Event)
   first = raised start version
 
   -- the events lead to this tale
-  pub replayed_to : (rest : List ℕ) → Replay first events End rest ≡ whole t rest
-  replayed_to rest = ap (λ all. Replay first all End rest) (sym (append-nil events)) ∙ follows.replays [] End rest
+  pub replayed_to : (rest : List ℕ) → played_events first events End rest ≡ whole t rest
+  replayed_to rest = ap (λ all. played_events first all End rest) (sym (append-nil events))
+      ∙ follows.replays [] End rest
 
   -- a whole file that is not too long is a capture of the flat events, which are replayed alike
   pub is_flat : length (flat_file first version events) ≤ limit → version ≤ 3
-      → IsFlatCapture start t (flat_version version) (FlatAll first events) (flat_file first version events)
+      → IsFlatCapture start t (flat_version version) (flat_replay first events) (flat_file first version events)
   is_flat few known =
       let written_version = flat_version version in
-      let all = FlatAll first events in
+      let all = flat_replay first events in
       let bytes = flat_file first version events in
       let same : all ≡ flat = all_flat first t events flat follows in
       let allows : AllowsAll written_version all =
@@ -64,10 +66,12 @@ module _ (start t : Tale) (version : ℕ) (events flat : List Event)
       let read : (after : List ℕ)
       → capture (bytes ++ after) ≡ record { version = written_version; events = all; ending = End; rest = after } =
       λ after. written_read written_version all after (omega arith, omega arith) allows few in
-      let play : (after : List ℕ) → Play start (bytes ++ after) ≡ Replay first all End after =
-      λ after. ap (played_from start) (read after) ∙ ap (λ at. Replay at all End after) (same_raised start version) in
-      let fine : (Replay first events End []).ending ≡ PlayedWhole = ap (λ (r : Played). r.ending) (replayed_to []) in
-      let tale : (Replay first events End []).tale ≡ t = ap (λ (r : Played). r.tale) (replayed_to []) in
+      let play : (after : List ℕ) → played_capture start (bytes ++ after) ≡ played_events first all End after =
+      λ after. ap (played_from start) (read after)
+      ∙ ap (λ at. played_events at all End after) (same_raised start version) in
+      let fine : (played_events first events End []).ending ≡ PlayedWhole =
+      ap (λ (r : Played). r.ending) (replayed_to []) in
+      let tale : (played_events first events End []).tale ≡ t = ap (λ (r : Played). r.tale) (replayed_to []) in
       let alike = flat_alike first events fine in
       record {
         ports = all_ports events first;
@@ -75,7 +79,7 @@ module _ (start t : Tale) (version : ℕ) (events flat : List Event)
         whole = λ after. ap (λ (r : Played). r.ending) (play after) ∙ (rest_same all first after).0 ∙ alike.0;
         alike = λ after.
             let Q : Tale → Type 0 = λ a. AreAlike a t in
-            let R : Tale → Type 0 = λ b. AreAlike (Replay first all End []).tale b in
+            let R : Tale → Type 0 = λ b. AreAlike (played_events first all End []).tale b in
             subst Q (sym (ap (λ (r : Played). r.tale) (play after) ∙ (rest_same all first after).1))
             (subst R tale alike.1);
       }

@@ -28,14 +28,15 @@ flat_asked ram (Ok asked) = flat_work ram asked
 flat_asked ram (Err fault) = []
 
 -- an event that comes to a machine
-unfoldable pub Flat : Machine → Event → List Event
-Flat s event = flat_asked s.ram (work_of s.ram s.running event)
+unfoldable pub flat_events : Machine → Event → List Event
+flat_events s event = flat_asked s.ram (work_of s.ram s.running event)
 
 abbrev pub then_flat : Result Tale EventFault → (Tale → List Event) → List Event
 then_flat (Ok next) on = on next
 then_flat (Err fault) on = []
 
 -- events, along their replay up to the first fault
-abbrev pub FlatAll : Tale → List Event → List Event
-FlatAll t [] = []
-FlatAll t (event ∷ events) = Flat t.state event ++ then_flat (after_event t event) (λ next. FlatAll next events)
+abbrev pub flat_replay : Tale → List Event → List Event
+flat_replay t [] = []
+flat_replay t (event ∷ events) = flat_events t.state event
+    ++ then_flat (after_event t event) (λ next. flat_replay next events)

@@ -5,11 +5,11 @@ use Rattle.event_play.specs.Alike.{AreAlike, replay_of}
 use Rattle.event_play.specs.Replay.{from_state}
 use Rattle.event_play.specs.Step.{Machine}
 use Rattle.event_play.specs.declared.ending.Ending.TheVariants.{Done}
-use Rattle.capture_flat.specs.Flat.{FlatAll}
+use Rattle.capture_flat.specs.Flat.{flat_replay}
 
 -- Whatever machine they start from, of either height, events without a fault and the flat events made of them are
 -- replayed alike, and the flat events have no fault either.
 abbrev pub FlatReplaysAlike : Type 0
 FlatReplaysAlike = (s : Machine) (events : List Event) → (replay_of s events).ending ≡ Done
-    → ((replay_of s (FlatAll (from_state s 0) events)).ending ≡ Done)
-    × AreAlike (replay_of s (FlatAll (from_state s 0) events)).tale (replay_of s events).tale
+    → ((replay_of s (flat_replay (from_state s 0) events)).ending ≡ Done)
+    × AreAlike (replay_of s (flat_replay (from_state s 0) events)).tale (replay_of s events).tale

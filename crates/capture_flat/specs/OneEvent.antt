@@ -11,7 +11,7 @@ use Rattle.event_play.specs.Replay.{Tale, next_number}
 use Rattle.event_play.specs.RigState.{RigState}
 use Rattle.event_play.specs.Stepping.{HasStepped}
 use Rattle.event_play.specs.Streams.{Outlets}
-use Rattle.capture_flat.specs.Flat.{Flat}
+use Rattle.capture_flat.specs.Flat.{flat_events}
 use Rattle.capture_flat.specs.Out.{due_at, head_due}
 use Rattle.capture_flat.specs.declared.ending.FlatEnding.{FlatEnding}
 use Rattle.capture_flat.specs.declared.ending.FlatEnding.TheVariants.{Done, Stopped, Faulted, TooLong, WriteFailed}
@@ -22,7 +22,7 @@ pub record PlaysFlat (t : Tale) (event : Event) (before now : Outlets) (rig : Ri
   pub shown : Option ℕ
   pub step : HasStepped t.state (next_number t.played) event shown before now rig
   pub played : rig.played ≡ next_number t.played
-  pub allowed : AllowsAll 2 (Flat t.state event)
+  pub allowed : AllowsAll 2 (flat_events t.state event)
 
 -- it was played, and its records were written, with room for an End record behind them
 pub record PassesEvent (was : FlatFile) (t : Tale) (event : Event) (before now : Outlets) (rig : RigState)

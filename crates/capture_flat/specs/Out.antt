@@ -5,7 +5,7 @@ use Rattle.gpu_capture.specs.Written.{spelled, written}
 use Rattle.gpu_capture.specs.declared.event.Event.{Event}
 use Rattle.gpu_capture.specs.declared.event.Event.TheVariants.{Gp0}
 use Rattle.event_play.specs.Replay.{Tale}
-use Rattle.capture_flat.specs.Flat.{Flat, FlatAll}
+use Rattle.capture_flat.specs.Flat.{flat_events, flat_replay}
 
 -- the version that is written for a version: reads that are not shown are known from version 2 on
 abbrev pub flat_version : ℕ → ℕ
@@ -25,7 +25,7 @@ head_due version played = if played == 0 then head_of (flat_version version) els
 
 -- what is due at an event
 abbrev pub due_at : ℕ → Tale → Event → List ℕ
-due_at version t event = head_due version t.played ++ spell (Flat t.state event)
+due_at version t event = head_due version t.played ++ spell (flat_events t.state event)
 
 -- what stands behind so many events, of which these are the flat events
 abbrev pub begun : (version played : ℕ) → List Event → List ℕ
@@ -33,4 +33,4 @@ begun version played flat = if played == 0 then [] else head_of (flat_version ve
 
 -- the whole file of the flat events of events, played from a tale
 abbrev pub flat_file : (first : Tale) (version : ℕ) → List Event → List ℕ
-flat_file first version events = written (flat_version version) (FlatAll first events)
+flat_file first version events = written (flat_version version) (flat_replay first events)

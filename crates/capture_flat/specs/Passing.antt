@@ -8,15 +8,15 @@ use Rattle.gpu_capture.specs.declared.event.Stop.{Stop}
 use Rattle.gpu_capture.specs.declared.event.Stop.TheVariants.{End, Truncated, ReadFault}
 use Rattle.event_play.specs.Ends.{IsNotEnd}
 use Rattle.event_play.specs.Playing.{whole}
-use Rattle.event_play.specs.Replay.{Tale, Replay, Play, next_number, raised}
+use Rattle.event_play.specs.Replay.{Tale, played_events, played_capture, next_number, raised}
 use Rattle.event_play.specs.RigState.{RigState, StandsFor}
-use Rattle.event_play.specs.Step.{Step}
+use Rattle.event_play.specs.Step.{event_step}
 use Rattle.event_play.specs.Streams.{Streams}
 use Rattle.event_play.specs.Told.{told_notes}
 use Rattle.event_play.specs.declared.ending.Ending.TheVariants.{Done as PlayedWhole}
 use Rattle.event_play.specs.declared.fault.EventFault.{EventFault}
 use Rattle.event_play.specs.Ports.{AreAtPorts}
-use Rattle.capture_flat.specs.Flat.{FlatAll}
+use Rattle.capture_flat.specs.Flat.{flat_replay}
 use Rattle.event_play.specs.Alike.{AreAlike}
 use Rattle.capture_flat.specs.Out.{begun, due_at, head_due, flat_version, flat_file}
 use Rattle.capture_flat.specs.declared.ending.FlatEnding.{FlatEnding}
@@ -35,8 +35,8 @@ pub record Way : Type 0 where
 -- there are none.
 pub record Follows (first : Tale) (events : List Event) (tale : Tale) (flat : List Event) : Type 0 where
   pub replays : (more : List Event) (stop : Stop) (rest : List ℕ)
-      → Replay first (events ++ more) stop rest ≡ Replay tale more stop rest
-  pub flats : (more : List Event) → FlatAll first (events ++ more) ≡ flat ++ FlatAll tale more
+      → played_events first (events ++ more) stop rest ≡ played_events tale more stop rest
+  pub flats : (more : List Event) → flat_replay first (events ++ more) ≡ flat ++ flat_replay tale more
   pub fresh : tale.played ≡ 0 → flat ≡ []
   pub allowed : AllowsAll 2 flat
 
@@ -84,16 +84,17 @@ pub record IsFlatCapture (first t : Tale) (version : ℕ) (flat : List Event) (b
   pub ports : AreAtPorts flat
   pub reads : (after : List ℕ)
       → capture (bytes ++ after) ≡ record { version = version; events = flat; ending = End; rest = after }
-  pub whole : (after : List ℕ) → (Play first (bytes ++ after)).ending ≡ PlayedWhole
-  pub alike : (after : List ℕ) → AreAlike (Play first (bytes ++ after)).tale t
+  pub whole : (after : List ℕ) → (played_capture first (bytes ++ after)).ending ≡ PlayedWhole
+  pub alike : (after : List ℕ) → AreAlike (played_capture first (bytes ++ after)).tale t
 
 -- all was read, played and written
 pub record IsWhole (first : Tale) (way : Way) (before now : Streams) : Type 0 where
   pub says : SaysStop way End now.left
   pub needed : AreNeededToEnd way.events way.taken
-  pub plays : (rest : List ℕ) → Play first (way.taken ++ rest) ≡ whole way.tale rest
+  pub plays : (rest : List ℕ) → played_capture first (way.taken ++ rest) ≡ whole way.tale rest
   pub held : now.held ≡ appended before.held (flat_file (raised first way.version) way.version way.events)
-  pub is_flat : IsFlatCapture first way.tale (flat_version way.version) (FlatAll (raised first way.version) way.events)
+  pub is_flat : IsFlatCapture first way.tale (flat_version way.version)
+      (flat_replay (raised first way.version) way.events)
       (flat_file (raised first way.version) way.version way.events)
 
 -- the reader stopped otherwise; all that was due stands
@@ -109,7 +110,7 @@ pub record HasFault (way : Way) (number : ℕ) (fault : EventFault) (before now 
   pub number_is : number ≡ next_number way.tale.played
   pub needed : AreNeeded (way.events ++ event ∷ []) way.taken
   pub says : SaysFirst way (way.events ++ event ∷ [])
-  pub fault_is : Step way.tale.state number event ≡ Err fault
+  pub fault_is : event_step way.tale.state number event ≡ Err fault
   pub held : now.held ≡ appended before.held (begun way.version way.tale.played way.flat)
 
 -- the last event of the way, and what was there before it

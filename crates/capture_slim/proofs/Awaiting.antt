@@ -17,7 +17,7 @@ use Rattle.gpu_capture.proofs.Versions.{version_from}
 use Rattle.event_play.specs.Ends.{IsNotEnd}
 use Rattle.event_play.specs.Ports.{IsAtPorts, AreAtPorts}
 use Rattle.dead_drawing.specs.Laws.{height_for}
-use Rattle.dead_drawing.specs.Slim.{Slim}
+use Rattle.dead_drawing.specs.Slim.{slim_events}
 use Rattle.capture_flat.specs.Passing.{AreNeeded}
 use Rattle.capture_flat.proofs.Awaiting.{Answers}
 use Rattle.capture_flat.proofs.Needed.{none_needed, needed_on, needed_end, says_on, stop_whole, stop_part}
@@ -350,8 +350,8 @@ module _ (version : ℕ) (before now : Streams) (window : Window) (draft : Draft
           ]
       by_ending (NotFlat number) ends = absurd ends
 
-  slim_none : (height : ℕ) → Slim height [] ≡ []
-  unfolding Slim
+  slim_none : (height : ℕ) → slim_events height [] ≡ []
+  unfolding slim_events
   slim_none height = refl
 
   none_all : (known number : ℕ) (held : Option (List ℕ)) → IsAll (height_for version) known [] number before.held held

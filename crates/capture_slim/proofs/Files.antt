@@ -162,16 +162,6 @@ first_draft version held = record {
   lacks = λ now number off. absurd (none_split off.whole off.broken off.later off.are);
 }
 
--- all was written
-pub written_file : (draft : Draft) (base held now : Option (List ℕ)) (outs : List (Option Event))
-    → IsDraft draft base held outs
-    → now ≡ appended held (bytes_of draft.gathered) → IsFile draft.file base now (kept_of outs)
-written_file draft base held now outs is wrote = record {
-  stands = wrote ∙ is.file_is.stands;
-  size_is = is.file_is.size_is;
-  fits = is.file_is.fits;
-}
-
 written_draft : (file : SlimFile) (pieces : List Piece) (base held now : Option (List ℕ)) (outs : List (Option Event))
     → IsDraft (draft_of file pieces) base held outs → now ≡ appended held (bytes_of pieces)
     → IsDraft (draft_of file []) base now outs
@@ -223,9 +213,6 @@ module _ (file : SlimFile) (pieces : List Piece) (base held : Option (List ℕ))
 
   abbrev new_file : SlimFile
   new_file = record { version = file.version; size = after }
-
-  all_held : Option (List ℕ)
-  all_held = appended held (bytes_of pieces)
 
   record_lacks : (now : Option (List ℕ)) → after + 4 ≤ limit → AppendsPart (appended held (bytes_of pieces)) now
       (due file e)

@@ -14,13 +14,13 @@ use Rattle.gpu_core.specs.Machine.{is_idle}
 use Rattle.event_play.specs.Ports.{IsAtPorts, AreAtPorts}
 use Rattle.dead_drawing.specs.Control.{Control}
 use Rattle.dead_drawing.specs.Dead.{is_droppable}
-use Rattle.dead_drawing.specs.Slim.{Slim}
+use Rattle.dead_drawing.specs.Slim.{slim_events}
 use Rattle.capture_slim.specs.Came.{Came, ClosesFile, EndsPushed, EndsRefused, EndsStop, HoldWords, IsAll, FailsAny}
 use Rattle.capture_slim.specs.Came.{FailsLast}
 use Rattle.capture_slim.specs.File.{begun, head_due, IsDraft, IsFile, Fails, FailsIn, FailsNext, FailsRest}
 use Rattle.capture_slim.specs.Passing.{FailsAt}
 use Rattle.capture_slim.specs.Places.{kept_of, places}
-use Rattle.capture_slim.specs.Stream.{outs, behind, leaving, leaving_from, staying, staying_from}
+use Rattle.capture_slim.specs.Stream.{outs, window_behind, leaving, leaving_from, staying, staying_from}
 use Rattle.capture_slim.specs.Window.{Window, kept, kept_words, with_words, with_event, with_word, pushed_by, pushed}
 use Rattle.capture_slim.specs.Window.{first_window, all_left, left_of, waiting}
 use Rattle.capture_slim.specs.declared.ending.SlimEnding.{SlimEnding}
@@ -41,15 +41,15 @@ Outs = List (Option Event)
 -- ---- one event more
 
 pub outs_more : (events : List Event) (e : Event) (w : Window) → outs (events ++ e ∷ []) w
-    ≡ outs events w ++ leaving (pushed (behind events w) e)
+    ≡ outs events w ++ leaving (pushed (window_behind events w) e)
 outs_more [] e w = append-nil (leaving (pushed w e))
 outs_more (x ∷ events) e w =
     ap (λ (os : Outs). leaving (pushed w x) ++ os) (outs_more events e (staying (pushed w x)))
     ∙ sym (append_assoc (leaving (pushed w x)) (outs events (staying (pushed w x)))
-    (leaving (pushed (behind events (staying (pushed w x))) e)))
+    (leaving (pushed (window_behind events (staying (pushed w x))) e)))
 
-pub behind_more : (events : List Event) (e : Event) (w : Window) → behind (events ++ e ∷ []) w
-    ≡ staying (pushed (behind events w) e)
+pub behind_more : (events : List Event) (e : Event) (w : Window) → window_behind (events ++ e ∷ []) w
+    ≡ staying (pushed (window_behind events w) e)
 behind_more [] e w = refl
 behind_more (x ∷ events) e w = behind_more events e (staying (pushed w x))
 
@@ -108,7 +108,7 @@ leaves_size (s ∷ slots) words = by_test (ltb (length slots + length words) 409
     by_test true = omega arith
     by_test false = omega arith
 
-pub counts : (events : List Event) (w : Window) → length (outs events w) + size (behind events w)
+pub counts : (events : List Event) (w : Window) → length (outs events w) + size (window_behind events w)
     ≡ size w + length events
 counts [] w = omega arith
 counts (e ∷ events) w =
@@ -178,7 +178,7 @@ module _ (height : ℕ) (events : List Event) (window : Window) (draft : Draft) 
   pub all_places : places height events ≡ gone ++ all_left (waiting window)
   all_places = stream_law height events ∙ ap (λ (w : Window). gone ++ all_left (waiting w)) (sym came.window_is)
 
-  slim_is : kept_of (gone ++ all_left (waiting window)) ≡ Slim height events
+  slim_is : kept_of (gone ++ all_left (waiting window)) ≡ slim_events height events
   slim_is = ap kept_of (sym all_places) ∙ places_law height events
 
   pub counted : length gone + length (waiting window) ≡ count
@@ -238,7 +238,7 @@ module _ (height : ℕ) (events : List Event) (window : Window) (draft : Draft) 
   -- all was written
   pub rest_file : (file : SlimFile) (now : Option (List ℕ))
       → IsFile file base now (kept_of (gone ++ all_left (waiting window)))
-      → IsFile file base now (Slim height events)
+      → IsFile file base now (slim_events height events)
   rest_file file now is = let P : List Event → Type 0 = λ es. IsFile file base now es in subst P slim_is is
 
   pub rest_all : (file : SlimFile) (now : Option (List ℕ)) (number : ℕ)
@@ -250,7 +250,7 @@ module _ (height : ℕ) (events : List Event) (window : Window) (draft : Draft) 
       record {
         number_is = at ∙ ap (λ n. n + 1) came.count_is;
         stands = file_is.stands;
-        fits = written_most file.version (Slim height events) (omega (arith, file_is.fits, file_is.size_is));
+        fits = written_most file.version (slim_events height events) (omega (arith, file_is.fits, file_is.size_is));
       }
 
   -- ---- an event of the ports comes
@@ -265,7 +265,7 @@ module _ (height : ℕ) (events : List Event) (window : Window) (draft : Draft) 
     words_more [] hold = (holds, tt)
     words_more (x ∷ es) hold = (hold.0, words_more es hold.1)
 
-    now_is : next ≡ behind (events ++ e ∷ []) (first_window height)
+    now_is : next ≡ window_behind (events ++ e ∷ []) (first_window height)
     now_is = next_is ∙ ap (λ w. staying (pushed w e)) came.window_is ∙ sym (behind_more events e (first_window height))
 
     outs_now : outs (events ++ e ∷ []) (first_window height) ≡ gone ++ leaving (pushed window e)
@@ -377,11 +377,11 @@ module _ (height : ℕ) (events : List Event) (window : Window) (draft : Draft) 
 -- all that stays was written, and the file is closed
 pub closes : (height : ℕ) (file : SlimFile) (events : List Event) (stop : Stop) (number : ℕ)
     (base mid now : Option (List ℕ)) (ending : SlimEnding)
-    → IsFile file base mid (Slim height events) → number ≡ length events + 1
+    → IsFile file base mid (slim_events height events) → number ≡ length events + 1
     → ClosesFile file stop number mid now ending
     → EndsStop height file.version events stop base now ending
 closes height file events stop number base mid now Done is at ends =
-    let all = Slim height events in (
+    let all = slim_events height events in (
       ends.0,
       wrote_on base mid now (begun file.version all) _ is.stands ends.1
           ∙ ap (λ bytes. appended base (begun file.version all ++ (bytes ++ spelled_end)))
@@ -395,11 +395,11 @@ closes height file events stop number base mid now (Stopped at told) is counted 
   record {
     number_is = ends.0 ∙ counted;
     stands = ends.3 ∙ is.stands;
-    fits = written_most file.version (Slim height events) (omega (arith, is.fits, is.size_is));
+    fits = written_most file.version (slim_events height events) (omega (arith, is.fits, is.size_is));
   },
 )
 closes height file events stop number base mid now (WriteFailed at) is counted ends =
-    let all = Slim height events in
+    let all = slim_events height events in
     let P : Option (List ℕ) → Type 0 = λ m. AppendsPart m now (head_due file.version all ++ spelled_end) in
     let Q : List ℕ → Type 0 = λ bytes. AppendsPart mid now (bytes ++ spelled_end) in
     inr (

@@ -1,6 +1,6 @@
 -- The window holds events of the ports where only such ones came.
 use Rattle.std.proofs.Common.{◌≡◌, ◌+◌, ◌&&◌, ltb, ℕ, suc, List, [], ◌∷◌, ◌++◌, Option, None, Some, Bool, true, false}
-use Rattle.std.proofs.Common.{cond, IfSome, option_to_list, length, drop, subst}
+use Rattle.std.proofs.Common.{cond, IfSome, option_to_list, length, subst}
 use Rattle.px_num.specs.declared.shape.Box2.{Box2}
 use Rattle.gpu_capture.specs.declared.event.Event.{Event}
 use Rattle.gpu_capture.specs.declared.event.Event.TheVariants as event
@@ -9,7 +9,7 @@ use Rattle.event_play.specs.Ports.{IsAtPorts}
 use Rattle.dead_drawing.specs.Control.{Control}
 use Rattle.dead_drawing.specs.Dead.{is_droppable}
 use Rattle.capture_slim.specs.Places.{kept_of}
-use Rattle.capture_slim.specs.Stream.{first_left, leaving_from, staying_from}
+use Rattle.capture_slim.specs.Stream.{leaving_from, staying_from}
 use Rattle.capture_slim.specs.Telling.{HoldPorts}
 use Rattle.capture_slim.specs.Window.{Window, settled, kept, kept_words, judged, dropped_words, open_words, with_words}
 use Rattle.capture_slim.specs.Window.{with_event, with_word, pushed_by, pushed, left_of}
@@ -87,14 +87,6 @@ mark_ports : (mark : Mark) (e : Event) → IsAtPorts e → IfSome (left_of e mar
 mark_ports Kept e port = port
 mark_ports Dropped e port = tt
 mark_ports (Open area i) e port = port
-
-pub first_ports : (slots : List Slot) → HoldPorts slots → IfSome (first_left slots) IsAtPorts
-first_ports [] are = tt
-first_ports (s ∷ slots) are = mark_ports s.mark s.event are.0
-
-pub drop_ports : (slots : List Slot) → HoldPorts slots → HoldPorts (drop 1 slots)
-drop_ports [] are = tt
-drop_ports (s ∷ slots) are = are.1
 
 one_ports : (out result : Option Event) → option_to_list result ≡ kept_of (out ∷ []) → IfSome out IsAtPorts
     → IfSome result IsAtPorts

@@ -9,12 +9,13 @@ use Rattle.gpu_capture.specs.declared.event.Stop.TheVariants.{End}
 use Rattle.gpu_capture.proofs.Written.{written_read}
 use Rattle.event_play.specs.Alike.{AreAlike, replay_of}
 use Rattle.event_play.specs.Ports.{IsAtPorts, AreAtPorts}
-use Rattle.event_play.specs.Replay.{Played, Play, Replay, Tale, from_state, played_from, raised, tall_version}
+use Rattle.event_play.specs.Replay.{Played, played_capture, played_events, Tale, from_state, played_from, raised}
+use Rattle.event_play.specs.Replay.{tall_version}
 use Rattle.event_play.specs.Step.{first_machine, tall_machine}
 use Rattle.dead_drawing.specs.Control.{Control, controlled, first_control}
 use Rattle.dead_drawing.specs.Dead.{dead_len}
 use Rattle.dead_drawing.specs.Laws.{height_for, machine_for}
-use Rattle.dead_drawing.specs.Slim.{Slim, slim_from, kept_by}
+use Rattle.dead_drawing.specs.Slim.{slim_events, slim_from, kept_by}
 use Rattle.dead_drawing.proofs.SlimLaw.{slim_ports}
 use Rattle.dead_drawing.proofs.WholeLists.{slim_law}
 use Rattle.capture_flat.specs.Passing.{IsFlatCapture}
@@ -57,12 +58,12 @@ slim_allowed version (e ∷ events) c zero allowed = kept_allowed version (dead_
     (λ j. slim_allowed version events (controlled c e) j allowed.1)
 
 all_allowed : (version height : ℕ) (events : List Event) → AllowsAll version events
-    → AllowsAll version (Slim height events)
-unfolding Slim
+    → AllowsAll version (slim_events height events)
+unfolding slim_events
 all_allowed version height events allowed = slim_allowed version events (first_control height) 0 allowed
 
-all_ports : (height : ℕ) (events : List Event) → AreAtPorts events → AreAtPorts (Slim height events)
-unfolding Slim
+all_ports : (height : ℕ) (events : List Event) → AreAtPorts events → AreAtPorts (slim_events height events)
+unfolding slim_events
 all_ports height events ports = slim_ports events (first_control height) 0 ports
 
 -- ---- the machine that plays a version
@@ -82,7 +83,7 @@ module _ (version : ℕ) (taken : List ℕ) (events : List Event) (some : 1 ≤ 
     ≡ record { version = version; events = events; ending = End; rest = rest })
     (ports : AreAtPorts events) (words : HoldWords events) (fits : length (slim_file version events) ≤ limit) where
   abbrev slim : List Event
-  slim = Slim (height_for version) events
+  slim = slim_events (height_for version) events
 
   allowed : AllowsAll version slim
   allowed =
@@ -98,18 +99,18 @@ module _ (version : ℕ) (taken : List ℕ) (events : List Event) (some : 1 ≤ 
   -- playing bytes that say these events
   plays : (es : List Event) (bytes after : List ℕ)
       → capture bytes ≡ record { version = version; events = es; ending = End; rest = after }
-      → ((Play first bytes).ending ≡ (replay_of (machine_for version) es).ending)
-      × ((Play first bytes).tale ≡ (replay_of (machine_for version) es).tale)
+      → ((played_capture first bytes).ending ≡ (replay_of (machine_for version) es).ending)
+      × ((played_capture first bytes).tale ≡ (replay_of (machine_for version) es).tale)
   plays es bytes after is =
-      let played : Play first bytes ≡ Replay (from_state (machine_for version) 0) es End after =
-      ap (played_from first) is ∙ ap (λ t. Replay t es End after) (raised_is version) in
+      let played : played_capture first bytes ≡ played_events (from_state (machine_for version) 0) es End after =
+      ap (played_from first) is ∙ ap (λ t. played_events t es End after) (raised_is version) in
       let same = rest_same es (from_state (machine_for version) 0) after in (
         ap (λ (r : Played). r.ending) played ∙ same.0,
         ap (λ (r : Played). r.tale) played ∙ same.1,
       )
 
   pub is_slim : (rest : List ℕ)
-      → IsFlatCapture first (Play first (taken ++ rest)).tale version slim (slim_file version events)
+      → IsFlatCapture first (played_capture first (taken ++ rest)).tale version slim (slim_file version events)
   is_slim rest =
       let law = slim_law version events ports in
       let whole = plays events (taken ++ rest) rest (says rest) in
@@ -118,7 +119,7 @@ module _ (version : ℕ) (taken : List ℕ) (events : List Event) (some : 1 ≤ 
         reads = reads;
         whole = λ after. (plays slim (slim_file version events ++ after) after (reads after)).0 ∙ law.0;
         alike = λ after.
-            let P : Tale → Type 0 = λ a. AreAlike a (Play first (taken ++ rest)).tale in
+            let P : Tale → Type 0 = λ a. AreAlike a (played_capture first (taken ++ rest)).tale in
             let Q : Tale → Type 0 = λ b. AreAlike (replay_of (machine_for version) slim).tale b in
             subst P (sym (plays slim (slim_file version events ++ after) after (reads after)).1)
             (subst Q (sym whole.1) law.2);

@@ -38,13 +38,6 @@ pub record IsQuiet (c : Control) (word : ℕ) : Type 0 where
   pub saying : Quiet ≡ said_at c (event.Gp0 word)
   pub area : None ≡ area_at c (event.Gp0 word)
 
--- a word inside a packet
-pub inside_quiet : (c : Control) (new : Pending) (word : ℕ) → IsPushed c.pending new word None → IsQuiet c word
-inside_quiet c new word push = record {
-  saying = ap (λ (i : Option Item). said_by c.regs.height i) push.decided;
-  area = ap (λ (i : Option Item). area_by c.regs i) push.decided;
-}
-
 pub inside_control : (c : Control) (new : Pending) (word : ℕ) → IsPushed c.pending new word None
     → ◌≡◌ {A = Control} (record { regs = c.regs; pending = new }) (controlled c (event.Gp0 word))
 unfolding controlled

@@ -120,10 +120,6 @@ turned_is (x ∷ items) s n age say e le =
     (omega (arith, le, length-append items (record { event = s.event; mark = settle_by s.mark age say } ∷ [])))
     ∙ ap (λ (y : Slot). items ++ record { event = y.event; mark = settle_by y.mark age say } ∷ []) same
 
-pub turned_none : (items : List Slot) (age : ℕ) (say : Saying) → None ≡ slice_get items 0 → 0 < length items → ⊥
-turned_none [] age say e some = omega (arith, some)
-turned_none (x ∷ items) age say e some = absurd cc
-
 turned_split : (settled_ones back : List Slot) (s : Slot) (age : ℕ) (say : Saying)
     → turned ((s ∷ back) ++ settled_ones) age say
     ≡ back ++ (settled_ones ++ record { event = s.event; mark = settle_by s.mark age say } ∷ [])

@@ -6,12 +6,12 @@ use Rattle.gpu_capture.specs.Capture.{head_of}
 use Rattle.gpu_capture.specs.Written.{spelled_end, written}
 use Rattle.gpu_capture.specs.declared.event.Event.{Event}
 use Rattle.dead_drawing.specs.Laws.{height_for}
-use Rattle.dead_drawing.specs.Slim.{Slim}
+use Rattle.dead_drawing.specs.Slim.{slim_events}
 use Rattle.capture_flat.specs.Out.{spell}
 use Rattle.capture_flat.proofs.Pieces.{spell-append}
 use Rattle.capture_slim.specs.Passing.{FailsAt, IsTooLong, Way}
 use Rattle.capture_slim.specs.Places.{kept_of, places, slim_first}
-use Rattle.capture_slim.specs.Stream.{DueLaw, behind, outs, staying}
+use Rattle.capture_slim.specs.Stream.{DueLaw, window_behind, outs, staying}
 use Rattle.capture_slim.specs.Window.{IsBegun, Window, first_window, pushed}
 use Rattle.capture_slim.specs.declared.ending.SlimEnding.TheVariants.{TooLong}
 use Rattle.capture_slim.proofs.Firsts.{counts, pushed_size, size}
@@ -23,7 +23,7 @@ use Rattle.capture_slim.proofs.WindowLaw.{pushed_begun}
 -- ---- no more events wait than the window has
 
 few_behind : (events : List Event) (w : Window) → IsBegun w.words w.control → size w ≤ 4096
-    → size (behind events w) ≤ 4096
+    → size (window_behind events w) ≤ 4096
 few_behind [] w begun few = few
 few_behind (e ∷ events) w begun few =
     let p = pushed w e in
@@ -48,7 +48,7 @@ due_law height number events more le =
 -- ---- the first of the events that stay
 
 pub first_of_slim : (height number : ℕ) (events : List Event)
-    → Slim height events ≡ slim_first height number events ++ kept_of (drop number (places height events))
+    → slim_events height events ≡ slim_first height number events ++ kept_of (drop number (places height events))
 first_of_slim height number events =
     let all = places height events in
     sym (places_law height events) ∙ ap kept_of (sym (take-append-drop number all))
@@ -66,7 +66,7 @@ longer version xs ys =
     omega (arith, a, b, c, d, e, f)
 
 no_shorter : (version height number : ℕ) (events : List Event)
-    → length (written version (slim_first height number events)) ≤ length (written version (Slim height events))
+    → length (written version (slim_first height number events)) ≤ length (written version (slim_events height events))
 no_shorter version height number events =
     let first = slim_first height number events in
     let rest = kept_of (drop number (places height events)) in

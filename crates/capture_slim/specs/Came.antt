@@ -9,10 +9,10 @@ use Rattle.gpu_capture.specs.declared.event.Stop.TheVariants.{End}
 use Rattle.event_play.specs.Ends.{IsNotEnd}
 use Rattle.event_play.specs.Ports.{IsAtPorts, AreAtPorts}
 use Rattle.dead_drawing.specs.Dead.{window_events}
-use Rattle.dead_drawing.specs.Slim.{Slim}
+use Rattle.dead_drawing.specs.Slim.{slim_events}
 use Rattle.capture_slim.specs.File.{IsDraft, begun, head_at, head_due}
 use Rattle.capture_slim.specs.Passing.{FailsAt, IsAmongLast}
-use Rattle.capture_slim.specs.Stream.{outs, behind}
+use Rattle.capture_slim.specs.Stream.{outs, window_behind}
 use Rattle.capture_slim.specs.Window.{Window, first_window}
 use Rattle.capture_slim.specs.declared.ending.SlimEnding.{SlimEnding}
 use Rattle.capture_slim.specs.declared.ending.SlimEnding.TheVariants.{Done, Stopped, NotFlat, TooLong, WriteFailed}
@@ -29,15 +29,15 @@ pub record Came (height : ℕ) (events : List Event) (window : Window) (draft : 
     (base held : Option (List ℕ)) : Type 0 where
   pub ports : AreAtPorts events
   pub words : HoldWords events
-  pub window_is : window ≡ behind events (first_window height)
+  pub window_is : window ≡ window_behind events (first_window height)
   pub count_is : count ≡ length events
   pub draft_is : IsDraft draft base held (outs events (first_window height))
 
 -- all events were written as if they were all
 pub record IsAll (height version : ℕ) (events : List Event) (number : ℕ) (base held : Option (List ℕ)) : Type 0 where
   pub number_is : number ≡ length events + 1
-  pub stands : held ≡ appended base (begun version (Slim height events))
-  pub fits : length (written version (Slim height events)) ≤ limit
+  pub stands : held ≡ appended base (begun version (slim_events height events))
+  pub fits : length (written version (slim_events height events)) ≤ limit
 
 -- at the end of the reading the record of one of the last events would be too much
 pub record FailsLast (height version : ℕ) (events : List Event) (number : ℕ) (base held : Option (List ℕ))
@@ -89,15 +89,15 @@ EndsEvent height version events event base held ending =
 -- a proper part of the End record was written
 pub record EndsPart (height version : ℕ) (events : List Event) (number : ℕ) (base held : Option (List ℕ)) : Type 0 where
   pub number_is : number ≡ length events + 1
-  pub stands : AppendsPart (appended base (begun version (Slim height events))) held
-      (head_due version (Slim height events) ++ spelled_end)
-  pub fits : length (written version (Slim height events)) ≤ limit
+  pub stands : AppendsPart (appended base (begun version (slim_events height events))) held
+      (head_due version (slim_events height events) ++ spelled_end)
+  pub fits : length (written version (slim_events height events)) ≤ limit
 
 -- how a stop of the reader ends it
 abbrev pub EndsStop : (height version : ℕ) → List Event → Stop → (base held : Option (List ℕ)) → SlimEnding → Type 0
 EndsStop height version events stop base held Done =
-    (stop ≡ End) × (held ≡ appended base (written version (Slim height events)))
-    × (length (written version (Slim height events)) ≤ limit)
+    (stop ≡ End) × (held ≡ appended base (written version (slim_events height events)))
+    × (length (written version (slim_events height events)) ≤ limit)
 EndsStop height version events stop base held (Stopped number told) =
     (told ≡ stop) × IsNotEnd stop × IsAll height version events number base held
 EndsStop height version events stop base held (TooLong number) =

@@ -1,7 +1,7 @@
 -- What is written of the events that stay (our own rule): nothing before the first of them, not even the head.
 use Rattle.std.specs.Prelude.{◌≡◌, ◌≤◌, ◌<◌, ℕ, List, [], ◌∷◌, ◌++◌, ◌+◌, ◌==◌, Option, Some, length, if◌then◌else◌}
 use Rattle.dev_io.specs.Device.{appended, AppendsPart}
-use Rattle.gpu_capture.specs.Capture.{head_of, limit}
+use Rattle.gpu_capture.specs.Capture.{IsVersion, head_of, limit}
 use Rattle.gpu_capture.specs.Written.{spelled, written}
 use Rattle.gpu_capture.specs.declared.event.Event.{Event}
 use Rattle.capture_flat.specs.Out.{spell}
@@ -16,6 +16,11 @@ use Rattle.capture_slim.specs.declared.file.SlimFile.{SlimFile}
 abbrev pub begun : (version : ℕ) → List Event → List ℕ
 begun version [] = []
 begun version (e ∷ events) = head_of version ++ spell (e ∷ events)
+
+-- a file of a known version that has room for an End record
+pub record HasRoom (file : SlimFile) : Type 0 where
+  pub version : IsVersion file.version
+  pub size : file.size + 4 ≤ limit
 
 -- the head, which is due with the first record
 abbrev pub head_due : (version : ℕ) → List Event → List ℕ

@@ -9,11 +9,11 @@ use Rattle.gpu_capture.specs.declared.event.Stop.{Stop}
 use Rattle.gpu_capture.specs.declared.event.Stop.TheVariants.{End, Truncated, ReadFault}
 use Rattle.event_play.specs.Ends.{IsNotEnd}
 use Rattle.event_play.specs.Ports.{IsAtPorts, AreAtPorts}
-use Rattle.event_play.specs.Replay.{Tale, Play, from_state}
+use Rattle.event_play.specs.Replay.{Tale, played_capture, from_state}
 use Rattle.event_play.specs.Step.{first_machine}
 use Rattle.dead_drawing.specs.Dead.{window_events}
 use Rattle.dead_drawing.specs.Laws.{height_for}
-use Rattle.dead_drawing.specs.Slim.{Slim}
+use Rattle.dead_drawing.specs.Slim.{slim_events}
 use Rattle.capture_flat.specs.Passing.{AreNeeded, AreNeededToEnd, IsFlatCapture}
 use Rattle.capture_slim.specs.File.{begun, head_due, Fails}
 use Rattle.capture_slim.specs.Places.{slim_first}
@@ -37,11 +37,11 @@ pub record Way : Type 0 where
 
 -- all that is written of its events, if they are all
 abbrev pub slim_of : Way → List Event
-slim_of way = Slim (height_for way.version) way.events
+slim_of way = slim_events (height_for way.version) way.events
 
 -- the file of what stays of events of a capture of this version
 abbrev pub slim_file : (version : ℕ) → List Event → List ℕ
-slim_file version events = written version (Slim (height_for version) events)
+slim_file version events = written version (slim_events (height_for version) events)
 
 -- the bytes taken say these events first, in a capture of the version of the way
 abbrev pub SaysFirst : Way → List Event → Type 0
@@ -116,7 +116,8 @@ pub record IsWhole (way : Way) (before now : Streams) : Type 0 where
   pub stops : StopsBehind way End before now
   pub held : now.held ≡ appended before.held (slim_file way.version way.events)
   pub fits : length (slim_file way.version way.events) ≤ limit
-  pub is_slim : (rest : List ℕ) → IsFlatCapture first (Play first (way.taken ++ rest)).tale way.version (slim_of way)
+  pub is_slim : (rest : List ℕ)
+      → IsFlatCapture first (played_capture first (way.taken ++ rest)).tale way.version (slim_of way)
       (slim_file way.version way.events)
 
 -- the events of the way were written as if they were all
@@ -193,3 +194,10 @@ MayWriteFault ending = ⊥
 abbrev pub IsEnding : SlimEnding → Type 0
 IsEnding (Stopped number End) = ⊥
 IsEnding ending = Unit {0}
+
+-- an ending of what writes alone, by how often the sink failed before and after: no fault of the source, and a fault of
+-- the sink only where it failed
+pub record EndsWriting (before now : ℕ) (ending : SlimEnding) : Type 0 where
+  pub known : IsEnding ending
+  pub read : MayReadFault ending → ⊥
+  pub cause : MayWriteFault ending → Rose before now

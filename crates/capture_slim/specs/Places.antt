@@ -3,7 +3,7 @@ use Rattle.std.specs.Prelude.{◌≡◌, ℕ, zero, suc, List, [], ◌∷◌, Op
 use Rattle.gpu_capture.specs.declared.event.Event.{Event}
 use Rattle.dead_drawing.specs.Control.{Control, controlled, first_control}
 use Rattle.dead_drawing.specs.Dead.{dead_len}
-use Rattle.dead_drawing.specs.Slim.{Slim}
+use Rattle.dead_drawing.specs.Slim.{slim_events}
 
 -- an event behind which so many events are of the dead packet at which it stands
 abbrev pub placed_by : (dead : ℕ) → Event → (ℕ → List (Option Event)) → List (Option Event)
@@ -32,4 +32,4 @@ slim_first height n events = kept_of (take n (places height events))
 
 -- all that stay are the list without its dead packets
 abbrev pub PlacesLaw : Type 0
-PlacesLaw = (height : ℕ) (events : List Event) → kept_of (places height events) ≡ Slim height events
+PlacesLaw = (height : ℕ) (events : List Event) → kept_of (places height events) ≡ slim_events height events

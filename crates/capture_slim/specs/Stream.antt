@@ -37,15 +37,15 @@ outs [] w = []
 outs (e ∷ events) w = leaving (pushed w e) ++ outs events (staying (pushed w e))
 
 -- the window behind them
-abbrev pub behind : List Event → Window → Window
-behind [] w = w
-behind (e ∷ events) w = behind events (staying (pushed w e))
+abbrev pub window_behind : List Event → Window → Window
+window_behind [] w = w
+window_behind (e ∷ events) w = window_behind events (staying (pushed w e))
 
 -- What leaves as events come is decided whatever follows, and with all that waits at the end it is each event in its
 -- place.
 abbrev pub StreamLaw : Type 0
 StreamLaw = (height : ℕ) (events : List Event) → places height events
-    ≡ outs events (first_window height) ++ all_left (waiting (behind events (first_window height)))
+    ≡ outs events (first_window height) ++ all_left (waiting (window_behind events (first_window height)))
 
 abbrev pub LeavesLaw : Type 0
 LeavesLaw = (height : ℕ) (events more : List Event) → (rest : List (Option Event))

@@ -15,7 +15,7 @@ const ROOM: usize = 4096;
 const RECORDS: usize = 512;
 
 /// The most bytes that a record has, with the head before it.
-pub(crate) const RECORD_MOST: usize = 16;
+pub(crate) const DUE_MOST: usize = 16;
 
 /// Records that are gathered and not written yet. Contracts see each with the number of its event.
 #[derive(Drop)]
@@ -72,7 +72,7 @@ fn fits(bytes: usize, records: usize) -> bool
     ensures bytes { IsTrue result → bytes + 16 ≤ 4096 }
     ensures records { IsTrue result → records < 512 }
 {
-    bytes <= ROOM - RECORD_MOST && records < RECORDS
+    bytes <= ROOM - DUE_MOST && records < RECORDS
 }
 
 impl Gathered {

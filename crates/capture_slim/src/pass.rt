@@ -51,7 +51,7 @@ impl Slim {
     /// The record of an event is due 4096 events later, or where the reading ends if that is earlier, and the head with
     /// the first record or the End record. Records that are due are gathered and written together: so a write that
     /// fails may show later, and is still that of the first record that lacks a byte. After every ending all that was
-    /// due before it stands, and no byte was taken past what that ending needs.
+    /// due before it stands. No byte was taken past what the ending needs, unless it is a failed write.
     pub fn pass<S: Source, K: Sink>(&mut self, source: &mut S, out: &mut K) -> SlimEnding
         requires { self.old ≡ first_window short_height }
         ensures ends { EndsSlim (streams (S.left source.old) (S.faults source.old) (K.held out.old))

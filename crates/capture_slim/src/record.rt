@@ -3,54 +3,21 @@ ghost use Rattle.std.specs.Prelude.{◌≡◌, ◌≤◌, ◌<◌, ◌+◌, ◌*
 ghost use Rattle.std.specs.Prelude.{OnOk, OnErr};
 ghost use Rattle.dev_io.specs.Device.{Rose, Writes};
 ghost use Rattle.gpu_capture.specs.Capture.{IsVersion};
-ghost use Rattle.gpu_capture.specs.Written.{record_words, spelled, spelled_end, word_bytes};
+ghost use Rattle.gpu_capture.specs.Written.{spelled, spelled_end};
 ghost use Rattle.gpu_capture.specs.declared.event.Event.{Event as SpecEvent};
 ghost use Rattle.event_play.specs.Ports.{IsAtPorts};
-ghost use Rattle.capture_slim.specs.File.{EndsTooLong, FailsNext, IsDraft, due, head_at};
-ghost use Rattle.capture_slim.specs.Gathered.{bytes_of};
-ghost use Rattle.capture_slim.specs.Passing.{IsEnding, MayReadFault, MayWriteFault};
+ghost use Rattle.capture_slim.specs.File.{EndsTooLong, FailsNext, HasRoom, IsDraft, due, head_at};
+ghost use Rattle.capture_slim.specs.Passing.{EndsWriting};
 
 use crate::ending::SlimEnding;
 use crate::file::{Draft, SlimFile};
-use crate::gathering::{Gathered, RECORD_MOST};
+use crate::gathering::{DUE_MOST, Gathered};
 use arrayvec::ArrayVec;
 use dev_io::{Failed, Sink};
-use gpu_capture::{Event, write_end, write_start};
+use gpu_capture::{Event, RECORD_MOST, head_bytes, record_bytes, write_end, write_start};
 
 /// A written file has no more bytes.
 const LIMIT: u32 = 1 << 30;
-
-// The tags of records of one event.
-const GP0_TAG: u32 = 0x0200_0001;
-
-const GP1_TAG: u32 = 0x0300_0001;
-
-const READ_TAG: u32 = 0x0400_0001;
-
-const STAT_TAG: u32 = 0x0500_0001;
-
-const SKIP_TAG: u32 = 0x0900_0001;
-
-// How many bytes the record of an event of the ports has.
-#[tactic(auto, using(capture_flat::proofs::Counts::record_length))]
-fn record_size(event: &Event) -> u32
-    requires { IsAtPorts event.now }
-    ensures value { result ≡ length (spelled event.now) }
-    ensures few { result ≤ 8 }
-{
-    match *event {
-        Event::Gp0 { .. } | Event::Gp1 { .. } => 8,
-        _ => 4,
-    }
-}
-
-// How many bytes the head has, where it is due.
-fn head_size(file: SlimFile) -> u32
-    ensures value { result ≡ length (head_at file) }
-    ensures few { result ≤ 8 }
-{
-    if file.size == 0 { 8 } else { 0 }
-}
 
 // Writes the head, where it is due.
 fn write_head<K: Sink>(out: &mut K, file: SlimFile) -> Result<(), Failed>
@@ -65,7 +32,7 @@ fn write_head<K: Sink>(out: &mut K, file: SlimFile) -> Result<(), Failed>
 }
 
 // Puts bytes behind others.
-fn put(bytes: &mut ArrayVec<u8, RECORD_MOST>, more: &[u8])
+fn put(bytes: &mut ArrayVec<u8, DUE_MOST>, more: &[u8])
     requires { length bytes.old.items + length more.now ≤ 16 }
     ensures { bytes.new.items ≡ bytes.old.items ++ more.now }
 {
@@ -75,60 +42,41 @@ fn put(bytes: &mut ArrayVec<u8, RECORD_MOST>, more: &[u8])
 }
 
 // Puts the head behind bytes, where it is due.
-fn put_head(bytes: &mut ArrayVec<u8, RECORD_MOST>, file: SlimFile)
-    requires room { length bytes.old.items ≤ 8 }
+fn put_head(bytes: &mut ArrayVec<u8, DUE_MOST>, file: SlimFile)
+    requires none { bytes.old.items ≡ [] }
     requires version { IsVersion file.version }
-    ensures { bytes.new.items ≡ bytes.old.items ++ head_at file }
+    ensures { bytes.new.items ≡ head_at file }
 {
     if file.size == 0 {
-        let digit = b'0' + file.version;
-        put(bytes, &[b'P', b'S', b'X', b'G', b'P', b'U', b'C', digit]);
+        put(bytes, &head_bytes(file.version));
     }
 }
 
-// Puts a word behind bytes, its low byte first.
-#[tactic(auto, unfolding(gpu_capture::specs::Written::word_bytes))]
-fn put_word(bytes: &mut ArrayVec<u8, RECORD_MOST>, word: u32)
-    requires { length bytes.old.items ≤ 12 }
-    ensures { bytes.new.items ≡ bytes.old.items ++ word_bytes word }
-{
-    put(bytes, &word.to_le_bytes());
-}
-
-// Puts the record of an event of the ports behind bytes.
-fn put_record(bytes: &mut ArrayVec<u8, RECORD_MOST>, event: &Event)
-    requires room { length bytes.old.items ≤ 8 }
-    requires event { IsAtPorts event.now }
-    ensures { bytes.new.items ≡ bytes.old.items ++ spelled event.now }
+// The record of an event of the ports.
+#[tactic(auto, using(capture_flat::proofs::Counts::record_length))]
+fn port_record(event: &Event) -> ArrayVec<u8, RECORD_MOST>
+    requires { IsAtPorts event.now }
+    ensures value { result.items ≡ spelled event.now }
+    ensures few { length result.items ≤ 8 }
 {
     match *event {
-        Event::Gp0 { word } => put_two(bytes, GP0_TAG, word),
-        Event::Gp1 { word } => put_two(bytes, GP1_TAG, word),
-        Event::Read => put_word(bytes, READ_TAG),
-        Event::Stat => put_word(bytes, STAT_TAG),
-        Event::Skip => put_word(bytes, SKIP_TAG),
+        Event::Gp0 { .. } | Event::Gp1 { .. } | Event::Read | Event::Stat | Event::Skip => {
+            record_bytes(event)
+        }
         _ => unreachable!(),
     }
 }
 
-// Puts a tag and a word behind bytes.
-fn put_two(bytes: &mut ArrayVec<u8, RECORD_MOST>, tag: u32, word: u32)
-    requires { length bytes.old.items ≤ 8 }
-    ensures { bytes.new.items ≡ bytes.old.items ++ (word_bytes tag ++ word_bytes word) }
-{
-    put_word(bytes, tag);
-    put_word(bytes, word);
-}
-
 // The record of an event, with the head where that is due.
-fn due_bytes(file: SlimFile, event: &Event) -> ArrayVec<u8, RECORD_MOST>
+fn due_bytes(file: SlimFile, event: &Event) -> ArrayVec<u8, DUE_MOST>
     requires version { IsVersion file.version }
     requires event { IsAtPorts event.now }
-    ensures { result.items ≡ due file event.now }
+    ensures value { result.items ≡ due file event.now }
+    ensures few { length result.items ≤ 16 }
 {
     let mut bytes = ArrayVec::new();
     put_head(&mut bytes, file);
-    put_record(&mut bytes, event);
+    put(&mut bytes, port_record(event).as_slice());
     bytes
 }
 
@@ -141,25 +89,10 @@ pub(crate) fn write_last<K: Sink>(out: &mut K, file: SlimFile) -> Result<(), Fai
     write_end(out)
 }
 
-// Adds the record of an event behind those that are gathered, where there is room for it.
-fn add_due(draft: &mut Draft, number: u64, event: &Event)
-    requires version { IsVersion draft.old.file.version }
-    requires event { IsAtPorts event.now }
-    requires bytes { length (bytes_of draft.old.gathered) + 16 ≤ 4096 }
-    requires records { length draft.old.gathered < 512 }
-    ensures gathered { draft.new.gathered ≡ draft.old.gathered
-        ++ record { number = number; bytes = due draft.old.file event.now } ∷ [] }
-    ensures file { draft.new.file ≡ draft.old.file }
-{
-    let bytes = due_bytes(draft.file, event);
-    draft.gathered.add(number, bytes.as_slice());
-}
-
 // Ends at a record that would be too much: what is gathered is written, and that may fail.
 fn end_too_long<K: Sink>(gathered: &mut Gathered, number: u64, out: &mut K) -> SlimEnding
     ensures ends { EndsTooLong gathered.old (K.held out.old) (K.held out.new) number result }
-    ensures known { IsEnding result × (MayReadFault result → ⊥) }
-    ensures cause { MayWriteFault result → Rose (K.faults out.old) (K.faults out.new) }
+    ensures known { EndsWriting (K.faults out.old) (K.faults out.new) result }
     ensures faults { K.faults out.old ≤ K.faults out.new }
 {
     match gathered.write(out) {
@@ -176,8 +109,7 @@ pub(crate) fn add_record<K: Sink>(
     event: &Event,
     out: &mut K,
 ) -> Result<(), SlimEnding>
-    requires version { IsVersion draft.old.file.version }
-    requires size { draft.old.file.size + 4 ≤ 2 ^ 30 }
+    requires file { HasRoom draft.old.file }
     requires event { IsAtPorts event.now }
     ensures ok { (base : Option (List ℕ)) (outs : List (Option SpecEvent))
         → IsDraft draft.old base (K.held out.old) outs
@@ -189,17 +121,17 @@ pub(crate) fn add_record<K: Sink>(
         → IfErr result (λ ending. FailsNext draft.old.file.version base (K.held out.new) outs event.now ending) }
     ensures few { OnOk result (draft.new.file.size + 4 ≤ 2 ^ 30) }
     ensures version { draft.new.file.version ≡ draft.old.file.version }
-    ensures known { IfErr result (λ ending. IsEnding ending × (MayReadFault ending → ⊥)) }
-    ensures cause { IfErr result (λ ending. MayWriteFault ending → Rose (K.faults out.old) (K.faults out.new)) }
+    ensures known { IfErr result (EndsWriting (K.faults out.old) (K.faults out.new)) }
     ensures faults { K.faults out.old ≤ K.faults out.new }
 {
-    let after = draft.file.size + head_size(draft.file) + record_size(event);
+    let bytes = due_bytes(draft.file, event);
+    let after = draft.file.size + bytes.len() as u32;
     if after + 4 > LIMIT {
         return Err(end_too_long(&mut draft.gathered, number, out));
     }
     match draft.gathered.make_room(out) {
         Ok(()) => {
-            add_due(draft, number, event);
+            draft.gathered.add(number, bytes.as_slice());
             draft.file.size = after;
             Ok(())
         }

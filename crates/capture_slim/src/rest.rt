@@ -3,8 +3,8 @@ ghost use Rattle.std.specs.Prelude.{◌≡◌, ◌≤◌, ◌+◌, ◌++◌, ◌
 ghost use Rattle.dev_io.specs.Device.{Rose};
 ghost use Rattle.gpu_capture.specs.Capture.{IsVersion};
 ghost use Rattle.gpu_capture.specs.declared.event.Event.{Event as SpecEvent};
-ghost use Rattle.capture_slim.specs.File.{FailsFirst, FailsRest, IsDraft, IsFile};
-ghost use Rattle.capture_slim.specs.Passing.{MayReadFault, MayWriteFault, IsEnding};
+ghost use Rattle.capture_slim.specs.File.{FailsFirst, FailsRest, HasRoom, IsDraft, IsFile};
+ghost use Rattle.capture_slim.specs.Passing.{EndsWriting};
 ghost use Rattle.capture_slim.specs.Places.{kept_of};
 ghost use Rattle.capture_slim.specs.Stream.{first_left};
 ghost use Rattle.capture_slim.specs.Window.{all_left, waiting};
@@ -22,8 +22,7 @@ fn add_next<K: Sink>(
     number: u64,
     out: &mut K,
 ) -> Result<(), SlimEnding>
-    requires version { IsVersion draft.old.file.version }
-    requires size { draft.old.file.size + 4 ≤ 2 ^ 30 }
+    requires file { HasRoom draft.old.file }
     ensures window { window.new ≡ record window.old { slots = drop 1 window.old.slots } }
     ensures ok { (base : Option (List ℕ)) (outs : List (Option SpecEvent))
         → IsDraft draft.old base (K.held out.old) outs
@@ -35,8 +34,7 @@ fn add_next<K: Sink>(
         FailsFirst draft.old.file.version base (K.held out.new) outs (first_left window.old.slots) ending) }
     ensures few { OnOk result (draft.new.file.size + 4 ≤ 2 ^ 30) }
     ensures version { draft.new.file.version ≡ draft.old.file.version }
-    ensures known { IfErr result (λ ending. IsEnding ending × (MayReadFault ending → ⊥)) }
-    ensures cause { IfErr result (λ ending. MayWriteFault ending → Rose (K.faults out.old) (K.faults out.new)) }
+    ensures known { IfErr result (EndsWriting (K.faults out.old) (K.faults out.new)) }
     ensures faults { K.faults out.old ≤ K.faults out.new }
 {
     match window.pop() {
@@ -52,8 +50,7 @@ fn add_rest<K: Sink>(
     count: u64,
     out: &mut K,
 ) -> Result<(), SlimEnding>
-    requires version { IsVersion draft.old.file.version }
-    requires size { draft.old.file.size + 4 ≤ 2 ^ 30 }
+    requires file { HasRoom draft.old.file }
     requires few { length (waiting window.old) ≤ count }
     ensures ok { (base : Option (List ℕ)) (outs : List (Option SpecEvent))
         → IsDraft draft.old base (K.held out.old) outs
@@ -65,8 +62,7 @@ fn add_rest<K: Sink>(
         FailsRest draft.old.file.version base (K.held out.new) outs (all_left (waiting window.old)) ending) }
     ensures most { length (waiting window.old) ≤ 4096 }
     ensures version { draft.new.file.version ≡ draft.old.file.version }
-    ensures known { IfErr result (λ ending. IsEnding ending × (MayReadFault ending → ⊥)) }
-    ensures cause { IfErr result (λ ending. MayWriteFault ending → Rose (K.faults out.old) (K.faults out.new)) }
+    ensures known { IfErr result (EndsWriting (K.faults out.old) (K.faults out.new)) }
     ensures faults { K.faults out.old ≤ K.faults out.new }
 {
     window.close();
@@ -89,8 +85,7 @@ pub(crate) fn write_rest<K: Sink>(
     count: u64,
     out: &mut K,
 ) -> Result<(), SlimEnding>
-    requires version { IsVersion draft.old.file.version }
-    requires size { draft.old.file.size + 4 ≤ 2 ^ 30 }
+    requires file { HasRoom draft.old.file }
     requires few { length (waiting window.old) ≤ count }
     ensures ok { (base : Option (List ℕ)) (outs : List (Option SpecEvent))
         → IsDraft draft.old base (K.held out.old) outs
@@ -102,8 +97,7 @@ pub(crate) fn write_rest<K: Sink>(
         FailsRest draft.old.file.version base (K.held out.new) outs (all_left (waiting window.old)) ending) }
     ensures most { length (waiting window.old) ≤ 4096 }
     ensures version { draft.new.file.version ≡ draft.old.file.version }
-    ensures known { IfErr result (λ ending. IsEnding ending × (MayReadFault ending → ⊥)) }
-    ensures cause { IfErr result (λ ending. MayWriteFault ending → Rose (K.faults out.old) (K.faults out.new)) }
+    ensures known { IfErr result (EndsWriting (K.faults out.old) (K.faults out.new)) }
     ensures faults { K.faults out.old ≤ K.faults out.new }
 {
     match add_rest(window, draft, count, out) {
@@ -121,8 +115,7 @@ fn write_gathered<K: Sink>(draft: &mut Draft, out: &mut K) -> Result<(), SlimEnd
         → IsDraft draft.old base (K.held out.old) (outs ++ last)
         → IfErr result (λ ending. FailsRest draft.old.file.version base (K.held out.new) outs last ending) }
     ensures version { draft.new.file.version ≡ draft.old.file.version }
-    ensures known { IfErr result (λ ending. IsEnding ending × (MayReadFault ending → ⊥)) }
-    ensures cause { IfErr result (λ ending. MayWriteFault ending → Rose (K.faults out.old) (K.faults out.new)) }
+    ensures known { IfErr result (EndsWriting (K.faults out.old) (K.faults out.new)) }
     ensures faults { K.faults out.old ≤ K.faults out.new }
 {
     match draft.gathered.write(out) {

@@ -8,7 +8,8 @@ ghost use Rattle.gpu_capture.specs.declared.event.Event.{Event as SpecEvent};
 ghost use Rattle.gpu_capture.specs.Reader.{IsReadFault};
 ghost use Rattle.event_play.specs.Ports.{IsAtPorts};
 ghost use Rattle.capture_slim.specs.Came.{Came, ClosesFile, EndsEvent, EndsPushed, EndsRefused, EndsStop};
-ghost use Rattle.capture_slim.specs.Passing.{MayReadFault, MayWriteFault, IsEnding};
+ghost use Rattle.capture_slim.specs.File.{HasRoom};
+ghost use Rattle.capture_slim.specs.Passing.{EndsWriting, MayReadFault, MayWriteFault, IsEnding};
 ghost use Rattle.capture_slim.specs.Window.{waiting};
 
 use crate::ending::SlimEnding;
@@ -53,8 +54,7 @@ fn push_event<K: Sink>(
     count: u64,
     out: &mut K,
 ) -> Result<(), SlimEnding>
-    requires version { IsVersion draft.old.file.version }
-    requires size { draft.old.file.size + 4 ≤ 2 ^ 30 }
+    requires file { HasRoom draft.old.file }
     requires port { IsAtPorts event }
     requires few { length (waiting window.old) ≤ count }
     requires small { count < 2 ^ 60 }
@@ -67,8 +67,7 @@ fn push_event<K: Sink>(
         → Came height events window.old draft.old count base (K.held out.old)
         → IfErr result
         (λ ending. EndsPushed height draft.old.file.version (events ++ event ∷ []) base (K.held out.new) ending) }
-    ensures known { IfErr result (λ ending. IsEnding ending × (MayReadFault ending → ⊥)) }
-    ensures cause { IfErr result (λ ending. MayWriteFault ending → Rose (K.faults out.old) (K.faults out.new)) }
+    ensures known { IfErr result (EndsWriting (K.faults out.old) (K.faults out.new)) }
     ensures faults { K.faults out.old ≤ K.faults out.new }
 {
     holds_words(event);
@@ -83,16 +82,13 @@ fn push_event<K: Sink>(
 
 // Ends behind so many events at one that is none of the ports.
 fn refuse<K: Sink>(window: &mut Waiting, draft: &mut Draft, count: u64, out: &mut K) -> SlimEnding
-    requires version { IsVersion draft.old.file.version }
-    requires size { draft.old.file.size + 4 ≤ 2 ^ 30 }
+    requires file { HasRoom draft.old.file }
     requires few { length (waiting window.old) ≤ count }
     requires small { count < 2 ^ 60 }
     ensures ends { (height : ℕ) (events : List SpecEvent) (base : Option (List ℕ))
         → Came height events window.old draft.old count base (K.held out.old)
         → EndsRefused height draft.old.file.version events base (K.held out.new) result }
-    ensures known { IsEnding result }
-    ensures read { MayReadFault result → ⊥ }
-    ensures cause { MayWriteFault result → Rose (K.faults out.old) (K.faults out.new) }
+    ensures known { EndsWriting (K.faults out.old) (K.faults out.new) result }
     ensures faults { K.faults out.old ≤ K.faults out.new }
 {
     match write_rest(window, draft, count, out) {
@@ -109,8 +105,7 @@ pub(crate) fn take_event<K: Sink>(
     count: u64,
     out: &mut K,
 ) -> Result<(), SlimEnding>
-    requires version { IsVersion draft.old.file.version }
-    requires size { draft.old.file.size + 4 ≤ 2 ^ 30 }
+    requires file { HasRoom draft.old.file }
     requires few { length (waiting window.old) ≤ count }
     requires small { count < 2 ^ 60 }
     ensures ok { (height : ℕ) (events : List SpecEvent) (base : Option (List ℕ))
@@ -121,8 +116,7 @@ pub(crate) fn take_event<K: Sink>(
     ensures ends { (height : ℕ) (events : List SpecEvent) (base : Option (List ℕ))
         → Came height events window.old draft.old count base (K.held out.old)
         → IfErr result (λ ending. EndsEvent height draft.old.file.version events event base (K.held out.new) ending) }
-    ensures known { IfErr result (λ ending. IsEnding ending × (MayReadFault ending → ⊥)) }
-    ensures cause { IfErr result (λ ending. MayWriteFault ending → Rose (K.faults out.old) (K.faults out.new)) }
+    ensures known { IfErr result (EndsWriting (K.faults out.old) (K.faults out.new)) }
     ensures faults { K.faults out.old ≤ K.faults out.new }
 {
     if is_at_ports(&event) {
@@ -140,8 +134,7 @@ pub(crate) fn finish<K: Sink>(
     count: u64,
     out: &mut K,
 ) -> SlimEnding
-    requires version { IsVersion draft.old.file.version }
-    requires size { draft.old.file.size + 4 ≤ 2 ^ 30 }
+    requires file { HasRoom draft.old.file }
     requires few { length (waiting window.old) ≤ count }
     requires small { count < 2 ^ 60 }
     ensures ends { (height : ℕ) (events : List SpecEvent) (base : Option (List ℕ))

@@ -83,7 +83,7 @@ fn set_register(regs: &mut Regs, word: u32)
 
 impl Track {
     /// After a reset, with nothing pending.
-    #[tactic(auto, unfolding(gp0_words::specs::Items::Rest))]
+    #[tactic(auto, unfolding(gp0_words::specs::Items::pending_behind))]
     pub(crate) fn new() -> Track
         ensures { result ≡ first_control short_height }
     {
@@ -94,7 +94,7 @@ impl Track {
     }
 
     /// Goes on by an event, and answers what it says, and the area of the packet that it completes.
-    #[tactic(auto, unfolding(dead_drawing::specs::Control::controlled, gp0_words::specs::Items::Rest))]
+    #[tactic(auto, unfolding(dead_drawing::specs::Control::controlled, gp0_words::specs::Items::pending_behind))]
     pub(crate) fn follow(&mut self, event: &Event) -> Told
         ensures control { self.new ≡ controlled self.old event.now }
         ensures saying { result.saying ≡ said_at self.old event.now }
@@ -134,7 +134,7 @@ impl Track {
     }
 
     // The same for any word.
-    #[tactic(auto, unfolding(dead_drawing::specs::Control::controlled, gp0_words::specs::Items::Rest))]
+    #[tactic(auto, unfolding(dead_drawing::specs::Control::controlled, gp0_words::specs::Items::pending_behind))]
     fn complete(&mut self, word: u32) -> Told
         ensures control { self.new ≡ controlled self.old (Gp0 word) }
         ensures saying { result.saying ≡ said_at self.old (Gp0 word) }

@@ -8,8 +8,8 @@ use Rattle.gp0_words.specs.declared.kind.Kind.TheVariants.{Plain}
 use Rattle.gp0_words.proofs.Cut.{start_len-positive}
 use Rattle.gp0_packets.specs.Packets.{packet_of, whole_of, polygon_of, line_of, rectangle_of, segment_of}
 use Rattle.gp0_packets.specs.declared.packet.Packet.{Packet}
-use Rattle.gpu_core.specs.Machine.{Parts, Effect}
-use Rattle.prim_draw.specs.Draw.{Draw}
+use Rattle.gpu_core.specs.Machine.{Parts, effect_of}
+use Rattle.prim_draw.specs.Draw.{drawn_packet}
 use Rattle.dead_drawing.specs.Dead.{is_droppable}
 
 -- which of the three it is
@@ -67,19 +67,19 @@ plain_kind word (line class single) = rw (class, single) refl
 
 -- it draws without texture, and leaves the registers
 pub record DrawsOnly (p : Parts) (what : Packet) : Type 0 where
-  pub is : Effect p what ≡ record p { m = Draw p.regs what p.m }
+  pub is : effect_of p what ≡ record p { m = drawn_packet p.regs what p.m }
 
 pub polygon_draws : (p : Parts) (words : List ℕ) → is_set (slice_index words 0) 26 ≡ false
     → DrawsOnly p (polygon_of words)
-unfolding Effect polygon_of
+unfolding effect_of polygon_of
 polygon_draws p words plain = record { is = rw plain refl }
 
 pub rectangle_draws : (p : Parts) (words : List ℕ) → DrawsOnly p (rectangle_of words)
-unfolding Effect rectangle_of
+unfolding effect_of rectangle_of
 rectangle_draws p words = record { is = refl }
 
 pub line_draws : (p : Parts) (words : List ℕ) → DrawsOnly p (line_of words)
-unfolding Effect line_of
+unfolding effect_of line_of
 line_draws p words = by_test (is_set (slice_index words 0) 28)
   where
     by_test : (b : Bool) → DrawsOnly p (cond b

@@ -8,19 +8,19 @@ use Rattle.px_num.specs.declared.shape.Cell.{Cell}
 use Rattle.gp0_packets.specs.declared.packet.Packet.{Packet}
 use Rattle.gp0_packets.specs.declared.packet.Packet.TheVariants as packet
 use Rattle.gp1_status.specs.Registers.{Registers}
-use Rattle.gpu_core.specs.Machine.{Parts, Effect, with_page, with_pixels}
+use Rattle.gpu_core.specs.Machine.{Parts, effect_of, with_page, with_pixels}
 use Rattle.prim_draw.specs.Apart.{AgreeBut, IsIn, SameAt}
 use Rattle.prim_draw.specs.Areas.{moved_box}
-use Rattle.prim_draw.specs.Draw.{Draw}
+use Rattle.prim_draw.specs.Draw.{drawn_packet}
 use Rattle.prim_draw.proofs.LocalLemmas.{drawing_is_local}
 use Rattle.prim_draw.proofs.StayLemmas.{drawing_stays}
 use Rattle.vram_store.specs.Vram.{height_of, set}
 use Rattle.vram_store.specs.Plot.{plot}
 use Rattle.vram_store.proofs.Drawn.{plot_is, length-put_at}
-use Rattle.vram_copy.specs.Copy.{Copy, copied_cell, copied_row}
-use Rattle.vram_copy.specs.Fill.{Fill, filled_row}
+use Rattle.vram_copy.specs.Copy.{copied_rectangle, copied_cell, copied_row}
+use Rattle.vram_copy.specs.Fill.{filled_rectangle, filled_row}
 use Rattle.vram_copy.specs.Rect.{right, down}
-use Rattle.vram_copy.specs.Words.{LoadWord, pixel_cell, pixels_next, half_of}
+use Rattle.vram_copy.specs.Words.{loaded_word, pixel_cell, pixels_next, half_of}
 use Rattle.vram_copy.specs.declared.transfer.Transfer.{Transfer}
 use Rattle.dead_drawing.specs.Calm.{IsCalm}
 use Rattle.dead_drawing.specs.States.{PartsAlike}
@@ -36,13 +36,14 @@ as_with among p q h =
     ∙ ap (λ (job : Option Transfer). record { m = q.m; regs = q.regs; load = q.load; store = job }) (sym h.store)
 
 drawn_with : (among : ℕ → Type 0) (p : Parts) (now : List ℕ) (r : Registers) (what : Packet)
-    → ((k : ℕ) → SameAt k p.m now → SameAt k (Draw r what p.m) (Draw r what now))
+    → ((k : ℕ) → SameAt k p.m now → SameAt k (drawn_packet r what p.m) (drawn_packet r what now))
     → AgreeBut among p.m now
-    → PartsAlike among (record p { m = Draw r what p.m; regs = r }) (record p { m = Draw r what now; regs = r })
+    → PartsAlike among (record p { m = drawn_packet r what p.m; regs = r })
+    (record p { m = drawn_packet r what now; regs = r })
 drawn_with among p now r what local a =
     record {
-      cells = keeps_all among p.m now (Draw r what p.m)
-          (Draw r what now) local a;
+      cells = keeps_all among p.m now (drawn_packet r what p.m)
+          (drawn_packet r what now) local a;
       regs = refl;
       load = refl;
       store = refl;
@@ -53,7 +54,7 @@ pixels_with : (among : ℕ → Type 0) (p : Parts) (now : List ℕ) (job : Optio
     → PartsAlike among (with_pixels p job word) (with_pixels (record p { m = now }) job word)
 pixels_with among p now None word a = record { cells = a; regs = refl; load = refl; store = refl }
 pixels_with among p now (Some job) word a = record {
-  cells = keeps_all among p.m now (LoadWord p.m p.regs.mask job word) (LoadWord now p.regs.mask job word)
+  cells = keeps_all among p.m now (loaded_word p.m p.regs.mask job word) (loaded_word now p.regs.mask job word)
       (λ k same. load_same k p.regs.mask word job p.m now same) a;
   regs = refl;
   load = refl;
@@ -61,10 +62,10 @@ pixels_with among p now (Some job) word a = record {
 }
 
 effect_with : (among : ℕ → Type 0) (p : Parts) (now : List ℕ) (what : Packet) → IsCalm what → AgreeBut among p.m now
-    → PartsAlike among (Effect p what) (Effect (record p { m = now }) what)
-unfolding Effect
+    → PartsAlike among (effect_of p what) (effect_of (record p { m = now }) what)
+unfolding effect_of
 effect_with among p now (packet.Fill color x y w h) calm a = record {
-  cells = keeps_all among p.m now (Fill p.m x y w h color) (Fill now x y w h color)
+  cells = keeps_all among p.m now (filled_rectangle p.m x y w h color) (filled_rectangle now x y w h color)
       (λ k same. fill_same k x y w h color p.m now same) a;
   regs = refl;
   load = refl;
@@ -93,9 +94,9 @@ effect_with among p now packet.Finish calm a = record { cells = a; regs = refl; 
 
 -- a packet that reads no other cells leaves states alike
 pub effect_alike : (among : ℕ → Type 0) (p q : Parts) (what : Packet) → IsCalm what → PartsAlike among p q
-    → PartsAlike among (Effect p what) (Effect q what)
+    → PartsAlike among (effect_of p what) (effect_of q what)
 effect_alike among p q what calm h =
-    subst (λ (r : Parts). PartsAlike among (Effect p what) (Effect r what)) (as_with among p q h)
+    subst (λ (r : Parts). PartsAlike among (effect_of p what) (effect_of r what)) (as_with among p q h)
     (effect_with among p q.m what calm h.cells)
 
 -- ---- no difference is left
@@ -113,12 +114,12 @@ parts_same p q h = sym (as_with (λ k. ⊥) p q h) ∙ ap (λ (m : List ℕ). re
 covered_with : (among : ℕ → Type 0) (p : Parts) (now : List ℕ) (color x y w h : ℕ)
     → ((k : ℕ) → among k → IsIn (moved_box x y w h) k) → length p.m % 1024 ≡ 0
     → AgreeBut among p.m now
-    → PartsAlike (λ k. ⊥) (Effect p (packet.Fill color x y w h))
-    (Effect (record p { m = now }) (packet.Fill color x y w h))
-unfolding Effect
+    → PartsAlike (λ k. ⊥) (effect_of p (packet.Fill color x y w h))
+    (effect_of (record p { m = now }) (packet.Fill color x y w h))
+unfolding effect_of
 covered_with among p now color x y w h inside whole a = record {
   cells = record {
-    count = (keeps_all among p.m now (Fill p.m x y w h color) (Fill now x y w h color)
+    count = (keeps_all among p.m now (filled_rectangle p.m x y w h color) (filled_rectangle now x y w h color)
         (λ k same. fill_same k x y w h color p.m now same) a).count;
     others = λ k. elim (a.others k) [
       | inl in_it ↦ inr (fill_makes k x y w h color p.m now a.count whole (inside k in_it)).cell
@@ -132,11 +133,11 @@ covered_with among p now color x y w h inside whole a = record {
 
 pub covered_same : (among : ℕ → Type 0) (p q : Parts) (color x y w h : ℕ)
     → ((k : ℕ) → among k → IsIn (moved_box x y w h) k) → length p.m % 1024 ≡ 0
-    → PartsAlike among p q → Effect q (packet.Fill color x y w h) ≡ Effect p (packet.Fill color x y w h)
+    → PartsAlike among p q → effect_of q (packet.Fill color x y w h) ≡ effect_of p (packet.Fill color x y w h)
 covered_same among p q color x y w h inside whole alike =
     parts_same _ _
-    (subst (λ (r : Parts). PartsAlike (λ k. ⊥) (Effect p (packet.Fill color x y w h))
-    (Effect r (packet.Fill color x y w h)))
+    (subst (λ (r : Parts). PartsAlike (λ k. ⊥) (effect_of p (packet.Fill color x y w h))
+    (effect_of r (packet.Fill color x y w h)))
     (as_with among p q alike) (covered_with among p q.m color x y w h inside whole alike.cells))
 
 -- ---- the number of cells stays
@@ -149,16 +150,16 @@ each_long step (suc n) m keeps = keeps n (each_below step n m) ∙ each_long ste
 plot_long : (m : List ℕ) (mask x y color : ℕ) → length (plot m mask x y color) ≡ length m
 plot_long m mask x y color = ap length (plot_is m mask x y color) ∙ length-put_at (1024 * y + x) _ m
 
-fill_long : (m : List ℕ) (x y w h color : ℕ) → length (Fill m x y w h color) ≡ length m
-unfolding Fill
+fill_long : (m : List ℕ) (x y w h color : ℕ) → length (filled_rectangle m x y w h color) ≡ length m
+unfolding filled_rectangle
 fill_long m x y w h color =
     each_long (λ j cells. filled_row cells x ((y + j) % height_of m) w color) h m
     (λ j a. each_long (λ i cells. set cells ((x + i) % 1024) ((y + j) % height_of m) color) w a
     (λ i b. length-set b (1024 * ((y + j) % height_of m) + (x + i) % 1024) color))
 
 copy_long : (m : List ℕ) (mask : ℕ) (source target : Cell) (w h : ℕ)
-    → length (Copy m mask source target w h) ≡ length m
-unfolding Copy
+    → length (copied_rectangle m mask source target w h) ≡ length m
+unfolding copied_rectangle
 copy_long m mask source target w h =
     each_long (λ j cells. copied_row cells mask (down (height_of m) source j) (down (height_of m) target j) w) h m
     (λ j a. each_long
@@ -166,8 +167,8 @@ copy_long m mask source target w h =
     (right (down (height_of m) target j) i)) w a
     (λ i b. plot_long b mask (right (down (height_of m) target j) i).x (right (down (height_of m) target j) i).y _))
 
-load_long : (m : List ℕ) (mask : ℕ) (job : Transfer) (word : ℕ) → length (LoadWord m mask job word) ≡ length m
-unfolding LoadWord
+load_long : (m : List ℕ) (mask : ℕ) (job : Transfer) (word : ℕ) → length (loaded_word m mask job word) ≡ length m
+unfolding loaded_word
 load_long m mask job word =
     each_long
     (λ i cells. plot cells mask (pixel_cell (height_of m) job (job.at + i)).x
@@ -178,8 +179,8 @@ pixels_long : (p : Parts) (job : Option Transfer) (word : ℕ) → length (with_
 pixels_long p None word = refl
 pixels_long p (Some job) word = load_long p.m p.regs.mask job word
 
-pub effect_long : (p : Parts) (what : Packet) → length (Effect p what).m ≡ length p.m
-unfolding Effect
+pub effect_long : (p : Parts) (what : Packet) → length (effect_of p what).m ≡ length p.m
+unfolding effect_of
 effect_long p (packet.Fill color x y w h) = fill_long p.m x y w h color
 effect_long p (packet.Copy from to w h) = copy_long p.m p.regs.mask from to w h
 effect_long p (packet.Poly four a b c d shaded textured semi raw clut page) =

@@ -1,16 +1,17 @@
 -- Events, in two states that agree but for some cells.
 use Rattle.std.proofs.Common.{◌≡◌, ℕ, List, [], ◌∷◌, ◌++◌, Option, None, Some, is_some, Bool, true, false, cond}
 use Rattle.std.proofs.Common.{length, refl, sym, ap, ◌∙◌, subst}
-use Rattle.gp0_words.specs.Items.{Rest}
+use Rattle.gp0_words.specs.Items.{pending_behind}
 use Rattle.gp0_words.specs.Next.{next_item, next_pending}
 use Rattle.gp0_words.specs.declared.item.Item.{Item}
 use Rattle.gp0_words.specs.declared.pending.Pending.{Pending}
-use Rattle.gp0_words.proofs.Cut.{Items-push, Rest-push}
+use Rattle.gp0_words.proofs.Cut.{items_of-push, pending_behind-push}
 use Rattle.gp0_packets.specs.Packets.{packet_of}
 use Rattle.gp1_status.specs.Registers.{Registers, gp1_of, is_clearing, status_of}
 use Rattle.gpu_capture.specs.declared.event.Event.{Event}
 use Rattle.gpu_capture.specs.declared.event.Event.TheVariants as event
-use Rattle.gpu_core.specs.Machine.{Parts, State, Feed, Gp1, Take, TakenWord, Status, Idle, after_item, Effect}
+use Rattle.gpu_core.specs.Machine.{Parts, State, after_gp0, after_gp1, after_read, read_word, status_word}
+use Rattle.gpu_core.specs.Machine.{is_idle_state, after_item, effect_of}
 use Rattle.gpu_core.specs.Machine.{cleared, is_idle, new_item, taken_from}
 use Rattle.gpu_core.proofs.States.{new_item-is}
 use Rattle.vram_copy.specs.declared.transfer.Transfer.{Transfer}
@@ -22,31 +23,31 @@ use Rattle.dead_drawing.proofs.Effects.{effect_alike, effect_long}
 -- ---- words
 
 -- the item that a word completes hangs on what is pending alone
-pub new_is : (words : List ℕ) (word : ℕ) → new_item words word ≡ next_item (Rest words) word
-new_is words word = new_item-is words word (next_item (Rest words) word) (Items-push words word)
+pub new_is : (words : List ℕ) (word : ℕ) → new_item words word ≡ next_item (pending_behind words) word
+new_is words word = new_item-is words word (next_item (pending_behind words) word) (items_of-push words word)
 
-pub same_item : (words other : List ℕ) (word : ℕ) → Rest other ≡ Rest words
+pub same_item : (words other : List ℕ) (word : ℕ) → pending_behind other ≡ pending_behind words
     → new_item other word ≡ new_item words word
 same_item words other word same = new_is other word ∙ ap (λ (r : Pending). next_item r word) same
     ∙ sym (new_is words word)
 
-pub same_rest : (words other : List ℕ) (word : ℕ) → Rest other ≡ Rest words
-    → Rest (other ++ word ∷ []) ≡ Rest (words ++ word ∷ [])
-same_rest words other word same = Rest-push other word ∙ ap (λ (r : Pending). next_pending r word) same
-    ∙ sym (Rest-push words word)
+pub same_rest : (words other : List ℕ) (word : ℕ) → pending_behind other ≡ pending_behind words
+    → pending_behind (other ++ word ∷ []) ≡ pending_behind (words ++ word ∷ [])
+same_rest words other word same = pending_behind-push other word ∙ ap (λ (r : Pending). next_pending r word) same
+    ∙ sym (pending_behind-push words word)
 
 item_alike : (among : ℕ → Type 0) (p q : Parts) (item : Option Item) → IsCalmItem p.regs.height item
     → PartsAlike among p q
     → PartsAlike among (after_item p item) (after_item q item)
 item_alike among p q None calm h = h
 item_alike among p q (Some item) calm h =
-    subst (λ (r : Registers). PartsAlike among (Effect p (packet_of p.regs.height item))
-    (Effect q (packet_of r.height item))) (sym h.regs)
+    subst (λ (r : Registers). PartsAlike among (effect_of p (packet_of p.regs.height item))
+    (effect_of q (packet_of r.height item))) (sym h.regs)
     (effect_alike among p q (packet_of p.regs.height item) calm h)
 
 feed_alike : (among : ℕ → Type 0) (s t : State) (word : ℕ) → IsCalmItem s.parts.regs.height (new_item s.words word)
-    → Alike among s t → Alike among (Feed s word) (Feed t word)
-unfolding Feed
+    → Alike among s t → Alike among (after_gp0 s word) (after_gp0 t word)
+unfolding after_gp0
 feed_alike among s t word calm h = record {
   parts = subst
       (λ (item : Option Item). PartsAlike among (after_item s.parts (new_item s.words word))
@@ -55,8 +56,9 @@ feed_alike among s t word calm h = record {
   rest = same_rest s.words t.words word h.rest;
 }
 
-gp1_alike : (among : ℕ → Type 0) (s t : State) (word : ℕ) → Alike among s t → Alike among (Gp1 s word) (Gp1 t word)
-unfolding Gp1
+gp1_alike : (among : ℕ → Type 0) (s t : State) (word : ℕ) → Alike among s t
+    → Alike among (after_gp1 s word) (after_gp1 t word)
+unfolding after_gp1
 gp1_alike among s t word h = by_test (is_clearing word)
   where
     by_test : (b : Bool) → Alike among
@@ -87,12 +89,12 @@ gp1_alike among s t word h = by_test (is_clearing word)
 
 -- the status word tells no cell
 pub same_status : (s t : State) → t.parts.regs ≡ s.parts.regs → t.parts.store ≡ s.parts.store
-    → Rest t.words ≡ Rest s.words → Status t ≡ Status s
-unfolding Status Idle
+    → pending_behind t.words ≡ pending_behind s.words → status_word t ≡ status_word s
+unfolding status_word is_idle_state
 same_status s t regs store rest =
-    ap (λ (r : Registers). status_of r (is_idle (Rest t.words)) (is_some t.parts.store)) regs
+    ap (λ (r : Registers). status_of r (is_idle (pending_behind t.words)) (is_some t.parts.store)) regs
     ∙ ap (λ (p : Pending). status_of s.parts.regs (is_idle p) (is_some t.parts.store)) rest
-    ∙ ap (λ (job : Option Transfer). status_of s.parts.regs (is_idle (Rest s.words)) (is_some job)) store
+    ∙ ap (λ (job : Option Transfer). status_of s.parts.regs (is_idle (pending_behind s.words)) (is_some job)) store
 
 pub event_alike : (among : ℕ → Type 0) (s t : State) (e : Event) → IsCalmAt s e → Alike among s t
     → Alike among (after s e) (after t e)
@@ -137,7 +139,7 @@ told_alike among s t (e ∷ events) calm h =
 -- ---- nobody sees the difference
 
 event_same : (s t : State) (e : Event) → Same s t → Same (after s e) (after t e)
-unfolding after Feed Gp1 Take
+unfolding after after_gp0 after_gp1 after_read
 event_same s t (event.Gp0 word) h = record {
   parts = ap (λ (item : Option Item). after_item t.parts item) (same_item s.words t.words word h.rest)
       ∙ ap (λ (p : Parts). after_item p (new_item s.words word)) h.parts;
@@ -176,11 +178,11 @@ event_same s t (event.Dma channel madr bcr chcr) h = h
 event_same s t (event.Begin madr bcr chcr) h = h
 event_same s t event.Turn h = h
 
-pub status_same : (s t : State) → Same s t → Status t ≡ Status s
+pub status_same : (s t : State) → Same s t → status_word t ≡ status_word s
 status_same s t h = same_status s t (ap (λ (p : Parts). p.regs) h.parts) (ap (λ (p : Parts). p.store) h.parts) h.rest
 
 shown_same : (s t : State) (e : Event) → Same s t → shown_at t e ≡ shown_at s e
-unfolding shown_at TakenWord
+unfolding shown_at read_word
 shown_same s t (event.Gp0 word) h = refl
 shown_same s t (event.Gp1 word) h = refl
 shown_same s t event.Stat h = ap (λ (n : ℕ). n ∷ []) (status_same s t h)
@@ -212,7 +214,7 @@ taken_long p None = refl
 taken_long p (Some job) = refl
 
 event_long : (s : State) (e : Event) → length (after s e).parts.m ≡ length s.parts.m
-unfolding after Feed Gp1 Take
+unfolding after after_gp0 after_gp1 after_read
 event_long s (event.Gp0 word) = item_long s.parts (new_item s.words word)
 event_long s (event.Gp1 word) = by_test (is_clearing word)
   where

@@ -8,8 +8,8 @@ use Rattle.std.proofs.lemmas.List.{get_or-set_same, get_or_past, length-set}
 use Rattle.std.proofs.Math.Nat.{mod-eq_of_lt}
 use Rattle.vram_store.specs.Vram.{height_of, set}
 use Rattle.vram_store.specs.Plot.{plot}
-use Rattle.vram_copy.specs.Fill.{filled_row, filled_rows, Fill}
-use Rattle.vram_copy.specs.Words.{pixel_cell, pixels_next, pixels_from, half_of, LoadWord}
+use Rattle.vram_copy.specs.Fill.{filled_row, filled_rows, filled_rectangle}
+use Rattle.vram_copy.specs.Words.{pixel_cell, pixels_next, pixels_from, half_of, loaded_word}
 use Rattle.vram_copy.specs.declared.transfer.Transfer.{Transfer}
 use Rattle.prim_draw.specs.Apart.{IsIn, AgreeBut, SameAt}
 use Rattle.prim_draw.specs.Areas.{moved_box}
@@ -52,14 +52,14 @@ rows_same height k x y w h color m now same =
 -- the height that two states have
 at_height : (k x y w h color : ℕ) (m now : List ℕ) → length now ≡ length m
     → SameAt k (filled_rows (height_of m) m x y w h color) (filled_rows (height_of m) now x y w h color)
-    → SameAt k (Fill m x y w h color) (Fill now x y w h color)
-unfolding Fill
+    → SameAt k (filled_rectangle m x y w h color) (filled_rectangle now x y w h color)
+unfolding filled_rectangle
 at_height k x y w h color m now count same =
     subst (λ (height : ℕ). SameAt k (filled_rows (height_of m) m x y w h color)
     (filled_rows height now x y w h color)) (ap (λ (n : ℕ). n / 1024) (sym count)) same
 
 pub fill_same : (k x y w h color : ℕ) (m now : List ℕ) → SameAt k m now
-    → SameAt k (Fill m x y w h color) (Fill now x y w h color)
+    → SameAt k (filled_rectangle m x y w h color) (filled_rectangle now x y w h color)
 fill_same k x y w h color m now same = at_height k x y w h color m now same.count
     (rows_same (height_of m) k x y w h color m now same)
 
@@ -138,7 +138,7 @@ wrapped height row lt = mod-eq_of_lt lt
 
 -- a fill leaves every cell of its area the same
 pub fill_makes : (k x y w h color : ℕ) (m now : List ℕ) → AsMany m now → length m % 1024 ≡ 0
-    → IsIn (moved_box x y w h) k → SameAt k (Fill m x y w h color) (Fill now x y w h color)
+    → IsIn (moved_box x y w h) k → SameAt k (filled_rectangle m x y w h color) (filled_rectangle now x y w h color)
 fill_makes k x y w h color m now e whole within =
     elim (cases_lt k (length m)) [
       | inl lt ↦
@@ -168,8 +168,8 @@ pixels_same height k mask word n job m now same =
     (half_of word i) a b h)
 
 pub load_same : (k mask word : ℕ) (job : Transfer) (m now : List ℕ) → SameAt k m now
-    → SameAt k (LoadWord m mask job word) (LoadWord now mask job word)
-unfolding LoadWord
+    → SameAt k (loaded_word m mask job word) (loaded_word now mask job word)
+unfolding loaded_word
 load_same k mask word job m now same =
     subst (λ (height : ℕ). SameAt k (pixels_from (height_of m) m mask job word (pixels_next job))
     (pixels_from height now mask job word (pixels_next job)))

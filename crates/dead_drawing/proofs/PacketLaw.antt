@@ -3,7 +3,7 @@ use Rattle.std.proofs.Common.{◌≡◌, ◌%◌, ℕ, List, [], ◌∷◌, ◌+
 use Rattle.std.proofs.Common.{inr, refl, sym, ap, ◌∙◌, subst, arith, append_assoc, append-nil}
 use Rattle.std.proofs.lemmas.Int.{ints}
 use Rattle.px_num.specs.declared.shape.Box2.{Box2}
-use Rattle.gp0_words.specs.Items.{Rest}
+use Rattle.gp0_words.specs.Items.{pending_behind}
 use Rattle.gp0_words.specs.Kinds.{first_len_of}
 use Rattle.gp0_words.specs.declared.pending.Pending.TheVariants as pending
 use Rattle.gp0_words.proofs.Cut.{start_len-positive}
@@ -13,10 +13,10 @@ use Rattle.gp0_packets.specs.declared.packet.Packet.{Packet}
 use Rattle.gp0_packets.specs.declared.packet.Packet.TheVariants as packet
 use Rattle.gpu_capture.specs.declared.event.Event.{Event}
 use Rattle.gpu_capture.specs.declared.event.Event.TheVariants as event
-use Rattle.gpu_core.specs.Machine.{Parts, State, Status, Feed, Effect, after_item, new_item}
+use Rattle.gpu_core.specs.Machine.{Parts, State, status_word, after_gp0, effect_of, after_item, new_item}
 use Rattle.prim_draw.specs.Apart.{IsIn, AgreeBut}
 use Rattle.prim_draw.specs.Areas.{area_of, moved_box}
-use Rattle.prim_draw.specs.Draw.{Draw}
+use Rattle.prim_draw.specs.Draw.{drawn_packet}
 use Rattle.prim_draw.proofs.StayLemmas.{drawing_stays}
 use Rattle.dead_drawing.specs.States.{PartsAlike, Alike, Same}
 use Rattle.event_play.specs.Ports.{AreAtPorts}
@@ -67,11 +67,11 @@ flipped among m now a = record {
   ];
 }
 
-drawn_alike : (p q : Parts) (what : Packet) → q ≡ record p { m = Draw p.regs what p.m }
+drawn_alike : (p q : Parts) (what : Packet) → q ≡ record p { m = drawn_packet p.regs what p.m }
     → PartsAlike (IsIn (area_of p.regs what)) q p
 drawn_alike p q what is = subst (λ (r : Parts). PartsAlike (IsIn (area_of p.regs what)) r p) (sym is)
     (record {
-      cells = flipped _ p.m (Draw p.regs what p.m)
+      cells = flipped _ p.m (drawn_packet p.regs what p.m)
           (drawing_stays p.regs what p.m);
       regs = refl;
       load = refl;
@@ -79,7 +79,7 @@ drawn_alike p q what is = subst (λ (r : Parts). PartsAlike (IsIn (area_of p.reg
     })
 
 -- with the packet and without it
-pub dropped_alike : (s : State) (words : List ℕ) → IsDroppable words → Rest s.words ≡ pending.Idle
+pub dropped_alike : (s : State) (words : List ℕ) → IsDroppable words → pending_behind s.words ≡ pending.Idle
     → Alike (IsIn (area_of s.parts.regs (whole_of s.parts.regs.height words))) (run s (map event.Gp0 words)) s
 dropped_alike s words d idle =
     let shape = shape_of (slice_index words 0) d.kind in
@@ -87,7 +87,7 @@ dropped_alike s words d idle =
     (start_len-positive (slice_index words 0)) idle in
     record {
       parts = drawn_alike s.parts (run s (map event.Gp0 words)).parts (whole_of s.parts.regs.height words)
-          (fed.parts ∙ ap (Effect s.parts) (packet_is s.parts.regs.height words d.whole)
+          (fed.parts ∙ ap (effect_of s.parts) (packet_is s.parts.regs.height words d.whole)
           ∙ (whole_draws s.parts s.parts.regs.height words shape).is);
       rest = idle ∙ sym fed.rest;
     }
@@ -106,16 +106,16 @@ in_outer (Some outer) (Some inner) k h within = record {
 }
 
 pub covers_same : (s t : State) (word : ℕ) (area : Option Box2) → Covers s word area → length s.parts.m % 1024 ≡ 0
-    → Alike (IsIn area) s t → Same (Feed s word) (Feed t word)
-unfolding Feed
+    → Alike (IsIn area) s t → Same (after_gp0 s word) (after_gp0 t word)
+unfolding after_gp0
 covers_same s t word area c whole h =
     let fill : Packet = packet.Fill c.color c.x c.y c.w c.h in
-    let first : after_item s.parts (new_item s.words word) ≡ Effect s.parts fill = ap (after_item s.parts) c.is
-    ∙ ap (Effect s.parts) c.fill in
+    let first : after_item s.parts (new_item s.words word) ≡ effect_of s.parts fill = ap (after_item s.parts) c.is
+    ∙ ap (effect_of s.parts) c.fill in
     let same : packet_of t.parts.regs.height c.item ≡ fill =
     ap (λ (r : Registers). packet_of r.height c.item) h.parts.regs ∙ c.fill in
-    let second : after_item t.parts (new_item t.words word) ≡ Effect t.parts fill =
-    ap (after_item t.parts) (same_item s.words t.words word h.rest ∙ c.is) ∙ ap (Effect t.parts) same in
+    let second : after_item t.parts (new_item t.words word) ≡ effect_of t.parts fill =
+    ap (after_item t.parts) (same_item s.words t.words word h.rest ∙ c.is) ∙ ap (effect_of t.parts) same in
     record {
       parts = second
           ∙ covered_same (IsIn area) s.parts t.parts c.color c.x c.y c.w c.h
@@ -139,7 +139,7 @@ covered_gone s t area events c whole h =
     subst (IsGone s t) (sym c.parts) (record {
       states = subst (λ (u : State). Same u (run t (c.between ++ event.Gp0 c.word ∷ [])))
           (sym (run_append s c.between (event.Gp0 c.word ∷ [])))
-          (subst (λ (u : State). Same (Feed (run s c.between) c.word) u)
+          (subst (λ (u : State). Same (after_gp0 (run s c.between) c.word) u)
           (sym (run_append t c.between (event.Gp0 c.word ∷ []))) last);
       shown = told_append t c.between (event.Gp0 c.word ∷ [])
           ∙ ap (λ (ns : List ℕ). ns ++ []) (told_alike (IsIn area) s t c.between c.calm h)
@@ -152,7 +152,7 @@ none_same s t area none h =
     record { parts = parts_same s.parts t.parts alike; rest = h.rest }
 
 pub gone : (s : State) (words : List ℕ) (b : List Event) → IsDroppable words → length s.parts.m % 1024 ≡ 0
-    → Rest s.words ≡ pending.Idle → IsUnseen s words b
+    → pending_behind s.words ≡ pending.Idle → IsUnseen s words b
     → IsGone (run s (map event.Gp0 words)) s b
 gone s words [] d whole idle unseen = record {
   states = none_same (run s (map event.Gp0 words)) s
@@ -182,7 +182,7 @@ seen_same s t shown c h =
     (λ (n : ℕ). record { ending = Done; shown = shown ++ told s c; status = n; cells = (run t c).parts.m })
     (status_same (run s c) (run t c) states)
     ∙ ap {B = Outcome}
-    (λ (p : Parts). record { ending = Done; shown = shown ++ told s c; status = Status (run s c); cells = p.m })
+    (λ (p : Parts). record { ending = Done; shown = shown ++ told s c; status = status_word (run s c); cells = p.m })
     states.parts
 
 pub seen_gone : (s : State) (shown words : List ℕ) (b c : List Event) → IsGone (run s (map event.Gp0 words)) s b

@@ -3,7 +3,7 @@ use Rattle.std.proofs.Common.{◌≡◌, ◌<◌, ℕ, List, [], ◌∷◌, ◌+
 use Rattle.std.proofs.Common.{◌∙◌, arith, append_assoc}
 use Rattle.std.proofs.lemmas.Bool.{le-ltb, lt-ltb}
 use Rattle.std.proofs.lemmas.List.{length-append}
-use Rattle.gp0_words.specs.Items.{Rest}
+use Rattle.gp0_words.specs.Items.{pending_behind}
 use Rattle.gp0_words.specs.Kinds.{kind_of}
 use Rattle.gp0_words.specs.Next.{next_item, next_pending, collected_item, collected_pending}
 use Rattle.gp0_words.specs.declared.item.Item.TheVariants.{Whole}
@@ -11,10 +11,10 @@ use Rattle.gp0_words.specs.declared.kind.Kind.{Kind}
 use Rattle.gp0_words.specs.declared.kind.Kind.TheVariants.{Plain}
 use Rattle.gp0_words.specs.declared.pending.Pending.{Pending}
 use Rattle.gp0_words.specs.declared.pending.Pending.TheVariants as pending
-use Rattle.gp0_words.proofs.Cut.{Rest-push}
+use Rattle.gp0_words.proofs.Cut.{pending_behind-push}
 use Rattle.gp0_packets.specs.Packets.{packet_of}
 use Rattle.gpu_capture.specs.declared.event.Event.TheVariants as event
-use Rattle.gpu_core.specs.Machine.{Parts, State, Feed, Effect, after_item}
+use Rattle.gpu_core.specs.Machine.{Parts, State, after_gp0, effect_of, after_item}
 use Rattle.dead_drawing.specs.Run.{after, run}
 use Rattle.dead_drawing.proofs.Events.{new_is}
 
@@ -39,8 +39,8 @@ held_more (x ∷ xs) w = refl
 
 -- the state that a packet of one item leaves
 pub record IsFed (s : State) (words : List ℕ) (now : State) : Type 0 where
-  pub parts : now.parts ≡ Effect s.parts (packet_of s.parts.regs.height (Whole words))
-  pub rest : Rest now.words ≡ pending.Idle
+  pub parts : now.parts ≡ effect_of s.parts (packet_of s.parts.regs.height (Whole words))
+  pub rest : pending_behind now.words ≡ pending.Idle
 
 pub last_item : (n : ℕ) (words : List ℕ) → length words ≡ n → collected_item (Plain n) words ≡ Some (Whole words)
 last_item n words e = rw (le-ltb (length words) n (omega (arith, e))) refl
@@ -56,29 +56,29 @@ pub part_pending : (n : ℕ) (words : List ℕ) → length words < n
 part_pending n words lt = rw (lt-ltb (length words) n lt) refl
 
 fed_last : (s : State) (n : ℕ) (done : List ℕ) (w : ℕ) → kind_of (slice_index (done ++ w ∷ []) 0) ≡ Plain n
-    → length (done ++ w ∷ []) ≡ n → Rest s.words ≡ held_of done
-    → IsFed s (done ++ w ∷ []) (Feed s w)
-unfolding Feed
+    → length (done ++ w ∷ []) ≡ n → pending_behind s.words ≡ held_of done
+    → IsFed s (done ++ w ∷ []) (after_gp0 s w)
+unfolding after_gp0
 fed_last s n done w kind whole held = record {
   parts = ap (after_item s.parts) (new_is s.words w ∙ ap (λ (p : Pending). next_item p w) held ∙ next_of done w
       ∙ ap (λ (k : Kind). collected_item k (done ++ w ∷ [])) kind ∙ last_item n (done ++ w ∷ []) whole);
-  rest = Rest-push s.words w ∙ ap (λ (p : Pending). next_pending p w) held ∙ pending_of done w
+  rest = pending_behind-push s.words w ∙ ap (λ (p : Pending). next_pending p w) held ∙ pending_of done w
       ∙ ap (λ (k : Kind). collected_pending k (done ++ w ∷ [])) kind ∙ last_pending n (done ++ w ∷ []) whole;
 }
 
 -- a word that isn't the last one
 record IsBegun (s : State) (done : List ℕ) (now : State) : Type 0 where
   parts : now.parts ≡ s.parts
-  rest : Rest now.words ≡ held_of done
+  rest : pending_behind now.words ≡ held_of done
 
 fed_part : (s : State) (n : ℕ) (done : List ℕ) (w : ℕ) → kind_of (slice_index (done ++ w ∷ []) 0) ≡ Plain n
-    → length (done ++ w ∷ []) < n → Rest s.words ≡ held_of done
-    → IsBegun s (done ++ w ∷ []) (Feed s w)
-unfolding Feed
+    → length (done ++ w ∷ []) < n → pending_behind s.words ≡ held_of done
+    → IsBegun s (done ++ w ∷ []) (after_gp0 s w)
+unfolding after_gp0
 fed_part s n done w kind part held = record {
   parts = ap (after_item s.parts) (new_is s.words w ∙ ap (λ (p : Pending). next_item p w) held ∙ next_of done w
       ∙ ap (λ (k : Kind). collected_item k (done ++ w ∷ [])) kind ∙ part_item n (done ++ w ∷ []) part);
-  rest = Rest-push s.words w ∙ ap (λ (p : Pending). next_pending p w) held ∙ pending_of done w
+  rest = pending_behind-push s.words w ∙ ap (λ (p : Pending). next_pending p w) held ∙ pending_of done w
       ∙ ap (λ (k : Kind). collected_pending k (done ++ w ∷ [])) kind ∙ part_pending n (done ++ w ∷ []) part
       ∙ held_more done w;
 }
@@ -89,7 +89,8 @@ first_of_all [] w ws = refl
 first_of_all (x ∷ xs) w ws = refl
 
 fed_more : (s : State) (n : ℕ) (done : List ℕ) (w : ℕ) (ws : List ℕ)
-    → kind_of (slice_index (done ++ w ∷ ws) 0) ≡ Plain n → length (done ++ w ∷ ws) ≡ n → Rest s.words ≡ held_of done
+    → kind_of (slice_index (done ++ w ∷ ws) 0) ≡ Plain n → length (done ++ w ∷ ws) ≡ n
+    → pending_behind s.words ≡ held_of done
     → IsFed s (done ++ w ∷ ws) (run s (map event.Gp0 (w ∷ ws)))
 unfolding after
 fed_more s n done w [] kind whole held = fed_last s n done w kind whole held
@@ -98,18 +99,19 @@ fed_more s n done w (v ∷ ws) kind whole held =
     let begun = fed_part s n done w (ap kind_of (sym first) ∙ kind)
     (omega (arith, whole, length-append done (w ∷ v ∷ ws), length-append done (w ∷ []))) held in
     let all : (done ++ w ∷ []) ++ v ∷ ws ≡ done ++ w ∷ v ∷ ws = append_assoc done (w ∷ []) (v ∷ ws) in
-    let fed = fed_more (Feed s w) n (done ++ w ∷ []) v ws (ap (λ (l : List ℕ). kind_of (slice_index l 0)) all ∙ kind)
+    let fed = fed_more (after_gp0 s w) n (done ++ w ∷ []) v ws
+    (ap (λ (l : List ℕ). kind_of (slice_index l 0)) all ∙ kind)
     (ap length all ∙ whole) begun.rest in
     record {
       parts = fed.parts
-          ∙ ap (λ (p : Parts). Effect p (packet_of p.regs.height (Whole ((done ++ w ∷ []) ++ v ∷ ws)))) begun.parts
-          ∙ ap (λ (l : List ℕ). Effect s.parts (packet_of s.parts.regs.height (Whole l))) all;
+          ∙ ap (λ (p : Parts). effect_of p (packet_of p.regs.height (Whole ((done ++ w ∷ []) ++ v ∷ ws)))) begun.parts
+          ∙ ap (λ (l : List ℕ). effect_of s.parts (packet_of s.parts.regs.height (Whole l))) all;
       rest = fed.rest;
     }
 
 -- a whole packet, from a state in which nothing is pending
 pub packet_fed : (s : State) (n : ℕ) (words : List ℕ) → kind_of (slice_index words 0) ≡ Plain n → length words ≡ n
-    → 0 < n → Rest s.words ≡ pending.Idle
+    → 0 < n → pending_behind s.words ≡ pending.Idle
     → IsFed s words (run s (map event.Gp0 words))
 packet_fed s n [] kind whole some held = absurd (omega (arith, whole, some))
 packet_fed s n (w ∷ ws) kind whole some held = fed_more s n [] w ws kind whole held

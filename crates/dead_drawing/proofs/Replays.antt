@@ -3,11 +3,11 @@ use Rattle.std.proofs.Common.{◌≡◌, ℕ, List, [], ◌∷◌, ◌++◌, sym
 use Rattle.gpu_capture.specs.declared.event.Event.{Event}
 use Rattle.gpu_capture.specs.declared.event.Event.TheVariants as event
 use Rattle.gpu_capture.specs.declared.event.Stop.TheVariants.{End}
-use Rattle.gpu_core.specs.Machine.{State, Status, Feed, Gp1, Take, TakenWord}
+use Rattle.gpu_core.specs.Machine.{State, status_word, after_gp0, after_gp1, after_read, read_word}
 use Rattle.event_play.specs.Alike.{AreAlike}
 use Rattle.event_play.specs.Ports.{AreAtPorts}
-use Rattle.event_play.specs.Replay.{Tale, Played, Replay}
-use Rattle.event_play.specs.Step.{Step}
+use Rattle.event_play.specs.Replay.{Tale, Played, played_events}
+use Rattle.event_play.specs.Step.{event_step}
 use Rattle.event_play.specs.declared.ending.Ending.{Ending}
 use Rattle.event_play.specs.declared.ending.Ending.TheVariants.{Done}
 use Rattle.dead_drawing.specs.Run.{after, shown_at, run, told}
@@ -23,13 +23,13 @@ abbrev pub outcome_of : Played → Outcome
 outcome_of r = record {
   ending = r.ending;
   shown = r.tale.shown;
-  status = Status r.tale.state.gpu;
+  status = status_word r.tale.state.gpu;
   cells = r.tale.state.gpu.parts.m;
 }
 
 -- of a state and the words shown up to it
 abbrev pub outcome_at : List ℕ → State → Outcome
-outcome_at shown s = record { ending = Done; shown = shown; status = Status s; cells = s.parts.m }
+outcome_at shown s = record { ending = Done; shown = shown; status = status_word s; cells = s.parts.m }
 
 -- of events from a state on, with these words shown before
 abbrev pub seen : State → (shown : List ℕ) → List Event → Outcome
@@ -49,19 +49,19 @@ step_on s shown one events = ap (λ ns. outcome_at ns (run s events)) (append_as
 
 -- events of the ports have no fault
 pub replay_is : (events : List Event) (t : Tale) → AreAtPorts events
-    → outcome_of (Replay t events End []) ≡ seen t.state.gpu t.shown events
-unfolding Step after shown_at
+    → outcome_of (played_events t events End []) ≡ seen t.state.gpu t.shown events
+unfolding event_step after shown_at
 replay_is [] t ports = ap (λ ns. outcome_at ns t.state.gpu) (sym (append-nil t.shown))
 replay_is (event.Gp0 word ∷ events) t ports =
-    replay_is events _ ports.1 ∙ step_on (Feed t.state.gpu word) t.shown [] events
+    replay_is events _ ports.1 ∙ step_on (after_gp0 t.state.gpu word) t.shown [] events
 replay_is (event.Gp1 word ∷ events) t ports =
-    replay_is events _ ports.1 ∙ step_on (Gp1 t.state.gpu word) t.shown [] events
+    replay_is events _ ports.1 ∙ step_on (after_gp1 t.state.gpu word) t.shown [] events
 replay_is (event.Read ∷ events) t ports =
-    replay_is events _ ports.1 ∙ step_on (Take t.state.gpu) t.shown (TakenWord t.state.gpu ∷ []) events
+    replay_is events _ ports.1 ∙ step_on (after_read t.state.gpu) t.shown (read_word t.state.gpu ∷ []) events
 replay_is (event.Skip ∷ events) t ports =
-    replay_is events _ ports.1 ∙ step_on (Take t.state.gpu) t.shown [] events
+    replay_is events _ ports.1 ∙ step_on (after_read t.state.gpu) t.shown [] events
 replay_is (event.Stat ∷ events) t ports =
-    replay_is events _ ports.1 ∙ step_on t.state.gpu t.shown (Status t.state.gpu ∷ []) events
+    replay_is events _ ports.1 ∙ step_on t.state.gpu t.shown (status_word t.state.gpu ∷ []) events
 replay_is (event.Ram address word ∷ events) t ports = absurd ports.0
 replay_is (event.Dma channel madr bcr chcr ∷ events) t ports = absurd ports.0
 replay_is (event.Begin madr bcr chcr ∷ events) t ports = absurd ports.0

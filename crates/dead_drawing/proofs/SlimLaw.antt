@@ -4,7 +4,7 @@ use Rattle.std.proofs.Common.{Bool, true, false, cond, length, drop, map, slice_
 use Rattle.std.proofs.Common.{arith, append_assoc}
 use Rattle.std.proofs.lemmas.List.{length-append, length-drop}
 use Rattle.px_num.specs.declared.shape.Box2.{Box2}
-use Rattle.gp0_words.specs.Items.{Rest}
+use Rattle.gp0_words.specs.Items.{pending_behind}
 use Rattle.gp0_words.specs.Kinds.{first_len_of, kind_of, is_set}
 use Rattle.gp0_words.specs.Next.{next_item, next_pending, collected_item, collected_pending}
 use Rattle.gp0_words.specs.declared.item.Item.{Item}
@@ -209,7 +209,7 @@ front_gone c s events words shown tracks long front dead =
     (whole_of c.regs.height words) = area_but_latch c.regs s.parts.regs words tracks.regs in
     let u = hidden_by c s words behind (window_events + 1 - length words)
     (area_of c.regs (whole_of c.regs.height words)) area (run_tracks (map event.Gp0 words) c s tracks) dead in
-    let idle : Rest s.words ≡ pending.Idle = tracks.pending ∙ front.idle in
+    let idle : pending_behind s.words ≡ pending.Idle = tracks.pending ∙ front.idle in
     ap (seen s shown) (front.parts ∙ ap (λ (es : List Event). map event.Gp0 words ++ es) u.parts)
     ∙ seen_gone s shown words u.first u.rest (gone s words u.first front.droppable long idle u.unseen)
     ∙ ap (seen s shown) (sym u.parts)

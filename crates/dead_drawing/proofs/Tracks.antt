@@ -1,19 +1,20 @@
 -- The control of a state goes its way whatever the cells are.
 use Rattle.std.proofs.Common.{◌≡◌, ◌==◌, ◌&&◌, leb, ℕ, List, [], ◌∷◌, Option, None, Some, Bool, true, false, cond}
 use Rattle.std.proofs.Common.{refl, sym, ap, ◌∙◌, subst}
-use Rattle.gp0_words.specs.Items.{Rest}
+use Rattle.gp0_words.specs.Items.{pending_behind}
 use Rattle.gp0_words.specs.Next.{next_item, next_pending}
 use Rattle.gp0_words.specs.declared.item.Item.{Item}
 use Rattle.gp0_words.specs.declared.pending.Pending.{Pending}
 use Rattle.gp0_words.specs.declared.pending.Pending.TheVariants as pending
-use Rattle.gp0_words.proofs.Cut.{Rest-push}
+use Rattle.gp0_words.proofs.Cut.{pending_behind-push}
 use Rattle.gp0_packets.specs.Packets.{packet_of}
 use Rattle.gp0_packets.specs.declared.packet.Packet.{Packet}
 use Rattle.gp0_packets.specs.declared.packet.Packet.TheVariants as packet
 use Rattle.gp1_status.specs.Registers.{Registers, env_of, gp1_of, is_clearing, opcode_of}
 use Rattle.gpu_capture.specs.declared.event.Event.{Event}
 use Rattle.gpu_capture.specs.declared.event.Event.TheVariants as event
-use Rattle.gpu_core.specs.Machine.{Parts, State, Feed, Gp1, Take, Effect, after_item, cleared, new_item, taken_from}
+use Rattle.gpu_core.specs.Machine.{Parts, State, after_gp0, after_gp1, after_read, effect_of, after_item, cleared}
+use Rattle.gpu_core.specs.Machine.{new_item, taken_from}
 use Rattle.gpu_core.specs.Machine.{with_page, with_pixels}
 use Rattle.vram_copy.specs.declared.transfer.Transfer.{Transfer}
 use Rattle.dead_drawing.specs.Control.{Control, regs_after, regs_by, controlled, controls}
@@ -26,7 +27,7 @@ IsButLatch r now = now ≡ record r { latch = now.latch }
 
 pub record Tracks (c : Control) (s : State) : Type 0 where
   pub regs : IsButLatch c.regs s.parts.regs
-  pub pending : Rest s.words ≡ c.pending
+  pub pending : pending_behind s.words ≡ c.pending
 
 held_cond : (b : Bool) (q q_now r r_now : Registers) → IsButLatch q q_now → IsButLatch r r_now
     → IsButLatch (cond b q r) (cond b q_now r_now)
@@ -72,8 +73,8 @@ pixels_regs : (p : Parts) (job : Option Transfer) (word : ℕ) → (with_pixels 
 pixels_regs p None word = refl
 pixels_regs p (Some job) word = refl
 
-effect_regs : (p : Parts) (what : Packet) → (Effect p what).regs ≡ regs_after p.regs what
-unfolding Effect
+effect_regs : (p : Parts) (what : Packet) → (effect_of p what).regs ≡ regs_after p.regs what
+unfolding effect_of
 effect_regs p (packet.Env index value) = refl
 effect_regs p packet.Irq = refl
 effect_regs p (packet.Poly four a b c d shaded textured semi raw clut page) = refl
@@ -91,8 +92,9 @@ item_regs : (p : Parts) (item : Option Item) → (after_item p item).regs ≡ re
 item_regs p None = refl
 item_regs p (Some item) = effect_regs p (packet_of p.regs.height item)
 
-feed_tracks : (c : Control) (s : State) (word : ℕ) → Tracks c s → Tracks (controlled c (event.Gp0 word)) (Feed s word)
-unfolding controlled Feed
+feed_tracks : (c : Control) (s : State) (word : ℕ) → Tracks c s
+    → Tracks (controlled c (event.Gp0 word)) (after_gp0 s word)
+unfolding controlled after_gp0
 feed_tracks c s word h =
     let same : new_item s.words word ≡ next_item c.pending word = new_is s.words word
     ∙ ap (λ (p : Pending). next_item p word) h.pending in
@@ -103,7 +105,7 @@ feed_tracks c s word h =
     record {
       regs = subst (IsButLatch (regs_by c.regs (next_item c.pending word))) (sym now)
           (by_latch c.regs s.parts.regs.latch (next_item c.pending word));
-      pending = Rest-push s.words word ∙ ap (λ (p : Pending). next_pending p word) h.pending;
+      pending = pending_behind-push s.words word ∙ ap (λ (p : Pending). next_pending p word) h.pending;
     }
 
 -- ---- the other events
@@ -122,8 +124,9 @@ gp1_latch r latch word =
     (leb 0x10 (opcode_of word) && leb
     (opcode_of word) 0x1f) _ _ _ _ refl refl))))))))
 
-gp1_tracks : (c : Control) (s : State) (word : ℕ) → Tracks c s → Tracks (controlled c (event.Gp1 word)) (Gp1 s word)
-unfolding controlled Gp1 Rest
+gp1_tracks : (c : Control) (s : State) (word : ℕ) → Tracks c s
+    → Tracks (controlled c (event.Gp1 word)) (after_gp1 s word)
+unfolding controlled after_gp1 pending_behind
 gp1_tracks c s word h = by_test (is_clearing word)
   where
     regs : IsButLatch (gp1_of c.regs word) (gp1_of s.parts.regs word)
@@ -142,7 +145,7 @@ taken_latch r p None e = e
 taken_latch r p (Some job) e = ap (λ (q : Registers). record q { latch = (taken_from p (Some job)).word }) e
 
 pub event_tracks : (c : Control) (s : State) (e : Event) → Tracks c s → Tracks (controlled c e) (after s e)
-unfolding controlled after Take
+unfolding controlled after after_read
 event_tracks c s (event.Gp0 word) h = feed_tracks c s word h
 event_tracks c s (event.Gp1 word) h = gp1_tracks c s word h
 event_tracks c s event.Read h = record { regs = taken_latch c.regs s.parts s.parts.store h.regs; pending = h.pending }

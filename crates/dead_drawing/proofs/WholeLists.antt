@@ -4,7 +4,7 @@ use Rattle.std.proofs.Common.{◌∙◌, arith}
 use Rattle.std.proofs.lemmas.List.{length-append, length-replicate}
 use Rattle.px_num.specs.Height.{tall_height}
 use Rattle.px_num.specs.Zeros.{zeros}
-use Rattle.gp0_words.specs.Items.{Rest}
+use Rattle.gp0_words.specs.Items.{pending_behind}
 use Rattle.gpu_capture.specs.declared.event.Event.{Event}
 use Rattle.gpu_core.specs.Machine.{State, first_state, tall_state}
 use Rattle.vram_store.specs.Vram.{blank, tall, rows_behind}
@@ -15,7 +15,7 @@ use Rattle.event_play.specs.Alike.{replay_of}
 use Rattle.event_play.specs.declared.ending.Ending.TheVariants.{Done}
 use Rattle.dead_drawing.specs.Control.{first_control}
 use Rattle.dead_drawing.specs.Laws.{SlimReplaysAlike, height_for, machine_for}
-use Rattle.dead_drawing.specs.Slim.{Slim, slim_from}
+use Rattle.dead_drawing.specs.Slim.{slim_events, slim_from}
 use Rattle.dead_drawing.proofs.Replays.{Outcome, outcome_of, alike_by, replay_is}
 use Rattle.dead_drawing.proofs.SlimLaw.{slim_ports, slim_seen}
 use Rattle.dead_drawing.proofs.Tracks.{Tracks}
@@ -34,7 +34,7 @@ unfolding blank
 blank_long = zeros_long 524288
 
 first_starts : Starts 512 first_machine.gpu
-unfolding first_machine first_state Rest
+unfolding first_machine first_state pending_behind
 first_starts = record {
   tracks = record { regs = refl; pending = refl };
   rows = ap (λ (n : ℕ). n % 1024) blank_long;
@@ -50,7 +50,7 @@ tall_rows m rows =
 
 starts : (is_tall : Bool)
     → Starts (cond is_tall tall_height 512) (cond is_tall (tall_machine first_machine) first_machine).gpu
-unfolding first_machine first_state tall_state Rest
+unfolding first_machine first_state tall_state pending_behind
 starts true = record {
   tracks = record { regs = refl; pending = refl };
   rows = tall_rows blank
@@ -61,8 +61,8 @@ starts false = first_starts
 -- from a machine that stands at the start
 slim_from_start : (height : ℕ) (machine : Machine) (events : List Event) → Starts height machine.gpu
     → AreAtPorts events
-    → outcome_of (replay_of machine (Slim height events)) ≡ outcome_of (replay_of machine events)
-unfolding Slim
+    → outcome_of (replay_of machine (slim_events height events)) ≡ outcome_of (replay_of machine events)
+unfolding slim_events
 slim_from_start height machine events at ports =
     let t = from_state machine 0 in
     replay_is (slim_from events (first_control height) 0) t (slim_ports events (first_control height) 0 ports)
@@ -78,5 +78,5 @@ slim_law version events ports =
     ap (λ (o : Outcome). o.ending) (replay_is events (from_state machine 0) ports) in (
       ap (λ (o : Outcome). o.ending) same ∙ whole,
       whole,
-      alike_by (replay_of machine (Slim height events)) (replay_of machine events) same,
+      alike_by (replay_of machine (slim_events height events)) (replay_of machine events) same,
     )

@@ -7,7 +7,7 @@ use Rattle.event_play.specs.Ports.{AreAtPorts}
 use Rattle.event_play.specs.Replay.{tall_version}
 use Rattle.event_play.specs.Step.{Machine, first_machine, tall_machine}
 use Rattle.event_play.specs.declared.ending.Ending.TheVariants.{Done}
-use Rattle.dead_drawing.specs.Slim.{Slim}
+use Rattle.dead_drawing.specs.Slim.{slim_events}
 
 -- the rows that a capture of this version is played with
 abbrev pub height_for : (version : ℕ) → ℕ
@@ -22,7 +22,7 @@ machine_for version = if version == tall_version then tall_machine first_machine
 -- has a fault.
 abbrev pub SlimReplaysAlike : Type 0
 SlimReplaysAlike = (version : ℕ) (events : List Event) → AreAtPorts events
-    → ((replay_of (machine_for version) (Slim (height_for version) events)).ending ≡ Done)
+    → ((replay_of (machine_for version) (slim_events (height_for version) events)).ending ≡ Done)
     × ((replay_of (machine_for version) events).ending ≡ Done)
-    × AreAlike (replay_of (machine_for version) (Slim (height_for version) events)).tale
+    × AreAlike (replay_of (machine_for version) (slim_events (height_for version) events)).tale
     (replay_of (machine_for version) events).tale

@@ -1,7 +1,7 @@
 -- The law of one packet.
 use Rattle.std.specs.Prelude.{◌≡◌, ℕ, ◌%◌, true, List, [], ◌∷◌, ◌++◌, Option, None, Some, map, length, slice_index}
 use Rattle.px_num.specs.declared.shape.Box2.{Box2}
-use Rattle.gp0_words.specs.Items.{Rest}
+use Rattle.gp0_words.specs.Items.{pending_behind}
 use Rattle.gp0_words.specs.Kinds.{first_len_of}
 use Rattle.gp0_words.specs.declared.item.Item.{Item}
 use Rattle.gp0_words.specs.declared.pending.Pending.TheVariants as pending
@@ -64,6 +64,6 @@ PacketsAreUnseen =
     (s : Machine) (a b c : List Event) (words : List ℕ)
     → AreAtPorts a → AreAtPorts b → AreAtPorts c → IsDroppable words
     → length s.gpu.parts.m % 1024 ≡ 0
-    → Rest (run s.gpu a).words ≡ pending.Idle
+    → pending_behind (run s.gpu a).words ≡ pending.Idle
     → IsUnseen (run s.gpu a) words b
     → AreAlike (replay_of s (a ++ (b ++ c))).tale (replay_of s (a ++ (map event.Gp0 words ++ (b ++ c)))).tale

@@ -2,20 +2,20 @@
 use Rattle.std.specs.Prelude.{ℕ, List, [], ◌∷◌, ◌++◌}
 use Rattle.gpu_capture.specs.declared.event.Event.{Event}
 use Rattle.gpu_capture.specs.declared.event.Event.TheVariants as event
-use Rattle.gpu_core.specs.Machine.{State, Feed, Gp1, Take, TakenWord, Status}
+use Rattle.gpu_core.specs.Machine.{State, after_gp0, after_gp1, after_read, read_word, status_word}
 
 -- the state behind an event
 unfoldable pub after : State → Event → State
-after s (event.Gp0 word) = Feed s word
-after s (event.Gp1 word) = Gp1 s word
-after s event.Read = Take s
-after s event.Skip = Take s
+after s (event.Gp0 word) = after_gp0 s word
+after s (event.Gp1 word) = after_gp1 s word
+after s event.Read = after_read s
+after s event.Skip = after_read s
 after s other = s
 
 -- the word that it shows, if any
 unfoldable pub shown_at : State → Event → List ℕ
-shown_at s event.Read = TakenWord s ∷ []
-shown_at s event.Stat = Status s ∷ []
+shown_at s event.Read = read_word s ∷ []
+shown_at s event.Stat = status_word s ∷ []
 shown_at s other = []
 
 -- the state behind events, and the words that they show

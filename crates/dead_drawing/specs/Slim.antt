@@ -16,5 +16,5 @@ slim_from (e ∷ events) c (suc skip) = slim_from events (controlled c e) skip
 slim_from (e ∷ events) c zero = kept_by (dead_len c (e ∷ events)) e (λ skip. slim_from events (controlled c e) skip)
 
 -- the events without the dead packets, along the registers of their replay from a reset
-unfoldable pub Slim : (height : ℕ) → List Event → List Event
-Slim height events = slim_from events (first_control height) 0
+unfoldable pub slim_events : (height : ℕ) → List Event → List Event
+slim_events height events = slim_from events (first_control height) 0

@@ -1,6 +1,6 @@
 -- Two states that agree but for some cells, and whose words leave the same.
 use Rattle.std.specs.Prelude.{◌≡◌, ℕ}
-use Rattle.gp0_words.specs.Items.{Rest}
+use Rattle.gp0_words.specs.Items.{pending_behind}
 use Rattle.gpu_core.specs.Machine.{Parts, State}
 use Rattle.prim_draw.specs.Apart.{AgreeBut}
 
@@ -12,9 +12,9 @@ pub record PartsAlike (among : ℕ → Type 0) (p q : Parts) : Type 0 where
 
 pub record Alike (among : ℕ → Type 0) (s t : State) : Type 0 where
   pub parts : PartsAlike among s.parts t.parts
-  pub rest : Rest t.words ≡ Rest s.words
+  pub rest : pending_behind t.words ≡ pending_behind s.words
 
 -- nothing tells them apart
 pub record Same (s t : State) : Type 0 where
   pub parts : t.parts ≡ s.parts
-  pub rest : Rest t.words ≡ Rest s.words
+  pub rest : pending_behind t.words ≡ pending_behind s.words

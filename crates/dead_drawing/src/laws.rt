@@ -5,7 +5,7 @@ ghost use Rattle.dead_drawing.specs.Examples.{nothing_then, rectangle_then};
 ghost use Rattle.dead_drawing.specs.Laws.{SlimReplaysAlike};
 ghost use Rattle.dead_drawing.specs.OneEvent.{CalmEventsKeepAlike, FillsMakeSame};
 ghost use Rattle.dead_drawing.specs.OnePacket.{PacketsAreUnseen};
-ghost use Rattle.dead_drawing.specs.Slim.{Slim};
+ghost use Rattle.dead_drawing.specs.Slim.{slim_events};
 
 /// Two states that agree outside of an area, with the same registers, open transfers and words that are due, do so
 /// after the same event, which shows the same words, where that is no read and completes nothing that reads cells
@@ -30,7 +30,7 @@ pub fn slim_replays_alike()
 /// A rectangle goes where a fill covers it behind a read of the status word, and stays where that is a read of the data
 /// port, shown or not.
 pub fn some_lists()
-    ensures dropped { Slim 512 (rectangle_then Stat) ≡ nothing_then Stat }
-    ensures kept { Slim 512 (rectangle_then Read) ≡ rectangle_then Read }
-    ensures skipped { Slim 512 (rectangle_then Skip) ≡ rectangle_then Skip }
+    ensures dropped { slim_events 512 (rectangle_then Stat) ≡ nothing_then Stat }
+    ensures kept { slim_events 512 (rectangle_then Read) ≡ rectangle_then Read }
+    ensures skipped { slim_events 512 (rectangle_then Skip) ≡ rectangle_then Skip }
 {}

@@ -9,4 +9,5 @@ pub mod PlaneLemmas
 pub mod RowLemmas
 pub mod SpanLemmas
 pub mod SlopeLemmas
+mod SmallLemmas
 pub mod WalkLemmas

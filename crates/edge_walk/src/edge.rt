@@ -1,19 +1,23 @@
 // Edges: the side of a cell, and the size rule.
 ghost use Rattle.std.specs.Prelude.{◌≡◌, ◌&&◌, ◌≤◌, ◌<◌, ◌^◌, IsTrue, ◌↔◌, unsigned_abs, ◌-ℤ◌, ◌*ℤ◌};
+ghost use Rattle.edge_walk.specs.Extent.{IsSmallBox};
 ghost use Rattle.edge_walk.specs.Triangle.{edge, IsNear, IsSmall, corners, doubled_area, is_on_side, is_kept_edge};
 
-use px_num::Vertex;
+use crate::extent::bounding_box;
+use px_num::{Box2, Vertex};
 
-fn is_near(p: &Vertex, q: &Vertex) -> bool
-    ensures { IsTrue result ↔ IsNear p.now q.now }
+fn is_small_box(own: &Box2) -> bool
+    ensures { IsTrue result ↔ IsSmallBox own.now }
 {
-    p.x.abs_diff(q.x) <= 1023 && p.y.abs_diff(q.y) <= 511
+    difference(own.x2, own.x1) <= 1023 && difference(own.y2, own.y1) <= 511
 }
 
+// The three vertices lie near each other where the first and the last of them do, in X and in Y.
+#[tactic(auto, using(crate::proofs::SmallLemmas::small_is))]
 pub(crate) fn is_small(a: &Vertex, b: &Vertex, c: &Vertex) -> bool
     ensures { IsTrue result ↔ IsSmall (corners a.now b.now c.now) }
 {
-    is_near(a, b) && is_near(b, c) && is_near(c, a)
+    is_small_box(&bounding_box(a, b, c))
 }
 
 pub(crate) fn all_three(first: bool, second: bool, third: bool) -> bool

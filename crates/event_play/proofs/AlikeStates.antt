@@ -6,7 +6,7 @@ use Rattle.gpu_capture.specs.Capture.{Captured}
 use Rattle.gpu_capture.specs.declared.event.Event.{Event}
 use Rattle.gpu_capture.specs.declared.event.Stop.{Stop}
 use Rattle.gpu_core.specs.Kept.{Kept, kept_of}
-use Rattle.gpu_core.specs.Machine.{State, Feed, tall_parts, tall_state}
+use Rattle.gpu_core.specs.Machine.{State, after_gp0, tall_parts, tall_state}
 use Rattle.gpu_core.proofs.Alike.{feed-alike, note-alike, feed_cost-alike, feed_box_cost-alike, gp1-alike}
 use Rattle.gpu_core.proofs.Alike.{take-alike, taken-alike, take_cost-alike, take_box_cost-alike, status-alike}
 use Rattle.gpu_taps.specs.Tally.{Reading}
@@ -18,10 +18,10 @@ use Rattle.event_play.specs.AlikeStates.{StandAlike, TellAlike, PlayAlike, Alike
 use Rattle.event_play.specs.Fed.{fed, fed_notes, fed_cost, fed_box_cost}
 use Rattle.event_play.specs.Lines.{lines_for}
 use Rattle.event_play.specs.Out.{final_bytes, final_cost, finals_at, finals_cost_at, ending_under}
-use Rattle.event_play.specs.Replay.{Tale, Played, Replay, go_on, told_on, after_event, next_number, ending_of}
+use Rattle.event_play.specs.Replay.{Tale, Played, played_events, go_on, told_on, after_event, next_number, ending_of}
 use Rattle.event_play.specs.Replay.{from_state}
 use Rattle.event_play.specs.Replay.{raised, tall_version, played_from}
-use Rattle.event_play.specs.Step.{Machine, Stepped, Step, StepCost, StepBoxCost, done, stepped, step_cost}
+use Rattle.event_play.specs.Step.{Machine, Stepped, event_step, event_cost, event_box_cost, done, stepped, step_cost}
 use Rattle.event_play.specs.Step.{step_box_cost}
 use Rattle.event_play.specs.Step.{work_cost, work_box_cost, words_of}
 use Rattle.event_play.specs.Taken.{Taken, take_one, first_taken}
@@ -40,7 +40,7 @@ use Rattle.event_play.specs.declared.work.Work.TheVariants as work
 
 fed-alike : (a b : State) (words : List ℕ) → kept_of a ≡ kept_of b → kept_of (fed a words) ≡ kept_of (fed b words)
 fed-alike a b [] same = same
-fed-alike a b (word ∷ words) same = fed-alike (Feed a word) (Feed b word) words (feed-alike a b same word)
+fed-alike a b (word ∷ words) same = fed-alike (after_gp0 a word) (after_gp0 b word) words (feed-alike a b same word)
 
 notes-alike : (a b : State) (number : ℕ) (words : List ℕ) → kept_of a ≡ kept_of b
     → fed_notes a number words ≡ fed_notes b number words
@@ -48,7 +48,7 @@ notes-alike a b number [] same = refl
 notes-alike a b number (word ∷ words) same =
     rw (
       note-alike a b same number word,
-      notes-alike (Feed a word) (Feed b word) number words (feed-alike a b same word),
+      notes-alike (after_gp0 a word) (after_gp0 b word) number words (feed-alike a b same word),
     ) refl
 
 fed_cost-alike : (a b : State) (words : List ℕ) → kept_of a ≡ kept_of b → fed_cost a words ≡ fed_cost b words
@@ -56,7 +56,7 @@ fed_cost-alike a b [] same = refl
 fed_cost-alike a b (word ∷ words) same =
     rw (
       feed_cost-alike a b same word,
-      fed_cost-alike (Feed a word) (Feed b word) words (feed-alike a b same word),
+      fed_cost-alike (after_gp0 a word) (after_gp0 b word) words (feed-alike a b same word),
     ) refl
 
 fed_box_cost-alike : (a b : State) (words : List ℕ) → kept_of a ≡ kept_of b
@@ -65,7 +65,7 @@ fed_box_cost-alike a b [] same = refl
 fed_box_cost-alike a b (word ∷ words) same =
     rw (
       feed_box_cost-alike a b same word,
-      fed_box_cost-alike (Feed a word) (Feed b word) words (feed-alike a b same word),
+      fed_box_cost-alike (after_gp0 a word) (after_gp0 b word) words (feed-alike a b same word),
     ) refl
 
 record AreTakenAlike (t u : Taken) : Type 0 where
@@ -180,12 +180,12 @@ asked-alike a b ram running number (Ok asked) same = record {
 asked-alike a b ram running number (Err fault) same = record { answer = refl; cost = refl; box_cost = refl }
 
 record EventAlike (a b : Machine) (number : ℕ) (event : Event) : Type 0 where
-  answer : AnswerAlike (Step a number event) (Step b number event)
-  cost : StepCost a event ≡ StepCost b event
-  box_cost : StepBoxCost a event ≡ StepBoxCost b event
+  answer : AnswerAlike (event_step a number event) (event_step b number event)
+  cost : event_cost a event ≡ event_cost b event
+  box_cost : event_box_cost a event ≡ event_box_cost b event
 
 event-alike : (a b : Machine) (number : ℕ) (event : Event) → StandAlike a b → EventAlike a b number event
-unfolding Step StepCost StepBoxCost
+unfolding event_step event_cost event_box_cost
 event-alike a b number event same =
     let other : machine_with b.gpu a.ram a.running ≡ b = rw (same.ram, same.running) refl in
     let asked = work_of a.ram a.running event in
@@ -219,10 +219,11 @@ goes-alike : (t u : Tale) (event : Event) → TellAlike t u → GoAlike (after_e
 goes-alike t u event same =
     let n = next_number t.played in
     let alike = event-alike t.state u.state n event same.state in
-    let answer : AnswerAlike (Step t.state n event) (Step u.state (next_number u.played) event) =
+    let answer : AnswerAlike (event_step t.state n event) (event_step u.state (next_number u.played) event) =
     rw (← same.played) alike.answer in
-    told-alike t u (StepCost t.state event) (StepCost u.state event) (StepBoxCost t.state event)
-    (StepBoxCost u.state event) (Step t.state n event) (Step u.state (next_number u.played) event) same alike.cost
+    told-alike t u (event_cost t.state event) (event_cost u.state event) (event_box_cost t.state event)
+    (event_box_cost u.state event) (event_step t.state n event) (event_step u.state (next_number u.played) event)
+    same alike.cost
     alike.box_cost answer
 
 -- ---- what is written
@@ -295,7 +296,7 @@ go-alike (Ok t) (Err g) on other faulted failed same ok err = absurd same
 go-alike (Err f) (Ok u) on other faulted failed same ok err = absurd same
 
 pub replay-alike : (events : List Event) (t u : Tale) (stop : Stop) (rest : List ℕ) → TellAlike t u
-    → PlayAlike (Replay t events stop rest) (Replay u events stop rest)
+    → PlayAlike (played_events t events stop rest) (played_events u events stop rest)
 replay-alike [] t u stop rest same =
     ended-alike t u _ _ rest same (ap (λ n. ending_of (next_number n) stop) same.played)
 replay-alike (event ∷ events) t u stop rest same =

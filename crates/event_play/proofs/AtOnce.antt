@@ -4,7 +4,7 @@ use Rattle.std.proofs.Common.{refl, ap, sym, ◌∙◌, append_assoc, append-nil
 use Rattle.gp0_packets.specs.declared.note.Note.{Note}
 use Rattle.gpu_core.specs.Kept.{Kept, kept_of}
 use Rattle.gpu_core.specs.Feeds.{TakesWords, feed_notes, feeds_cost}
-use Rattle.gpu_core.specs.Machine.{State, Feed, FeedNote}
+use Rattle.gpu_core.specs.Machine.{State, after_gp0, gp0_note}
 use Rattle.gpu_taps.specs.Bare.{after_notes}
 use Rattle.gpu_taps.specs.Tally.{Reading, capped, reading_after}
 use Rattle.event_play.specs.PlayedWords.{after_word, after_words, IsTold, number_behind}
@@ -15,7 +15,7 @@ use Rattle.event_play.proofs.Feeds.{told-append}
 
 -- ---- the tale behind them
 
-state_is : (t : Tale) (words : List ℕ) → (after_words t words).state.gpu ≡ fold Feed t.state.gpu words
+state_is : (t : Tale) (words : List ℕ) → (after_words t words).state.gpu ≡ fold after_gp0 t.state.gpu words
 state_is t [] = refl
 state_is t (word ∷ words) = state_is (after_word t word) words
 
@@ -33,20 +33,20 @@ same_numbers : (s : State) (a b : ℕ) (words : List ℕ) → capped a ≡ cappe
     ≡ feed_notes s b words
 same_numbers s a b [] e = refl
 same_numbers s a b (word ∷ words) e =
-    let next = same_numbers (Feed s word) (a + 1) (b + 1) words (omega (arith, e)) in
-    ap (λ n. option_to_list (FeedNote s n word) ++ feed_notes (Feed s word) (a + 1) words) e
-    ∙ ap (λ notes. option_to_list (FeedNote s (capped b) word) ++ notes) next
+    let next = same_numbers (after_gp0 s word) (a + 1) (b + 1) words (omega (arith, e)) in
+    ap (λ n. option_to_list (gp0_note s n word) ++ feed_notes (after_gp0 s word) (a + 1) words) e
+    ∙ ap (λ notes. option_to_list (gp0_note s (capped b) word) ++ notes) next
 
 notes_are : (t : Tale) (words : List ℕ) → (after_words t words).notes ≡ t.notes ++ feed_notes t.state.gpu
     (t.played + 1) words
 notes_are t [] = sym (append-nil t.notes)
 notes_are t (word ∷ words) =
     let n = next_number t.played in
-    let note = option_to_list (FeedNote t.state.gpu n word) in
+    let note = option_to_list (gp0_note t.state.gpu n word) in
     notes_are (after_word t word) words
-    ∙ append_assoc t.notes note (feed_notes (Feed t.state.gpu word) (n + 1) words)
+    ∙ append_assoc t.notes note (feed_notes (after_gp0 t.state.gpu word) (n + 1) words)
     ∙ ap (λ notes. t.notes ++ (note ++ notes))
-    (same_numbers (Feed t.state.gpu word) (n + 1) (t.played + 1 + 1) words (omega arith))
+    (same_numbers (after_gp0 t.state.gpu word) (n + 1) (t.played + 1 + 1) words (omega arith))
 
 -- each tap is told all notes, or all taps each note
 told_each : (notes : List Note) (readings : List Reading) → map (after_notes notes) readings ≡ told_notes notes readings

@@ -15,7 +15,8 @@ use Rattle.gpu_capture.specs.declared.progress.Progress.{Progress}
 use Rattle.gpu_taps.specs.Tally.{Reading}
 use Rattle.event_play.specs.Out.{lines_of}
 use Rattle.event_play.specs.Playing.{AreAllNeeded}
-use Rattle.event_play.specs.Replay.{Tale, Played, from_state, replayed, raised, played_from, Play, played_behind}
+use Rattle.event_play.specs.Replay.{Tale, Played, from_state, replayed, raised, played_from, played_capture}
+use Rattle.event_play.specs.Replay.{played_behind}
 use Rattle.event_play.specs.Replay.{next_number, ending_of}
 use Rattle.event_play.specs.RigState.{RigState, StandsFor}
 use Rattle.event_play.specs.Step.{Machine}
@@ -140,7 +141,7 @@ module _ (mode : Mode) (s : Machine) (played : ℕ) (left left_now held : Option
         (stops_first begun start new stop stops.taken left_now stops.says)
 
 -- a new reader stands before a whole capture
-pub behind_start : (t : Tale) (p : Progress) → IsStart p → played_behind t p ≡ Play t
+pub behind_start : (t : Tale) (p : Progress) → IsStart p → played_behind t p ≡ played_capture t
 behind_start t p start =
     let played : Bool → List ℕ → Played = λ is bytes. played_from t
     (cond is (then_events (replicate p.left p.repeated) (records p.version p.due p.place bytes)) (capture bytes)) in

@@ -1,13 +1,13 @@
 -- The two counts of store steps beside each other.
 use Rattle.std.proofs.Common.{◌≤◌, ℕ, zero, suc, ◌+◌, List, [], ◌∷◌, Result, Ok, Err, arith}
 use Rattle.gpu_capture.specs.declared.event.Event.{Event}
-use Rattle.gpu_core.specs.Machine.{State, Feed}
-use Rattle.gpu_core.proofs.BoxCosts.{FeedCost-small, TakeCost-small}
+use Rattle.gpu_core.specs.Machine.{State, after_gp0}
+use Rattle.gpu_core.proofs.BoxCosts.{gp0_cost-small, read_cost-small}
 use Rattle.event_play.specs.Costs.{CostsAreSmall}
 use Rattle.event_play.specs.Fed.{fed_cost, fed_box_cost}
-use Rattle.event_play.specs.Out.{OutCost, OutBoxCost}
-use Rattle.event_play.specs.Replay.{Played, Replay, played_behind, next_number, raised, from_state}
-use Rattle.event_play.specs.Step.{Machine, Step, StepCost, StepBoxCost, step_cost, step_box_cost, work_cost}
+use Rattle.event_play.specs.Out.{out_cost, out_box_cost}
+use Rattle.event_play.specs.Replay.{Played, played_events, played_behind, next_number, raised, from_state}
+use Rattle.event_play.specs.Step.{Machine, event_step, event_cost, event_box_cost, step_cost, step_box_cost, work_cost}
 use Rattle.event_play.specs.Step.{work_box_cost, words_of}
 use Rattle.event_play.specs.Taken.{first_taken}
 use Rattle.event_play.specs.Work.{work_of}
@@ -25,37 +25,37 @@ use Rattle.gpu_capture.specs.declared.progress.Progress.{Progress}
 fed_small : (s : State) (words : List ℕ) → fed_cost s words ≤ fed_box_cost s words
 fed_small s [] = omega arith
 fed_small s (word ∷ words) =
-    let here = FeedCost-small s word in let behind = fed_small (Feed s word) words in omega (arith, here, behind)
+    let here = gp0_cost-small s word in let behind = fed_small (after_gp0 s word) words in omega (arith, here, behind)
 
 taken_small : (block : Block) (n : ℕ) (s : State) (ram : List ℕ)
     → (first_taken block n s ram).cost ≤ (first_taken block n s ram).box_cost
 taken_small block zero s ram = omega arith
 taken_small block (suc n) s ram =
     let before = taken_small block n s ram in let here =
-    TakeCost-small (first_taken block n s ram).gpu in omega (arith, before, here)
+    read_cost-small (first_taken block n s ram).gpu in omega (arith, before, here)
 
 work_small : (s : Machine) (asked : Work) → work_cost s asked ≤ work_box_cost s asked
 work_small s (work.Feed asked next) = fed_small s.gpu (words_of s.ram asked)
 work_small s (work.Take block next) = taken_small block block.n s.gpu s.ram
-work_small s work.Read = TakeCost-small s.gpu
-work_small s work.Skip = TakeCost-small s.gpu
+work_small s work.Read = read_cost-small s.gpu
+work_small s work.Skip = read_cost-small s.gpu
 work_small s other = omega arith
 
 asked_small : (s : Machine) (asked : Result Work EventFault) → step_cost s asked ≤ step_box_cost s asked
 asked_small s (Ok asked) = work_small s asked
 asked_small s (Err fault) = omega arith
 
-pub StepCost-small : (s : Machine) (event : Event) → StepCost s event ≤ StepBoxCost s event
-unfolding StepCost StepBoxCost
-StepCost-small s event = asked_small s (work_of s.ram s.running event)
+pub event_cost-small : (s : Machine) (event : Event) → event_cost s event ≤ event_box_cost s event
+unfolding event_cost event_box_cost
+event_cost-small s event = asked_small s (work_of s.ram s.running event)
 
 pub costs_small : CostsAreSmall
 costs_small t [] stop rest small = small
 costs_small t (event ∷ events) stop rest before =
-    let here = StepCost-small t.state event in
+    let here = event_cost-small t.state event in
     along (λ t r. t.cost ≤ t.box_cost → r.tale.cost ≤ r.tale.box_cost) t event
-    (Step t.state (next_number t.played) event)
-    (λ next. Replay next events stop rest)
+    (event_step t.state (next_number t.played) event)
+    (λ next. played_events next events stop rest)
     (λ fault. record { tale = t; ending = Faulted (next_number t.played) fault; rest = rest })
     (λ stepped small so_far. small (omega (arith, here, so_far)))
     (λ next. costs_small next events stop rest)
@@ -74,5 +74,5 @@ from_small s played p bytes =
 
 -- what playing spends, by the boxes
 pub within_boxes : (mode : Mode) (by_bytes : List ℕ → Played) (bytes : List ℕ) (before now : ℕ) → AreSmall by_bytes
-    → now ≤ before + OutCost mode (by_bytes bytes) → now ≤ before + OutBoxCost mode (by_bytes bytes)
+    → now ≤ before + out_cost mode (by_bytes bytes) → now ≤ before + out_box_cost mode (by_bytes bytes)
 within_boxes mode by_bytes bytes before now small within = let less = small bytes in omega (arith, within, less)

@@ -7,7 +7,7 @@ use Rattle.gpu_core.specs.Machine.{State}
 use Rattle.event_play.specs.Does.{Does}
 use Rattle.event_play.specs.Lines.{lines_of_notes}
 use Rattle.event_play.specs.RigState.{RigState, Stands, machine_of}
-use Rattle.event_play.specs.Step.{Machine, Stepped, Step, StepCost, done}
+use Rattle.event_play.specs.Step.{Machine, Stepped, event_step, event_cost, done}
 use Rattle.event_play.specs.Stepping.{HasStepped}
 use Rattle.event_play.specs.Streams.{Outlets}
 use Rattle.event_play.specs.Work.{work_of}
@@ -23,8 +23,8 @@ stands_is rig s stands =
     (sym stands.running)
 
 pub step_fault : (rig : RigState) (s : Machine) (number : ℕ) (event : Event) (fault : EventFault) → Stands rig s
-    → Err fault ≡ work_of rig.ram rig.running event → Step s number event ≡ Err fault
-unfolding Step
+    → Err fault ≡ work_of rig.ram rig.running event → event_step s number event ≡ Err fault
+unfolding event_step
 step_fault rig s number event fault stands asked = rw (stands.ram, stands.running, ← asked) refl
 
 -- what was done for an event, and what was written of its notes
@@ -39,7 +39,7 @@ module _ (mode : Mode) (was mid rig : RigState) (number counted : ℕ) (event : 
     (does : (s : State) → kept_of s ≡ was.gpu → Does mode (machine_of was s) number asked shown before now rig) where
   pub has_done : (s : Machine) → Stands was s → HasDone mode s number event shown before now
       (record mid { played = counted })
-  unfolding Step StepCost
+  unfolding event_step event_cost
   has_done s stands =
       let counts : RigState = record mid { played = counted } in
       let did = does s.gpu stands.gpu in

@@ -6,9 +6,9 @@ use Rattle.std.proofs.lemmas.List.Sums.{fold-append}
 use Rattle.dev_io.specs.Device.{appended, AppendsPart}
 use Rattle.dev_io.proofs.Appended.{appended-appended, appended-nil}
 use Rattle.gp0_packets.specs.declared.note.Note.{Note}
-use Rattle.gpu_core.specs.Cost.{FeedCost}
+use Rattle.gpu_core.specs.Cost.{gp0_cost}
 use Rattle.gpu_core.specs.Kept.{Kept, kept_of}
-use Rattle.gpu_core.specs.Machine.{State, Feed, FeedNote, told_option}
+use Rattle.gpu_core.specs.Machine.{State, after_gp0, gp0_note, told_option}
 use Rattle.gpu_taps.specs.Tally.{Reading}
 use Rattle.packet_text.specs.Line.{listed}
 use Rattle.event_play.specs.Fed.{fed, fed_notes, fed_cost}
@@ -22,19 +22,19 @@ use Rattle.event_play.specs.declared.ending.Mode.TheVariants.{Vram, Shot, Report
 -- ---- two lists of words, one after the other
 
 pub fed-append : (s : State) (xs ys : List ℕ) → fed s (xs ++ ys) ≡ fed (fed s xs) ys
-fed-append s xs ys = fold-append Feed s xs ys
+fed-append s xs ys = fold-append after_gp0 s xs ys
 
 pub fed_notes-append : (s : State) (number : ℕ) (xs ys : List ℕ)
     → fed_notes s number (xs ++ ys) ≡ fed_notes s number xs ++ fed_notes (fed s xs) number ys
 fed_notes-append s number [] ys = refl
 fed_notes-append s number (x ∷ xs) ys =
-    ap (λ notes. option_to_list (FeedNote s number x) ++ notes) (fed_notes-append (Feed s x) number xs ys)
-    ∙ sym (append_assoc (option_to_list (FeedNote s number x)) (fed_notes (Feed s x) number xs)
-    (fed_notes (fed (Feed s x) xs) number ys))
+    ap (λ notes. option_to_list (gp0_note s number x) ++ notes) (fed_notes-append (after_gp0 s x) number xs ys)
+    ∙ sym (append_assoc (option_to_list (gp0_note s number x)) (fed_notes (after_gp0 s x) number xs)
+    (fed_notes (fed (after_gp0 s x) xs) number ys))
 
 pub fed_cost-append : (s : State) (xs ys : List ℕ) → fed_cost s (xs ++ ys) ≡ fed_cost s xs + fed_cost (fed s xs) ys
 fed_cost-append s [] ys = omega arith
-fed_cost-append s (x ∷ xs) ys = let e = fed_cost-append (Feed s x) xs ys in omega (arith, e)
+fed_cost-append s (x ∷ xs) ys = let e = fed_cost-append (after_gp0 s x) xs ys in omega (arith, e)
 
 pub told-append : (notes others : List Note) (readings : List Reading)
     → told_notes (notes ++ others) readings ≡ told_notes others (told_notes notes readings)
@@ -76,9 +76,9 @@ told_one (Some note) readings = refl
 
 -- a word was fed, and the line of its note written or not
 pub word_feeds : (s : State) (number word : ℕ) (note : Option Note) (before now : Outlets) (gpu : Kept)
-    → kept_of (Feed s word) ≡ gpu → FeedNote s number word ≡ note
+    → kept_of (after_gp0 s word) ≡ gpu → gp0_note s number word ≡ note
     → now.held ≡ appended before.held (flat_map listed (option_to_list note))
-    → now.heard ≡ told_option note before.heard → now.steps ≤ before.steps + FeedCost s word
+    → now.heard ≡ told_option note before.heard → now.steps ≤ before.steps + gp0_cost s word
     → Feeds Listing s number (word ∷ []) before now gpu
 word_feeds s number word note before now gpu stands noted wrote told cost =
     let notes : fed_notes s number (word ∷ []) ≡ option_to_list note ++ [] = ap (λ n. option_to_list n ++ []) noted in
@@ -90,9 +90,9 @@ word_feeds s number word note before now gpu stands noted wrote told cost =
     }
 
 pub word_stops : (s : State) (number word : ℕ) (note : Option Note) (before now : Outlets) (gpu : Kept)
-    → kept_of (Feed s word) ≡ gpu → FeedNote s number word ≡ note
+    → kept_of (after_gp0 s word) ≡ gpu → gp0_note s number word ≡ note
     → AppendsPart before.held now.held (flat_map listed (option_to_list note))
-    → now.heard ≡ told_option note before.heard → now.steps ≤ before.steps + FeedCost s word
+    → now.heard ≡ told_option note before.heard → now.steps ≤ before.steps + gp0_cost s word
     → StopsFeeding Listing s number (word ∷ []) before now gpu
 word_stops s number word note before now gpu stands noted part told cost =
     let notes : fed_notes s number (word ∷ []) ≡ option_to_list note ++ [] = ap (λ n. option_to_list n ++ []) noted in

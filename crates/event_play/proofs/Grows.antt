@@ -9,9 +9,9 @@ use Rattle.gpu_capture.specs.declared.event.Stop.{Stop}
 use Rattle.packet_text.specs.Line.{word_line, listed}
 use Rattle.gpu_taps.specs.Tally.{Reading}
 use Rattle.event_play.specs.Lines.{lines_for}
-use Rattle.event_play.specs.Out.{lines_of, finals, finals_cost, Out, OutCost}
-use Rattle.event_play.specs.Replay.{Tale, Played, told_on, after_event, go_on, Replay, replayed, next_number}
-use Rattle.event_play.specs.Step.{Machine, Stepped, Step, StepCost, StepBoxCost}
+use Rattle.event_play.specs.Out.{lines_of, finals, finals_cost, out_bytes, out_cost}
+use Rattle.event_play.specs.Replay.{Tale, Played, told_on, after_event, go_on, played_events, replayed, next_number}
+use Rattle.event_play.specs.Step.{Machine, Stepped, event_step, event_cost, event_box_cost}
 use Rattle.event_play.specs.declared.ending.Ending.TheVariants.{Faulted}
 use Rattle.event_play.specs.declared.ending.Mode.{Mode}
 use Rattle.event_play.specs.declared.ending.Mode.TheVariants.{Vram, Shot, Report, List as Listing, Play as Words}
@@ -42,12 +42,12 @@ tale_on t event machine shown notes = record {
   played = next_number t.played;
   shown = t.shown ++ option_to_list shown;
   notes = t.notes ++ notes;
-  cost = t.cost + StepCost t.state event;
-  box_cost = t.box_cost + StepBoxCost t.state event;
+  cost = t.cost + event_cost t.state event;
+  box_cost = t.box_cost + event_box_cost t.state event;
 }
 
 pub after-event : (t : Tale) (event : Event) (machine : Machine) (shown : Option ℕ) (notes : List Note)
-    → Step t.state (next_number t.played) event ≡ Ok (record { machine = machine; shown = shown; notes = notes })
+    → event_step t.state (next_number t.played) event ≡ Ok (record { machine = machine; shown = shown; notes = notes })
     → after_event t event ≡ Ok (tale_on t event machine shown notes)
 after-event t event machine shown notes is = rw is refl
 
@@ -60,22 +60,22 @@ pub along : (P : Tale → Played → Type 0) (t : Tale) (event : Event) (step : 
     (on (tale_on t event stepped.machine stepped.shown stepped.notes))
     → P t (on (tale_on t event stepped.machine stepped.shown stepped.notes)))
     → ((next : Tale) → P next (on next)) → ((fault : EventFault) → P t (faulted fault))
-    → P t (go_on (told_on t (StepCost t.state event) (StepBoxCost t.state event) step) on faulted)
+    → P t (go_on (told_on t (event_cost t.state event) (event_box_cost t.state event) step) on faulted)
 along P t event (Ok stepped) on faulted back at_next at_fault =
     back stepped (at_next (tale_on t event stepped.machine stepped.shown stepped.notes))
 along P t event (Err fault) on faulted back at_next at_fault = at_fault fault
 
 -- what later events add to what is written
 abbrev Adds : Mode → List Reading → Tale → Played → Type 0
-Adds mode heard t r = (more : List ℕ) × (Out mode heard r ≡ lines_of mode t ++ more)
+Adds mode heard t r = (more : List ℕ) × (out_bytes mode heard r ≡ lines_of mode t ++ more)
 
 -- what was due so far begins all that is written
 pub out_grows : (mode : Mode) (heard : List Reading) (t : Tale) (events : List Event) (stop : Stop) (rest : List ℕ)
-    → Adds mode heard t (Replay t events stop rest)
-out_grows mode heard t [] stop rest = (finals mode heard (Replay t [] stop rest), refl)
+    → Adds mode heard t (played_events t events stop rest)
+out_grows mode heard t [] stop rest = (finals mode heard (played_events t [] stop rest), refl)
 out_grows mode heard t (event ∷ events) stop rest =
-    along (Adds mode heard) t event (Step t.state (next_number t.played) event)
-    (λ next. Replay next events stop rest)
+    along (Adds mode heard) t event (event_step t.state (next_number t.played) event)
+    (λ next. played_events next events stop rest)
     (λ fault. record { tale = t; ending = Faulted (next_number t.played) fault; rest = rest })
     (λ stepped more.
     let due = lines_for mode (option_to_list stepped.shown) stepped.notes in (
@@ -92,18 +92,18 @@ out_grows mode heard t (event ∷ events) stop rest =
 
 -- steps aren't given back
 pub cost_grows : (t : Tale) (events : List Event) (stop : Stop) (rest : List ℕ)
-    → t.cost ≤ (Replay t events stop rest).tale.cost
+    → t.cost ≤ (played_events t events stop rest).tale.cost
 cost_grows t [] stop rest = omega arith
 cost_grows t (event ∷ events) stop rest =
-    along (λ t r. t.cost ≤ r.tale.cost) t event (Step t.state (next_number t.played) event)
-    (λ next. Replay next events stop rest)
+    along (λ t r. t.cost ≤ r.tale.cost) t event (event_step t.state (next_number t.played) event)
+    (λ next. played_events next events stop rest)
     (λ fault. record { tale = t; ending = Faulted (next_number t.played) fault; rest = rest })
     (λ stepped grows. omega (arith, grows))
     (λ next. cost_grows next events stop rest)
     (λ fault. omega arith)
 
 pub cost_within : (mode : Mode) (t : Tale) (r : Played) (c : Captured) (before now : ℕ) → r ≡ replayed t c
-    → now ≤ before + t.cost → now ≤ before + OutCost mode r
+    → now ≤ before + t.cost → now ≤ before + out_cost mode r
 cost_within mode t r c before now is within =
     let grows = cost_grows t c.events c.ending c.rest in
     rw is (added (finals_cost mode (replayed t c)) grows)

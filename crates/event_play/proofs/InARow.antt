@@ -1,12 +1,11 @@
 -- Words of GP0 that are played at once, an event each.
-use Rattle.std.proofs.Common.{◌≡◌, ◌≤◌, inl, inr, ℕ, ◌+◌, ◌++◌, List, [], ◌∷◌, Option, None, Some, Result, Ok, Err}
+use Rattle.std.proofs.Common.{◌≡◌, ◌≤◌, inl, inr, ℕ, ◌+◌, ◌++◌, List, [], ◌∷◌, Option, Result, Ok, Err}
 use Rattle.std.proofs.Common.{OnOk, ◌<◌}
 use Rattle.std.proofs.Common.{option_to_list}
 use Rattle.std.proofs.Common.{refl, ap, sym, ◌∙◌, append-nil, add-zero, take, arith}
 use Rattle.std.proofs.lemmas.List.Sums.{fold-append}
 use Rattle.dev_io.specs.Device.{appended}
 use Rattle.dev_io.proofs.Parts.{taken_on}
-use Rattle.gp0_packets.specs.declared.note.Note.{Note}
 use Rattle.gpu_capture.specs.Capture.{Captured, ended, then_events}
 use Rattle.gpu_capture.specs.Reader.{capture_from, work_left}
 use Rattle.gpu_capture.specs.Words.{TakesWords, StopsBehind, word_events}
@@ -16,22 +15,19 @@ use Rattle.gpu_capture.specs.declared.event.Stop.{Stop}
 use Rattle.gpu_capture.specs.declared.event.Stop.TheVariants.{Truncated}
 use Rattle.gpu_capture.specs.declared.progress.Progress.{Progress}
 use Rattle.gpu_capture.proofs.Steps.{split}
-use Rattle.gpu_core.specs.Cost.{FeedCost, FeedBoxCost}
-use Rattle.gpu_core.specs.Kept.{Kept, kept_of}
-use Rattle.gpu_core.specs.Machine.{State, Feed, FeedNote, told_option}
+use Rattle.gpu_core.specs.Cost.{gp0_cost, gp0_box_cost}
+use Rattle.gpu_core.specs.Machine.{gp0_note}
 use Rattle.gpu_taps.specs.Tally.{Reading}
 use Rattle.event_play.specs.Out.{lines_of}
 use Rattle.event_play.specs.PlayedWords.{after_word, after_words, IsTold, AreQuiet}
 use Rattle.event_play.specs.Playing.{AreAllNeeded, IsShort}
 use Rattle.event_play.specs.Replay.{Tale, Played, after_event, replayed, next_number}
 use Rattle.event_play.specs.RigState.{RigState}
-use Rattle.event_play.specs.Step.{Step, StepCost, StepBoxCost}
+use Rattle.event_play.specs.Step.{event_step, event_cost, event_box_cost}
 use Rattle.event_play.specs.Streams.{Outlets, Streams, streams, without_sink}
-use Rattle.event_play.specs.Told.{told_notes}
 use Rattle.event_play.specs.declared.ending.Mode.{Mode}
 use Rattle.event_play.specs.declared.ending.Mode.TheVariants.{Vram, Shot, Report, List as Listing, Play as Words}
 use Rattle.event_play.proofs.Awaiting.{Reaches, GoesOn, Awaits, goes_past, reads, events_left}
-use Rattle.event_play.proofs.Feeds.{told-append}
 use Rattle.event_play.proofs.Reaching.{goes_on}
 
 -- ---- tales
@@ -41,16 +37,16 @@ after_words-append t xs ys = fold-append after_word t xs ys
 
 -- the event of a word is played
 word_is : (t : Tale) (word : ℕ) → after_event t (Gp0 word) ≡ Ok (after_word t word)
-unfolding Step StepCost StepBoxCost
+unfolding event_step event_cost event_box_cost
 word_is t word =
     let n = next_number t.played in
-    let note = option_to_list (FeedNote t.state.gpu n word) in
+    let note = option_to_list (gp0_note t.state.gpu n word) in
     rw (
       append-nil t.shown,
       append-nil note,
-      add-zero (FeedCost t.state.gpu word),
+      add-zero (gp0_cost t.state.gpu word),
       add-zero
-          (FeedBoxCost t.state.gpu word),
+          (gp0_box_cost t.state.gpu word),
     )
     refl
 
@@ -61,31 +57,6 @@ words_are t [] c = refl
 words_are t (word ∷ words) c =
     goes_on t (after_word t word) (Gp0 word) (then_events (word_events words) c) (word_is t word)
     ∙ words_are (after_word t word) words c
-
--- a tap that was told, and is told a note more
-told_more : (note : Option Note) (notes : List Note) (first : List Reading)
-    → told_option note (told_notes notes first) ≡ told_notes (notes ++ option_to_list note) first
-told_more None notes first = ap (λ ns. told_notes ns first) (sym (append-nil notes))
-told_more (Some note) notes first = sym (told-append notes (note ∷ []) first)
-
-pub word_told : (t : Tale) (first before now : Outlets) (was gpu : Kept) (played number word : ℕ) (note : Option Note)
-    → number ≡ next_number played → IsTold t first before was played
-    → ((s : State) → kept_of s ≡ was → kept_of (Feed s word) ≡ gpu)
-    → ((s : State) → kept_of s ≡ was → FeedNote s number word ≡ note)
-    → now.heard ≡ told_option note before.heard
-    → ((s : State) → kept_of s ≡ was → now.steps ≤ before.steps + FeedCost s word)
-    → IsTold (after_word t word) first now gpu number
-word_told t first before now was gpu played number word note counted told feed noted heard cost =
-    let n : next_number t.played ≡ number = ap next_number told.number ∙ sym counted in
-    let noted_is : FeedNote t.state.gpu (next_number t.played) word ≡ note =
-    ap (λ n. FeedNote t.state.gpu n word) n ∙ noted t.state.gpu told.state in
-    record {
-      state = feed t.state.gpu told.state;
-      number = n;
-      heard = heard ∙ ap (told_option note) told.heard ∙ told_more note t.notes first.heard
-          ∙ ap (λ note. told_notes (t.notes ++ option_to_list note) first.heard) (sym noted_is);
-      cost = let spent = cost t.state.gpu told.state in let was = told.cost in omega (arith, spent, was);
-    }
 
 -- ---- the bytes of words
 

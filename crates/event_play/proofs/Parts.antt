@@ -11,7 +11,7 @@ use Rattle.event_play.specs.Feeding.{StopsFeeding}
 use Rattle.event_play.specs.Lines.{lines_for, lines_of_notes}
 use Rattle.event_play.specs.Out.{lines_of}
 use Rattle.event_play.specs.Replay.{Tale, part_fed, next_number}
-use Rattle.event_play.specs.Step.{Machine, Step, StepCost, EventWords, asked_words, done, stepped, step_cost}
+use Rattle.event_play.specs.Step.{Machine, event_step, event_cost, event_words, asked_words, done, stepped, step_cost}
 use Rattle.event_play.specs.Streams.{Outlets}
 use Rattle.event_play.specs.Work.{work_of}
 use Rattle.event_play.specs.declared.ending.Mode.{Mode}
@@ -43,12 +43,13 @@ asked_feeds s number other before word after are = absurd (no_words before word 
 
 pub record EventFeeds (s : Machine) (number : ℕ) (event : Event) (words : List ℕ) : Type 0 where
   pub machine : Machine
-  pub is : Step s number event ≡ Ok (record { machine = machine; shown = None; notes = fed_notes s.gpu number words })
-  pub cost : StepCost s event ≡ fed_cost s.gpu words
+  pub is : event_step s number event
+      ≡ Ok (record { machine = machine; shown = None; notes = fed_notes s.gpu number words })
+  pub cost : event_cost s event ≡ fed_cost s.gpu words
 
 pub event_feeds : (s : Machine) (number : ℕ) (event : Event) (before : List ℕ) (word : ℕ) (after : List ℕ)
-    → EventWords s event ≡ before ++ word ∷ after → EventFeeds s number event (before ++ word ∷ after)
-unfolding Step StepCost
+    → event_words s event ≡ before ++ word ∷ after → EventFeeds s number event (before ++ word ∷ after)
+unfolding event_step event_cost
 event_feeds s number event before word after are =
     let feeds = asked_feeds s number (work_of s.ram s.running event) before word after are in
     record { machine = feeds.machine; is = feeds.is; cost = feeds.cost }

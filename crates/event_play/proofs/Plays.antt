@@ -1,5 +1,5 @@
 -- Events that were played while their lines were written.
-use Rattle.std.proofs.Common.{◌≡◌, ℕ, List, [], ◌∷◌, ◌++◌, Option, None, Ok, option_to_list, refl, ap, sym, subst, ◌∙◌}
+use Rattle.std.proofs.Common.{◌≡◌, ℕ, List, [], ◌∷◌, ◌++◌, Option, None, Ok, option_to_list, refl, ap, subst, ◌∙◌}
 use Rattle.std.proofs.Common.{append-nil}
 use Rattle.dev_io.specs.Device.{appended, AppendsPart}
 use Rattle.dev_io.proofs.Appended.{appended-appended}
@@ -8,13 +8,12 @@ use Rattle.gp0_packets.specs.declared.note.Note.{Note}
 use Rattle.gpu_capture.specs.declared.event.Event.{Event}
 use Rattle.gpu_core.specs.Kept.{Kept, kept_of}
 use Rattle.gpu_core.specs.Machine.{State}
-use Rattle.event_play.specs.Does.{Does, Stops}
-use Rattle.event_play.specs.Ends.{PlaysEvent, ShowsPart, FeedsPart}
-use Rattle.event_play.specs.Feeding.{Feeds, StopsFeeding}
+use Rattle.event_play.specs.Does.{Does}
+use Rattle.event_play.specs.Ends.{PlaysEvent, ShowsPart}
+use Rattle.event_play.specs.Feeding.{Feeds}
 use Rattle.event_play.specs.Lines.{lines_for, lines_of_notes}
 use Rattle.event_play.specs.Replay.{Tale, next_number}
 use Rattle.event_play.specs.RigState.{RigState, StandsFor, machine_of}
-use Rattle.event_play.specs.Step.{EventWords, asked_words}
 use Rattle.event_play.specs.Stepping.{HasStepped}
 use Rattle.event_play.specs.Streams.{Outlets}
 use Rattle.event_play.specs.Work.{work_of}
@@ -95,25 +94,6 @@ module _ (mode : Mode) (was mid rig : RigState) (t : Tale) (counted : ℕ) (even
             (lines_of_notes mode did.step.notes) due [] did.held part);
       }
 
--- an event whose words were fed in part
-pub feeds_part : (mode : Mode) (was mid rig : RigState) (t : Tale) (counted : ℕ) (event : Event) (asked : Work)
-    (before now : Outlets)
-    → Ok asked ≡ work_of was.ram was.running event → mid ≡ rig → StandsFor was t → counted ≡ next_number t.played
-    → rig.played ≡ was.played
-    → ((s : State) → kept_of s ≡ was.gpu → Stops mode (machine_of was s) counted asked before now rig)
-    → FeedsPart mode t event before now mid
-feeds_part mode was mid rig t counted event asked before now is same stands number played stops =
-    let stop = stops t.state.gpu stands.state.gpu in
-    let P : RigState → Type 0 = λ rig. FeedsPart mode t event before now rig in
-    let words : EventWords t.state event ≡ asked_words was.ram (Ok asked) =
-    rw (stands.state.ram, stands.state.running, ← is) refl in
-    subst P (sym same) (record {
-      feeding = rw (words, ← number) stop.feeding;
-      ram = stands.state.ram ∙ stop.ram;
-      running = stands.state.running ∙ stop.running;
-      played = stands.played ∙ sym played;
-    })
-
 -- ---- a word that is written to GP0
 
 module _ (mode : Mode) (was : RigState) (counted word : ℕ) (before now : Outlets) (gpu : Kept) (s : State) where
@@ -127,7 +107,3 @@ module _ (mode : Mode) (was : RigState) (counted word : ℕ) (before now : Outle
     heard = feeds.heard;
     cost = feeds.cost;
   }
-
-  pub word_stops_at : StopsFeeding mode s counted (word ∷ []) before now gpu
-      → Stops mode (machine_of was s) counted (work.Feed (One word) was.running) before now (record was { gpu = gpu })
-  word_stops_at stop = record { feeding = stop; ram = refl; running = refl }

@@ -15,11 +15,11 @@ use Rattle.event_play.specs.Ends.{PlaysEvent, ShowsPart, FeedsPart, FaultsEvent,
 use Rattle.event_play.specs.Ends.{WritesEndPart, IsNotEnd}
 use Rattle.event_play.specs.Fed.{fed, fed_notes}
 use Rattle.event_play.specs.Lines.{lines_for, lines_of_notes}
-use Rattle.event_play.specs.Out.{lines_of, final_bytes, final_cost, ending_under, lacks_picture, Out, OutCost}
+use Rattle.event_play.specs.Out.{lines_of, final_bytes, final_cost, ending_under, lacks_picture, out_bytes, out_cost}
 use Rattle.event_play.specs.Playing.{SaysEnding, EndsPlay, IsLast, whole}
-use Rattle.event_play.specs.Replay.{Tale, Played, part_fed, after_event, go_on, Replay, replayed, next_number}
+use Rattle.event_play.specs.Replay.{Tale, Played, part_fed, after_event, go_on, played_events, replayed, next_number}
 use Rattle.event_play.specs.RigState.{RigState, StandsFor}
-use Rattle.event_play.specs.Step.{Machine, StepCost}
+use Rattle.event_play.specs.Step.{Machine, event_cost}
 use Rattle.event_play.specs.Streams.{Outlets, Streams, streams}
 use Rattle.event_play.specs.Told.{told_notes}
 use Rattle.event_play.specs.declared.ending.Ending.{Ending}
@@ -38,7 +38,7 @@ use Rattle.event_play.proofs.Parts.{event_feeds, stops_listing, part_held, part_
 pub goes_on : (t next : Tale) (event : Event) (c : Captured) → after_event t event ≡ Ok next
     → replayed t (then_events (event ∷ []) c) ≡ replayed next c
 goes_on t next event c is =
-    ap (λ r. go_on r (λ next. Replay next c.events c.ending c.rest)
+    ap (λ r. go_on r (λ next. played_events next c.events c.ending c.rest)
     (λ fault. record { tale = t; ending = Faulted (next_number t.played) fault; rest = c.rest })) is
 
 -- what was held, and what is due for an event
@@ -81,7 +81,7 @@ module _ (mode : Mode) (by_bytes : List ℕ → Played) (before : Streams) (left
         held = held_on mode before.held mid.held now.held t event plays.step.machine plays.shown plays.step.notes
             reached.held plays.held;
         heard = heard_on before.heard mid.heard now.heard t.notes plays.step.notes reached.heard plays.step.heard;
-        cost = spent_on before.steps mid.steps now.steps t.cost (StepCost t.state event) reached.cost plays.step.cost;
+        cost = spent_on before.steps mid.steps now.steps t.cost (event_cost t.state event) reached.cost plays.step.cost;
       }
 
   -- ---- an event that ends playing
@@ -91,7 +91,7 @@ module _ (mode : Mode) (by_bytes : List ℕ → Played) (before : Streams) (left
     ends_at : (t last : Tale) (ending : Ending) → SaysEnding mode by_bytes t last reached.taken before
         (beside left now) ending → IsLast t last ending
         → StandsFor rig last → now.heard ≡ told_notes last.notes before.heard
-        → ((rest : List ℕ) → now.steps ≤ before.steps + OutCost mode (by_bytes (reached.taken ++ rest)))
+        → ((rest : List ℕ) → now.steps ≤ before.steps + out_cost mode (by_bytes (reached.taken ++ rest)))
         → EndsPlay mode by_bytes before (beside left now) rig ending
     ends_at t last ending says is_last stands heard cost = record {
       taken = reached.taken;
@@ -147,7 +147,7 @@ module _ (mode : Mode) (by_bytes : List ℕ → Played) (before : Streams) (left
               let c = capture_from p rest in
               let more = out_grows mode before.heard next c.events c.ending c.rest in (
                 more.0,
-                ap (Out mode before.heard) (says rest) ∙ more.1
+                ap (out_bytes mode before.heard) (says rest) ∙ more.1
                     ∙ ap (λ xs. xs ++ more.0)
                     (lines-append mode t.shown (option_to_list parts.shown) t.notes parts.step.notes)
                     ∙ append_assoc (lines_of mode t) due more.0,
@@ -156,7 +156,7 @@ module _ (mode : Mode) (by_bytes : List ℕ → Played) (before : Streams) (left
         tt (record { state = parts.step.stands; played = sym parts.played })
         (heard_on before.heard mid.heard now.heard t.notes parts.step.notes reached.heard parts.step.heard)
         (λ rest. cost_within mode next _ (capture_from p rest) before.steps now.steps (says rest)
-        (spent_on before.steps mid.steps now.steps t.cost (StepCost t.state event) reached.cost parts.step.cost))
+        (spent_on before.steps mid.steps now.steps t.cost (event_cost t.state event) reached.cost parts.step.cost))
 
     feeds_ends : (number : ℕ) → number ≡ next_number reached.tale.played → FeedsPart mode reached.tale event mid now rig
         → EndsPlay mode by_bytes before (beside left now) rig (WriteFailed number)
@@ -195,7 +195,7 @@ module _ (mode : Mode) (by_bytes : List ℕ → Played) (before : Streams) (left
               let more = out_grows mode before.heard next c.events c.ending c.rest in
               let ends = part_lines mode t stop.before stop.word stop.after more.0 in (
                 ends.0,
-                ap (Out mode before.heard) (says rest) ∙ more.1 ∙ ends.1,
+                ap (out_bytes mode before.heard) (says rest) ∙ more.1 ∙ ends.1,
               );
         })
         tt (record {
@@ -206,9 +206,9 @@ module _ (mode : Mode) (by_bytes : List ℕ → Played) (before : Streams) (left
         (heard_on before.heard mid.heard now.heard t.notes
         (fed_notes t.state.gpu n (stop.before ++ stop.word ∷ [])) reached.heard stop.heard)
         (λ rest. cost_within mode next _ (capture_from p rest) before.steps now.steps (says rest)
-        (spent_on before.steps mid.steps now.steps t.cost (StepCost t.state event) reached.cost
+        (spent_on before.steps mid.steps now.steps t.cost (event_cost t.state event) reached.cost
         (part_cost t.state.gpu stop.before stop.word stop.after
-        (StepCost t.state event) mid.steps now.steps feeds.cost stop.cost)))
+        (event_cost t.state event) mid.steps now.steps feeds.cost stop.cost)))
 
     pub event_ends : (ending : Ending) → EndsEvent mode reached.tale event mid now was rig ending
         → EndsPlay mode by_bytes before (beside left now) rig ending
@@ -242,7 +242,7 @@ module _ (mode : Mode) (by_bytes : List ℕ → Played) (before : Streams) (left
   ends_behind : (ending : Ending) → SaysEnding mode by_bytes reached.tale reached.tale reached.taken before
       (beside left now) ending
       → IsLast reached.tale reached.tale ending
-      → ((rest : List ℕ) → now.steps ≤ before.steps + OutCost mode (by_bytes (reached.taken ++ rest)))
+      → ((rest : List ℕ) → now.steps ≤ before.steps + out_cost mode (by_bytes (reached.taken ++ rest)))
       → EndsPlay mode by_bytes before (beside left now) rig ending
   ends_behind ending says is_last cost = record {
     taken = reached.taken;
@@ -259,7 +259,7 @@ module _ (mode : Mode) (by_bytes : List ℕ → Played) (before : Streams) (left
   }
 
   -- nothing was spent since the last event
-  stop_costs : now.steps ≡ mid.steps → (rest : List ℕ) → now.steps ≤ before.steps + OutCost mode
+  stop_costs : now.steps ≡ mid.steps → (rest : List ℕ) → now.steps ≤ before.steps + out_cost mode
       (by_bytes (reached.taken ++ rest))
   stop_costs steps rest = let grows = reached.says.costs rest in omega (arith, reached.cost, grows, steps)
 
@@ -270,7 +270,7 @@ module _ (mode : Mode) (by_bytes : List ℕ → Played) (before : Streams) (left
     (same : now.heard ≡ mid.heard) where
   end_costs : lacks_picture mode reached.tale.state.gpu.parts.regs ≡ false
       → now.steps ≤ mid.steps + final_cost mode reached.tale.state.gpu
-      → (rest : List ℕ) → now.steps ≤ before.steps + OutCost mode (by_bytes (reached.taken ++ rest))
+      → (rest : List ℕ) → now.steps ≤ before.steps + out_cost mode (by_bytes (reached.taken ++ rest))
   end_costs shows spent rest =
       rw (reached.says.says rest, shows)
       (spent_on before.steps mid.steps now.steps reached.tale.cost

@@ -4,10 +4,10 @@ use Rattle.std.proofs.Common.{append_assoc, append-nil, add_assoc, add-zero}
 use Rattle.gpu_capture.specs.declared.event.Event.{Event}
 use Rattle.gpu_capture.specs.declared.event.Stop.{Stop}
 use Rattle.gpu_taps.specs.Tally.{Reading}
-use Rattle.event_play.specs.Out.{lines_of, finals_at, ending_under, Out}
+use Rattle.event_play.specs.Out.{lines_of, finals_at, ending_under, out_bytes}
 use Rattle.event_play.specs.Splits.{alone, AreFaultless, behind_past, with_past, SplitLaw}
-use Rattle.event_play.specs.Replay.{Tale, Played, Replay, go_on, told_on, after_event, from_state, next_number}
-use Rattle.event_play.specs.Step.{Stepped, Step, StepCost, StepBoxCost}
+use Rattle.event_play.specs.Replay.{Tale, Played, played_events, go_on, told_on, after_event, from_state, next_number}
+use Rattle.event_play.specs.Step.{Stepped, event_step, event_cost, event_box_cost}
 use Rattle.event_play.specs.Told.{told_notes}
 use Rattle.event_play.specs.declared.ending.Ending.TheVariants.{Done, Faulted}
 use Rattle.event_play.specs.declared.ending.Mode.{Mode}
@@ -22,30 +22,30 @@ faulted t rest fault = record { tale = t; ending = Faulted (next_number t.played
 
 split_on : (t : Tale) (events more : List Event) (stop : Stop) (rest : List ℕ) (next : Result Tale EventFault)
     → ((u : Tale) → AreFaultless u events
-    → Replay u (events ++ more) stop rest ≡ Replay (alone u events).tale more stop rest)
+    → played_events u (events ++ more) stop rest ≡ played_events (alone u events).tale more stop rest)
     → (go_on next (λ next. alone next events) (faulted t [])).ending ≡ Done
-    → go_on next (λ next. Replay next (events ++ more) stop rest) (faulted t rest)
-    ≡ Replay (go_on next (λ next. alone next events) (faulted t [])).tale more stop rest
+    → go_on next (λ next. played_events next (events ++ more) stop rest) (faulted t rest)
+    ≡ played_events (go_on next (λ next. alone next events) (faulted t [])).tale more stop rest
 split_on t events more stop rest (Ok next) behind is = behind next is
 split_on t events more stop rest (Err fault) behind is = absurd cc
 
 -- a replay goes on from the tale behind events that have no fault
 split_at : (events more : List Event) (t : Tale) (stop : Stop) (rest : List ℕ) → AreFaultless t events
-    → Replay t (events ++ more) stop rest ≡ Replay (alone t events).tale more stop rest
+    → played_events t (events ++ more) stop rest ≡ played_events (alone t events).tale more stop rest
 split_at [] more t stop rest is = refl
 split_at (event ∷ events) more t stop rest is =
     split_on t events more stop rest (after_event t event) (λ u. split_at events more u stop rest) is
 
 first_on : (t : Tale) (events more : List Event) (stop : Stop) (rest : List ℕ) (next : Result Tale EventFault)
-    → ((u : Tale) → (Replay u (events ++ more) stop rest).ending ≡ Done → AreFaultless u events)
-    → (go_on next (λ next. Replay next (events ++ more) stop rest) (faulted t rest)).ending ≡ Done
+    → ((u : Tale) → (played_events u (events ++ more) stop rest).ending ≡ Done → AreFaultless u events)
+    → (go_on next (λ next. played_events next (events ++ more) stop rest) (faulted t rest)).ending ≡ Done
     → (go_on next (λ next. alone next events) (faulted t [])).ending ≡ Done
 first_on t events more stop rest (Ok next) behind is = behind next is
 first_on t events more stop rest (Err fault) behind is = absurd cc
 
 -- where a whole replay has no fault, its first events have none
 first_faultless : (events more : List Event) (t : Tale) (stop : Stop) (rest : List ℕ)
-    → (Replay t (events ++ more) stop rest).ending ≡ Done → AreFaultless t events
+    → (played_events t (events ++ more) stop rest).ending ≡ Done → AreFaultless t events
 first_faultless [] more t stop rest is = refl
 first_faultless (event ∷ events) more t stop rest is =
     first_on t events more stop rest (after_event t event) (λ u. first_faultless events more u stop rest) is
@@ -80,21 +80,21 @@ module _ (past : Tale) where
   goes_behind now rest (Err fault) on behind = refl
 
   replay_behind : (events : List Event) (now : Tale) (stop : Stop) (rest : List ℕ)
-      → Replay (behind_past past now) events stop rest ≡ with_past past (Replay now events stop rest)
+      → played_events (behind_past past now) events stop rest ≡ with_past past (played_events now events stop rest)
   replay_behind [] now stop rest = refl
   replay_behind (event ∷ events) now stop rest =
-      let on : Tale → Played = λ next. Replay next events stop rest in
+      let on : Tale → Played = λ next. played_events next events stop rest in
       ap (λ next. go_on next on (faulted (behind_past past now) rest))
-      (told_past now (StepCost now.state event) (StepBoxCost now.state event)
-      (Step now.state (next_number now.played) event))
+      (told_past now (event_cost now.state event) (event_box_cost now.state event)
+      (event_step now.state (next_number now.played) event))
       ∙ goes_behind now rest (after_event now event) on (λ u. replay_behind events u stop rest)
 
 -- Events that are played on from a tale show, tell and cost what they do from its machine alone, and all this comes
 -- behind what the tale has.
 pub played_on : (t : Tale) (events : List Event) (stop : Stop) (rest : List ℕ)
-    → Replay t events stop rest ≡ with_past t (Replay (from_state t.state t.played) events stop rest)
+    → played_events t events stop rest ≡ with_past t (played_events (from_state t.state t.played) events stop rest)
 played_on t events stop rest =
-    ap (λ t. Replay t events stop rest) (sym (none_behind t))
+    ap (λ t. played_events t events stop rest) (sym (none_behind t))
     ∙ replay_behind t events (from_state t.state t.played) stop rest
 
 -- ---- what is written
@@ -105,7 +105,7 @@ lines_past mode past now = lines-append mode past.shown now.shown past.notes now
 
 -- behind the lines of the past comes what is written of the rest, by taps that have heard the past
 pub out_past : (mode : Mode) (heard : List Reading) (past : Tale) (r : Played)
-    → Out mode heard (with_past past r) ≡ lines_of mode past ++ Out mode (told_notes past.notes heard) r
+    → out_bytes mode heard (with_past past r) ≡ lines_of mode past ++ out_bytes mode (told_notes past.notes heard) r
 out_past mode heard past r =
     ap (λ told. lines_of mode (behind_past past r.tale)
     ++ finals_at (ending_under mode r) mode told r.tale.state.gpu) (told-append past.notes r.tale.notes heard)

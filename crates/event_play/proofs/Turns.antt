@@ -19,7 +19,7 @@ use Rattle.list_dma.specs.declared.run.Run.TheVariants as run
 use Rattle.ot_clear_dma.specs.Ram.{cut, set, word_at, place_of}
 use Rattle.event_play.specs.Block.{address_in, first_words, block_words}
 use Rattle.event_play.specs.Fed.{fed}
-use Rattle.event_play.specs.Step.{Machine, Step, done, stepped}
+use Rattle.event_play.specs.Step.{Machine, event_step, done, stepped}
 use Rattle.event_play.specs.Turns.{then_after, after_events, writes_of, remaining, IsApart, AreApart, turned}
 use Rattle.event_play.specs.Turns.{MovesFromRam, first_addresses, node_addresses, addresses_behind}
 use Rattle.event_play.specs.Work.{start_work, begin_work, turn_work, words_left, list_left}
@@ -296,7 +296,7 @@ written ram (other ∷ events) = written ram events
 after_writes : (events : List Event) (number : ℕ) (gpu : State) (ram : List ℕ) (running : Run)
     → after_events (record { gpu = gpu; ram = ram; running = running }) number (writes_of events)
     ≡ Ok (record { gpu = gpu; ram = written ram events; running = running })
-unfolding Step
+unfolding event_step
 after_writes [] number gpu ram running = refl
 after_writes (event.Ram address word ∷ events) number gpu ram running =
     after_writes events (number + 1) gpu (set ram address word) running
@@ -318,14 +318,14 @@ machine_same s number other (work.Begin next) = refl
 
 step_turn : (s : Machine) (number : ℕ) (events : List Event)
     → after_events s number (event.Turn ∷ events) ≡ after_events (turned s) (number + 1) events
-unfolding Step
+unfolding event_step
 step_turn s number events = ap (λ after. after_events after (number + 1) events)
     (machine_same s number 0 (turn_work s.ram s.running))
 
 step_write : (gpu : State) (ram : List ℕ) (running : Run) (number address word : ℕ) (events : List Event)
     → after_events (record { gpu = gpu; ram = ram; running = running }) number (event.Ram address word ∷ events)
     ≡ after_events (record { gpu = gpu; ram = set ram address word; running = running }) (number + 1) events
-unfolding Step
+unfolding event_step
 step_write gpu ram running number address word events = refl
 
 -- nothing runs, so nothing was left
@@ -428,7 +428,7 @@ module _ (n : ℕ) (walk : (ram : List ℕ) (node : ℕ) → walk_of ram node �
       → after_events s number (event.Begin madr bcr chcr ∷ []) ≡ Ok started
       → AreApart started events → after_events started (number + 1) events ≡ Ok ended → ended.running ≡ run.Idle
       → after_events s other (event.Dma 2 madr bcr chcr ∷ writes_of events) ≡ Ok ended
-  unfolding Step
+  unfolding event_step
   turns_by s started ended number other madr bcr chcr events moves most begins apart after idle =
       let start = starts s started number madr bcr chcr (plan_of bcr chcr) moves most begins in
       let from : Machine = record { gpu = s.gpu; ram = s.ram; running = started.running } in

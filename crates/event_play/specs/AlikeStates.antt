@@ -3,7 +3,7 @@ use Rattle.std.specs.Prelude.{◌≡◌, ℕ, List}
 use Rattle.gpu_capture.specs.Capture.{Captured}
 use Rattle.gpu_core.specs.Kept.{kept_of}
 use Rattle.gpu_taps.specs.Tally.{Reading}
-use Rattle.event_play.specs.Out.{Out, OutCost, OutBoxCost}
+use Rattle.event_play.specs.Out.{out_bytes, out_cost, out_box_cost}
 use Rattle.event_play.specs.Replay.{Tale, Played, played_from, from_state}
 use Rattle.event_play.specs.Step.{Machine}
 use Rattle.event_play.specs.declared.ending.Mode.{Mode}
@@ -31,9 +31,9 @@ pub record PlayAlike (r q : Played) : Type 0 where
   pub tale : TellAlike r.tale q.tale
   pub ending : r.ending ≡ q.ending
   pub rest : r.rest ≡ q.rest
-  pub out : (mode : Mode) (heard : List Reading) → Out mode heard r ≡ Out mode heard q
-  pub cost : (mode : Mode) → OutCost mode r ≡ OutCost mode q
-  pub box_cost : (mode : Mode) → OutBoxCost mode r ≡ OutBoxCost mode q
+  pub out : (mode : Mode) (heard : List Reading) → out_bytes mode heard r ≡ out_bytes mode heard q
+  pub cost : (mode : Mode) → out_cost mode r ≡ out_cost mode q
+  pub box_cost : (mode : Mode) → out_box_cost mode r ≡ out_box_cost mode q
 
 -- Alike machines replay every capture alike, of any version, whatever was the number of events played before.
 abbrev pub AlikeReplayAlike : Type 0

@@ -11,7 +11,7 @@ use Rattle.event_play.specs.Lines.{lines_for}
 use Rattle.event_play.specs.Out.{final_bytes, final_cost, lacks_picture}
 use Rattle.event_play.specs.Replay.{Tale, next_number}
 use Rattle.event_play.specs.RigState.{RigState, StandsFor}
-use Rattle.event_play.specs.Step.{Step, EventWords}
+use Rattle.event_play.specs.Step.{event_step, event_words}
 use Rattle.event_play.specs.Stepping.{HasStepped}
 use Rattle.event_play.specs.Streams.{Outlets}
 use Rattle.event_play.specs.declared.ending.Ending.{Ending}
@@ -38,7 +38,7 @@ pub record ShowsPart (mode : Mode) (t : Tale) (event : Event) (before now : Outl
 -- the words of an event were fed up to one whose line could not be written; the event does not count, and all else of
 -- the rig is as it was
 pub record FeedsPart (mode : Mode) (t : Tale) (event : Event) (before now : Outlets) (rig : RigState) : Type 0 where
-  pub feeding : StopsFeeding mode t.state.gpu (next_number t.played) (EventWords t.state event) before now rig.gpu
+  pub feeding : StopsFeeding mode t.state.gpu (next_number t.played) (event_words t.state event) before now rig.gpu
   pub ram : t.state.ram ≡ rig.ram
   pub running : t.state.running ≡ rig.running
   pub played : t.played ≡ rig.played
@@ -46,7 +46,7 @@ pub record FeedsPart (mode : Mode) (t : Tale) (event : Event) (before now : Outl
 -- an event has a fault and changed nothing
 pub record FaultsEvent (t : Tale) (event : Event) (fault : EventFault) (before now : Outlets)
     (was rig : RigState) : Type 0 where
-  pub is : Step t.state (next_number t.played) event ≡ Err fault
+  pub is : event_step t.state (next_number t.played) event ≡ Err fault
   pub stands : rig ≡ was
   pub unchanged : now ≡ before
 

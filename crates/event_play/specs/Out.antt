@@ -2,7 +2,7 @@
 use Rattle.std.specs.Prelude.{ℕ, ◌+◌, List, [], ◌++◌, flat_map, Bool, true, false, is_none}
 use Rattle.gp1_status.specs.Registers.{Registers}
 use Rattle.gp1_status.specs.Shape.{shape_of}
-use Rattle.gpu_core.specs.Machine.{State, Status}
+use Rattle.gpu_core.specs.Machine.{State, status_word}
 use Rattle.gpu_taps.specs.Tally.{Reading}
 use Rattle.packet_text.specs.Line.{status_line}
 use Rattle.packet_text.specs.Tap.{tap_line}
@@ -39,7 +39,7 @@ ending_under mode r =
 
 -- what is due after the end: the status line, all cells of video memory, the picture, or the line of each tap
 unfoldable pub final_bytes : Mode → (heard : List Reading) → State → List ℕ
-final_bytes Words heard s = status_line (Status s)
+final_bytes Words heard s = status_line (status_word s)
 final_bytes Listing heard s = []
 final_bytes Vram heard s = dump s.parts.m
 final_bytes Shot heard s = picture s.parts.m s.parts.regs
@@ -71,12 +71,12 @@ finals_cost mode r = finals_cost_at (ending_under mode r) mode r.tale.state.gpu
 -- ---- all of it
 
 -- all that is written
-abbrev pub Out : Mode → (heard : List Reading) → Played → List ℕ
-Out mode heard r = lines_of mode r.tale ++ finals mode heard r
+abbrev pub out_bytes : Mode → (heard : List Reading) → Played → List ℕ
+out_bytes mode heard r = lines_of mode r.tale ++ finals mode heard r
 
 -- the most store steps of playing and writing, and the same by the boxes
-abbrev pub OutCost : Mode → Played → ℕ
-OutCost mode r = r.tale.cost + finals_cost mode r
+abbrev pub out_cost : Mode → Played → ℕ
+out_cost mode r = r.tale.cost + finals_cost mode r
 
-abbrev pub OutBoxCost : Mode → Played → ℕ
-OutBoxCost mode r = r.tale.box_cost + finals_cost mode r
+abbrev pub out_box_cost : Mode → Played → ℕ
+out_box_cost mode r = r.tale.box_cost + finals_cost mode r

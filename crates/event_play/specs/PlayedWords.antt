@@ -1,8 +1,8 @@
 -- Words that are written to GP0, an event each, where no line is due for them.
 use Rattle.std.specs.Prelude.{◌≡◌, ◌≤◌, ℕ, ◌+◌, ◌-◌, ◌^◌, min, List, [], ◌++◌, fold, option_to_list}
-use Rattle.gpu_core.specs.Cost.{FeedCost, FeedBoxCost}
+use Rattle.gpu_core.specs.Cost.{gp0_cost, gp0_box_cost}
 use Rattle.gpu_core.specs.Kept.{Kept, kept_of}
-use Rattle.gpu_core.specs.Machine.{Feed, FeedNote}
+use Rattle.gpu_core.specs.Machine.{after_gp0, gp0_note}
 use Rattle.event_play.specs.Replay.{Tale, next_number}
 use Rattle.event_play.specs.Streams.{Outlets}
 use Rattle.event_play.specs.Told.{told_notes}
@@ -12,12 +12,12 @@ use Rattle.event_play.specs.declared.ending.Mode.TheVariants.{List as Listing}
 -- the tale with one such event more
 abbrev pub after_word : Tale → (word : ℕ) → Tale
 after_word t word = record {
-  state = record t.state { gpu = Feed t.state.gpu word };
+  state = record t.state { gpu = after_gp0 t.state.gpu word };
   played = next_number t.played;
   shown = t.shown;
-  notes = t.notes ++ option_to_list (FeedNote t.state.gpu (next_number t.played) word);
-  cost = t.cost + FeedCost t.state.gpu word;
-  box_cost = t.box_cost + FeedBoxCost t.state.gpu word;
+  notes = t.notes ++ option_to_list (gp0_note t.state.gpu (next_number t.played) word);
+  cost = t.cost + gp0_cost t.state.gpu word;
+  box_cost = t.box_cost + gp0_box_cost t.state.gpu word;
 }
 
 abbrev pub after_words : Tale → (words : List ℕ) → Tale

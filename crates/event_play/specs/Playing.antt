@@ -1,5 +1,5 @@
 -- A capture that is played as its bytes come. Below, `by_bytes` says how bytes are played, from a tale and by what a
--- reader makes of them from its place on: a whole capture by `Play t`, what a reader still has to take by
+-- reader makes of them from its place on: a whole capture by `played_capture t`, what a reader still has to take by
 -- `played_behind t progress`.
 use Rattle.std.specs.Prelude.{◌≡◌, ◌≤◌, ◌⊎◌, ℕ, List, [], ◌∷◌, ◌++◌, ◌+◌, Ok}
 use Rattle.dev_io.specs.Device.{prepended, appended, AppendsPart, IsAtEnd}
@@ -7,10 +7,10 @@ use Rattle.gpu_capture.specs.Capture.{Captured, then_events}
 use Rattle.gpu_capture.specs.declared.event.Event.{Event}
 use Rattle.gpu_capture.specs.declared.event.Stop.TheVariants.{Truncated, ReadFault}
 use Rattle.gpu_taps.specs.Tally.{Reading}
-use Rattle.event_play.specs.Out.{lines_of, final_bytes, ending_under, Out, OutCost, OutBoxCost}
+use Rattle.event_play.specs.Out.{lines_of, final_bytes, ending_under, out_bytes, out_cost, out_box_cost}
 use Rattle.event_play.specs.Replay.{Tale, Played, after_event, part_fed, replayed, next_number}
 use Rattle.event_play.specs.RigState.{RigState, StandsFor}
-use Rattle.event_play.specs.Step.{EventWords}
+use Rattle.event_play.specs.Step.{event_words}
 use Rattle.event_play.specs.Streams.{Streams}
 use Rattle.event_play.specs.Told.{told_notes}
 use Rattle.event_play.specs.declared.ending.Ending.{Ending}
@@ -40,7 +40,7 @@ pub record DueInside (t start last : Tale) (event : Event) : Type 0 where
   pub before : List ℕ
   pub word : ℕ
   pub after : List ℕ
-  pub is : EventWords t.state event ≡ before ++ word ∷ after
+  pub is : event_words t.state event ≡ before ++ word ∷ after
   pub start_is : start ≡ part_fed t before
   pub last_is : last ≡ part_fed t (before ++ word ∷ [])
 
@@ -79,7 +79,7 @@ pub record LacksBytes (mode : Mode) (by_bytes : List ℕ → Played) (t last : T
       ⊎ DueAtEnd mode before.heard by_bytes t start last taken due
   pub held : AppendsPart (appended before.held (lines_of mode start)) now.held due
   pub prefix : (rest : List ℕ) → (more : List ℕ)
-      × (Out mode before.heard (by_bytes (taken ++ rest)) ≡ lines_of mode start ++ (due ++ more))
+      × (out_bytes mode before.heard (by_bytes (taken ++ rest)) ≡ lines_of mode start ++ (due ++ more))
 
 -- ---- the endings
 
@@ -130,5 +130,5 @@ pub record EndsPlay (mode : Mode) (by_bytes : List ℕ → Played) (before now :
   pub is_last : IsLast tale last ending
   pub stands : StandsFor rig last
   pub heard : now.heard ≡ told_notes last.notes before.heard
-  pub cost : (rest : List ℕ) → now.steps ≤ before.steps + OutCost mode (by_bytes (taken ++ rest))
-  pub box_cost : (rest : List ℕ) → now.steps ≤ before.steps + OutBoxCost mode (by_bytes (taken ++ rest))
+  pub cost : (rest : List ℕ) → now.steps ≤ before.steps + out_cost mode (by_bytes (taken ++ rest))
+  pub box_cost : (rest : List ℕ) → now.steps ≤ before.steps + out_box_cost mode (by_bytes (taken ++ rest))

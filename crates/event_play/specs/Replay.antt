@@ -9,7 +9,7 @@ use Rattle.gpu_capture.specs.declared.event.Stop.{Stop}
 use Rattle.gpu_capture.specs.declared.event.Stop.TheVariants.{End}
 use Rattle.gpu_capture.specs.declared.progress.Progress.{Progress}
 use Rattle.event_play.specs.Fed.{fed, fed_notes, fed_cost, fed_box_cost}
-use Rattle.event_play.specs.Step.{Machine, Stepped, Step, StepCost, StepBoxCost, tall_machine}
+use Rattle.event_play.specs.Step.{Machine, Stepped, event_step, event_cost, event_box_cost, tall_machine}
 use Rattle.event_play.specs.declared.ending.Ending.{Ending}
 use Rattle.event_play.specs.declared.ending.Ending.TheVariants.{Done, Stopped, Faulted}
 use Rattle.event_play.specs.declared.fault.EventFault.{EventFault}
@@ -46,7 +46,8 @@ told_on t cost box_cost (Err fault) = Err fault
 
 abbrev pub after_event : Tale → Event → Result Tale EventFault
 after_event t event =
-    told_on t (StepCost t.state event) (StepBoxCost t.state event) (Step t.state (next_number t.played) event)
+    told_on t (event_cost t.state event) (event_box_cost t.state event)
+    (event_step t.state (next_number t.played) event)
 
 -- the tale with the first words of its next event fed, which does not count that event
 abbrev pub part_fed : Tale → List ℕ → Tale
@@ -75,14 +76,14 @@ go_on (Ok next) on faulted = on next
 go_on (Err fault) on faulted = faulted fault
 
 -- the events, up to the first fault
-abbrev pub Replay : Tale → List Event → Stop → List ℕ → Played
-Replay t [] stop rest = record { tale = t; ending = ending_of (next_number t.played) stop; rest = rest }
-Replay t (event ∷ events) stop rest = go_on (after_event t event)
-    (λ next. Replay next events stop rest)
+abbrev pub played_events : Tale → List Event → Stop → List ℕ → Played
+played_events t [] stop rest = record { tale = t; ending = ending_of (next_number t.played) stop; rest = rest }
+played_events t (event ∷ events) stop rest = go_on (after_event t event)
+    (λ next. played_events next events stop rest)
     (λ fault. record { tale = t; ending = Faulted (next_number t.played) fault; rest = rest })
 
 abbrev pub replayed : Tale → Captured → Played
-replayed t captured = Replay t captured.events captured.ending captured.rest
+replayed t captured = played_events t captured.events captured.ending captured.rest
 
 -- ---- whole captures
 
@@ -101,8 +102,8 @@ abbrev pub played_from : Tale → Captured → Played
 played_from first captured = replayed (raised first captured.version) captured
 
 -- a whole capture; it is whole where no event has a fault and it ends with End, which is the ending Done
-abbrev pub Play : Tale → List ℕ → Played
-Play first bytes = played_from first (capture bytes)
+abbrev pub played_capture : Tale → List ℕ → Played
+played_capture first bytes = played_from first (capture bytes)
 
 -- the bytes that a reader has still to take, from its place on; with a new reader this is Play
 abbrev pub played_behind : Tale → Progress → List ℕ → Played

@@ -4,15 +4,15 @@ use Rattle.gpu_capture.specs.declared.event.Event.{Event}
 use Rattle.gpu_capture.specs.declared.event.Stop.{Stop}
 use Rattle.gpu_capture.specs.declared.event.Stop.TheVariants.{End}
 use Rattle.gpu_taps.specs.Tally.{Reading}
-use Rattle.event_play.specs.Out.{lines_of, Out}
-use Rattle.event_play.specs.Replay.{Tale, Played, Replay, from_state}
+use Rattle.event_play.specs.Out.{lines_of, out_bytes}
+use Rattle.event_play.specs.Replay.{Tale, Played, played_events, from_state}
 use Rattle.event_play.specs.Told.{told_notes}
 use Rattle.event_play.specs.declared.ending.Ending.TheVariants.{Done}
 use Rattle.event_play.specs.declared.ending.Mode.{Mode}
 
 -- the replay of events alone, which ends with Done where none of them has a fault
 abbrev pub alone : Tale → List Event → Played
-alone t events = Replay t events End []
+alone t events = played_events t events End []
 
 abbrev pub AreFaultless : Tale → List Event → Type 0
 AreFaultless t events = (alone t events).ending ≡ Done
@@ -37,12 +37,12 @@ with_past past r = record { tale = behind_past past r.tale; ending = r.ending; r
 -- have heard its notes.
 pub record SplitLaw : Type 0 where
   pub first : (t : Tale) (events more : List Event) (stop : Stop) (rest : List ℕ)
-      → (Replay t (events ++ more) stop rest).ending ≡ Done → AreFaultless t events
+      → (played_events t (events ++ more) stop rest).ending ≡ Done → AreFaultless t events
   pub goes_on : (t : Tale) (events more : List Event) (stop : Stop) (rest : List ℕ) → AreFaultless t events
-      → Replay t (events ++ more) stop rest ≡ Replay (alone t events).tale more stop rest
+      → played_events t (events ++ more) stop rest ≡ played_events (alone t events).tale more stop rest
   pub played_on : (t : Tale) (events : List Event) (stop : Stop) (rest : List ℕ)
-      → Replay t events stop rest ≡ with_past t (Replay (from_state t.state t.played) events stop rest)
+      → played_events t events stop rest ≡ with_past t (played_events (from_state t.state t.played) events stop rest)
   pub lines : (mode : Mode) (past now : Tale)
       → lines_of mode (behind_past past now) ≡ lines_of mode past ++ lines_of mode now
   pub out : (mode : Mode) (heard : List Reading) (past : Tale) (r : Played)
-      → Out mode heard (with_past past r) ≡ lines_of mode past ++ Out mode (told_notes past.notes heard) r
+      → out_bytes mode heard (with_past past r) ≡ lines_of mode past ++ out_bytes mode (told_notes past.notes heard) r

@@ -2,8 +2,8 @@
 use Rattle.std.specs.Prelude.{ℕ, List, [], ◌∷◌, Option, None, Some, Result, Ok, Err}
 use Rattle.gp0_packets.specs.declared.note.Note.{Note}
 use Rattle.gpu_capture.specs.declared.event.Event.{Event}
-use Rattle.gpu_core.specs.Machine.{State, first_state, tall_state, Gp1, Take, TakenWord, Status}
-use Rattle.gpu_core.specs.Cost.{TakeCost, TakeBoxCost}
+use Rattle.gpu_core.specs.Machine.{State, first_state, tall_state, after_gp1, after_read, read_word, status_word}
+use Rattle.gpu_core.specs.Cost.{read_cost, read_box_cost}
 use Rattle.list_dma.specs.Node.{node_words}
 use Rattle.list_dma.specs.Walk.{list_words}
 use Rattle.list_dma.specs.declared.run.Run.{Run}
@@ -64,10 +64,14 @@ done s number (work.Feed asked next) = record {
 }
 done s number (work.Take block next) =
     let after = taken block s.gpu s.ram in quiet (record { gpu = after.gpu; ram = after.ram; running = next })
-done s number (work.Control word) = quiet (record s { gpu = Gp1 s.gpu word })
-done s number work.Read = record { machine = record s { gpu = Take s.gpu }; shown = Some (TakenWord s.gpu); notes = [] }
-done s number work.Skip = quiet (record s { gpu = Take s.gpu })
-done s number work.Stat = record { machine = s; shown = Some (Status s.gpu); notes = [] }
+done s number (work.Control word) = quiet (record s { gpu = after_gp1 s.gpu word })
+done s number work.Read = record {
+  machine = record s { gpu = after_read s.gpu };
+  shown = Some (read_word s.gpu);
+  notes = [];
+}
+done s number work.Skip = quiet (record s { gpu = after_read s.gpu })
+done s number work.Stat = record { machine = s; shown = Some (status_word s.gpu); notes = [] }
 done s number (work.Clear madr n) = quiet (record s { ram = cleared_table s.ram madr n })
 done s number (work.Begin next) = quiet (record s { running = next })
 
@@ -75,16 +79,16 @@ done s number (work.Begin next) = quiet (record s { running = next })
 abbrev pub work_cost : Machine → Work → ℕ
 work_cost s (work.Feed asked next) = fed_cost s.gpu (words_of s.ram asked)
 work_cost s (work.Take block next) = (taken block s.gpu s.ram).cost
-work_cost s work.Read = TakeCost s.gpu
-work_cost s work.Skip = TakeCost s.gpu
+work_cost s work.Read = read_cost s.gpu
+work_cost s work.Skip = read_cost s.gpu
 work_cost s other = 0
 
 -- the same by the boxes
 abbrev pub work_box_cost : Machine → Work → ℕ
 work_box_cost s (work.Feed asked next) = fed_box_cost s.gpu (words_of s.ram asked)
 work_box_cost s (work.Take block next) = (taken block s.gpu s.ram).box_cost
-work_box_cost s work.Read = TakeBoxCost s.gpu
-work_box_cost s work.Skip = TakeBoxCost s.gpu
+work_box_cost s work.Read = read_box_cost s.gpu
+work_box_cost s work.Skip = read_box_cost s.gpu
 work_box_cost s other = 0
 
 -- ---- one event
@@ -102,17 +106,17 @@ step_box_cost s (Ok asked) = work_box_cost s asked
 step_box_cost s (Err fault) = 0
 
 -- the event of this number, or its fault, which has no new state
-unfoldable pub Step : Machine → (number : ℕ) → Event → Result Stepped EventFault
-Step s number event = stepped s number (work_of s.ram s.running event)
+unfoldable pub event_step : Machine → (number : ℕ) → Event → Result Stepped EventFault
+event_step s number event = stepped s number (work_of s.ram s.running event)
 
 -- the most store steps of an event
-unfoldable pub StepCost : Machine → Event → ℕ
-StepCost s event = step_cost s (work_of s.ram s.running event)
+unfoldable pub event_cost : Machine → Event → ℕ
+event_cost s event = step_cost s (work_of s.ram s.running event)
 
 -- the same by the boxes: four for each cell of the box of what is drawn, of a fill or of a copy, and for each pixel
 -- loaded or read
-unfoldable pub StepBoxCost : Machine → Event → ℕ
-StepBoxCost s event = step_box_cost s (work_of s.ram s.running event)
+unfoldable pub event_box_cost : Machine → Event → ℕ
+event_box_cost s event = step_box_cost s (work_of s.ram s.running event)
 
 -- ---- the words of an event
 
@@ -121,5 +125,5 @@ asked_words ram (Ok (work.Feed asked next)) = words_of ram asked
 asked_words ram other = []
 
 -- the words that an event feeds: one for Gp0, and those that a transfer from main memory moves
-abbrev pub EventWords : Machine → Event → List ℕ
-EventWords s event = asked_words s.ram (work_of s.ram s.running event)
+abbrev pub event_words : Machine → Event → List ℕ
+event_words s event = asked_words s.ram (work_of s.ram s.running event)

@@ -1,8 +1,8 @@
 -- Reads whose words are put into main memory, one after another.
 use Rattle.std.specs.Prelude.{ℕ, ◌+◌, List}
 use Rattle.px_num.specs.Fold.{each_below}
-use Rattle.gpu_core.specs.Cost.{TakeCost, TakeBoxCost}
-use Rattle.gpu_core.specs.Machine.{State, Take, TakenWord}
+use Rattle.gpu_core.specs.Cost.{read_cost, read_box_cost}
+use Rattle.gpu_core.specs.Machine.{State, after_read, read_word}
 use Rattle.ot_clear_dma.specs.Ram.{set}
 use Rattle.event_play.specs.Block.{address_in}
 use Rattle.event_play.specs.declared.block.Block.{Block}
@@ -17,10 +17,10 @@ pub record Taken : Type 0 where
 -- a read, whose word is put at this place of a block
 abbrev pub take_one : Block → ℕ → Taken → Taken
 take_one block i t = record {
-  gpu = Take t.gpu;
-  ram = set t.ram (address_in block i) (TakenWord t.gpu);
-  cost = t.cost + TakeCost t.gpu;
-  box_cost = t.box_cost + TakeBoxCost t.gpu;
+  gpu = after_read t.gpu;
+  ram = set t.ram (address_in block i) (read_word t.gpu);
+  cost = t.cost + read_cost t.gpu;
+  box_cost = t.box_cost + read_box_cost t.gpu;
 }
 
 -- the first reads for a block

@@ -12,7 +12,7 @@ use Rattle.list_dma.specs.declared.run.Run.{Run}
 use Rattle.list_dma.specs.declared.run.Run.TheVariants as run
 use Rattle.ot_clear_dma.specs.Ram.{cut, set}
 use Rattle.event_play.specs.Block.{address_in}
-use Rattle.event_play.specs.Step.{Machine, Stepped, Step, done}
+use Rattle.event_play.specs.Step.{Machine, Stepped, event_step, done}
 use Rattle.event_play.specs.Work.{turn_work}
 use Rattle.event_play.specs.declared.block.Block.{Block}
 use Rattle.event_play.specs.declared.fault.EventFault.{EventFault}
@@ -27,7 +27,7 @@ then_after (Err fault) on = Err fault
 abbrev pub after_events : Machine → (number : ℕ) → List Event → Result Machine EventFault
 after_events s number [] = Ok s
 after_events s number (next ∷ events) =
-    then_after (Step s number next) (λ after. after_events after (number + 1) events)
+    then_after (event_step s number next) (λ after. after_events after (number + 1) events)
 
 -- the writes to main memory among events
 abbrev pub writes_of : List Event → List Event

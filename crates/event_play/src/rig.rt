@@ -5,7 +5,7 @@ ghost use Rattle.list_dma.specs.Plans.{IsRun};
 ghost use Rattle.event_play.specs.Does.{Performs};
 ghost use Rattle.event_play.specs.Replay.{next_number};
 ghost use Rattle.event_play.specs.RigState.{RigState, first_rig, Stands, machine_of};
-ghost use Rattle.event_play.specs.Step.{Machine, Step, tall_machine};
+ghost use Rattle.event_play.specs.Step.{Machine, event_step, tall_machine};
 ghost use Rattle.event_play.specs.Stepping.{HasStepped};
 ghost use Rattle.event_play.specs.Streams.{outlets, without_sink};
 ghost use Rattle.event_play.specs.Work.{work_of, IsWork};
@@ -89,7 +89,7 @@ impl Rig {
         ensures played { OnOk result (self.new.played ≡ next_number self.old.played) }
 
         ensures fault { (s : Machine) → Stands self.old s →
-            IfErr result (λ fault. Step s (next_number self.old.played) event.now ≡ Err fault) }
+            IfErr result (λ fault. event_step s (next_number self.old.played) event.now ≡ Err fault) }
         ensures unchanged { OnErr result (self.new ≡ self.old) }
         ensures untold { OnErr result (map T.heard taps.new.items ≡ map T.heard taps.old.items) }
         ensures free { OnErr result (steps.new ≡ steps.old) }

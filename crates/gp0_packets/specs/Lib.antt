@@ -1,3 +1,4 @@
+pub mod Corners
 pub mod Fields
 pub mod Loads
 pub mod Notes

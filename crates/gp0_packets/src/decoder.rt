@@ -1,6 +1,7 @@
 // The packet that an item is.
 ghost use Rattle.std.specs.Prelude.{◌≡◌, ◌<◌, ◌≤◌, ℕ, length, slice_index};
 ghost use Rattle.gp0_words.specs.Kinds.{class_of, opcode_of, first_len_of};
+ghost use Rattle.gp0_words.specs.declared.item.Item.TheVariants.{Whole};
 ghost use Rattle.px_num.specs.Height.{height_of_profile};
 ghost use Rattle.gp0_packets.specs.Packets.{environment_of, other_of, whole_of, packet_of};
 ghost use Rattle.gp0_packets.specs.Ranges.{IsInRange};
@@ -15,6 +16,7 @@ use gp0_words::{Item, first_len};
 use px_num::height_of_profile;
 
 /// A word of class 7: a register is set, or nothing happens.
+#[inline(never)]
 #[tactic(auto, unfolding(crate::specs::Packets::environment_of))]
 fn environment(word: u32) -> Packet
     ensures value { result ≡ environment_of word }
@@ -32,6 +34,7 @@ fn environment(word: u32) -> Packet
 }
 
 /// A packet of class 0: a fill, an interrupt, or nothing.
+#[inline(never)]
 #[tactic(auto, unfolding(crate::specs::Packets::other_of))]
 fn other(words: &[u32], height: u16) -> Packet
     requires some { 0 < length words.now }
@@ -47,13 +50,14 @@ fn other(words: &[u32], height: u16) -> Packet
     }
 }
 
-/// The packet of a whole item, with as many words as its first word asks for.
+/// The packet of these words, as many as their first asks for, at a height of video memory.
+#[inline(never)]
 #[tactic(auto, unfolding(crate::specs::Packets::whole_of))]
-fn whole(words: &[u32], height: u16) -> Packet
+pub fn decode_whole(words: &[u32], height: u16) -> Packet
     requires some { 0 < length words.now }
     requires len { length words.now ≡ first_len_of (slice_index words.now 0) }
     requires rows { 1 ≤ height }
-    ensures value { result ≡ whole_of height words.now }
+    ensures value { result ≡ packet_of height (Whole words.now) }
     ensures ranges { IsInRange height result }
 {
     let command = words[0];
@@ -82,7 +86,7 @@ pub fn decode(item: &Item, tall: bool) -> Packet
             if words.is_empty() {
                 Packet::Nop
             } else if words.len() == first_len(words[0]) {
-                whole(words, height_of_profile(tall))
+                decode_whole(words, height_of_profile(tall))
             } else {
                 Packet::Nop
             }

@@ -16,7 +16,7 @@ mod polygon;
 mod rectangle;
 mod transfer;
 
-pub use decoder::decode;
+pub use decoder::{decode, decode_whole};
 pub use note::{Note, class_of, head_of};
 pub use packet::Packet;
 

@@ -1,7 +1,7 @@
 // Triangles and quads.
-ghost use Rattle.std.specs.Prelude.{◌≡◌, ◌+◌, ◌-◌, ◌*◌, ◌<◌, ◌≤◌, if◌then◌else◌, length, slice_index, ℕ};
-ghost use Rattle.std.specs.Int.{bit_at};
+ghost use Rattle.std.specs.Prelude.{◌≡◌, ◌<◌, ◌≤◌, if◌then◌else◌, length, slice_index, ℕ};
 ghost use Rattle.gp0_words.specs.Kinds.{is_set, polygon_len_of};
+ghost use Rattle.gp0_packets.specs.Corners.{Carries, HasCorner};
 ghost use Rattle.gp0_packets.specs.Packets.{stride_of, corner_of, attribute_of, polygon_of};
 ghost use Rattle.gp0_packets.specs.Ranges.{IsVertexInRange, IsInRange};
 
@@ -9,80 +9,144 @@ use crate::field::{attribute, vertex_at, word_where};
 use crate::packet::Packet;
 use px_num::{Vertex, bit};
 
+/// What a polygon's vertices carry.
+#[derive(Clone, Copy)]
+struct Carried {
+    // a colour each
+    shaded: bool,
+    // a texcoord each
+    textured: bool,
+}
+
 /// How many words a vertex has: a colour where shaded, the vertex, and a texcoord where textured.
-fn stride(command: u32) -> usize
-    ensures { result ≡ stride_of command }
+#[inline(always)]
+fn stride(carried: Carried) -> usize
+    ensures value { (command : ℕ) → Carries carried command → result ≡ stride_of command }
+    ensures some { 1 ≤ result }
+    ensures most { result ≤ 3 }
 {
-    1 + usize::from(bit(command, 28)) + usize::from(bit(command, 26))
+    1 + usize::from(carried.shaded) + usize::from(carried.textured)
 }
 
 /// Vertex `i`, from 0 on.
-fn corner(words: &[u32], i: usize) -> Vertex
+#[inline(always)]
+fn corner(words: &[u32], carried: Carried, i: usize) -> Vertex
     requires some { 0 < length words.now }
+    requires carried { Carries carried (slice_index words.now 0) }
     requires fits { i < 4 }
-    requires within { i * stride_of (slice_index words.now 0) + stride_of (slice_index words.now 0)
-        + (1 - bit_at (slice_index words.now 0) 28) ≤ length words.now }
+    requires within { HasCorner words.now i }
     ensures value { result ≡ corner_of words.now i }
     ensures ranges { IsVertexInRange result }
 {
     let command = words[0];
-    let first = i * stride(command);
-    let color = word_where(words, bit(command, 28), first, command);
-    let texcoord = word_where(words, bit(command, 26), first + 2, 0);
+    let first = i * stride(carried);
+    let color = word_where(words, carried.shaded, first, command);
+    let texcoord = word_where(words, carried.textured, first + 2, 0);
     vertex_at(words[first + 1], color, texcoord)
 }
 
-/// The last vertex.
-fn last_corner(words: &[u32], four: bool) -> Vertex
+/// The last vertex, which is the third where there are no four.
+#[inline(always)]
+fn last_corner(words: &[u32], carried: Carried, four: bool, third: Vertex) -> Vertex
     requires words { length words.now ≡ polygon_len_of (slice_index words.now 0) }
+    requires carried { Carries carried (slice_index words.now 0) }
     requires four { four ≡ is_set (slice_index words.now 0) 27 }
+    requires third { third ≡ corner_of words.now 2 }
+    requires third_range { IsVertexInRange third }
     ensures value { result ≡ corner_of words.now (if four then 3 else 2) }
     ensures ranges { IsVertexInRange result }
 {
     if four {
-        corner(words, 3)
+        corner(words, carried, 3)
     } else {
-        corner(words, 2)
+        third
     }
 }
 
 /// The attribute of the texcoord of vertex `i`, and 0 where there is none.
-fn attribute_at(words: &[u32], i: usize) -> u16
+#[inline(always)]
+fn attribute_at(words: &[u32], carried: Carried, i: usize) -> u16
     requires some { 0 < length words.now }
+    requires carried { Carries carried (slice_index words.now 0) }
     requires fits { i < 4 }
-    requires within { i * stride_of (slice_index words.now 0) + stride_of (slice_index words.now 0)
-        + (1 - bit_at (slice_index words.now 0) 28) ≤ length words.now }
+    requires within { HasCorner words.now i }
     ensures { result ≡ attribute_of words.now i }
 {
-    let command = words[0];
-    if bit(command, 26) {
-        attribute(words[i * stride(command) + 2])
+    if carried.textured {
+        attribute(words[i * stride(carried) + 2])
     } else {
         0
     }
 }
 
-/// A polygon by its words.
+/// A polygon by its words, whose vertices carry this.
+#[inline(always)]
 #[tactic(auto, unfolding(crate::specs::Packets::polygon_of))]
+fn polygon_with(words: &[u32], carried: Carried) -> Packet
+    requires words { length words.now ≡ polygon_len_of (slice_index words.now 0) }
+    requires carried { Carries carried (slice_index words.now 0) }
+    ensures value { result ≡ polygon_of words.now }
+    ensures ranges { (height : ℕ) → IsInRange height result }
+{
+    let command = words[0];
+    let four = bit(command, 27);
+    let third = corner(words, carried, 2);
+    Packet::Poly {
+        four,
+        a: corner(words, carried, 0),
+        b: corner(words, carried, 1),
+        c: third,
+        d: last_corner(words, carried, four, third),
+        shaded: carried.shaded,
+        textured: carried.textured,
+        semi: bit(command, 25),
+        raw: bit(command, 24) && carried.textured,
+        clut: attribute_at(words, carried, 0),
+        page: attribute_at(words, carried, 1),
+    }
+}
+
+/// A polygon by its words. It is compiled for each of what its vertices may carry.
+#[inline(never)]
 pub fn polygon(words: &[u32]) -> Packet
     requires { length words.now ≡ polygon_len_of (slice_index words.now 0) }
     ensures value { result ≡ polygon_of words.now }
     ensures ranges { (height : ℕ) → IsInRange height result }
 {
     let command = words[0];
-    let four = bit(command, 27);
-    let textured = bit(command, 26);
-    Packet::Poly {
-        four,
-        a: corner(words, 0),
-        b: corner(words, 1),
-        c: corner(words, 2),
-        d: last_corner(words, four),
-        shaded: bit(command, 28),
-        textured,
-        semi: bit(command, 25),
-        raw: bit(command, 24) && textured,
-        clut: attribute_at(words, 0),
-        page: attribute_at(words, 1),
+    if bit(command, 28) {
+        if bit(command, 26) {
+            polygon_with(
+                words,
+                Carried {
+                    shaded: true,
+                    textured: true,
+                },
+            )
+        } else {
+            polygon_with(
+                words,
+                Carried {
+                    shaded: true,
+                    textured: false,
+                },
+            )
+        }
+    } else if bit(command, 26) {
+        polygon_with(
+            words,
+            Carried {
+                shaded: false,
+                textured: true,
+            },
+        )
+    } else {
+        polygon_with(
+            words,
+            Carried {
+                shaded: false,
+                textured: false,
+            },
+        )
     }
 }

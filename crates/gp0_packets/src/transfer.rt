@@ -22,6 +22,7 @@ fn cell_at(corner: u32, height: u16) -> Cell
 }
 
 /// A fill by its words.
+#[inline(never)]
 #[tactic(auto, unfolding(crate::specs::Packets::fill_of))]
 pub fn fill(words: &[u32], height: u16) -> Packet
     requires len { length words.now ≡ 3 }
@@ -44,6 +45,7 @@ pub fn fill(words: &[u32], height: u16) -> Packet
 }
 
 /// A copy by its words.
+#[inline(never)]
 #[tactic(auto, unfolding(crate::specs::Packets::copy_of))]
 pub fn copy(words: &[u32], height: u16) -> Packet
     requires len { length words.now ≡ 4 }
@@ -61,6 +63,7 @@ pub fn copy(words: &[u32], height: u16) -> Packet
 }
 
 /// A load by its words, without its data.
+#[inline(never)]
 #[tactic(auto, unfolding(crate::specs::Packets::load_of))]
 pub fn load(words: &[u32], height: u16) -> Packet
     requires len { length words.now ≡ 3 }
@@ -79,6 +82,7 @@ pub fn load(words: &[u32], height: u16) -> Packet
 }
 
 /// A store by its words.
+#[inline(never)]
 #[tactic(auto, unfolding(crate::specs::Packets::store_of))]
 pub fn store(words: &[u32], height: u16) -> Packet
     requires len { length words.now ≡ 3 }

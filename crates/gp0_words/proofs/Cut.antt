@@ -13,7 +13,7 @@ use Rattle.gp0_words.specs.Kinds.{opcode_of, polygon_len_of, line_kind_of, kind_
 use Rattle.gp0_words.specs.Sizes.{data_words_of}
 use Rattle.gp0_words.specs.Items.{flat_joints, flat_need, flat_rest, shaded_joints, shaded_need, shaded_rest}
 use Rattle.gp0_words.specs.Items.{tail_items, tail_need, tail_rest, packet_items, packet_need, packet_rest, items_from}
-use Rattle.gp0_words.specs.Items.{rest_from, Items, Rest}
+use Rattle.gp0_words.specs.Items.{rest_from, items_of, pending_behind}
 use Rattle.gp0_words.specs.Next.{next_pending, next_item, pending_after, collected_pending, collected_item, IsPending}
 use Rattle.gp0_words.specs.declared.kind.Kind.{Kind}
 use Rattle.gp0_words.specs.declared.kind.Kind.TheVariants.{Plain, Load, Polyline}
@@ -347,14 +347,15 @@ rest_from-push zero (w ∷ ws) x h =
     ]
 rest_from-push (suc skip) (w ∷ ws) x h = rest_from-push skip ws x (omega arith)
 
-pub Items-push : (words : List ℕ) (x : ℕ) → Items (words ++ x ∷ [])
-    ≡ Items words ++ option_to_list (next_item (Rest words) x)
-unfolding Items Rest
-Items-push words x = items_from-push 0 words x (omega arith)
+pub items_of-push : (words : List ℕ) (x : ℕ) → items_of (words ++ x ∷ [])
+    ≡ items_of words ++ option_to_list (next_item (pending_behind words) x)
+unfolding items_of pending_behind
+items_of-push words x = items_from-push 0 words x (omega arith)
 
-pub Rest-push : (words : List ℕ) (x : ℕ) → Rest (words ++ x ∷ []) ≡ next_pending (Rest words) x
-unfolding Rest
-Rest-push words x = rest_from-push 0 words x (omega arith)
+pub pending_behind-push : (words : List ℕ) (x : ℕ) → pending_behind (words ++ x ∷ [])
+    ≡ next_pending (pending_behind words) x
+unfolding pending_behind
+pending_behind-push words x = rest_from-push 0 words x (omega arith)
 
 -- ---- the bounds
 

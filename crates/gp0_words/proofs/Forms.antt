@@ -4,7 +4,8 @@ use Rattle.std.proofs.Common.{nat_lt, refl, ap, ◌∙◌, arith, append-nil}
 use Rattle.std.proofs.lemmas.Bool.{le-ltb}
 use Rattle.std.proofs.lemmas.List.{take_all, take_at, drop_at, length-append}
 use Rattle.gp0_words.specs.Kinds.{kind_of, start_len}
-use Rattle.gp0_words.specs.Items.{flat_joints, shaded_joints, tail_items, packet_items, packet_need, items_from, Items}
+use Rattle.gp0_words.specs.Items.{flat_joints, shaded_joints, tail_items, packet_items, packet_need, items_from}
+use Rattle.gp0_words.specs.Items.{items_of}
 use Rattle.gp0_words.specs.Cutting.{IsFlatTail, IsShadedTail, IsTail, IsPacket, flat_tail_items, shaded_tail_items}
 use Rattle.gp0_words.specs.Cutting.{items_behind}
 use Rattle.gp0_words.specs.declared.item.Item.{Item}
@@ -55,8 +56,8 @@ front_alone (x ∷ xs) h =
     rw past (append-nil _)
 
 pub packet_items-form : (p : List ℕ) (h : IsPacket p)
-    → Items p ≡ Whole h.start ∷ items_behind (kind_of (slice_index p 0)) h.start h.more
-unfolding Items
+    → items_of p ≡ Whole h.start ∷ items_behind (kind_of (slice_index p 0)) h.start h.more
+unfolding items_of
 packet_items-form p h =
     let k = kind_of (slice_index p 0) in
     front_alone p h ∙ ap (packet_items k) h.parts ∙ packet_items-is k h.start h.more h.len h.tail

@@ -10,13 +10,13 @@ use Rattle.gp0_words.specs.declared.item.Item.TheVariants.{Whole, Pixels}
 use Rattle.gp0_words.specs.declared.kind.Kind.TheVariants.{Plain}
 use Rattle.gp0_words.specs.declared.pending.Pending.{Pending}
 use Rattle.gp0_words.specs.declared.pending.Pending.TheVariants as pending
-use Rattle.gp0_words.proofs.Cut.{Items-push, Rest-push, next_pending-kept}
+use Rattle.gp0_words.proofs.Cut.{items_of-push, pending_behind-push, next_pending-kept}
 
 pushed_next : (old : Pending) (word : ℕ) → IsPending old
     → IsPushed old (next_pending old word) word (next_item old word)
 pushed_next old word kept = record {
-  item = λ words e. rw (← e) (Items-push words word);
-  stands = λ words e. rw (← e) (Rest-push words word);
+  item = λ words e. rw (← e) (items_of-push words word);
+  stands = λ words e. rw (← e) (pending_behind-push words word);
   pending = refl;
   decided = refl;
   bounds = (kept, next_pending-kept old word kept);

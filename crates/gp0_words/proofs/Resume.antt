@@ -5,14 +5,14 @@ use Rattle.std.proofs.Common.{append-nil, append_assoc}
 use Rattle.std.proofs.lemmas.Bool.{lt-ltb, le-ltb}
 use Rattle.std.proofs.lemmas.List.{length-replicate}
 use Rattle.gp0_words.specs.Kinds.{kind_of, start_len, first_len_of, is_set}
-use Rattle.gp0_words.specs.Items.{rest_from, packet_need, packet_rest, Rest}
+use Rattle.gp0_words.specs.Items.{rest_from, packet_need, packet_rest, pending_behind}
 use Rattle.gp0_words.specs.Next.{IsPending, IsPolyline}
 use Rattle.gp0_words.specs.Resuming.{list_of}
 use Rattle.gp0_words.specs.declared.kind.Kind.{Kind}
 use Rattle.gp0_words.specs.declared.kind.Kind.TheVariants.{Polyline}
 use Rattle.gp0_words.specs.declared.pending.Pending.{Pending}
 use Rattle.gp0_words.specs.declared.pending.Pending.TheVariants as pending
-use Rattle.gp0_words.proofs.Cut.{next_pending-kept, Rest-push}
+use Rattle.gp0_words.proofs.Cut.{next_pending-kept, pending_behind-push}
 
 -- a packet that is not whole, by its kind
 front : (k : Kind) (w : ℕ) (ws : List ℕ) → kind_of w ≡ k → length (w ∷ ws) < packet_need k (w ∷ ws)
@@ -69,8 +69,8 @@ is_polyline command color vertex None kept = kept.0
 is_polyline command color vertex (Some half) kept = kept.0
 
 -- the list leaves what it spells
-pub list_of-leaves : (p : Pending) → IsPending p → Rest (list_of p) ≡ p
-unfolding Rest list_of
+pub list_of-leaves : (p : Pending) → IsPending p → pending_behind (list_of p) ≡ p
+unfolding pending_behind list_of
 list_of-leaves pending.Idle kept = refl
 list_of-leaves (pending.Packet words) kept = packet words kept.0 kept.1
 list_of-leaves (pending.Pixels left) kept =
@@ -79,18 +79,18 @@ list_of-leaves (pending.Pixels left) kept =
 list_of-leaves (pending.Poly command color vertex half) kept =
     poly (is_set command 28) command color vertex half refl (is_polyline command color vertex half kept) kept
 
-rest-kept : (before after : List ℕ) → IsPending (Rest before) → IsPending (Rest (before ++ after))
-rest-kept before [] kept = subst (λ words. IsPending (Rest words)) (sym (append-nil before)) kept
+rest-kept : (before after : List ℕ) → IsPending (pending_behind before) → IsPending (pending_behind (before ++ after))
+rest-kept before [] kept = subst (λ words. IsPending (pending_behind words)) (sym (append-nil before)) kept
 rest-kept before (word ∷ after) kept =
-    let next : IsPending (Rest (before ++ word ∷ [])) =
-    subst IsPending (sym (Rest-push before word)) (next_pending-kept (Rest before) word kept) in
-    subst (λ words. IsPending (Rest words)) (append_assoc before (word ∷ []) after)
+    let next : IsPending (pending_behind (before ++ word ∷ [])) =
+    subst IsPending (sym (pending_behind-push before word)) (next_pending-kept (pending_behind before) word kept) in
+    subst (λ words. IsPending (pending_behind words)) (append_assoc before (word ∷ []) after)
     (rest-kept (before ++ word ∷ []) after next)
 
-nothing-kept : IsPending (Rest [])
-unfolding Rest
+nothing-kept : IsPending (pending_behind [])
+unfolding pending_behind
 nothing-kept = tt
 
 -- every list leaves what may be pending
-pub leaves-kept : (words : List ℕ) → IsPending (Rest words)
+pub leaves-kept : (words : List ℕ) → IsPending (pending_behind words)
 leaves-kept words = rest-kept [] words nothing-kept

@@ -2,7 +2,7 @@
 use Rattle.std.specs.Prelude.{◌≡◌, ◌<◌, ◌⊎◌, ℕ, true, false, List, [], ◌∷◌, ◌++◌, length, flat_map, map, slice_index}
 use Rattle.gp0_words.specs.Kinds.{kind_of, start_len, is_end}
 use Rattle.gp0_words.specs.Sizes.{data_words_of}
-use Rattle.gp0_words.specs.Items.{Items, Rest}
+use Rattle.gp0_words.specs.Items.{items_of, pending_behind}
 use Rattle.gp0_words.specs.declared.kind.Kind.{Kind}
 use Rattle.gp0_words.specs.declared.kind.Kind.TheVariants.{Plain, Load, Polyline}
 use Rattle.gp0_words.specs.declared.item.Item.{Item}
@@ -40,8 +40,8 @@ pub record IsPacket (packet : List ℕ) : Type 0 where
 abbrev pub PacketsAreCut : Type 0
 PacketsAreCut =
     (packet words : List ℕ) → IsPacket packet →
-    (Items (packet ++ words) ≡ Items packet ++ Items words)
-    × (Rest (packet ++ words) ≡ Rest words) × (Rest packet ≡ pending.Idle)
+    (items_of (packet ++ words) ≡ items_of packet ++ items_of words)
+    × (pending_behind (packet ++ words) ≡ pending_behind words) × (pending_behind packet ≡ pending.Idle)
 
 -- No packet is a proper prefix of another.
 abbrev pub IsPrefixFree : Type 0
@@ -75,7 +75,7 @@ items_behind (Polyline false) start more = flat_tail_items (slice_index start 0)
 abbrev pub PacketsHaveTheirItems : Type 0
 PacketsHaveTheirItems =
     (packet : List ℕ) (p : IsPacket packet) →
-    Items packet ≡ Whole p.start ∷ items_behind (kind_of (slice_index packet 0)) p.start p.more
+    items_of packet ≡ Whole p.start ∷ items_behind (kind_of (slice_index packet 0)) p.start p.more
 
 -- ---- every list of words
 

@@ -104,12 +104,12 @@ rest_from zero (w ∷ ws) =
 rest_from (suc skip) (w ∷ ws) = rest_from skip ws
 
 -- the items of a list of words, also those that are whole in a packet that is not
-unfoldable pub Items : List ℕ → List Item
-Items words = items_from 0 words
+unfoldable pub items_of : List ℕ → List Item
+items_of words = items_from 0 words
 
 -- what is pending behind the last whole packet
-unfoldable pub Rest : List ℕ → Pending
-Rest words = rest_from 0 words
+unfoldable pub pending_behind : List ℕ → Pending
+pending_behind words = rest_from 0 words
 
 -- nothing is pending: every packet is whole
 abbrev pub IsIdle : Pending → Type 0

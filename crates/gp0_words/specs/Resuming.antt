@@ -2,7 +2,7 @@
 use Rattle.std.specs.Prelude.{◌≡◌, ◌↔◌, ℕ, ◌-◌, List, [], ◌∷◌, ◌++◌, if◌then◌else◌, option_to_list, replicate}
 use Rattle.gp0_words.specs.Kinds.{is_set}
 use Rattle.gp0_words.specs.Sizes.{most_data_words}
-use Rattle.gp0_words.specs.Items.{Items, Rest}
+use Rattle.gp0_words.specs.Items.{items_of, pending_behind}
 use Rattle.gp0_words.specs.Next.{next_item, next_pending, IsPending}
 use Rattle.gp0_words.specs.declared.pending.Pending.{Pending}
 use Rattle.gp0_words.specs.declared.pending.Pending.TheVariants as pending
@@ -19,10 +19,10 @@ list_of (pending.Poly command color vertex half) =
 
 -- exactly what keeps the bounds is left by some list of words
 abbrev pub WhatMayBePending : Type 0
-WhatMayBePending = (p : Pending) → IsPending p ↔ ((words : List ℕ) × (Rest words ≡ p))
+WhatMayBePending = (p : Pending) → IsPending p ↔ ((words : List ℕ) × (pending_behind words ≡ p))
 
 -- with one word more the items are one more or none, and what is pending decides which, and what is pending then
 abbrev pub RestDecides : Type 0
 RestDecides = (words : List ℕ) (word : ℕ) →
-    (Items (words ++ word ∷ []) ≡ Items words ++ option_to_list (next_item (Rest words) word))
-    × (Rest (words ++ word ∷ []) ≡ next_pending (Rest words) word)
+    (items_of (words ++ word ∷ []) ≡ items_of words ++ option_to_list (next_item (pending_behind words) word))
+    × (pending_behind (words ++ word ∷ []) ≡ next_pending (pending_behind words) word)

@@ -1,7 +1,7 @@
 // The stream, cut word by word.
 ghost use Rattle.std.specs.Prelude.{◌≡◌, ◌↔◌, ◌≤◌, ◌<◌, ℕ, None, Some, List, [], ◌∷◌, ◌++◌, IsTrue, false};
 ghost use Rattle.std.specs.Prelude.{option_to_list, MatchOption, IfSome};
-ghost use Rattle.gp0_words.specs.Items.{Items, Rest, IsIdle};
+ghost use Rattle.gp0_words.specs.Items.{items_of, pending_behind, IsIdle};
 ghost use Rattle.gp0_words.specs.Kinds.{class_of};
 ghost use Rattle.gp0_words.specs.Next.{wanted, next_pending, next_item, IsPending};
 ghost use Rattle.gp0_words.specs.Pushed.{IsPushed};
@@ -16,7 +16,7 @@ use std::marker::Model;
 
 /// Cuts a stream of words into items, word by word.
 ///
-/// It keeps no list of what came, only what is pending. So it stands for each list of words whose `Rest` is
+/// It keeps no list of what came, only what is pending. So it stands for each list of words whose `pending_behind` is
 /// what it holds, and contracts see it as that.
 #[derive(Drop)]
 pub struct Splitter {
@@ -36,9 +36,9 @@ impl Model for Splitter {
 
 impl Splitter {
     /// Nothing is pending: it stands for the empty list.
-    #[tactic(auto, unfolding(crate::specs::Items::Rest))]
+    #[tactic(auto, unfolding(crate::specs::Items::pending_behind))]
     pub fn new() -> Splitter
-        ensures { result ≡ Rest [] }
+        ensures { result ≡ pending_behind [] }
     {
         Splitter {
             pending: Pending::Idle,
@@ -51,9 +51,10 @@ impl Splitter {
     pub fn push(&mut self, word: u32) -> Option<Item>
         // For every list for which the splitter stands: the items with this word are those without it and
         // the answer, and the splitter then stands for the list with this word.
-        ensures item { (words : List ℕ) → Rest words ≡ self.old →
-            Items (words ++ word ∷ []) ≡ Items words ++ option_to_list result }
-        ensures stands { (words : List ℕ) → Rest words ≡ self.old → Rest (words ++ word ∷ []) ≡ self.new }
+        ensures item { (words : List ℕ) → pending_behind words ≡ self.old →
+            items_of (words ++ word ∷ []) ≡ items_of words ++ option_to_list result }
+        ensures stands { (words : List ℕ) → pending_behind words ≡ self.old
+            → pending_behind (words ++ word ∷ []) ≡ self.new }
 
         // What is pending and the word decide both.
         ensures pending { self.new ≡ next_pending self.old word }
@@ -117,9 +118,9 @@ impl Splitter {
     }
 
     /// Drops all that is pending: it stands for the empty list.
-    #[tactic(auto, unfolding(crate::specs::Items::Rest))]
+    #[tactic(auto, unfolding(crate::specs::Items::pending_behind))]
     pub fn clear(&mut self)
-        ensures { self.new ≡ Rest [] }
+        ensures { self.new ≡ pending_behind [] }
     {
         self.pending = Pending::Idle;
     }
@@ -144,7 +145,7 @@ impl Splitter {
     pub fn resume(pending: Pending) -> Option<Splitter>
         ensures exact { MatchOption result (IsPending pending → ⊥)
             (λ splitter. (splitter ≡ pending) × IsPending pending) }
-        ensures list { IfSome result (λ splitter. Rest (list_of pending) ≡ splitter) }
+        ensures list { IfSome result (λ splitter. pending_behind (list_of pending) ≡ splitter) }
     {
         if may_be_pending(&pending) {
             Some(Splitter { pending })

@@ -7,8 +7,6 @@ use Rattle.byteorder.specs.Numbers.{little_number-reads_back}
 use Rattle.gpu_capture.specs.Capture.{Captured, capture, then_events, after_step, records, limit, head_of, IsVersion}
 use Rattle.gpu_capture.specs.Record.{word_step, started_by}
 use Rattle.std.proofs.lemmas.Bool.{cases_Bool}
-use Rattle.gpu_capture.specs.Reader.{capture_from}
-use Rattle.gpu_capture.specs.declared.progress.Progress.{Progress}
 use Rattle.gpu_capture.specs.Written.{word_bytes, record_words, spelled, spelled_end, written, tag_of, Allows}
 use Rattle.gpu_capture.specs.Written.{AllowsAll}
 use Rattle.gpu_capture.specs.declared.event.Event.{Event}
@@ -203,9 +201,3 @@ records_version (a ∷ b ∷ c ∷ d ∷ bytes) version at place =
           (λ next. records_version bytes version next (place + 4)))
       | inr e ↦ rw e refl
     ]
-
--- a reader that knows its version knows that of the capture
-pub known_version : (p : Progress) (bytes : List ℕ) → 1 ≤ p.version → (capture_from p bytes).version ≡ p.version
-known_version p bytes known =
-    let on : nat_lt 0 p.version ≡ true = grind arith in
-    rw on (records_version bytes p.version p.due p.place)

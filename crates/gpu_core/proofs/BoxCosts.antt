@@ -7,7 +7,8 @@ use Rattle.gp0_packets.specs.declared.packet.Packet.TheVariants as packet
 use Rattle.prim_draw.proofs.CostLemmas.{cost_law}
 use Rattle.vram_store.specs.Vram.{height_of}
 use Rattle.vram_copy.proofs.CutLemmas.{copies_small, fills_small}
-use Rattle.gpu_core.specs.Cost.{FeedCost, FeedBoxCost, TakeCost, TakeBoxCost, packet_cost, packet_box_cost, item_cost}
+use Rattle.gpu_core.specs.Cost.{gp0_cost, gp0_box_cost, read_cost, read_box_cost, packet_cost, packet_box_cost}
+use Rattle.gpu_core.specs.Cost.{item_cost}
 use Rattle.gpu_core.specs.Cost.{item_box_cost, pixels_of}
 use Rattle.gpu_core.specs.Laws.{CostLaw}
 use Rattle.gpu_core.specs.Machine.{Parts, State, new_item, with_page}
@@ -42,13 +43,13 @@ item-small : (p : Parts) (i : Option Item) → item_cost p i ≤ item_box_cost p
 item-small p None = none
 item-small p (Some i) = packet-small p (packet_of p.regs.height i)
 
-pub FeedCost-small : (s : State) (word : ℕ) → FeedCost s word ≤ FeedBoxCost s word
-unfolding FeedCost FeedBoxCost
-FeedCost-small s word = item-small s.parts (new_item s.words word)
+pub gp0_cost-small : (s : State) (word : ℕ) → gp0_cost s word ≤ gp0_box_cost s word
+unfolding gp0_cost gp0_box_cost
+gp0_cost-small s word = item-small s.parts (new_item s.words word)
 
-pub TakeCost-small : (s : State) → TakeCost s ≤ TakeBoxCost s
-unfolding TakeCost TakeBoxCost
-TakeCost-small s = once (pixels_of s.parts.store)
+pub read_cost-small : (s : State) → read_cost s ≤ read_box_cost s
+unfolding read_cost read_box_cost
+read_cost-small s = once (pixels_of s.parts.store)
 
 pub cost_law-is : CostLaw
-cost_law-is = record { words = FeedCost-small; reads = TakeCost-small }
+cost_law-is = record { words = gp0_cost-small; reads = read_cost-small }

@@ -10,21 +10,21 @@ use Rattle.gp0_words.proofs.Pushes.{register_kind}
 use Rattle.gp1_status.specs.Registers.{Registers}
 use Rattle.prim_draw.specs.Areas.{area_of}
 use Rattle.gpu_core.specs.Area.{note_of}
-use Rattle.gpu_core.specs.Cost.{FeedCost, item_cost, packet_cost, pixels_of}
+use Rattle.gpu_core.specs.Cost.{gp0_cost, item_cost, packet_cost, pixels_of}
 use Rattle.gpu_core.specs.Kept.{Kept, kept_of}
-use Rattle.gpu_core.specs.Machine.{Parts, State, Feed, FeedNote, Effect, after_item, noted, with_pixels}
+use Rattle.gpu_core.specs.Machine.{Parts, State, after_gp0, gp0_note, effect_of, after_item, noted, with_pixels}
 use Rattle.gpu_core.proofs.States.{new_item-is}
 
 -- what the word does, tells and costs
 pub record IsFed (s : State) (k : Kept) (new : Pending) (event word : ℕ) (r : Option Item) : Type 0 where
-  pub feed : kept_of (Feed s word) ≡ record { parts = after_item k.parts r; pending = new }
-  pub note : FeedNote s event word ≡ noted k.parts.regs event r
-  pub cost : FeedCost s word ≡ item_cost k.parts r
+  pub feed : kept_of (after_gp0 s word) ≡ record { parts = after_item k.parts r; pending = new }
+  pub note : gp0_note s event word ≡ noted k.parts.regs event r
+  pub cost : gp0_cost s word ≡ item_cost k.parts r
 
 pub fed : (s : State) (k : Kept) (new : Pending) (event word : ℕ) (r : Option Item) → kept_of s ≡ k
     → IsPushed k.pending new word r
     → IsFed s k new event word r
-unfolding Feed FeedNote FeedCost
+unfolding after_gp0 gp0_note gp0_cost
 fed s k new event word r e push =
     let held = ap (λ (k : Kept). k.pending) e in
     let item = new_item-is s.words word r (push.item s.words held) in
@@ -38,9 +38,9 @@ fed s k new event word r e push =
 
 -- ---- a data word of a load
 
-pub data_effect : (p : Parts) (word : ℕ) → Effect p (packet_of p.regs.height (item.Pixels word))
+pub data_effect : (p : Parts) (word : ℕ) → effect_of p (packet_of p.regs.height (item.Pixels word))
     ≡ with_pixels p p.load word
-unfolding Effect
+unfolding effect_of
 data_effect p word = refl
 
 pub data_cost : (p : Parts) (word : ℕ) → packet_cost p (packet_of p.regs.height (item.Pixels word))

@@ -1,7 +1,7 @@
 -- Words that are fed one after another.
 use Rattle.std.proofs.Common.{◌≡◌, ◌≤◌, ◌<◌, ℕ, suc, ◌+◌, List, [], ◌∷◌, ◌++◌, Option, Some, None, option_to_list, fold}
 use Rattle.std.proofs.Common.{length, take, get_or, map, refl, ap, sym, ◌∙◌, arith, append-nil, append_assoc, add-zero}
-use Rattle.std.proofs.lemmas.List.{take_more, length-take-le}
+use Rattle.std.proofs.lemmas.List.{take_more}
 use Rattle.std.proofs.lemmas.List.Sums.{fold-append}
 use Rattle.gp0_packets.specs.declared.note.Note.{Note}
 use Rattle.gp0_packets.specs.Packets.{environment_of}
@@ -10,25 +10,27 @@ use Rattle.gp0_words.specs.Pushed.{IsPushed}
 use Rattle.gp0_words.specs.declared.item.Item.TheVariants as item
 use Rattle.gp0_words.specs.declared.pending.Pending.{Pending}
 use Rattle.gpu_taps.specs.Bare.{bare_note, bare_notes, after_notes}
-use Rattle.gpu_taps.specs.Tally.{Reading, capped, reading_after}
+use Rattle.gpu_taps.specs.Tally.{Reading, capped}
 use Rattle.gpu_taps.proofs.Bare.{bare_notes-push}
-use Rattle.gpu_core.specs.Cost.{FeedCost}
-use Rattle.gpu_core.specs.Feeds.{feed_notes, feeds_cost, SetsRegisters, TakesWords}
+use Rattle.gpu_core.specs.Cost.{gp0_cost}
+use Rattle.gpu_core.specs.Feeds.{feed_notes, SetsRegisters, TakesWords}
 use Rattle.gpu_core.specs.Kept.{Kept, kept_of}
-use Rattle.gpu_core.specs.Machine.{Parts, State, Feed, FeedNote, Effect, told_option}
+use Rattle.gpu_core.specs.Machine.{Parts, State, after_gp0, gp0_note, effect_of, told_option}
 use Rattle.gpu_core.proofs.Fed.{fed, register_packet, register_note}
 
 -- one word more
 notes-push : (s : State) (first : ℕ) (words : List ℕ) (word : ℕ)
     → feed_notes s first (words ++ word ∷ [])
-    ≡ feed_notes s first words ++ option_to_list (FeedNote (fold Feed s words) (capped (first + length words)) word)
-notes-push s first [] word = rw (add-zero first) (append-nil (option_to_list (FeedNote s (capped first) word)))
+    ≡ feed_notes s first words ++ option_to_list
+    (gp0_note (fold after_gp0 s words) (capped (first + length words)) word)
+notes-push s first [] word = rw (add-zero first) (append-nil (option_to_list (gp0_note s (capped first) word)))
 notes-push s first (x ∷ words) word =
     let e : first + 1 + length words ≡ first + suc (length words) = omega arith in
-    let one = option_to_list (FeedNote s (capped first) x) in
-    let last = option_to_list (FeedNote (fold Feed (Feed s x) words) (capped (first + 1 + length words)) word) in
-    rw (← e) (ap (λ notes. one ++ notes) (notes-push (Feed s x) (first + 1) words word)
-    ∙ sym (append_assoc one (feed_notes (Feed s x) (first + 1) words) last))
+    let one = option_to_list (gp0_note s (capped first) x) in
+    let last = option_to_list (gp0_note (fold after_gp0 (after_gp0 s x) words)
+    (capped (first + 1 + length words)) word) in
+    rw (← e) (ap (λ notes. one ++ notes) (notes-push (after_gp0 s x) (first + 1) words word)
+    ∙ sym (append_assoc one (feed_notes (after_gp0 s x) (first + 1) words) last))
 
 -- ---- one word
 
@@ -43,8 +45,8 @@ told_one (Some note) readings = refl
 
 pub one_taken : (s : State) (first word : ℕ) (now : Kept) (note : Option Note) (heard heard_now : List Reading)
     (steps steps_now : ℕ)
-    → kept_of (Feed s word) ≡ now → FeedNote s (capped first) word ≡ note → heard_now ≡ told_option note heard
-    → steps_now ≤ steps + FeedCost s word → TakesWords s first (word ∷ []) now heard heard_now steps steps_now
+    → kept_of (after_gp0 s word) ≡ now → gp0_note s (capped first) word ≡ note → heard_now ≡ told_option note heard
+    → steps_now ≤ steps + gp0_cost s word → TakesWords s first (word ∷ []) now heard heard_now steps steps_now
 one_taken s first word now note heard heard_now steps steps_now feed noted told cost = record {
   feed = feed;
   told = rw noted (told ∙ told_one note heard);
@@ -59,21 +61,21 @@ set_none s first now e = record { feed = e; notes = refl }
 pub set_more : (s : State) (first : ℕ) (words : List ℕ) (i : ℕ) (p q : Parts) (h : Pending) → i < length words
     → SetsRegisters s first (take i words) (record { parts = p; pending = h })
     → IsPushed h h (get_or words i 0) (Some (item.Whole (get_or words i 0 ∷ []))) → class_of (get_or words i 0) ≡ 7
-    → q ≡ Effect p (environment_of (get_or words i 0))
+    → q ≡ effect_of p (environment_of (get_or words i 0))
     → SetsRegisters s first (take (i + 1) words) (record { parts = q; pending = h })
 set_more s first words i p q h lt before push class effect =
     let word = get_or words i 0 in
     let some = take i words in
     let all : take (i + 1) words ≡ some ++ word ∷ [] = take_more words i 0 lt in
-    let at = fold Feed s some in
+    let at = fold after_gp0 s some in
     let event = capped (first + length some) in
     let is = fed at (record { parts = p; pending = h }) h event word (Some (item.Whole (word ∷ []))) before.feed push in
     let f : Parts → Kept = λ p. record { parts = p; pending = h } in
-    let note : FeedNote at event word ≡ Some (bare_note 7 event word) =
+    let note : gp0_note at event word ≡ Some (bare_note 7 event word) =
     is.note ∙ ap Some (register_note p.regs event word class) in
     record {
-      feed = ap (λ words. kept_of (fold Feed s words)) all ∙ ap kept_of (fold-append Feed s some (word ∷ []))
-          ∙ is.feed ∙ ap f (ap (Effect p) (register_packet p.regs.height word class) ∙ sym effect);
+      feed = ap (λ words. kept_of (fold after_gp0 s words)) all ∙ ap kept_of (fold-append after_gp0 s some (word ∷ []))
+          ∙ is.feed ∙ ap f (ap (effect_of p) (register_packet p.regs.height word class) ∙ sym effect);
       notes = ap (feed_notes s first) all ∙ notes-push s first some word
           ∙ ap (λ note. feed_notes s first some ++ option_to_list note) note
           ∙ ap (λ notes. notes ++ bare_note 7 event word ∷ []) before.notes

@@ -14,13 +14,13 @@ use Rattle.gp0_words.specs.declared.pending.Pending.TheVariants as pending
 use Rattle.gpu_taps.specs.Bare.{bare_note, bare_notes, after_notes}
 use Rattle.gpu_taps.specs.Tally.{Reading, capped}
 use Rattle.vram_copy.proofs.LoadLemmas.{one_more_word, pixels_more}
-use Rattle.vram_copy.specs.Words.{advanced, advanced_by, pixels_next, pixels_in, LoadWord, LoadWords}
+use Rattle.vram_copy.specs.Words.{advanced, advanced_by, pixels_next, pixels_in, loaded_word, loaded_words}
 use Rattle.vram_copy.specs.declared.transfer.Transfer.{Transfer}
-use Rattle.gpu_core.specs.Cost.{FeedCost, pixels_of}
+use Rattle.gpu_core.specs.Cost.{gp0_cost, pixels_of}
 use Rattle.gpu_core.specs.Kept.{Kept, kept_of, IsLinked}
 use Rattle.gpu_core.specs.Feeds.{feed_notes, feeds_cost, TakesWords}
 use Rattle.gpu_core.specs.Loading.{open_still, with_words, pixels_in_load}
-use Rattle.gpu_core.specs.Machine.{Parts, State, Feed, FeedNote, with_pixels}
+use Rattle.gpu_core.specs.Machine.{Parts, State, after_gp0, gp0_note, with_pixels}
 use Rattle.gpu_core.proofs.Fed.{fed, data_effect, data_cost, data_note}
 use Rattle.gpu_core.proofs.Link.{fewer, one_more}
 
@@ -31,10 +31,10 @@ loading p left = record { parts = p; pending = pending.Pixels left }
 -- ---- one word
 
 record IsOne (s : State) (p : Parts) (job : Transfer) (left word : ℕ) : Type 0 where
-  pub feed : kept_of (Feed s word)
+  pub feed : kept_of (after_gp0 s word)
       ≡ record { parts = with_pixels p (Some job) word; pending = next_pending (pending.Pixels left) word }
-  pub note : (event : ℕ) → FeedNote s event word ≡ Some (bare_note 9 event word)
-  pub cost : FeedCost s word ≡ 2 * pixels_next job
+  pub note : (event : ℕ) → gp0_note s event word ≡ Some (bare_note 9 event word)
+  pub cost : gp0_cost s word ≡ 2 * pixels_next job
 
 one : (s : State) (p : Parts) (job : Transfer) (left word : ℕ) → kept_of s ≡ loading p left → p.load ≡ Some job
     → IsPending (pending.Pixels left) → IsOne s p job left word
@@ -66,7 +66,7 @@ behind_more left n =
     ]
 
 record IsLoaded (s : State) (p : Parts) (job : Transfer) (left : ℕ) (words : List ℕ) : Type 0 where
-  pub feed : kept_of (fold Feed s words)
+  pub feed : kept_of (fold after_gp0 s words)
       ≡ record { parts = with_words p (Some job) words; pending = behind_pixels (pending.Pixels left) (length words) }
   pub notes : (first : ℕ) → feed_notes s first words ≡ bare_notes 9 first words
   pub cost : feeds_cost s words ≡ 2 * pixels_in job (length words)
@@ -89,13 +89,13 @@ loaded (word ∷ next ∷ words) s p job left some e open_load kept link few =
     let still : nat_lt (job.at + pixels_next job) (job.w * job.h) ≡ true =
     sym (one_more (job.w * job.h) job.at left link.0 link.1) ∙ on in
     let within = ltb-true (job.at + pixels_next job) (job.w * job.h) still in
-    let q : Parts = record p { m = LoadWord p.m p.regs.mask job word; load = Some (advanced job) } in
-    let at_next : kept_of (Feed s word) ≡ loading q (left - 1) = first.feed ∙ rw (on, still) refl in
-    let rest = loaded (next ∷ words) (Feed s word) q (advanced job) (left - 1) (omega arith) at_next refl
+    let q : Parts = record p { m = loaded_word p.m p.regs.mask job word; load = Some (advanced job) } in
+    let at_next : kept_of (after_gp0 s word) ≡ loading q (left - 1) = first.feed ∙ rw (on, still) refl in
+    let rest = loaded (next ∷ words) (after_gp0 s word) q (advanced job) (left - 1) (omega arith) at_next refl
     (let most = kept.1 in (omega (arith, few), omega (arith, most)))
     (fewer (job.w * job.h) job.at left link.0 within, within) (omega (arith, few)) in
     let f : Transfer → Parts = λ j. record p {
-      m = LoadWords (LoadWord p.m p.regs.mask job word) p.regs.mask (advanced job) (next ∷ words);
+      m = loaded_words (loaded_word p.m p.regs.mask job word) p.regs.mask (advanced job) (next ∷ words);
       load = open_still j;
     } in
     record {

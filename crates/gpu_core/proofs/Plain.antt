@@ -1,19 +1,17 @@
 -- The words of a plain packet.
-use Rattle.std.proofs.Common.{◌≡◌, ◌≤◌, ◌<◌, ℕ, suc, ◌+◌, ◌-◌, ◌*◌, ◌/◌, ◌%◌, ◌^◌, ◌==◌, Bool, true, false, cond}
-use Rattle.std.proofs.Common.{if◌then◌else◌, nat_lt, List, [], ◌∷◌, ◌++◌, Option, Some, None, option_to_list, fold}
-use Rattle.std.proofs.Common.{length, slice_index, get_or, map, refl, ap, sym, subst, ◌∙◌, arith, append-nil}
+use Rattle.std.proofs.Common.{◌≡◌, ◌≤◌, ◌<◌, ℕ, ◌+◌, ◌-◌, ◌/◌, ◌^◌, ◌==◌, Bool, true, false, cond}
+use Rattle.std.proofs.Common.{if◌then◌else◌, nat_lt, List, [], ◌∷◌, ◌++◌, Some, None, fold}
+use Rattle.std.proofs.Common.{length, slice_index, map, refl, ap, sym, subst, ◌∙◌, arith}
 use Rattle.std.proofs.Common.{append_assoc, length-append}
 use Rattle.std.proofs.lemmas.Bool.Decides.{nat_tests}
 use Rattle.gp0_packets.specs.declared.note.Note.{Note}
 use Rattle.gp0_packets.specs.Packets.{packet_of}
-use Rattle.gp0_words.specs.Kinds.{class_of, opcode_of, kind_of, start_len, first_len_of, polygon_len_of}
+use Rattle.std.specs.Int.{bit_at}
+use Rattle.gp0_words.specs.Kinds.{is_set, class_of, opcode_of, kind_of, start_len, first_len_of, polygon_len_of}
 use Rattle.gp0_words.specs.Kinds.{rectangle_len_of}
-use Rattle.gp0_words.specs.Next.{next_pending, next_item, collected_pending, collected_item, IsPending}
-use Rattle.gp0_words.specs.Pushed.{IsPushed}
-use Rattle.gp0_words.specs.declared.item.Item.{Item}
+use Rattle.gp0_words.specs.Next.{next_pending, next_item, collected_pending, collected_item, IsPending, IsPolyline}
 use Rattle.gp0_words.specs.declared.item.Item.TheVariants as item
-use Rattle.gp0_words.specs.declared.kind.Kind.{Kind}
-use Rattle.gp0_words.specs.declared.kind.Kind.TheVariants.{Plain, Load}
+use Rattle.gp0_words.specs.declared.kind.Kind.TheVariants.{Plain, Polyline}
 use Rattle.gp0_words.specs.declared.pending.Pending.{Pending}
 use Rattle.gp0_words.specs.declared.pending.Pending.TheVariants as pending
 use Rattle.gp0_words.proofs.Pushes.{pushed}
@@ -23,29 +21,30 @@ use Rattle.gpu_core.specs.Area.{note_of}
 use Rattle.gpu_core.specs.Cost.{item_cost}
 use Rattle.gpu_core.specs.Feeds.{feed_notes, feeds_cost, TakesWords}
 use Rattle.gpu_core.specs.Kept.{Kept, kept_of, IsLinked}
-use Rattle.gpu_core.specs.Machine.{Parts, State, Feed, FeedNote, Effect, after_item}
+use Rattle.gpu_core.specs.Machine.{Parts, State, after_gp0, effect_of, after_item}
 use Rattle.gpu_core.proofs.Fed.{fed}
 use Rattle.gpu_core.proofs.Link.{collected-linked}
 
 -- ---- its kind
 
-tests_plain : (a b c d : Bool) (k m n : ℕ) →
-    let kind = cond a (Plain k) (cond b (Plain m) (cond c (Plain 4) (cond d (Plain 3) (Plain n)))) in kind
-    ≡ Plain (start_len kind)
-tests_plain true b c d k m n = refl
-tests_plain false true c d k m n = refl
-tests_plain false false true d k m n = refl
-tests_plain false false false true k m n = refl
-tests_plain false false false false k m n = refl
+tests_plain : (a q p b c d : Bool) (k l m n : ℕ) (shaded : Bool) →
+    let kind = cond a (Plain k) (cond q (cond p (Polyline shaded) (Plain l)) (cond b (Plain m) (cond c (Plain 4)
+    (cond d (Plain 3) (Plain n))))) in (kind ≡ Polyline shaded → ⊥) → kind ≡ Plain (start_len kind)
+tests_plain true q p b c d k l m n shaded line = refl
+tests_plain false true true b c d k l m n shaded line = absurd (line refl)
+tests_plain false true false b c d k l m n shaded line = refl
+tests_plain false false p true c d k l m n shaded line = refl
+tests_plain false false p false true d k l m n shaded line = refl
+tests_plain false false p false false true k l m n shaded line = refl
+tests_plain false false p false false false k l m n shaded line = refl
 
-pub plain_kind : (word : ℕ) → (word / 2 ^ 29 ≡ 2 → ⊥) → (word / 2 ^ 29 ≡ 5 → ⊥)
-    → kind_of word ≡ Plain (first_len_of word)
+pub plain_kind : (word : ℕ) → (IsPolyline word → ⊥) → (word / 2 ^ 29 ≡ 5 → ⊥) → kind_of word ≡ Plain (first_len_of word)
 plain_kind word line load =
-    let no_line : (word / 2 ^ 29 == 2) ≡ false = grind (arith, nat_tests) in
     let no_load : (word / 2 ^ 29 == 5) ≡ false = grind (arith, nat_tests) in
-    rw (no_line, no_load)
-    (tests_plain (class_of word == 1) (class_of word == 3) (class_of word == 4) (class_of word == 6)
-    (polygon_len_of word) (rectangle_len_of word) (if opcode_of word == 2 then 3 else 1))
+    rw no_load
+    (tests_plain (class_of word == 1) (class_of word == 2) (is_set word 27) (class_of word == 3) (class_of word == 4)
+    (class_of word == 6) (polygon_len_of word) (3 + bit_at word 28) (rectangle_len_of word)
+    (if opcode_of word == 2 then 3 else 1) (is_set word 28) (rw no_load at line))
 
 -- ---- its words, one after another
 
@@ -81,7 +80,7 @@ begun_bounds (first ∷ held) word words n kind lt = (omega arith, rw kind lt)
 
 -- these are the words of a packet that were still to come
 record IsTaken (s : State) (p : Parts) (first : ℕ) (words all : List ℕ) : Type 0 where
-  pub feed : kept_of (fold Feed s words)
+  pub feed : kept_of (fold after_gp0 s words)
       ≡ record { parts = after_item p (Some (item.Whole all)); pending = pending.Idle }
   pub notes : feed_notes s first words ≡ note_of p.regs (capped (first + (length words - 1))) (item.Whole all) ∷ []
   pub cost : feeds_cost s words ≡ item_cost p (Some (item.Whole all))
@@ -120,9 +119,9 @@ taken (word ∷ next ∷ words) s p first held n some e kind len =
     let push = pushed (begun held) (begun all) word None bounds held_now none in
     let is = fed s (record { parts = p; pending = begun held }) (begun all) (capped first) word None e push in
     let joined = append_assoc held (word ∷ []) (next ∷ words) in
-    let rest = taken (next ∷ words) (Feed s word) p (first + 1) all n (omega arith) is.feed
+    let rest = taken (next ∷ words) (after_gp0 s word) p (first + 1) all n (omega arith) is.feed
     (ap (λ l. kind_of (slice_index l 0)) joined ∙ kind) (ap length joined ∙ len) in
-    let Q : List ℕ → Type 0 = λ l. IsTaken (Feed s word) p (first + 1) (next ∷ words) l in
+    let Q : List ℕ → Type 0 = λ l. IsTaken (after_gp0 s word) p (first + 1) (next ∷ words) l in
     let on = subst Q joined rest in
     let number : first + 1 + (length (next ∷ words) - 1) ≡ first + (length (word ∷ next ∷ words) - 1) = omega arith in
     record {
@@ -155,12 +154,12 @@ plain_taken s p h now note event played words heard heard_now steps steps_now e 
 
 pub plain_load : (height : ℕ) (words : List ℕ) (p : Parts) → 0 < length words → kind_of (slice_index words 0)
     ≡ Plain (length words)
-    → p.load ≡ None → (Effect p (packet_of height (item.Whole words))).load ≡ None
+    → p.load ≡ None → (effect_of p (packet_of height (item.Whole words))).load ≡ None
 plain_load height words p some kind none =
     let whole : nat_lt (length words) (length words) ≡ false = grind (arith, nat_tests) in
     let kinds = kind_of (slice_index words 0) in
     let is_item : collected_item kinds words ≡ Some (item.Whole words) = rw (kind, whole) refl in
     let idle : collected_pending kinds words ≡ pending.Idle = rw (kind, whole) refl in
     let most : length words ≤ first_len_of (slice_index words 0) = rw kind (omega arith) in
-    let P : Pending → Type 0 = λ h. IsLinked h (Effect p (packet_of height (item.Whole words))).load in
+    let P : Pending → Type 0 = λ h. IsLinked h (effect_of p (packet_of height (item.Whole words))).load in
     subst P idle (collected-linked height words (item.Whole words) p some most none is_item)

@@ -43,12 +43,12 @@ item_cost p None = 0
 item_cost p (Some item) = packet_cost p (packet_of p.regs.height item)
 
 -- one word of GP0
-unfoldable pub FeedCost : State → ℕ → ℕ
-FeedCost s word = item_cost s.parts (new_item s.words word)
+unfoldable pub gp0_cost : State → ℕ → ℕ
+gp0_cost s word = item_cost s.parts (new_item s.words word)
 
 -- one read
-unfoldable pub TakeCost : State → ℕ
-TakeCost s = pixels_of s.parts.store
+unfoldable pub read_cost : State → ℕ
+read_cost s = pixels_of s.parts.store
 
 -- ---- the first table
 
@@ -75,9 +75,9 @@ item_box_cost p None = 0
 item_box_cost p (Some item) = packet_box_cost p (packet_of p.regs.height item)
 
 -- one word of GP0
-unfoldable pub FeedBoxCost : State → ℕ → ℕ
-FeedBoxCost s word = item_box_cost s.parts (new_item s.words word)
+unfoldable pub gp0_box_cost : State → ℕ → ℕ
+gp0_box_cost s word = item_box_cost s.parts (new_item s.words word)
 
 -- one read
-unfoldable pub TakeBoxCost : State → ℕ
-TakeBoxCost s = 4 * pixels_of s.parts.store
+unfoldable pub read_box_cost : State → ℕ
+read_box_cost s = 4 * pixels_of s.parts.store

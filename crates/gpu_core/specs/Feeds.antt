@@ -3,30 +3,30 @@ use Rattle.std.specs.Prelude.{◌≡◌, ◌≤◌, ℕ, ◌+◌, List, [], ◌�
 use Rattle.gp0_packets.specs.declared.note.Note.{Note}
 use Rattle.gpu_taps.specs.Bare.{bare_notes, after_notes}
 use Rattle.gpu_taps.specs.Tally.{Reading, capped}
-use Rattle.gpu_core.specs.Cost.{FeedCost}
+use Rattle.gpu_core.specs.Cost.{gp0_cost}
 use Rattle.gpu_core.specs.Kept.{Kept, kept_of}
-use Rattle.gpu_core.specs.Machine.{State, Feed, FeedNote}
+use Rattle.gpu_core.specs.Machine.{State, after_gp0, gp0_note}
 
 -- their notes; the first event has this number, and numbers stay at 2^64 - 1 once there
 abbrev pub feed_notes : State → (first : ℕ) → List ℕ → List Note
 feed_notes s first [] = []
 feed_notes s first (word ∷ words) =
-    option_to_list (FeedNote s (capped first) word) ++ feed_notes (Feed s word) (first + 1) words
+    option_to_list (gp0_note s (capped first) word) ++ feed_notes (after_gp0 s word) (first + 1) words
 
 -- the most store steps of them
 abbrev pub feeds_cost : State → List ℕ → ℕ
 feeds_cost s [] = 0
-feeds_cost s (word ∷ words) = FeedCost s word + feeds_cost (Feed s word) words
+feeds_cost s (word ∷ words) = gp0_cost s word + feeds_cost (after_gp0 s word) words
 
 -- Words that were taken at once did what they do one after another, but that each listener was told all their notes
 -- before the next one was.
 pub record TakesWords (s : State) (first : ℕ) (words : List ℕ) (now : Kept) (heard heard_now : List Reading)
     (steps steps_now : ℕ) : Type 0 where
-  pub feed : kept_of (fold Feed s words) ≡ now
+  pub feed : kept_of (fold after_gp0 s words) ≡ now
   pub told : heard_now ≡ map (after_notes (feed_notes s first words)) heard
   pub cost : steps_now ≤ steps + feeds_cost s words
 
 -- words of registers were taken at once, and no listener was told yet
 pub record SetsRegisters (s : State) (first : ℕ) (words : List ℕ) (now : Kept) : Type 0 where
-  pub feed : kept_of (fold Feed s words) ≡ now
+  pub feed : kept_of (fold after_gp0 s words) ≡ now
   pub notes : feed_notes s first words ≡ bare_notes 7 first words

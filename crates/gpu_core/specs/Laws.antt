@@ -1,26 +1,26 @@
 -- What words and reads cost, and what decides how a state goes on.
 use Rattle.std.specs.Prelude.{◌≡◌, ◌≤◌, ℕ}
-use Rattle.gpu_core.specs.Cost.{FeedCost, FeedBoxCost, TakeCost, TakeBoxCost}
+use Rattle.gpu_core.specs.Cost.{gp0_cost, gp0_box_cost, read_cost, read_box_cost}
 use Rattle.gpu_core.specs.Kept.{kept_of}
-use Rattle.gpu_core.specs.Machine.{State, Feed, FeedNote, Gp1, Take, TakenWord, Status}
+use Rattle.gpu_core.specs.Machine.{State, after_gp0, gp0_note, after_gp1, after_read, read_word, status_word}
 
 -- no word of GP0 and no read costs more by the second table than by the first
 pub record CostLaw : Type 0 where
-  pub words : (s : State) (word : ℕ) → FeedCost s word ≤ FeedBoxCost s word
-  pub reads : (s : State) → TakeCost s ≤ TakeBoxCost s
+  pub words : (s : State) (word : ℕ) → gp0_cost s word ≤ gp0_box_cost s word
+  pub reads : (s : State) → read_cost s ≤ read_box_cost s
 
 -- two states do, tell, give and cost the same with the next word or read, and the same of them is kept then
 pub record GoOnAlike (a b : State) : Type 0 where
-  pub feed : (word : ℕ) → kept_of (Feed a word) ≡ kept_of (Feed b word)
-  pub note : (event word : ℕ) → FeedNote a event word ≡ FeedNote b event word
-  pub feed_cost : (word : ℕ) → FeedCost a word ≡ FeedCost b word
-  pub feed_box_cost : (word : ℕ) → FeedBoxCost a word ≡ FeedBoxCost b word
-  pub gp1 : (word : ℕ) → kept_of (Gp1 a word) ≡ kept_of (Gp1 b word)
-  pub take : kept_of (Take a) ≡ kept_of (Take b)
-  pub taken : TakenWord a ≡ TakenWord b
-  pub take_cost : TakeCost a ≡ TakeCost b
-  pub take_box_cost : TakeBoxCost a ≡ TakeBoxCost b
-  pub status : Status a ≡ Status b
+  pub feed : (word : ℕ) → kept_of (after_gp0 a word) ≡ kept_of (after_gp0 b word)
+  pub note : (event word : ℕ) → gp0_note a event word ≡ gp0_note b event word
+  pub feed_cost : (word : ℕ) → gp0_cost a word ≡ gp0_cost b word
+  pub feed_box_cost : (word : ℕ) → gp0_box_cost a word ≡ gp0_box_cost b word
+  pub gp1 : (word : ℕ) → kept_of (after_gp1 a word) ≡ kept_of (after_gp1 b word)
+  pub take : kept_of (after_read a) ≡ kept_of (after_read b)
+  pub taken : read_word a ≡ read_word b
+  pub take_cost : read_cost a ≡ read_cost b
+  pub take_box_cost : read_box_cost a ≡ read_box_cost b
+  pub status : status_word a ≡ status_word b
 
 -- what is kept of a state decides how it goes on
 abbrev pub KeptDecides : Type 0

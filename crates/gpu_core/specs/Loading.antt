@@ -1,6 +1,6 @@
 -- Data words of the open load that are taken at once.
 use Rattle.std.specs.Prelude.{◌≤◌, ℕ, ◌*◌, List, Option, Some, None, length, nat_lt, if◌then◌else◌}
-use Rattle.vram_copy.specs.Words.{advanced_by, words_left, pixels_in, LoadWords}
+use Rattle.vram_copy.specs.Words.{advanced_by, words_left, pixels_in, loaded_words}
 use Rattle.vram_copy.specs.declared.transfer.Transfer.{Transfer}
 use Rattle.gpu_core.specs.Machine.{Parts}
 
@@ -12,7 +12,7 @@ open_still job = if nat_lt job.at (job.w * job.h) then Some job else None
 abbrev pub with_words : Parts → Option Transfer → List ℕ → Parts
 with_words p None words = p
 with_words p (Some job) words = record p {
-  m = LoadWords p.m p.regs.mask job words;
+  m = loaded_words p.m p.regs.mask job words;
   load = open_still (advanced_by job (length words));
 }
 

@@ -3,7 +3,7 @@
 use Rattle.std.specs.Prelude.{ℕ, Bool, true, false, List, [], ◌∷◌, ◌++◌, Option, Some, None, is_some, if◌then◌else◌}
 use Rattle.std.specs.Prelude.{length, slice_get, map}
 use Rattle.px_num.specs.Height.{tall_height}
-use Rattle.gp0_words.specs.Items.{Items, Rest}
+use Rattle.gp0_words.specs.Items.{items_of, pending_behind}
 use Rattle.gp0_words.specs.declared.item.Item.{Item}
 use Rattle.gp0_words.specs.declared.pending.Pending.{Pending}
 use Rattle.gp0_words.specs.declared.pending.Pending.TheVariants as pending
@@ -13,11 +13,11 @@ use Rattle.gp0_packets.specs.declared.packet.Packet.{Packet}
 use Rattle.gp0_packets.specs.declared.packet.Packet.TheVariants as packet
 use Rattle.gp1_status.specs.Registers.{Registers, env_of, gp1_of, is_clearing, page_of, reset, status_of}
 use Rattle.gpu_taps.specs.Tally.{Reading, reading_after}
-use Rattle.prim_draw.specs.Draw.{Draw}
+use Rattle.prim_draw.specs.Draw.{drawn_packet}
 use Rattle.vram_store.specs.Vram.{blank, tall}
-use Rattle.vram_copy.specs.Fill.{Fill}
-use Rattle.vram_copy.specs.Copy.{Copy}
-use Rattle.vram_copy.specs.Words.{LoadWord, StoreWord, after_word}
+use Rattle.vram_copy.specs.Fill.{filled_rectangle}
+use Rattle.vram_copy.specs.Copy.{copied_rectangle}
+use Rattle.vram_copy.specs.Words.{loaded_word, stored_word, after_word}
 use Rattle.vram_copy.specs.declared.transfer.Transfer.{Transfer}
 use Rattle.gpu_core.specs.Area.{note_of}
 
@@ -53,7 +53,7 @@ opened x y w h = Some (record { x = x; y = y; w = w; h = h; at = 0 })
 -- a data word of a load; where none is open nothing happens
 abbrev pub with_pixels : Parts → Option Transfer → ℕ → Parts
 with_pixels p None word = p
-with_pixels p (Some job) word = record p { m = LoadWord p.m p.regs.mask job word; load = after_word job }
+with_pixels p (Some job) word = record p { m = loaded_word p.m p.regs.mask job word; load = after_word job }
 
 -- a textured polygon puts its own page attribute into the draw mode, also where nothing of it is drawn
 abbrev pub with_page : Registers → Bool → ℕ → Registers
@@ -61,45 +61,45 @@ with_page r textured page = if textured then record r { e1 = page_of r.height pa
 
 -- a packet is drawn with these registers, which stay
 abbrev pub drawn : Parts → Registers → Packet → Parts
-drawn p r what = record p { m = Draw r what p.m; regs = r }
+drawn p r what = record p { m = drawn_packet r what p.m; regs = r }
 
 -- what a packet does
-unfoldable pub Effect : Parts → Packet → Parts
-Effect p (packet.Fill color x y w h) = record p { m = Fill p.m x y w h color }
-Effect p (packet.Copy from to w h) = record p { m = Copy p.m p.regs.mask from to w h }
-Effect p (packet.Load x y w h) = record p { load = opened x y w h }
-Effect p (packet.Store x y w h) = record p { store = opened x y w h }
-Effect p (packet.Pixels word) = with_pixels p p.load word
-Effect p (packet.Env index value) = record p { regs = env_of p.regs index value }
-Effect p packet.Irq = record p { regs = record p.regs { irq = true } }
-Effect p (packet.Poly four a b c d shaded textured semi raw clut page) =
+unfoldable pub effect_of : Parts → Packet → Parts
+effect_of p (packet.Fill color x y w h) = record p { m = filled_rectangle p.m x y w h color }
+effect_of p (packet.Copy from to w h) = record p { m = copied_rectangle p.m p.regs.mask from to w h }
+effect_of p (packet.Load x y w h) = record p { load = opened x y w h }
+effect_of p (packet.Store x y w h) = record p { store = opened x y w h }
+effect_of p (packet.Pixels word) = with_pixels p p.load word
+effect_of p (packet.Env index value) = record p { regs = env_of p.regs index value }
+effect_of p packet.Irq = record p { regs = record p.regs { irq = true } }
+effect_of p (packet.Poly four a b c d shaded textured semi raw clut page) =
     drawn p (with_page p.regs textured page) (packet.Poly four a b c d shaded textured semi raw clut page)
-Effect p (packet.Segment a b semi) = drawn p p.regs (packet.Segment a b semi)
-Effect p (packet.Rect x y w h color textured semi raw u v clut) =
+effect_of p (packet.Segment a b semi) = drawn p p.regs (packet.Segment a b semi)
+effect_of p (packet.Rect x y w h color textured semi raw u v clut) =
     drawn p p.regs (packet.Rect x y w h color textured semi raw u v clut)
-Effect p packet.Nop = p
-Effect p packet.Finish = p
+effect_of p packet.Nop = p
+effect_of p packet.Finish = p
 
 -- ---- one word of GP0
 
 -- the item that the words have more, with one word more
 unfoldable pub new_item : List ℕ → ℕ → Option Item
-new_item words word = slice_get (Items (words ++ word ∷ [])) (length (Items words))
+new_item words word = slice_get (items_of (words ++ word ∷ [])) (length (items_of words))
 
 abbrev pub after_item : Parts → Option Item → Parts
 after_item p None = p
-after_item p (Some item) = Effect p (packet_of p.regs.height item)
+after_item p (Some item) = effect_of p (packet_of p.regs.height item)
 
 abbrev pub noted : Registers → (event : ℕ) → Option Item → Option Note
 noted r event None = None
 noted r event (Some item) = Some (note_of r event item)
 
 -- The word is appended. Where the words then have one item more, that item takes effect, and gives a note.
-unfoldable pub Feed : State → ℕ → State
-Feed s word = record { parts = after_item s.parts (new_item s.words word); words = s.words ++ word ∷ [] }
+unfoldable pub after_gp0 : State → ℕ → State
+after_gp0 s word = record { parts = after_item s.parts (new_item s.words word); words = s.words ++ word ∷ [] }
 
-unfoldable pub FeedNote : State → (event word : ℕ) → Option Note
-FeedNote s event word = noted s.parts.regs event (new_item s.words word)
+unfoldable pub gp0_note : State → (event word : ℕ) → Option Note
+gp0_note s event word = noted s.parts.regs event (new_item s.words word)
 
 -- what the taps read after a note, if there is one
 abbrev pub told_option : Option Note → List Reading → List Reading
@@ -113,8 +113,8 @@ abbrev pub cleared : Parts → Parts
 cleared p = record p { load = None; store = None }
 
 -- the registers change; opcodes 00h and 01h also end what is unfinished
-unfoldable pub Gp1 : State → ℕ → State
-Gp1 s word =
+unfoldable pub after_gp1 : State → ℕ → State
+after_gp1 s word =
     let parts = record s.parts { regs = gp1_of s.parts.regs word } in
     if is_clearing word then record { parts = cleared parts; words = [] } else record { parts = parts; words = s.words }
 
@@ -127,14 +127,14 @@ pub record Taken : Type 0 where
 abbrev pub taken_from : Parts → Option Transfer → Taken
 taken_from p None = record { word = p.regs.latch; parts = p }
 taken_from p (Some job) =
-    let word = StoreWord p.m job in
+    let word = stored_word p.m job in
     record { word = word; parts = record p { regs = record p.regs { latch = word }; store = after_word job } }
 
-unfoldable pub TakenWord : State → ℕ
-TakenWord s = (taken_from s.parts s.parts.store).word
+unfoldable pub read_word : State → ℕ
+read_word s = (taken_from s.parts s.parts.store).word
 
-unfoldable pub Take : State → State
-Take s = record { parts = (taken_from s.parts s.parts.store).parts; words = s.words }
+unfoldable pub after_read : State → State
+after_read s = record { parts = (taken_from s.parts s.parts.store).parts; words = s.words }
 
 -- nothing is pending: every packet is whole
 abbrev pub is_idle : Pending → Bool
@@ -143,8 +143,8 @@ is_idle (pending.Packet words) = false
 is_idle (pending.Pixels left) = false
 is_idle (pending.Poly command color vertex half) = false
 
-unfoldable pub Idle : State → Bool
-Idle s = is_idle (Rest s.words)
+unfoldable pub is_idle_state : State → Bool
+is_idle_state s = is_idle (pending_behind s.words)
 
-unfoldable pub Status : State → ℕ
-Status s = status_of s.parts.regs (Idle s) (is_some s.parts.store)
+unfoldable pub status_word : State → ℕ
+status_word s = status_of s.parts.regs (is_idle_state s) (is_some s.parts.store)

@@ -10,7 +10,7 @@ ghost use Rattle.gpu_core.specs.Machine.{State};
 
 use crate::gpu::Gpu;
 use crate::parts::Parts;
-use gp0_words::{Item, Splitter, Words, first_len};
+use gp0_words::{Splitter, first_len, is_polyline};
 use gpu_taps::{Listener, tell_all, tell_all_bare};
 use std::sync::ledger::Ledger;
 use vram_store::Steps;
@@ -109,11 +109,8 @@ impl Gpu {
         ensures { (s : State) → kept_of s ≡ self.old → TakesWords s (played + 1) words.now self.new
             (map T.heard taps.old.items) (map T.heard taps.new.items) steps.old steps.new }
     {
-        let item = Item::Whole {
-            words: copied(words),
-        };
         let event = played.saturating_add(words.len() as u64);
-        let note = self.parts.take_item(event, &item, steps);
+        let note = self.parts.take_words(event, words, steps);
         tell_all(taps, &note);
     }
 }
@@ -140,24 +137,11 @@ fn plain_count(word: u32) -> usize
     ensures kind { 0 < result → kind_of word ≡ Plain result }
     ensures most { result ≤ 12 }
 {
-    let class = word >> 29;
-    if class == 2 {
+    if word >> 29 == 5 {
         return 0;
     }
-    if class == 5 {
+    if is_polyline(word) {
         return 0;
     }
     first_len(word)
-}
-
-// The words of an item.
-fn copied(words: &[u32]) -> Words
-    requires { length words.now ≤ 12 }
-    ensures { result ≡ words.now }
-{
-    let mut copy = Words::new();
-    for word in words {
-        copy.push(*word);
-    }
-    copy
 }

@@ -1,15 +1,17 @@
 // What a packet does.
-ghost use Rattle.std.specs.Prelude.{◌≡◌, ◌≤◌, ◌+◌, Some};
+ghost use Rattle.std.specs.Prelude.{◌≡◌, ◌≤◌, ◌<◌, ◌+◌, Some, length, slice_index};
 ghost use Rattle.gp0_packets.specs.Packets.{environment_of};
 ghost use Rattle.gp0_packets.specs.Ranges.{IsInRange};
+ghost use Rattle.gp0_words.specs.Kinds.{first_len_of};
+ghost use Rattle.gp0_words.specs.declared.item.Item.TheVariants.{Whole};
 ghost use Rattle.gpu_core.specs.Area.{note_of};
 ghost use Rattle.gpu_core.specs.Cost.{item_cost, packet_cost};
-ghost use Rattle.gpu_core.specs.Machine.{Effect, after_item, with_page};
+ghost use Rattle.gpu_core.specs.Machine.{effect_of, after_item, with_page};
 
-use crate::note::item_note;
+use crate::note::{item_note, words_note};
 use crate::parts::Parts;
 use crate::transfer::start;
-use gp0_packets::{Note, Packet, decode};
+use gp0_packets::{Note, Packet, decode, decode_whole};
 use gp0_words::Item;
 use gp1_status::Regs;
 use prim_draw::draw;
@@ -47,11 +49,30 @@ impl Parts {
         note
     }
 
+    /// The same of the words of a packet, as many as their first asks for.
+    pub(crate) fn take_words<L: Ledger>(
+        &mut self,
+        event: u64,
+        words: &[u32],
+        steps: &mut Steps<L>,
+    ) -> Note
+        requires some { 0 < length words.now }
+        requires len { length words.now ≡ first_len_of (slice_index words.now 0) }
+        ensures note { result ≡ note_of self.old.regs event (Whole words.now) }
+        ensures effect { self.new ≡ after_item self.old (Some (Whole words.now)) }
+        ensures cost { steps.new ≤ steps.old + item_cost self.old (Some (Whole words.now)) }
+    {
+        let packet = decode_whole(words, self.regs.height());
+        let note = words_note(&self.regs, event, words, &packet);
+        self.carry_out(&packet, steps);
+        note
+    }
+
     /// Carries out a packet.
-    #[tactic(auto, unfolding(crate::specs::Machine::Effect, crate::specs::Cost::packet_cost))]
+    #[tactic(auto, unfolding(crate::specs::Machine::effect_of, crate::specs::Cost::packet_cost))]
     pub(crate) fn carry_out<L: Ledger>(&mut self, packet: &Packet, steps: &mut Steps<L>)
         requires range { IsInRange self.old.regs.height packet.now }
-        ensures effect { self.new ≡ Effect self.old packet.now }
+        ensures effect { self.new ≡ effect_of self.old packet.now }
         ensures cost { steps.new ≤ steps.old + packet_cost self.old packet.now }
     {
         match *packet {
@@ -76,9 +97,9 @@ impl Parts {
     }
 
     /// Carries out a word of class 7.
-    #[tactic(auto, unfolding(crate::specs::Machine::Effect, gp0_packets::specs::Packets::environment_of))]
+    #[tactic(auto, unfolding(crate::specs::Machine::effect_of, gp0_packets::specs::Packets::environment_of))]
     pub(crate) fn set_register(&mut self, word: u32)
-        ensures { self.new ≡ Effect self.old (environment_of word) }
+        ensures { self.new ≡ effect_of self.old (environment_of word) }
     {
         let opcode = word >> 24;
         if 0xe1 <= opcode && opcode <= 0xe6 {

@@ -2,9 +2,10 @@
 ghost use Rattle.std.specs.Prelude.{◌≡◌, ◌≤◌, ◌<◌, ◌+◌, ◌*◌, ◌%◌, length, map, Some, None, IfOk, IfSome};
 ghost use Rattle.gp0_words.specs.Next.{IsPending};
 ghost use Rattle.vram_store.specs.Vram.{blank};
-ghost use Rattle.gpu_core.specs.Cost.{FeedCost, TakeCost};
+ghost use Rattle.gpu_core.specs.Cost.{gp0_cost, read_cost};
 ghost use Rattle.gpu_core.specs.Kept.{kept_of, kept_with, state_with, IsLinked, IsOpen, IsSet};
-ghost use Rattle.gpu_core.specs.Machine.{State, first_state, Feed, FeedNote, Gp1, Take, TakenWord, Idle, Status};
+ghost use Rattle.gpu_core.specs.Machine.{State, first_state, after_gp0, gp0_note, after_gp1, after_read, read_word};
+ghost use Rattle.gpu_core.specs.Machine.{is_idle_state, status_word};
 ghost use Rattle.gpu_core.specs.Machine.{told_option, tall_state};
 
 use crate::parts::Parts;
@@ -83,11 +84,11 @@ impl Gpu {
         taps: &mut Vec<T>,
         steps: &mut Steps<L>,
     ) -> Option<Note>
-        ensures feed { (s : State) → kept_of s ≡ self.old → kept_of (Feed s word) ≡ self.new }
-        ensures note { (s : State) → kept_of s ≡ self.old → FeedNote s event word ≡ result }
+        ensures feed { (s : State) → kept_of s ≡ self.old → kept_of (after_gp0 s word) ≡ self.new }
+        ensures note { (s : State) → kept_of s ≡ self.old → gp0_note s event word ≡ result }
         ensures class { IfSome result (λ note. note.class ≤ 9) }
         ensures taps { map T.heard taps.new.items ≡ told_option result (map T.heard taps.old.items) }
-        ensures cost { (s : State) → kept_of s ≡ self.old → steps.new ≤ steps.old + FeedCost s word }
+        ensures cost { (s : State) → kept_of s ≡ self.old → steps.new ≤ steps.old + gp0_cost s word }
     {
         if self.splitter.push_pixels(word) {
             self.parts.take_pixels(word, steps);
@@ -112,11 +113,11 @@ impl Gpu {
         taps: &mut Vec<T>,
         steps: &mut Steps<L>,
     ) -> Option<Note>
-        ensures feed { (s : State) → kept_of s ≡ self.old → kept_of (Feed s word) ≡ self.new }
-        ensures note { (s : State) → kept_of s ≡ self.old → FeedNote s event word ≡ result }
+        ensures feed { (s : State) → kept_of s ≡ self.old → kept_of (after_gp0 s word) ≡ self.new }
+        ensures note { (s : State) → kept_of s ≡ self.old → gp0_note s event word ≡ result }
         ensures class { IfSome result (λ note. note.class ≤ 9) }
         ensures taps { map T.heard taps.new.items ≡ told_option result (map T.heard taps.old.items) }
-        ensures cost { (s : State) → kept_of s ≡ self.old → steps.new ≤ steps.old + FeedCost s word }
+        ensures cost { (s : State) → kept_of s ≡ self.old → steps.new ≤ steps.old + gp0_cost s word }
     {
         match self.splitter.push(word) {
             None => None,
@@ -129,7 +130,7 @@ impl Gpu {
 
     /// Takes a word of GP1. Opcodes 00h and 01h also end an unfinished packet, load, polyline and store.
     pub fn gp1(&mut self, word: u32)
-        ensures { (s : State) → kept_of s ≡ self.old → kept_of (Gp1 s word) ≡ self.new }
+        ensures { (s : State) → kept_of s ≡ self.old → kept_of (after_gp1 s word) ≡ self.new }
     {
         self.parts.gp1(word);
         if clears(word) {
@@ -140,16 +141,16 @@ impl Gpu {
 
     /// Reads a word: the next two pixels of the open store, the first in the low half, or the latch where none is open.
     pub fn read<L: Ledger>(&mut self, steps: &mut Steps<L>) -> u32
-        ensures word { (s : State) → kept_of s ≡ self.old → result ≡ TakenWord s }
-        ensures state { (s : State) → kept_of s ≡ self.old → kept_of (Take s) ≡ self.new }
-        ensures cost { (s : State) → kept_of s ≡ self.old → steps.new ≤ steps.old + TakeCost s }
+        ensures word { (s : State) → kept_of s ≡ self.old → result ≡ read_word s }
+        ensures state { (s : State) → kept_of s ≡ self.old → kept_of (after_read s) ≡ self.new }
+        ensures cost { (s : State) → kept_of s ≡ self.old → steps.new ≤ steps.old + read_cost s }
     {
         self.parts.take_word(steps)
     }
 
     /// The status word.
     pub fn status(&self) -> u32
-        ensures { (s : State) → kept_of s ≡ self.now → result ≡ Status s }
+        ensures { (s : State) → kept_of s ≡ self.now → result ≡ status_word s }
     {
         self.parts
             .regs()
@@ -158,7 +159,7 @@ impl Gpu {
 
     /// Whether no packet, load or polyline is unfinished.
     pub fn is_idle(&self) -> bool
-        ensures { (s : State) → kept_of s ≡ self.now → result ≡ Idle s }
+        ensures { (s : State) → kept_of s ≡ self.now → result ≡ is_idle_state s }
     {
         self.splitter.is_idle()
     }

@@ -3,7 +3,7 @@ use Rattle.std.proofs.Common.{◌≡◌, ◌≤◌, ◌+◌, ◌-◌, ◌*◌, �
 use Rattle.std.proofs.Common.{append_assoc, append-nil, length-append, arith, inl, inr}
 use Rattle.std.proofs.lemmas.Bool.{cases_Bool}
 use Rattle.px_num.specs.Height.{tall_height}
-use Rattle.gp0_words.specs.Items.{Rest}
+use Rattle.gp0_words.specs.Items.{pending_behind}
 use Rattle.gp0_words.specs.declared.pending.Pending.{Pending}
 use Rattle.gp0_words.proofs.Resume.{list_of-leaves}
 use Rattle.gpu_capture.specs.Capture.{Captured, limit}
@@ -18,8 +18,8 @@ use Rattle.gpu_core.specs.Machine.{tall_state}
 use Rattle.px_num.specs.Zeros.{zeros}
 use Rattle.vram_store.specs.Vram.{tall}
 use Rattle.event_play.specs.AlikeStates.{StandAlike, PlayAlike}
-use Rattle.event_play.specs.Out.{lines_of, Out}
-use Rattle.event_play.specs.Replay.{Tale, Played, Replay, from_state, raised, played_from}
+use Rattle.event_play.specs.Out.{lines_of, out_bytes}
+use Rattle.event_play.specs.Replay.{Tale, Played, played_events, from_state, raised, played_from}
 use Rattle.event_play.specs.Splits.{alone, with_past}
 use Rattle.event_play.specs.Step.{Machine, tall_machine}
 use Rattle.event_play.specs.Told.{told_notes}
@@ -36,7 +36,7 @@ use Rattle.gpu_snapshot.specs.CutFiles.{WritesOn}
 use Rattle.gpu_snapshot.specs.CutFiles.{EndsOn, CutLaw}
 use Rattle.gpu_snapshot.specs.Laws.{snapshot_of, spelled, IsSpelledWhole}
 use Rattle.gpu_snapshot.specs.Opened.{Restored, opened, behind_head, opened_state}
-use Rattle.gpu_snapshot.specs.PlayAny.{PlayAny, played_opened, played_restored}
+use Rattle.gpu_snapshot.specs.PlayAny.{played_file, played_opened, played_restored}
 use Rattle.gpu_snapshot.specs.Restored.{machine_in, version_behind, first_place}
 use Rattle.gpu_snapshot.proofs.Heads.{head_of_snapshot}
 use Rattle.gpu_snapshot.proofs.Openings.{opened_behind}
@@ -61,8 +61,8 @@ spelled_opens s rest is =
     ∙ ap opened_state (state_read s.outline s.m s.ram first_place rest is.outline is.words is.memories)
 
 spelled_plays : (start : Tale) (s : Snapshot) (rest : List ℕ) → IsSpelledWhole s
-    → PlayAny start (spelled s ++ rest) ≡ played_restored s (behind s) rest
-unfolding PlayAny
+    → played_file start (spelled s ++ rest) ≡ played_restored s (behind s) rest
+unfolding played_file
 spelled_plays start s rest is = ap (played_opened start (spelled s ++ rest)) (spelled_opens s rest is)
 
 -- the words that a snapshot keeps leave what those of its machine leave
@@ -72,7 +72,7 @@ restored_alike s played is =
     let kept : Pending → Kept = λ p. record { parts = s.gpu.parts; pending = p } in
     let bounds = is.outline in
     record {
-      gpu = ap kept (list_of-leaves (Rest s.gpu.words) bounds.pending);
+      gpu = ap kept (list_of-leaves (pending_behind s.gpu.words) bounds.pending);
       ram = refl;
       running = refl;
     }
@@ -134,7 +134,7 @@ file_plays start t later rest is =
     let version = version_behind t.state.gpu.parts.regs.height in
     let long = file_long t later in
     let fits : behind s + length (spell later ++ spelled_end) ≤ limit = omega (arith, long, is.fits) in
-    ap (PlayAny start) (file_opens t later rest)
+    ap (played_file start) (file_opens t later rest)
     ∙ spelled_plays start s ((spell later ++ spelled_end) ++ rest) is.state
     ∙ ap (played_from (from_state (machine_in s) t.played))
     (records_said version (behind s) later rest (version_known t.state.gpu.parts.regs.height) is.allowed fits)
@@ -171,7 +171,7 @@ raised_stays s played long = elim (cases_Bool (s.gpu.parts.regs.height == tall_h
 
 plays_lead : PlaysLead
 plays_lead first t events before now rig plays =
-    ap (λ all. Replay first all End []) (sym (append-nil events)) ∙ plays.replays [] End []
+    ap (λ all. played_events first all End []) (sym (append-nil events)) ∙ plays.replays [] End []
 
 -- what a version allows, later ones allow
 allowed_later : (later : List Event) (version : ℕ) → 2 ≤ version → AllowsAll 2 later → AllowsAll version later
@@ -201,7 +201,7 @@ goes_on start t later rest is =
     (played_from (from_state t.state t.played) c) =
     states-alike (machine_in s) t.state t.played c (restored_alike t.state t.played is.state) in
     let FromFile : Played → Type 0 = λ r. PlayAlike r (played_from (from_state t.state t.played) c) in
-    let ToReplay : Tale → Type 0 = λ u. PlayAlike (played_cut start t later rest) (Replay u later End rest) in
+    let ToReplay : Tale → Type 0 = λ u. PlayAlike (played_cut start t later rest) (played_events u later End rest) in
     let state = is.state in
     let memories = state.memories in
     subst ToReplay (raised_stays t.state t.played memories.cells)
@@ -209,18 +209,19 @@ goes_on start t later rest is =
 
 -- the whole replay goes on from the machine of the tale
 whole_is : (first t : Tale) (events later : List Event) (rest : List ℕ) → LeadsTo first events t
-    → Replay first (events ++ later) End rest ≡ with_past t (Replay (from_state t.state t.played) later End rest)
+    → played_events first (events ++ later) End rest
+    ≡ with_past t (played_events (from_state t.state t.played) later End rest)
 whole_is first t events later rest leads =
     let tale_is : (alone first events).tale ≡ t = ap (λ (r : Played). r.tale) leads in
     replays_split.goes_on first events later End rest (ap (λ (r : Played). r.ending) leads)
-    ∙ ap (λ u. Replay u later End rest) tale_is
+    ∙ ap (λ u. played_events u later End rest) tale_is
     ∙ replays_split.played_on t later End rest
 
 writes_on : WritesOn
 writes_on mode heard start first t events later rest leads is =
-    let r = Replay (from_state t.state t.played) later End rest in
+    let r = played_events (from_state t.state t.played) later End rest in
     let same = goes_on start t later rest is in
-    ap (Out mode heard) (whole_is first t events later rest leads)
+    ap (out_bytes mode heard) (whole_is first t events later rest leads)
     ∙ replays_split.out mode heard t r
     ∙ ap (λ bytes. lines_of mode t ++ bytes) (sym (same.out mode (told_notes t.notes heard)))
 

@@ -6,7 +6,7 @@ use Rattle.dev_io.proofs.Parts.{taken_on}
 use Rattle.gpu_capture.specs.declared.event.Stop.TheVariants.{End, NotCapture, BadRecord, TooLong, Truncated, ReadFault}
 use Rattle.gpu_capture.proofs.Steps.{split}
 use Rattle.gpu_taps.specs.Tally.{Reading}
-use Rattle.event_play.specs.Out.{Out}
+use Rattle.event_play.specs.Out.{out_bytes}
 use Rattle.event_play.specs.Playing.{AreAllNeeded, DueAtEvent, DueAtEnd, LacksBytes, SaysEnding, EndsPlay}
 use Rattle.event_play.specs.Replay.{Tale, Played}
 use Rattle.event_play.specs.RigState.{RigState}
@@ -64,7 +64,7 @@ module _ (mode : Mode) (by_bytes inner : List ℕ → Played) (front : List ℕ)
       | inr end ↦ inr (end_moved t was.start last taken was.due end)
     ];
     held = was.held;
-    prefix = λ rest. let p = was.prefix rest in (p.0, ap (Out mode heard) (move taken rest) ∙ p.1);
+    prefix = λ rest. let p = was.prefix rest in (p.0, ap (out_bytes mode heard) (move taken rest) ∙ p.1);
   }
 
   says_moved : (t last : Tale) (taken : List ℕ) (ending : Ending) → SaysEnding mode inner t last taken old now ending

@@ -35,8 +35,8 @@ use Rattle.gpu_snapshot.specs.Opened.{Opened, Captured as IsCapture, Restored, U
 use Rattle.gpu_snapshot.specs.Opened.{behind_head}
 use Rattle.gpu_snapshot.specs.Opened.{opened_state}
 use Rattle.gpu_snapshot.specs.Opening.{OpensCapture, OpensState, Refuses, AreNeeded, IsTooShort, opening_cost}
-use Rattle.gpu_snapshot.specs.PlayAny.{PlayAny, played_opened, EndsAny, PlaysAny, IsGood, HasNoBadWord}
-use Rattle.gpu_snapshot.specs.PlayAny.{FindsBadWord, unplayed, any_ending_of}
+use Rattle.gpu_snapshot.specs.PlayAny.{played_file, played_opened, EndsAny, PlaysAny, IsGood, HasNoBadWord}
+use Rattle.gpu_snapshot.specs.PlayAny.{FindsBadWord, any_ending_of}
 use Rattle.gpu_snapshot.specs.Restored.{machine_in, version_behind}
 use Rattle.gpu_snapshot.specs.declared.head.FileHead.{FileHead}
 use Rattle.gpu_snapshot.specs.declared.head.FileHead.TheVariants as head
@@ -47,8 +47,8 @@ use Rattle.gpu_snapshot.proofs.Profiles.{tall_twice}
 -- ---- by what is opened
 
 play_by : (first : Tale) (bytes : List ℕ) (found : Opened) → opened bytes ≡ found
-    → PlayAny first bytes ≡ played_opened first bytes found
-unfolding PlayAny
+    → played_file first bytes ≡ played_opened first bytes found
+unfolding played_file
 play_by first bytes found is = ap (played_opened first bytes) is
 
 short_play : (first : Tale) (bytes : List ℕ) (found : Opened) → IsTooShort found
@@ -59,7 +59,7 @@ short_play first bytes (Restored s place rest) short = absurd short
 short_play first bytes (Unknown place rest) short = absurd short
 short_play first bytes (BadWord place word) short = absurd short
 
-pub all_needed : (first : Tale) (taken : List ℕ) → AreNeeded taken → AreAllNeeded (PlayAny first) taken
+pub all_needed : (first : Tale) (taken : List ℕ) → AreNeeded taken → AreAllNeeded (played_file first) taken
 all_needed first taken needed part more is some =
     rw (play_by first part (opened part) refl) (short_play first part (opened part) (needed part more is some))
 
@@ -114,7 +114,7 @@ raised_twice s version = elim (cases_Bool (version == tall_version)) [
 
 pub capture_leads : (s : Machine) (version : ℕ) (front bytes : List ℕ) → 1 ≤ version
     → ((rest : List ℕ) → opened (front ++ rest) ≡ IsCapture version rest)
-    → PlayAny (from_state s 0) (front ++ bytes)
+    → played_file (from_state s 0) (front ++ bytes)
     ≡ played_behind (from_state (raised (from_state s 0) version).state 0) (tag_due version 8) bytes
 capture_leads s version front bytes known says =
     let first = from_state s 0 in
@@ -146,7 +146,8 @@ plays_capture mode s left mid held heard steps steps_mid now opened_rig rig read
     (streams mid held heard steps_mid) now rig ending =
     subst ByReader (ap (λ (r : ReaderState). r.progress) opens.reader_is)
     (subst ByPlayed opens.played (plays m for_all.state)) in
-    let moved = ends_moved mode (PlayAny first) (played_behind (from_state m 0) (tag_due opens.version 8)) opens.taken
+    let moved = ends_moved mode (played_file first)
+    (played_behind (from_state m 0) (tag_due opens.version 8)) opens.taken
     (λ bytes. capture_leads s opens.version opens.taken bytes opens.known.0 opens.says)
     left mid held heard (steps + 0) steps_mid now rig ending opens.bytes
     (all_needed first opens.taken opens.needed) (let c = opens.cost in omega (arith, c)) ends in
@@ -182,7 +183,7 @@ plays_state mode s left mid held heard steps steps_mid now opened_rig rig reader
     (streams mid held heard steps_mid) now rig ending =
     subst ByReader (ap (λ (r : ReaderState). r.progress) opens.reader_is)
     (subst ByPlayed (ap (λ (r : RigState). r.played) opens.rig_is) (plays m opens.stands)) in
-    let moved = ends_moved mode (PlayAny first) (played_behind (from_state m o.played) tag) opens.taken
+    let moved = ends_moved mode (played_file first) (played_behind (from_state m o.played) tag) opens.taken
     (λ bytes. play_by first (opens.taken ++ bytes) (Restored opens.snapshot opens.place bytes) (opens.says bytes))
     left mid held heard (steps + 64 * o.regs.height) steps_mid now rig ending opens.bytes
     (all_needed first opens.taken opens.needed) opens.cost ends in
@@ -217,7 +218,7 @@ module _ (mode : Mode) (s : Machine) (left mid held : Option (List ℕ)) (heard 
   now = streams mid held heard steps_mid
 
   unplayed_ends : (stop : Stop) (refuses : Refuses (intake left steps) (intake mid steps_mid) (fault.Stop stop))
-      → SaysEnding mode (PlayAny start) start start refuses.taken before now (Stopped 1 stop)
+      → SaysEnding mode (played_file start) start start refuses.taken before now (Stopped 1 stop)
       → IsGood (Stopped 1 stop) refuses.taken → PlaysAny mode start before now (Stopped 1 stop)
   unplayed_ends stop refuses says good = record {
     rig = first_rig;
@@ -272,11 +273,5 @@ module _ (mode : Mode) (s : Machine) (left mid held : Option (List ℕ)) (heard 
 
 -- none of the bytes taken is one too many, from whatever tale they are played
 pub finds_needed : (first : Tale) (before now : Streams) (byte word : ℕ) (finds : FindsBadWord before now byte word)
-    → AreAllNeeded (PlayAny first) finds.taken
+    → AreAllNeeded (played_file first) finds.taken
 finds_needed first _ _ byte word finds = all_needed first finds.taken finds.needed
-
--- nothing is played, whatever follows them
-pub finds_unplayed : (first : Tale) (before now : Streams) (byte word : ℕ) (finds : FindsBadWord before now byte word)
-    (rest : List ℕ) → PlayAny first (finds.taken ++ rest) ≡ unplayed first (BadRecord byte word) []
-finds_unplayed first _ _ byte word finds rest =
-    play_by first (finds.taken ++ rest) (BadWord byte word) (finds.says rest)

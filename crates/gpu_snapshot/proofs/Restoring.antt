@@ -2,7 +2,7 @@
 use Rattle.std.proofs.Common.{◌≡◌, ◌≤◌, ◌+◌, ◌*◌, ◌++◌, List, [], ℕ, Option, None, length, refl, ap, sym, ◌∙◌}
 use Rattle.std.proofs.Common.{arith, append_assoc, append-nil}
 use Rattle.dev_io.proofs.Parts.{taken_on}
-use Rattle.gp0_words.specs.Items.{Rest}
+use Rattle.gp0_words.specs.Items.{pending_behind}
 use Rattle.gp0_words.specs.Resuming.{list_of}
 use Rattle.gp0_words.specs.declared.pending.Pending.{Pending}
 use Rattle.gpu_capture.specs.Reader.{tag_due}
@@ -148,12 +148,13 @@ whole_rig first rig o m ram holds is =
     ∙ ap (λ played. with_gpu was o.run played) holds.played
 
 -- words of GP0 leave what is pending
-leaves : (first : RigState) (o : Outline) → HoldsOutline first o → Rest (list_of o.pending) ≡ o.pending
+leaves : (first : RigState) (o : Outline) → HoldsOutline first o → pending_behind (list_of o.pending) ≡ o.pending
 leaves first o holds =
     let pending_is : first.gpu.pending ≡ o.pending = ap (λ (k : Kept). k.pending) holds.gpu in
-    ap (λ p. Rest (list_of p)) (sym pending_is) ∙ ap (λ (k : Kept). k.pending) holds.stands ∙ pending_is
+    ap (λ p. pending_behind (list_of p)) (sym pending_is) ∙ ap (λ (k : Kept). k.pending) holds.stands ∙ pending_is
 
-pub stands_for : (rig : RigState) (s : Snapshot) → rig ≡ rig_in s → Rest (list_of s.outline.pending) ≡ s.outline.pending
+pub stands_for : (rig : RigState) (s : Snapshot) → rig ≡ rig_in s
+    → pending_behind (list_of s.outline.pending) ≡ s.outline.pending
     → Stands rig (machine_in s)
 stands_for rig s is left =
     let kept : Pending → Kept = λ p. record { parts = (rig_in s).gpu.parts; pending = p } in

@@ -6,8 +6,8 @@ use Rattle.gpu_capture.specs.declared.event.Event.{Event}
 use Rattle.gpu_capture.specs.declared.event.Stop.TheVariants.{End}
 use Rattle.gpu_taps.specs.Tally.{Reading}
 use Rattle.event_play.specs.AlikeStates.{StandAlike, PlayAlike}
-use Rattle.event_play.specs.Out.{lines_of, Out}
-use Rattle.event_play.specs.Replay.{Tale, Played, Replay, from_state}
+use Rattle.event_play.specs.Out.{lines_of, out_bytes}
+use Rattle.event_play.specs.Replay.{Tale, Played, played_events, from_state}
 use Rattle.event_play.specs.RigState.{RigState}
 use Rattle.event_play.specs.Splits.{alone}
 use Rattle.event_play.specs.Streams.{Streams}
@@ -17,7 +17,7 @@ use Rattle.event_play.specs.declared.ending.Mode.{Mode}
 use Rattle.capture_cut.specs.Cut.{Way, Plays, IsCut}
 use Rattle.capture_cut.specs.File.{cut_file}
 use Rattle.gpu_snapshot.specs.Laws.{snapshot_of, IsSpelledWhole}
-use Rattle.gpu_snapshot.specs.PlayAny.{PlayAny}
+use Rattle.gpu_snapshot.specs.PlayAny.{played_file}
 use Rattle.gpu_snapshot.specs.Restored.{version_behind}
 
 -- The machine of a tale is within the bounds, the version of its height allows the events behind it, and the file of
@@ -30,7 +30,7 @@ pub record IsCutWhole (t : Tale) (later : List Event) : Type 0 where
 -- how the file of a tale and of the events behind it is played, whatever bytes follow it; nothing of the tale that is
 -- handed in counts
 abbrev pub played_cut : (start t : Tale) → (later : List Event) → (rest : List ℕ) → Played
-played_cut start t later rest = PlayAny start (cut_file t later ++ rest)
+played_cut start t later rest = played_file start (cut_file t later ++ rest)
 
 -- they ended alike, on alike machines, after as many events
 pub record EndAlike (r q : Played) : Type 0 where
@@ -42,7 +42,7 @@ pub record EndAlike (r q : Played) : Type 0 where
 -- A cut file plays its events as the machine of the tale would go on with them.
 abbrev pub GoesOn : Type 0
 GoesOn = (start t : Tale) (later : List Event) (rest : List ℕ) → IsCutWhole t later
-    → PlayAlike (played_cut start t later rest) (Replay (from_state t.state t.played) later End rest)
+    → PlayAlike (played_cut start t later rest) (played_events (from_state t.state t.played) later End rest)
 
 -- these events have no fault, and lead to this tale
 abbrev pub LeadsTo : (first : Tale) → List Event → Tale → Type 0
@@ -53,13 +53,13 @@ LeadsTo first events t = alone first events ≡ record { tale = t; ending = Done
 abbrev pub WritesOn : Type 0
 WritesOn = (mode : Mode) (heard : List Reading) (start first t : Tale) (events later : List Event) (rest : List ℕ)
     → LeadsTo first events t → IsCutWhole t later
-    → Out mode heard (Replay first (events ++ later) End rest)
-    ≡ lines_of mode t ++ Out mode (told_notes t.notes heard) (played_cut start t later rest)
+    → out_bytes mode heard (played_events first (events ++ later) End rest)
+    ≡ lines_of mode t ++ out_bytes mode (told_notes t.notes heard) (played_cut start t later rest)
 
 -- The whole replay and the cut file end alike: with the same ending, on alike machines, after as many events.
 abbrev pub EndsOn : Type 0
 EndsOn = (start first t : Tale) (events later : List Event) (rest : List ℕ) → LeadsTo first events t
-    → IsCutWhole t later → EndAlike (played_cut start t later rest) (Replay first (events ++ later) End rest)
+    → IsCutWhole t later → EndAlike (played_cut start t later rest) (played_events first (events ++ later) End rest)
 
 -- the events that cutting a capture plays have no fault, and lead to the tale whose file it writes
 abbrev pub PlaysLead : Type 0

@@ -1,6 +1,6 @@
 -- What holds of all states that are opened (our own rule).
 use Rattle.std.specs.Prelude.{◌≡◌, ℕ, List, ◌++◌}
-use Rattle.gp0_words.specs.Items.{Rest}
+use Rattle.gp0_words.specs.Items.{pending_behind}
 use Rattle.gpu_capture.specs.Whole.{AreWords}
 use Rattle.event_play.specs.AlikeStates.{StandAlike}
 use Rattle.event_play.specs.Step.{Machine}
@@ -15,7 +15,7 @@ snapshot_of s played = record {
   outline = record {
     played = played;
     regs = s.gpu.parts.regs;
-    pending = Rest s.gpu.words;
+    pending = pending_behind s.gpu.words;
     load = s.gpu.parts.load;
     store = s.gpu.parts.store;
     run = s.running;

@@ -1,6 +1,7 @@
 -- The memories of a state, as they are taken from a source.
 use Rattle.std.specs.Prelude.{◌≡◌, ◌<◌, ℕ, ◌+◌, ◌*◌, List, ◌++◌, Option, length}
 use Rattle.dev_io.specs.Device.{prepended, IsAtEnd}
+use Rattle.px_num.specs.Height.{IsHeight}
 use Rattle.event_play.specs.RigState.{RigState}
 use Rattle.gpu_capture.specs.Whole.{AreWords}
 use Rattle.gpu_capture.specs.declared.event.Stop.TheVariants.{Truncated, ReadFault}
@@ -24,6 +25,12 @@ pub record TakesMemories (before now : Option (List ℕ)) (m ram : List ℕ) : T
   pub bytes : before ≡ prepended (bytes_of (cell_words m) ++ bytes_of ram) now
   pub cells : AreCells m
   pub words : AreWords ram
+
+-- video memory has the rows of the height, and main memory all its words
+pub record HasMemories (rig : RigState) : Type 0 where
+  pub height : IsHeight rig.gpu.parts.regs.height
+  pub rows : length rig.gpu.parts.m ≡ 1024 * rig.gpu.parts.regs.height
+  pub words : length rig.ram ≡ 524288
 
 -- why a word breaks off at a place
 abbrev pub SaysShort : SnapFault → (place : ℕ) → (now : Option (List ℕ)) → Type 0

@@ -7,7 +7,7 @@ use Rattle.gpu_capture.specs.declared.event.Stop.TheVariants.{NotCapture, Trunca
 use Rattle.event_play.specs.Causes.{MayReadFault, MayWriteFault, IsEnding}
 use Rattle.event_play.specs.Out.{ending_under}
 use Rattle.event_play.specs.Playing.{EndsPlay}
-use Rattle.event_play.specs.Replay.{Tale, Played, Play, played_behind, from_state, next_number}
+use Rattle.event_play.specs.Replay.{Tale, Played, played_capture, played_behind, from_state, next_number}
 use Rattle.event_play.specs.RigState.{RigState}
 use Rattle.event_play.specs.Streams.{Streams}
 use Rattle.event_play.specs.declared.ending.Ending.{Ending}
@@ -37,17 +37,17 @@ unplayed first stop rest =
     record { tale = first; ending = Stopped (next_number first.played) stop; rest = rest }
 
 abbrev pub played_opened : Tale → (bytes : List ℕ) → Opened → Played
-played_opened first bytes (Captured version rest) = Play first bytes
+played_opened first bytes (Captured version rest) = played_capture first bytes
 played_opened first bytes (Restored s place rest) = played_restored s place rest
 played_opened first bytes (Unknown place rest) = unplayed first (NotCapture place) rest
 played_opened first bytes (BreaksOff place) = unplayed first (Truncated place) []
 played_opened first bytes (BadWord place word) = unplayed first (BadRecord place word) []
 
 -- A capture is played from a tale; a snapshot from its own state, with the records behind it. Other bytes have no
--- event. Those in which a word of a state may not stand at its place end as if it were that of a record; `AnyUnder`
--- tells them apart.
-unfoldable pub PlayAny : Tale → List ℕ → Played
-PlayAny first bytes = played_opened first bytes (opened bytes)
+-- event. Those in which a word of a state may not stand at its place end as if it were that of a record;
+-- `any_ending_under` tells them apart.
+unfoldable pub played_file : Tale → List ℕ → Played
+played_file first bytes = played_opened first bytes (opened bytes)
 
 -- ---- endings
 
@@ -57,8 +57,8 @@ any_ending (BadWord place word) ending = any.BadSnapshot place word
 any_ending found ending = any.Played ending
 
 -- how playing bytes ends under a mode
-abbrev pub AnyUnder : Mode → Tale → List ℕ → AnyEnding
-AnyUnder mode first bytes = any_ending (opened bytes) (ending_under mode (PlayAny first bytes))
+abbrev pub any_ending_under : Mode → Tale → List ℕ → AnyEnding
+any_ending_under mode first bytes = any_ending (opened bytes) (ending_under mode (played_file first bytes))
 
 -- how it ends where a file is not opened
 abbrev pub any_ending_of : SnapFault → AnyEnding
@@ -98,7 +98,7 @@ spent before more = record before { steps = before.steps + more }
 pub record PlaysAny (mode : Mode) (first : Tale) (before now : Streams) (ending : Ending) : Type 0 where
   pub rig : RigState
   pub opening : ℕ
-  pub plays : EndsPlay mode (PlayAny first) (spent before opening) now rig ending
+  pub plays : EndsPlay mode (played_file first) (spent before opening) now rig ending
   pub good : IsGood ending plays.taken
   pub cost : (rest : List ℕ) → opening ≤ opening_cost (plays.taken ++ rest)
 

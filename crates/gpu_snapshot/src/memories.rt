@@ -1,10 +1,9 @@
 // Both memories of a state.
-ghost use Rattle.std.specs.Prelude.{◌≡◌, ◌≤◌, ◌<◌, ◌+◌, ◌*◌, ◌^◌, length, OnOk, IfErr};
-ghost use Rattle.px_num.specs.Height.{IsHeight};
+ghost use Rattle.std.specs.Prelude.{◌≡◌, ◌≤◌, ◌<◌, ◌+◌, ◌*◌, ◌^◌, OnOk, IfErr};
 ghost use Rattle.dev_io.specs.Device.{Rose};
 ghost use Rattle.event_play.specs.RigState.{RigState};
 ghost use Rattle.snapshot_words.specs.Taking.{IsReadFault};
-ghost use Rattle.gpu_snapshot.specs.Memories.{TakesMemories, LacksWords, with_memories};
+ghost use Rattle.gpu_snapshot.specs.Memories.{HasMemories, TakesMemories, LacksWords, with_memories};
 
 use crate::cells::read_cells;
 use crate::memory::read_words;
@@ -24,16 +23,13 @@ pub(crate) fn read_memories<S: Source, L: Ledger>(
     rig: &mut Rig,
     steps: &mut Steps<L>,
 ) -> Result<(), SnapFault>
-    requires height { IsHeight rig.old.gpu.parts.regs.height }
-    requires rows { length rig.old.gpu.parts.m ≡ 1024 * rig.old.gpu.parts.regs.height }
-    requires words { length rig.old.ram ≡ 524288 }
+    requires sizes { HasMemories rig.old }
     requires place { place.old < 2 ^ 20 }
     ensures takes { OnOk result (TakesMemories (S.left source.old) (S.left source.new)
         rig.new.gpu.parts.m rig.new.ram) }
     ensures place { OnOk result (place.new ≡ place.old + 4 * (512 * rig.old.gpu.parts.regs.height + 524288)) }
     ensures others { rig.new ≡ with_memories rig.old rig.new.gpu.parts.m rig.new.ram }
-    ensures rows { length rig.new.gpu.parts.m ≡ length rig.old.gpu.parts.m }
-    ensures words { length rig.new.ram ≡ 524288 }
+    ensures sizes { HasMemories rig.new }
     ensures fault { IfErr result (λ fault. LacksWords (S.left source.old) (S.left source.new) place.old
         (512 * rig.old.gpu.parts.regs.height + 524288) fault) }
     ensures cause { IfErr result (λ fault. IsReadFault fault → Rose (S.faults source.old) (S.faults source.new)) }

@@ -9,7 +9,7 @@ use Rattle.px_num.specs.declared.shape.Cell.{Cell}
 use Rattle.vram_store.specs.Vram.{at}
 use Rattle.vram_store.specs.Plot.{written_over, put_at, draw_at, plot}
 use Rattle.vram_store.proofs.Drawn.{plot_is, length-put_at}
-use Rattle.span_lanes.specs.Cells.{Cells}
+use Rattle.span_lanes.specs.Cells.{drawn_cells}
 use Rattle.prim_draw.specs.Apart.{AgreeBut, SameAt}
 
 -- ---- one cell of two states
@@ -64,7 +64,7 @@ IsLocal shade = (cell : Cell) (m now : List ℕ) → at m cell.x cell.y ≡ at n
 
 pub cells_same : (shade : Cell → List ℕ → Option ℕ) (mask k : ℕ) → IsLocal shade
     → (cells : List Cell) (m now : List ℕ) → SameAt k m now
-    → SameAt k (Cells shade mask cells m) (Cells shade mask cells now)
+    → SameAt k (drawn_cells shade mask cells m) (drawn_cells shade mask cells now)
 cells_same shade mask k local [] m now same = same
 cells_same shade mask k local (cell ∷ cells) m now same =
     cells_same shade mask k local cells _ _
@@ -135,7 +135,7 @@ EachCell among (cell ∷ cells) = among (1024 * cell.y + cell.x) × EachCell amo
 
 pub cells_but : (among : ℕ → Type 0) (shade : Cell → List ℕ → Option ℕ) (mask : ℕ) (cells : List Cell) (m : List ℕ)
     → EachCell among cells
-    → AgreeBut among m (Cells shade mask cells m)
+    → AgreeBut among m (drawn_cells shade mask cells m)
 cells_but among shade mask [] m each = but_same among m
 cells_but among shade mask (cell ∷ cells) m each =
     but_then among m _ _ (put_but among (1024 * cell.y + cell.x) _ m each.0)

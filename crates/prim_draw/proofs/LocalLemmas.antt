@@ -7,13 +7,13 @@ use Rattle.gp0_packets.specs.declared.packet.Packet.TheVariants as packet
 use Rattle.gp1_status.specs.Registers.{Registers}
 use Rattle.edge_walk.specs.Triangle.{Corners}
 use Rattle.line_walk.specs.Line.{Ends, is_near, len_of, point_of}
-use Rattle.span_lanes.specs.Cells.{Cells}
+use Rattle.span_lanes.specs.Cells.{drawn_cells}
 use Rattle.span_lanes.specs.Shade.{paint_pixel}
 use Rattle.span_lanes.specs.declared.span.Brush.{Brush}
 use Rattle.span_lanes.specs.declared.span.Paint.{Paint}
 use Rattle.span_lanes.specs.declared.span.Paint.TheVariants.{Flat, Shaded, TexturedTri, TexturedRow}
 use Rattle.prim_draw.specs.Boxes.{block_of, cells_of}
-use Rattle.prim_draw.specs.Draw.{Draw}
+use Rattle.prim_draw.specs.Draw.{drawn_packet}
 use Rattle.prim_draw.specs.Lines.{drawn_ends, drawn_point, drawn_points, is_in, cell_of as cell_at, placed_ends}
 use Rattle.prim_draw.specs.Parts.{polygon, polygon_style, rectangle_style}
 use Rattle.prim_draw.specs.Rectangles.{extent_at, drawn_all, drawn_rectangle, rectangle_box, tile_in, tile_paint}
@@ -116,8 +116,9 @@ point_same area brush p k m now same = by_test (is_in area p)
   where
     by_test : (b : Bool)
         → SameAt k
-        (cond b (Cells (pixel_at (record { paint = Flat p.color; brush = brush })) brush.mask (cell_at p ∷ []) m) m)
-        (cond b (Cells (pixel_at (record { paint = Flat p.color; brush = brush })) brush.mask
+        (cond b (drawn_cells (pixel_at (record { paint = Flat p.color; brush = brush })) brush.mask
+        (cell_at p ∷ []) m) m)
+        (cond b (drawn_cells (pixel_at (record { paint = Flat p.color; brush = brush })) brush.mask
         (cell_at p ∷ []) now) now)
     by_test true = cells_same (pixel_at (record { paint = Flat p.color; brush = brush })) brush.mask k
         (plain_local (Flat p.color) brush tt) (cell_at p ∷ []) m now same
@@ -142,7 +143,7 @@ ends_same r semi s k m now same = by_test (is_near s.first s.second)
 -- ---- packets
 
 pub drawing_is_local : DrawingIsLocal
-unfolding Draw
+unfolding drawn_packet
 drawing_is_local r (packet.Poly four a b c d shaded true semi raw clut page) k m now plain same = absurd plain
 drawing_is_local r (packet.Poly four a b c d shaded false semi raw clut page) k m now plain same =
     polygon_same r (polygon_style shaded false semi raw clut a) (polygon four a b c d) k m now refl same

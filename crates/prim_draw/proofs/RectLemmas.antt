@@ -3,8 +3,8 @@ use Rattle.std.proofs.Common.{◌≡◌, ◌≤◌, ◌<◌, ℕ, ◌+◌, ◌-�
 use Rattle.std.proofs.Common.{true, false, refl, sym, ap, ◌∙◌, arith, add-one}
 use Rattle.std.proofs.lemmas.Int.{ints}
 use Rattle.px_num.specs.declared.shape.Cell.{Cell}
-use Rattle.span_lanes.specs.Cells.{Cells, row_cells}
-use Rattle.span_lanes.specs.Pen.{Ink, ink_span, paint_row, with_row}
+use Rattle.span_lanes.specs.Cells.{drawn_cells, row_cells}
+use Rattle.span_lanes.specs.Pen.{Ink, Loaded, ink_row, ink_span, paint_row, with_row}
 use Rattle.span_lanes.specs.Shade.{paint_pixel, row_u, shade, shade_at, texture_of, HasInside, IsSpan, LiesIn}
 use Rattle.span_lanes.specs.declared.span.Paint.{Paint}
 use Rattle.span_lanes.specs.declared.span.Brush.{Brush}
@@ -33,8 +33,8 @@ along tile (Some texture) brush a row i x y m le = rw (row_u-more tile.u tile.fl
 -- a row that is drawn as a span is its cells
 pub row_pixels : (tile : Tile) (e : Extent) (b : Block) (y : ℕ) (m : List ℕ) → e.left ≤ℤ pos b.x
     → unsigned_abs (pos b.x -ℤ e.left) + b.w ≤ 1023
-    → Cells (shade_at (tile_span tile e b y)) tile.brush.mask (row_cells b.x y b.w) m
-    ≡ Cells (tile_pixel tile e) tile.brush.mask (row_cells b.x y b.w) m
+    → drawn_cells (shade_at (tile_span tile e b y)) tile.brush.mask (row_cells b.x y b.w) m
+    ≡ drawn_cells (tile_pixel tile e) tile.brush.mask (row_cells b.x y b.w) m
 unfolding shade tile_paint
 row_pixels tile e b y m left right =
     row_same (shade_at (tile_span tile e b y)) (tile_pixel tile e) tile.brush.mask b.x y b.w m
@@ -47,14 +47,14 @@ row_pixels tile e b y m left right =
     rw (back, on) (along tile tile.texture tile.brush column row i (b.x + i) y now (omega (arith, lt, right))))
 
 pub row_drawn : (pixel : Cell → List ℕ → Option ℕ) (mask x y w j : ℕ) (first before after : List ℕ)
-    → before ≡ Cells pixel mask (cells_in_rows x y w j) first
-    → after ≡ Cells pixel mask (row_cells x (y + j) w) before
-    → after ≡ Cells pixel mask (cells_in_rows x y w (j + 1)) first
+    → before ≡ drawn_cells pixel mask (cells_in_rows x y w j) first
+    → after ≡ drawn_cells pixel mask (row_cells x (y + j) w) before
+    → after ≡ drawn_cells pixel mask (cells_in_rows x y w (j + 1)) first
 row_drawn pixel mask x y w j first before after so_far here =
     here
-    ∙ ap (Cells pixel mask (row_cells x (y + j) w)) so_far
+    ∙ ap (drawn_cells pixel mask (row_cells x (y + j) w)) so_far
     ∙ sym (cells_append pixel mask (cells_in_rows x y w j) (row_cells x (y + j) w) first)
-    ∙ ap (λ (k : ℕ). Cells pixel mask (cells_in_rows x y w k) first) (sym (add-one j))
+    ∙ ap (λ (k : ℕ). drawn_cells pixel mask (cells_in_rows x y w k) first) (sym (add-one j))
 
 -- ---- one pen for all rows
 
@@ -68,17 +68,17 @@ other_row : (tile : Tile) (texture : Option Texture) (column row next : ℕ)
 other_row tile None column row next = refl
 other_row tile (Some texture) column row next = refl
 
-next_ink : (tile : Tile) (column row next : ℕ) → with_row (row_u tile.v tile.flip_y next) (tile_ink tile column row)
+next_ink : (tile : Tile) (column row next : ℕ) → ink_row (row_u tile.v tile.flip_y next) (tile_ink tile column row)
     ≡ tile_ink tile column next
 unfolding tile_paint
 next_ink tile column row next = ap (λ (paint : Paint). record { paint = paint; brush = tile.brush })
     (other_row tile tile.texture column row next)
 
 -- a pen that took a row
-pub taken : (tile : Tile) (pen now : Ink) (column row v : ℕ) → (old : ℕ) × (pen ≡ tile_ink tile column old)
-    → now ≡ with_row v pen → v ≡ row_u tile.v tile.flip_y row → now ≡ tile_ink tile column row
-taken tile pen now column row v before is v_is = is ∙ ap (with_row v) before.1
-    ∙ ap (λ k. with_row k (tile_ink tile column before.0)) v_is ∙ next_ink tile column before.0 row
+pub taken : (tile : Tile) (pen now : Loaded) (column row v : ℕ) → (old : ℕ) × (pen.ink ≡ tile_ink tile column old)
+    → now ≡ with_row v pen → v ≡ row_u tile.v tile.flip_y row → now.ink ≡ tile_ink tile column row
+taken tile pen now column row v before is v_is = ap (λ k. k.ink) is ∙ ap (ink_row v) before.1
+    ∙ ap (λ k. ink_row k (tile_ink tile column before.0)) v_is ∙ next_ink tile column before.0 row
 
 -- the span of row j of a block
 pub span_is : (tile : Tile) (e : Extent) (b : Block) (j column rows : ℕ) → column ≡ unsigned_abs (pos b.x -ℤ e.left)

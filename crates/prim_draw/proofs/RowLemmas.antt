@@ -10,7 +10,7 @@ use Rattle.std.proofs.lemmas.List.FromFn.{length-map-range_with_len}
 use Rattle.px_num.specs.declared.shape.Cell.{Cell}
 use Rattle.edge_walk.specs.Row.{IsRowSpan, IsInBox}
 use Rattle.edge_walk.specs.Triangle.{Corners, is_inside}
-use Rattle.span_lanes.specs.Cells.{Cells, cell_in_row, row_cells}
+use Rattle.span_lanes.specs.Cells.{drawn_cells, cell_in_row, row_cells}
 use Rattle.span_lanes.specs.Cost.{span_cost}
 use Rattle.span_lanes.specs.Shade.{paint_pixel, shade, shade_at}
 use Rattle.span_lanes.proofs.CellsLemmas.{cells_append, row_more, row_none, row_same}
@@ -146,14 +146,14 @@ rows_more test x y w j = rw (add-one j) (filter-append test (cells_in_rows x y w
 
 pub row_drawn : (pixel : Cell → List ℕ → Option ℕ) (mask : ℕ) (test : Cell → Bool) (x y w j : ℕ)
     (first before after : List ℕ)
-    → before ≡ Cells pixel mask (filter test (cells_in_rows x y w j)) first
-    → after ≡ Cells pixel mask (filter test (row_cells x (y + j) w)) before
-    → after ≡ Cells pixel mask (filter test (cells_in_rows x y w (j + 1))) first
+    → before ≡ drawn_cells pixel mask (filter test (cells_in_rows x y w j)) first
+    → after ≡ drawn_cells pixel mask (filter test (row_cells x (y + j) w)) before
+    → after ≡ drawn_cells pixel mask (filter test (cells_in_rows x y w (j + 1))) first
 row_drawn pixel mask test x y w j first before after so_far here =
     here
-    ∙ ap (Cells pixel mask (filter test (row_cells x (y + j) w))) so_far
+    ∙ ap (drawn_cells pixel mask (filter test (row_cells x (y + j) w))) so_far
     ∙ sym (cells_append pixel mask (filter test (cells_in_rows x y w j)) (filter test (row_cells x (y + j) w)) first)
-    ∙ ap (λ (cells : List Cell). Cells pixel mask cells first) (sym (rows_more test x y w j))
+    ∙ ap (λ (cells : List Cell). drawn_cells pixel mask cells first) (sym (rows_more test x y w j))
 
 -- cells that stand side by side cost what their span does
 pub span_of_row : (coat : Coat) (x y n : ℕ) → 1 ≤ n
@@ -177,9 +177,9 @@ span_of_row coat x y (suc n) some =
 
 -- a span of such a paint is its cells
 pub span_pixels : (coat : Coat) (x y n : ℕ) (m : List ℕ) → IsAlike coat.paint
-    → Cells (shade_at (record { x = x; y = y; n = n; paint = coat.paint; brush = coat.brush })) coat.brush.mask
+    → drawn_cells (shade_at (record { x = x; y = y; n = n; paint = coat.paint; brush = coat.brush })) coat.brush.mask
     (row_cells x y n) m
-    ≡ Cells (pixel_at coat) coat.brush.mask (row_cells x y n) m
+    ≡ drawn_cells (pixel_at coat) coat.brush.mask (row_cells x y n) m
 unfolding shade
 span_pixels coat x y n m h =
     row_same (shade_at (record { x = x; y = y; n = n; paint = coat.paint; brush = coat.brush }))

@@ -13,12 +13,12 @@ use Rattle.edge_walk.specs.Extent.{bounding_box}
 use Rattle.edge_walk.specs.Triangle.{Corners, is_drawn}
 use Rattle.line_walk.specs.Line.{Ends, is_near, len_of, point_of, IsBetweenEnds}
 use Rattle.line_walk.proofs.RiseLemmas.{point_of-between}
-use Rattle.span_lanes.specs.Cells.{Cells, row_cells, cell_in_row}
+use Rattle.span_lanes.specs.Cells.{drawn_cells, row_cells, cell_in_row}
 use Rattle.span_lanes.specs.declared.span.Brush.{Brush}
 use Rattle.span_lanes.specs.declared.span.Paint.TheVariants.{Flat}
 use Rattle.prim_draw.specs.Areas.{area_of, hull, joined, polygon_area}
 use Rattle.prim_draw.specs.Boxes.{block_of, cells_in_rows, cells_of, clipped, overlap, some_box}
-use Rattle.prim_draw.specs.Draw.{Draw}
+use Rattle.prim_draw.specs.Draw.{drawn_packet}
 use Rattle.prim_draw.specs.Lines.{drawn_ends, drawn_point, drawn_points, ends_box, is_in, cell_of, placed_ends}
 use Rattle.prim_draw.specs.Lines.{segment_box}
 use Rattle.prim_draw.specs.Parts.{polygon, polygon_style, rectangle_style}
@@ -264,7 +264,8 @@ point_stays r brush s p m amid = by_test (is_in (drawing_area r) p) refl
   where
     by_test : (b : Bool) → is_in (drawing_area r) p ≡ b
         → AgreeOutside (clipped r (ends_box s)) m
-        (cond b (Cells (pixel_at (record { paint = Flat p.color; brush = brush })) brush.mask (cell_of p ∷ []) m) m)
+        (cond b (drawn_cells (pixel_at (record { paint = Flat p.color; brush = brush })) brush.mask
+        (cell_of p ∷ []) m) m)
     by_test true e = cells_but (IsIn (clipped r (ends_box s)))
         (pixel_at (record { paint = Flat p.color; brush = brush })) brush.mask (cell_of p ∷ []) m
         (in_segment r s p amid e, tt)
@@ -286,7 +287,7 @@ ends_stays r semi s m = by_test (is_near s.first s.second)
 -- ---- packets
 
 pub drawing_stays : DrawingStays
-unfolding Draw area_of
+unfolding drawn_packet area_of
 drawing_stays r (packet.Poly four a b c d shaded textured semi raw clut page) m =
     polygon_stays r (polygon_style shaded textured semi raw clut a) (polygon four a b c d) m
 drawing_stays r (packet.Segment a b semi) m = ends_stays r semi (placed_ends r a b) m

@@ -9,18 +9,18 @@ use Rattle.prim_draw.specs.Rectangles.{drawn_rectangle, extent_at, tile_in}
 use Rattle.prim_draw.specs.Triangles.{drawn_polygon}
 
 -- a polygon, a line or a rectangle; all others draw nothing. The page attribute stands in the registers already.
-unfoldable pub Draw : Registers → Packet → List ℕ → List ℕ
-Draw r (packet.Poly four a b c d shaded textured semi raw clut page) m =
+unfoldable pub drawn_packet : Registers → Packet → List ℕ → List ℕ
+drawn_packet r (packet.Poly four a b c d shaded textured semi raw clut page) m =
     drawn_polygon r (polygon_style shaded textured semi raw clut a) (polygon four a b c d) m
-Draw r (packet.Segment a b semi) m = drawn_ends r semi (placed_ends r a b) m
-Draw r (packet.Rect x y w h color textured semi raw u v clut) m =
+drawn_packet r (packet.Segment a b semi) m = drawn_ends r semi (placed_ends r a b) m
+drawn_packet r (packet.Rect x y w h color textured semi raw u v clut) m =
     drawn_rectangle r (tile_in r (rectangle_style color textured semi raw clut) u v) (extent_at r x y w h) m
-Draw r (packet.Fill color x y w h) m = m
-Draw r (packet.Copy from to w h) m = m
-Draw r (packet.Load x y w h) m = m
-Draw r (packet.Store x y w h) m = m
-Draw r (packet.Pixels word) m = m
-Draw r (packet.Env index value) m = m
-Draw r packet.Irq m = m
-Draw r packet.Nop m = m
-Draw r packet.Finish m = m
+drawn_packet r (packet.Fill color x y w h) m = m
+drawn_packet r (packet.Copy from to w h) m = m
+drawn_packet r (packet.Load x y w h) m = m
+drawn_packet r (packet.Store x y w h) m = m
+drawn_packet r (packet.Pixels word) m = m
+drawn_packet r (packet.Env index value) m = m
+drawn_packet r packet.Irq m = m
+drawn_packet r packet.Nop m = m
+drawn_packet r packet.Finish m = m

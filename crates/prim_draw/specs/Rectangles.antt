@@ -8,7 +8,7 @@ use Rattle.span_lanes.specs.declared.span.Paint.{Paint}
 use Rattle.span_lanes.specs.declared.span.Paint.TheVariants.{Flat, TexturedRow}
 use Rattle.span_lanes.specs.declared.span.Texture.{Texture}
 use Rattle.span_lanes.specs.Shade.{HasInside, IsTexture, paint_pixel, row_u}
-use Rattle.span_lanes.specs.Cells.{Cells}
+use Rattle.span_lanes.specs.Cells.{drawn_cells}
 use Rattle.prim_draw.specs.Boxes.{block_of, cells_of, clipped}
 use Rattle.prim_draw.specs.Settings.{brush_in, offset_x, offset_y, texture_in}
 use Rattle.prim_draw.specs.declared.boxes.Block.{Block}
@@ -79,7 +79,7 @@ tile_pixel tile e cell m = paint_pixel (tile_paint tile (column_of e cell) (row_
 
 -- cells of a rectangle, one after another
 abbrev pub tiled_cells : Tile → Extent → List Cell → List ℕ → List ℕ
-tiled_cells tile e cells m = Cells (tile_pixel tile e) tile.brush.mask cells m
+tiled_cells tile e cells m = drawn_cells (tile_pixel tile e) tile.brush.mask cells m
 
 -- a block of cells of a rectangle that has at most 1023 columns and as many rows
 pub record IsPartOf (e : Extent) (b : Block) : Type 0 where

@@ -4,12 +4,12 @@ use Rattle.gp0_packets.specs.declared.packet.Packet.{Packet}
 use Rattle.gp0_packets.specs.declared.packet.Packet.TheVariants as packet
 use Rattle.gp1_status.specs.Registers.{Registers}
 use Rattle.prim_draw.specs.Areas.{area_of}
-use Rattle.prim_draw.specs.Draw.{Draw}
+use Rattle.prim_draw.specs.Draw.{drawn_packet}
 use Rattle.prim_draw.specs.Apart.{AgreeOutside, SameAt}
 
 -- no cell outside of a packet's area changes; where there is none, none at all
 abbrev pub DrawingStays : Type 0
-DrawingStays = (r : Registers) (p : Packet) (m : List ℕ) → AgreeOutside (area_of r p) m (Draw r p m)
+DrawingStays = (r : Registers) (p : Packet) (m : List ℕ) → AgreeOutside (area_of r p) m (drawn_packet r p m)
 
 abbrev pub IsPlain : Bool → Type 0
 IsPlain true = ⊥
@@ -24,4 +24,4 @@ IsUntextured other = Unit {0}
 -- where two states agree at a cell, they do so after the same drawing without texture
 abbrev pub DrawingIsLocal : Type 0
 DrawingIsLocal = (r : Registers) (p : Packet) (k : ℕ) (m now : List ℕ) → IsUntextured p → SameAt k m now
-    → SameAt k (Draw r p m) (Draw r p now)
+    → SameAt k (drawn_packet r p m) (drawn_packet r p now)

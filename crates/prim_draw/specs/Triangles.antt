@@ -12,7 +12,7 @@ use Rattle.span_lanes.specs.declared.span.Brush.{Brush}
 use Rattle.span_lanes.specs.declared.span.Paint.{Paint}
 use Rattle.span_lanes.specs.declared.span.Paint.TheVariants.{Flat, Shaded, TexturedTri}
 use Rattle.span_lanes.specs.Shade.{AreInside, HasInside, IsTexture, paint_pixel, texture_of}
-use Rattle.span_lanes.specs.Cells.{Cells, row_cells}
+use Rattle.span_lanes.specs.Cells.{drawn_cells, row_cells}
 use Rattle.prim_draw.specs.Boxes.{block_of, cells_of, clipped}
 use Rattle.prim_draw.specs.Settings.{brush_in, placed, texture_in}
 use Rattle.prim_draw.specs.declared.boxes.Block.{Block}
@@ -27,7 +27,7 @@ pixel_at coat cell m = paint_pixel coat.paint coat.brush cell.x cell.y 0 m
 
 -- cells with such a coat, one after another
 abbrev pub painted_cells : Coat → List Cell → List ℕ → List ℕ
-painted_cells coat cells m = Cells (pixel_at coat) coat.brush.mask cells m
+painted_cells coat cells m = drawn_cells (pixel_at coat) coat.brush.mask cells m
 
 -- the triangle draws this cell
 abbrev pub draws : Corners → Cell → Bool

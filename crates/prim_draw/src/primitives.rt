@@ -2,7 +2,7 @@
 ghost use Rattle.std.specs.Prelude.{◌≡◌, ◌≤◌, ◌+◌, ◌*◌, length};
 ghost use Rattle.gp0_packets.specs.Ranges.{IsInRange, IsPolyInRange};
 ghost use Rattle.prim_draw.specs.Costs.{draw_cost, polygon_cost};
-ghost use Rattle.prim_draw.specs.Draw.{Draw};
+ghost use Rattle.prim_draw.specs.Draw.{drawn_packet};
 ghost use Rattle.prim_draw.specs.Triangles.{drawn_polygon};
 
 use crate::lines::{draw_segment, placed_ends};
@@ -45,11 +45,11 @@ fn draw_polygon<L: Ledger>(
 /// before.
 ///
 /// Video memory and the registers must have the same height, and the packet be in the ranges of `decode`.
-#[tactic(auto, unfolding(crate::specs::Draw::Draw, crate::specs::Costs::draw_cost))]
+#[tactic(auto, unfolding(crate::specs::Draw::drawn_packet, crate::specs::Costs::draw_cost))]
 pub fn draw<L: Ledger>(vram: &mut Vram, regs: &Regs, packet: &Packet, steps: &mut Steps<L>)
     requires range { IsInRange regs.now.height packet.now }
     requires rows { length vram.old ≡ 1024 * regs.now.height }
-    ensures cells { vram.new ≡ Draw regs.now packet.now vram.old }
+    ensures cells { vram.new ≡ drawn_packet regs.now packet.now vram.old }
     ensures long { length vram.new ≡ length vram.old }
     ensures cost { steps.new ≤ steps.old + draw_cost regs.now packet.now }
 {

@@ -5,6 +5,7 @@ ghost use Rattle.vram_store.specs.Vram.{height_of};
 ghost use Rattle.gp0_packets.specs.Ranges.{IsPlace};
 ghost use Rattle.edge_walk.specs.Extent.{bounding_box};
 ghost use Rattle.edge_walk.specs.Triangle.{is_drawn};
+ghost use Rattle.span_lanes.specs.Pen.{IsFresh};
 ghost use Rattle.span_lanes.specs.Shade.{texture_of, IsTexture};
 ghost use Rattle.prim_draw.specs.Boxes.{IsOnScreen, LiesIn, block_of, cells_of};
 ghost use Rattle.prim_draw.specs.Costs.{side_by_side, triangle_rows_cost, triangle_cost};
@@ -89,13 +90,15 @@ fn draw_run<L: Ledger>(
     y: u16,
     steps: &mut Steps<L>,
 )
-    requires coat { IsCoat (height_of vram.old) (coat_of_ink pen.old) }
+    requires coat { IsCoat (height_of vram.old) (coat_of_ink pen.old.ink) }
     requires row { y < height_of vram.old }
-    requires run { IfSome found (CanDraw pen.old.paint y) }
-    ensures cells { vram.new ≡ painted_cells (coat_of_ink pen.old) (run_cells found y) vram.old }
+    requires run { IfSome found (CanDraw pen.old.ink.paint y) }
+    requires fresh { IsFresh pen.old vram.old }
+    ensures cells { vram.new ≡ painted_cells (coat_of_ink pen.old.ink) (run_cells found y) vram.old }
     ensures long { length vram.new ≡ length vram.old }
-    ensures pen { pen.new ≡ pen.old }
-    ensures cost { steps.new ≤ steps.old + side_by_side (coat_of_ink pen.old) (run_cells found y) }
+    ensures ink { pen.new.ink ≡ pen.old.ink }
+    ensures fresh { IsFresh pen.new vram.new }
+    ensures cost { steps.new ≤ steps.old + side_by_side (coat_of_ink pen.old.ink) (run_cells found y) }
 {
     if let Some(run) = found {
         pen.draw(vram, run.x, y, run.n, steps);

@@ -13,11 +13,10 @@ use Rattle.gpu_capture.specs.declared.event.Stop.TheVariants.{ReadFault}
 use Rattle.gpu_taps.specs.Tally.{Reading}
 use Rattle.event_play.specs.Ends.{IsNotEnd}
 use Rattle.event_play.specs.Playing.{whole}
-use Rattle.event_play.specs.Replay.{Tale, Played, Replay, after_event, told_on, go_on, next_number, raised}
+use Rattle.event_play.specs.Replay.{Tale, Played, played_events, after_event, told_on, go_on, next_number, raised}
 use Rattle.event_play.specs.RigState.{RigState}
-use Rattle.event_play.specs.Step.{Step, StepCost, StepBoxCost}
+use Rattle.event_play.specs.Step.{event_step, event_cost, event_box_cost}
 use Rattle.event_play.specs.Streams.{Streams}
-use Rattle.event_play.specs.declared.ending.Ending.{Ending}
 use Rattle.event_play.specs.declared.ending.Ending.TheVariants as play
 use Rattle.event_play.specs.declared.fault.EventFault.{EventFault}
 use Rattle.capture_flat.specs.Out.{spell}
@@ -91,9 +90,9 @@ longer t xs ys =
 -- a captured list of events that begins with those that were played
 module _ (n : ℕ) (way : Way) (heard heard_now : List Reading) (rig : RigState)
     (plays : Plays (raised first way.version) way.played way.tale heard heard_now rig) where
-  replayed_first : Replay (raised first way.version) way.played End [] ≡ whole way.tale []
+  replayed_first : played_events (raised first way.version) way.played End [] ≡ whole way.tale []
   replayed_first =
-      ap (λ (events : List Event). Replay (raised first way.version) events End []) (sym (append-nil way.played))
+      ap (λ (events : List Event). played_events (raised first way.version) events End []) (sym (append-nil way.played))
       ∙ plays.replays [] End []
 
   -- n of them were played
@@ -107,8 +106,8 @@ module _ (n : ℕ) (way : Way) (heard heard_now : List Reading) (rig : RigState)
 
     first_played : play_first n captured ≡ whole way.tale []
     first_played =
-        ap (λ (events : List Event). Replay (raised first captured.version) events End []) taken_first
-        ∙ ap (λ (v : ℕ). Replay (raised first v) way.played End []) same ∙ replayed_first
+        ap (λ (events : List Event). played_events (raised first captured.version) events End []) taken_first
+        ∙ ap (λ (v : ℕ). played_events (raised first v) way.played End []) same ∙ replayed_first
 
     file_is : cut_of n captured ≡ cut_file way.tale more
     file_is =
@@ -116,24 +115,24 @@ module _ (n : ℕ) (way : Way) (heard heard_now : List Reading) (rig : RigState)
         ∙ ap (cut_file way.tale) dropped_first
 
   -- fewer were played, and the next has a fault
-  module _ (event : Event) (fault : EventFault) (is : Step way.tale.state (next_number way.tale.played) event
+  module _ (event : Event) (fault : EventFault) (is : event_step way.tale.state (next_number way.tale.played) event
       ≡ Err fault) where
     faults_first : (more : List Event)
-        → (Replay (raised first way.version) (way.played ++ event ∷ more) End []).ending
+        → (played_events (raised first way.version) (way.played ++ event ∷ more) End []).ending
         ≡ play.Faulted (next_number way.tale.played) fault
     faults_first more =
         let after : after_event way.tale event ≡ Err fault =
-        ap (told_on way.tale (StepCost way.tale.state event) (StepBoxCost way.tale.state event)) is
+        ap (told_on way.tale (event_cost way.tale.state event) (event_box_cost way.tale.state event)) is
         in
         ap (λ (r : Played). r.ending) (plays.replays (event ∷ more) End []
-        ∙ ap (λ r. go_on r (λ next. Replay next more End [])
+        ∙ ap (λ r. go_on r (λ next. played_events next more End [])
         (λ fault. record { tale = way.tale; ending = play.Faulted (next_number way.tale.played) fault; rest = [] }))
         after)
 
 -- the file of a capture that was cut goes on where it was cut
 cut_goes_on : (n : ℕ) (way : Way) (was now : Streams) (heard heard_now : List Reading) (rig : RigState)
     → Plays (raised first way.version) way.played way.tale heard heard_now rig → IsCut n way was now
-    → GoesOnAs way.tale (λ rest. Replay (raised first way.version) (events_of way) End rest)
+    → GoesOnAs way.tale (λ rest. played_events (raised first way.version) (events_of way) End rest)
     (λ rest. play_file (cut_file way.tale way.later ++ rest))
 cut_goes_on n way was now heard heard_now rig plays is =
     let leads = cut_files.leads (raised first way.version) way.tale way.played heard heard_now rig plays in
@@ -233,16 +232,16 @@ module _ (n : ℕ) (small : n ≤ 4294967295) (heard heard_now : List Reading) (
       let counts = ends.plays.counts in
       let less = ends.says.few in
       let number_is : number ≡ next_number way.tale.played = omega (arith, numbered, counts, less, small) in
-      let step : Step way.tale.state (next_number way.tale.played) event ≡ Err fault =
-      ap (λ n. Step way.tale.state n event) (sym number_is) ∙ ends.says.fault_is
+      let step : event_step way.tale.state (next_number way.tale.played) event ≡ Err fault =
+      ap (λ n. event_step way.tale.state n event) (sym number_is) ∙ ends.says.fault_is
       in
       let events : take n (capture bytes).events ≡ way.played ++ event ∷ beyond.0 =
       ap (λ (c : Captured). take n c.events) captured ∙ beyond.1
       in
       let version : (capture bytes).version ≡ way.version = ap (λ (c : Captured). c.version) captured ∙ said.2 in
       let ending : (play_first n (capture bytes)).ending ≡ play.Faulted (next_number way.tale.played) fault =
-      ap (λ (xs : List Event). (Replay (raised first (capture bytes).version) xs End []).ending) events
-      ∙ ap (λ (v : ℕ). (Replay (raised first v) (way.played ++ event ∷ beyond.0) End []).ending) version
+      ap (λ (xs : List Event). (played_events (raised first (capture bytes).version) xs End []).ending) events
+      ∙ ap (λ (v : ℕ). (played_events (raised first v) (way.played ++ event ∷ beyond.0) End []).ending) version
       ∙ faults_first n way heard heard_now rig ends.plays event fault step beyond.0
       in
       refused (λ cuttable. absurd (cc (ending, cuttable.fine)))

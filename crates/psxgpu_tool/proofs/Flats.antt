@@ -13,14 +13,15 @@ use Rattle.gpu_capture.specs.Capture.{head_of}
 use Rattle.gpu_taps.specs.Tally.{Reading}
 use Rattle.event_play.specs.Ends.{IsNotEnd}
 use Rattle.event_play.specs.Playing.{whole}
-use Rattle.event_play.specs.Replay.{Tale, Played, Replay, after_event, told_on, go_on, ending_of, next_number, raised}
+use Rattle.event_play.specs.Replay.{Tale, Played, played_events, after_event, told_on, go_on, ending_of, next_number}
+use Rattle.event_play.specs.Replay.{raised}
 use Rattle.event_play.specs.RigState.{RigState}
-use Rattle.event_play.specs.Step.{Machine, Step, StepCost, StepBoxCost, stepped}
+use Rattle.event_play.specs.Step.{Machine, event_step, event_cost, event_box_cost, stepped}
 use Rattle.event_play.specs.Work.{work_of}
 use Rattle.event_play.specs.declared.ending.Ending.TheVariants as play
 use Rattle.event_play.specs.declared.fault.EventFault.{EventFault}
 use Rattle.event_play.specs.declared.work.Work.{Work}
-use Rattle.capture_flat.specs.Flat.{Flat, FlatAll, flat_asked, then_flat}
+use Rattle.capture_flat.specs.Flat.{flat_events, flat_replay, flat_asked, then_flat}
 use Rattle.capture_flat.specs.Out.{spell, flat_file, flat_version}
 use Rattle.capture_flat.specs.Passing.{Way, Follows, EndsFlat, IsFlatCapture, MayReadFault, MayWriteFault}
 use Rattle.capture_flat.specs.declared.ending.FlatEnding.{FlatEnding}
@@ -79,9 +80,9 @@ asks_none : (s : Machine) (number : ℕ) (asked : Result Work EventFault) (fault
 asks_none s number (Ok asked) fault is = absurd cc
 asks_none s number (Err other) fault is = refl
 
-fault_none : (s : Machine) (number : ℕ) (event : Event) (fault : EventFault) → Step s number event ≡ Err fault
-    → Flat s event ≡ []
-unfolding Step Flat
+fault_none : (s : Machine) (number : ℕ) (event : Event) (fault : EventFault) → event_step s number event ≡ Err fault
+    → flat_events s event ≡ []
+unfolding event_step flat_events
 fault_none s number event fault is = asks_none s number (work_of s.ram s.running event) fault is
 
 -- more events make no shorter file
@@ -97,7 +98,7 @@ longer version xs ys =
 
 -- the file of events that follow, by the flat events of both
 file_on : (start tale : Tale) (version : ℕ) (events flat more : List Event) → Follows start events tale flat
-    → flat_file start version (events ++ more) ≡ written (flat_version version) (flat ++ FlatAll tale more)
+    → flat_file start version (events ++ more) ≡ written (flat_version version) (flat ++ flat_replay tale more)
 file_on start tale version events flat more follows = ap (written (flat_version version)) (follows.flats more)
 
 file_of : (start tale : Tale) (version : ℕ) (events flat : List Event) → Follows start events tale flat
@@ -125,12 +126,13 @@ fits_as bytes status fits is = record { long = λ long. absurd (omega (arith, fi
 -- what is said of bytes by what their capture is
 by_capture : (bytes : List ℕ) (captured : Captured) (status : ℕ) → capture bytes ≡ captured
     → length (flat_of captured) ≤ limit
-    → status_of (Replay (raised first captured.version) captured.events captured.ending captured.rest).ending
+    → status_of (played_events (raised first captured.version) captured.events captured.ending captured.rest).ending
     ≡ status
     → EndsAsFlat bytes status
 by_capture bytes captured status is fits ends =
     fits_as bytes status (subst (λ (c : Captured). length (flat_of c) ≤ limit) (sym is) fits)
-    (subst (λ (c : Captured). status_of (Replay (raised first c.version) c.events c.ending c.rest).ending ≡ status)
+    (subst (λ (c : Captured). status_of (played_events (raised first c.version) c.events c.ending c.rest).ending
+    ≡ status)
     (sym is) ends)
 
 -- a stop behind the events of a way
@@ -140,8 +142,8 @@ by_stop : (bytes rest : List ℕ) (way : Way) (number : ℕ) (stop : Stop)
     → length (flat_file (raised first way.version) way.version way.events) ≤ limit
     → EndsAsFlat bytes (flat_status (Stopped number stop))
 by_stop bytes rest way number stop follows is other fits =
-    let replay : Replay (raised first way.version) way.events stop rest ≡ Replay way.tale [] stop rest =
-    ap (λ events. Replay (raised first way.version) events stop rest) (sym (append-nil way.events))
+    let replay : played_events (raised first way.version) way.events stop rest ≡ played_events way.tale [] stop rest =
+    ap (λ events. played_events (raised first way.version) events stop rest) (sym (append-nil way.events))
     ∙ follows.replays [] stop rest
     in
     let same : flat_status (Stopped (next_number way.tale.played) stop)
@@ -183,10 +185,10 @@ module _ (heard heard_now : List Reading) (before now : Outside) (rig : RigState
         held = ends.says.held ∙ ap (appended before.out.held) (sym flat);
         fits = subst (λ (c : Captured). length (flat_of c) ≤ limit) (sym captured) ends.fits;
         is_flat = subst (λ (t : Tale). IsFlatCapture first t (flat_version (capture bytes).version)
-            (FlatAll (raised first (capture bytes).version) (capture bytes).events) (flat_of (capture bytes)))
+            (flat_replay (raised first (capture bytes).version) (capture bytes).events) (flat_of (capture bytes)))
             (ap (λ (r : Played). r.tale) (sym is))
             (subst (λ (c : Captured). IsFlatCapture first way.tale (flat_version c.version)
-            (FlatAll (raised first c.version) c.events) (flat_of c))
+            (flat_replay (raised first c.version) c.events) (flat_of c))
             (sym captured) ends.says.is_flat);
       }
 
@@ -207,16 +209,17 @@ module _ (heard heard_now : List Reading) (before now : Outside) (rig : RigState
       let said = ends.says.says is_cut.rest in
       let more = said.0 in
       let captured = ap capture is_cut.all ∙ said.1 in
-      let step : Step way.tale.state (next_number way.tale.played) event ≡ Err fault =
-      ap (λ n. Step way.tale.state n event) (sym ends.says.number_is) ∙ ends.says.fault_is
+      let step : event_step way.tale.state (next_number way.tale.played) event ≡ Err fault =
+      ap (λ n. event_step way.tale.state n event) (sym ends.says.number_is) ∙ ends.says.fault_is
       in
       let after : after_event way.tale event
-      ≡ Err fault = ap (told_on way.tale (StepCost way.tale.state event) (StepBoxCost way.tale.state event)) step in
-      let replay : Replay start ((way.events ++ event ∷ []) ++ more.events) more.ending more.rest
+      ≡ Err fault = ap (told_on way.tale (event_cost way.tale.state event)
+      (event_box_cost way.tale.state event)) step in
+      let replay : played_events start ((way.events ++ event ∷ []) ++ more.events) more.ending more.rest
       ≡ record { tale = way.tale; ending = play.Faulted (next_number way.tale.played) fault; rest = more.rest } =
-      ap (λ events. Replay start events more.ending more.rest) (append_assoc way.events (event ∷ []) more.events)
+      ap (λ events. played_events start events more.ending more.rest) (append_assoc way.events (event ∷ []) more.events)
       ∙ ends.follows.replays (event ∷ more.events) more.ending more.rest
-      ∙ ap (λ r. go_on r (λ next. Replay next more.events more.ending more.rest)
+      ∙ ap (λ r. go_on r (λ next. played_events next more.events more.ending more.rest)
       (λ fault. record {
         tale = way.tale;
         ending = play.Faulted
@@ -224,9 +227,9 @@ module _ (heard heard_now : List Reading) (before now : Outside) (rig : RigState
         rest = more.rest;
       })) after
       in
-      let none : FlatAll way.tale (event ∷ more.events) ≡ [] =
-      ap (λ r. Flat way.tale.state event ++ then_flat r (λ next. FlatAll next more.events)) after
-      ∙ append-nil (Flat way.tale.state event)
+      let none : flat_replay way.tale (event ∷ more.events) ≡ [] =
+      ap (λ r. flat_events way.tale.state event ++ then_flat r (λ next. flat_replay next more.events)) after
+      ∙ append-nil (flat_events way.tale.state event)
       ∙ fault_none way.tale.state (next_number way.tale.played) event fault step
       in
       let file : flat_file start way.version ((way.events ++ event ∷ []) ++ more.events)
@@ -244,7 +247,7 @@ module _ (heard heard_now : List Reading) (before now : Outside) (rig : RigState
       (subst (λ (v : ℕ). length (flat_file (raised first v) v ((way.events ++ event ∷ []) ++ more.events)) ≤ limit)
       (sym said.2) few)
       (subst (λ (v : ℕ). status_of
-      (Replay (raised first v) ((way.events ++ event ∷ []) ++ more.events) more.ending more.rest).ending ≡ 2)
+      (played_events (raised first v) ((way.events ++ event ∷ []) ++ more.events) more.ending more.rest).ending ≡ 2)
       (sym said.2)
       (ap (λ (r : Played). status_of r.ending) replay))
 
@@ -258,7 +261,7 @@ module _ (heard heard_now : List Reading) (before now : Outside) (rig : RigState
       let captured = ap capture is_cut.all ∙ said.1 in
       let a = ap length (file_on start way.tale way.version way.events way.flat more.events ends.follows) in
       let b = ap length (file_of start way.tale way.version way.events way.flat ends.follows) in
-      let c = longer (flat_version way.version) way.flat (FlatAll way.tale more.events) in
+      let c = longer (flat_version way.version) way.flat (flat_replay way.tale more.events) in
       let d = ends.says.long in
       let long : limit < length (flat_file start way.version (way.events ++ more.events)) = omega (arith, a, b, c, d) in
       let is_long : limit < length (flat_of (capture bytes)) =

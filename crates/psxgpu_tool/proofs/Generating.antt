@@ -1,11 +1,11 @@
 -- The words of a demo, one after another.
 use Rattle.std.proofs.Common.{◌≡◌, ◌≤◌, ◌<◌, ◌+◌, ◌%◌, ◌++◌, ℕ, zero, suc, List, [], ◌∷◌, map, flat_map, length}
-use Rattle.std.proofs.Common.{slice_index, arith, refl, ap, sym, ◌∙◌}
+use Rattle.std.proofs.Common.{slice_index, arith, refl, ap, ◌∙◌}
 use Rattle.std.specs.List.{range_with_len}
 use Rattle.std.proofs.lemmas.Grind.{flat_map-append}
 use Rattle.std.proofs.lemmas.List.{append-nil}
 use Rattle.std.proofs.lemmas.List.FromFn.{map-range_with_len_more, length-map-range_with_len}
-use Rattle.psxgpu_tool.specs.Demo.{opcodes, lengths, opcode_of, length_of, drawn, after_draws, packet_word}
+use Rattle.psxgpu_tool.specs.Demo.{opcodes, lengths, length_of, drawn, after_draws, packet_word}
 use Rattle.psxgpu_tool.specs.Demo.{number_before}
 
 -- every packet of eight in turn has a length and an opcode
@@ -22,9 +22,6 @@ turn_small (suc (suc (suc (suc (suc (suc (suc (suc i)))))))) lt = absurd (omega 
 
 pub length_small : (k : ℕ) → length_of k ≤ 12
 length_small k = (turn_small (k % 8) (omega arith)).0
-
-pub opcode_small : (k : ℕ) → opcode_of k < 256
-opcode_small k = (turn_small (k % 8) (omega arith)).1
 
 -- the words before one of a packet
 pub words_before : (k number j : ℕ) → length (map (packet_word k number) (range_with_len 0 j)) ≡ j

@@ -5,7 +5,7 @@ use Rattle.gp0_packets.specs.Packets.{packet_of}
 use Rattle.gp0_packets.specs.declared.packet.Packet.{Packet}
 use Rattle.gp0_packets.specs.declared.packet.Packet.TheVariants as packet
 use Rattle.gp1_status.specs.Registers.{Registers, env_of}
-use Rattle.gpu_core.specs.Machine.{Parts, State, Effect, Feed, with_page, with_pixels, after_item, new_item}
+use Rattle.gpu_core.specs.Machine.{Parts, State, effect_of, after_gp0, with_page, with_pixels, after_item, new_item}
 
 either_height : (b : Bool) (r s : Registers) (height : ℕ) → r.height ≡ height → s.height ≡ height
     → (if b then r else s).height ≡ height
@@ -27,8 +27,8 @@ pixels_height : (p : Parts) (word : ℕ) → (with_pixels p p.load word).regs.he
 pixels_height p word =
     elim p.load as (λ load. (with_pixels p load word).regs.height ≡ p.regs.height) [ None ↦ refl | Some job ↦ refl ]
 
-effect_height : (p : Parts) (what : Packet) → (Effect p what).regs.height ≡ p.regs.height
-unfolding Effect
+effect_height : (p : Parts) (what : Packet) → (effect_of p what).regs.height ≡ p.regs.height
+unfolding effect_of
 effect_height p (packet.Fill color x y w h) = refl
 effect_height p (packet.Copy from to w h) = refl
 effect_height p (packet.Load x y w h) = refl
@@ -46,6 +46,6 @@ item_height : (p : Parts) (new : Option Item) → (after_item p new).regs.height
 item_height p None = refl
 item_height p (Some item) = effect_height p (packet_of p.regs.height item)
 
-pub feed_height : (s : State) (word : ℕ) → (Feed s word).parts.regs.height ≡ s.parts.regs.height
-unfolding Feed
+pub feed_height : (s : State) (word : ℕ) → (after_gp0 s word).parts.regs.height ≡ s.parts.regs.height
+unfolding after_gp0
 feed_height s word = item_height s.parts (new_item s.words word)

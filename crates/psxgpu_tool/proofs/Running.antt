@@ -34,8 +34,8 @@ use Rattle.px_num.specs.Height.{short_height}
 use Rattle.psxgpu_tool.specs.Line.{any_status, any_text}
 use Rattle.psxgpu_tool.specs.Command.{Names, IsUsage}
 use Rattle.psxgpu_tool.specs.CutRun.{CutRun}
-use Rattle.psxgpu_tool.specs.Demo.{Demo, demo_words}
-use Rattle.psxgpu_tool.specs.DemoOut.{demo_bytes, demo_tale, DemoOut, DemoCost, DemoBoxCost, cells_cost}
+use Rattle.psxgpu_tool.specs.Demo.{demo_events, demo_words}
+use Rattle.psxgpu_tool.specs.DemoOut.{demo_bytes, demo_tale, demo_out, demo_cost, demo_box_cost, cells_cost}
 use Rattle.psxgpu_tool.specs.First.{first, seen}
 use Rattle.psxgpu_tool.specs.FlatRun.{FlatRun}
 use Rattle.psxgpu_tool.specs.Line.{status_of, ending_line, ending_text, flat_status, flat_text, slim_status, slim_text}
@@ -48,7 +48,7 @@ use Rattle.psxgpu_tool.specs.SlimRun.{SlimRun}
 use Rattle.psxgpu_tool.specs.TellRun.{Tells}
 use Rattle.psxgpu_tool.specs.Words.{HavePlayed, whole_replay}
 use Rattle.psxgpu_tool.specs.declared.command.Command.{Command}
-use Rattle.psxgpu_tool.specs.declared.command.Command.TheVariants.{Plays, Flat, Slim, Cut, Demo as DemoOf}
+use Rattle.psxgpu_tool.specs.declared.command.Command.TheVariants.{Plays, Flat, Slim, Cut, Demo}
 use Rattle.psxgpu_tool.proofs.First.{first_stands, first_short}
 use Rattle.psxgpu_tool.proofs.Flats.{flat_three, flat_four, flat_whole, flat_complete}
 use Rattle.psxgpu_tool.proofs.Commands.{same_command}
@@ -262,9 +262,9 @@ module _ (heard heard_now : List Reading) (before now : Outside) (ending : Endin
       → ((s : State) → kept_of s ≡ rig.gpu → EndsTelling (demo_bytes heard_now s)
       (next_number rig.played) before.out now.out ending)
       → (rig.gpu.parts.regs.height ≡ short_height → now.steps ≤ steps + cells_cost) → now.source ≡ before.source
-      → CommandRun (DemoOf n) heard before now (status_of ending)
+      → CommandRun (Demo n) heard before now (status_of ending)
   demo_runs n steps rig played ends cost unread =
-      let replay = ap (whole_replay first) (sym (append-nil (Demo n))) ∙ played.comes [] in
+      let replay = ap (whole_replay first) (sym (append-nil (demo_events n))) ∙ played.comes [] in
       let tale : demo_tale n ≡ played.tale = ap (λ (r : Played). r.tale) replay in
       let told = played.heard ∙ ap (λ (t : Tale). told_notes t.notes heard) (sym tale) in
       let stands : kept_of (demo_tale n).state.gpu ≡ rig.gpu = ap (λ (t : Tale). kept_of t.state.gpu) tale
@@ -272,18 +272,19 @@ module _ (heard heard_now : List Reading) (before now : Outside) (ending : Endin
       let number : next_number rig.played ≡ next_number (demo_tale n).played =
       ap next_number (sym played.stands.played ∙ ap (λ (t : Tale). t.played) (sym tale))
       in
-      let bytes : demo_bytes heard_now (demo_tale n).state.gpu ≡ DemoOut n heard =
+      let bytes : demo_bytes heard_now (demo_tale n).state.gpu ≡ demo_out n heard =
       ap (λ (heard : List Reading). demo_bytes heard (demo_tale n).state.gpu) told
       in
       let telling = rw (bytes, number) at (tells _ _ ending (ends (demo_tale n).state.gpu stands) says) in
       let height : rig.gpu.parts.regs.height ≡ short_height = ap (λ (k : Kept). k.parts.regs.height)
       (sym played.stands.state.gpu) ∙ played.height ∙ first_short in
       let spent = ap (λ (t : Tale). t.cost) tale in
-      let within : now.steps ≤ before.steps + DemoCost n = let c = cost height in omega
+      let within : now.steps ≤ before.steps + demo_cost n = let c = cost height in omega
       (arith, c, played.cost, spent) in
-      let boxed : (demo_tale n).cost ≤ (demo_tale n).box_cost = costs_small first (Demo n) End [] (omega arith) in
-      let within_boxes : now.steps ≤ before.steps + DemoBoxCost n = omega (arith, within, boxed) in
-      answers (DemoOf n) heard before now (status_of ending) (known_ending ending) silent
+      let boxed : (demo_tale n).cost ≤ (demo_tale n).box_cost =
+      costs_small first (demo_events n) End [] (omega arith) in
+      let within_boxes : now.steps ≤ before.steps + demo_box_cost n = omega (arith, within, boxed) in
+      answers (Demo n) heard before now (status_of ending) (known_ending ending) silent
       (record { tells = inr telling; unread = unread; cost = within; box_cost = within_boxes })
 
 -- a flat capture

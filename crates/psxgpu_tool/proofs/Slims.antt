@@ -12,7 +12,7 @@ use Rattle.event_play.specs.Ports.{IsAtPorts, AreAtPorts}
 use Rattle.event_play.specs.Replay.{Tale}
 use Rattle.dead_drawing.specs.Dead.{window_events}
 use Rattle.dead_drawing.specs.Laws.{height_for}
-use Rattle.dead_drawing.specs.Slim.{Slim}
+use Rattle.dead_drawing.specs.Slim.{slim_events}
 use Rattle.capture_flat.specs.Passing.{IsFlatCapture}
 use Rattle.capture_slim.specs.Passing.{EndsSlim, IsTooLong, MayReadFault, MayWriteFault, RefusesNext, SaysStop, Way}
 use Rattle.capture_slim.specs.Passing.{slim_file, streams}
@@ -75,7 +75,7 @@ whole_of way rest = record { version = way.version; events = way.events; ending 
 
 -- what was written of a capture is one, and replays alike
 abbrev IsSlimOf : Tale → Captured → Type 0
-IsSlimOf t c = IsFlatCapture first t c.version (Slim (height_for c.version) c.events) (slim_of c)
+IsSlimOf t c = IsFlatCapture first t c.version (slim_events (height_for c.version) c.events) (slim_of c)
 
 module _ (before now : Outside) (bytes : List ℕ) (told : before.source.left ≡ Some bytes) where
   abbrev Ends : SlimEnding → Type 0

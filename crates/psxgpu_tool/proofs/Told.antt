@@ -5,7 +5,7 @@ use Rattle.dev_io.specs.Device.{prepended, appended, IsAtEnd}
 use Rattle.gpu_capture.specs.declared.event.Stop.TheVariants.{End, NotCapture, Truncated, BadRecord, TooLong, ReadFault}
 use Rattle.gpu_taps.specs.Tally.{Reading}
 use Rattle.event_play.specs.Causes.{MayReadFault, MayWriteFault}
-use Rattle.event_play.specs.Out.{lines_of, unless_lacking, ending_under, finals_at, Out, OutCost, OutBoxCost}
+use Rattle.event_play.specs.Out.{lines_of, unless_lacking, ending_under, finals_at, out_bytes, out_cost, out_box_cost}
 use Rattle.event_play.specs.Playing.{EndsPlay, whole}
 use Rattle.event_play.specs.Replay.{Tale, Played, next_number}
 use Rattle.event_play.specs.RigState.{RigState}
@@ -15,7 +15,8 @@ use Rattle.event_play.specs.declared.ending.Ending.TheVariants.{Done, Stopped, F
 use Rattle.event_play.specs.declared.ending.Mode.{Mode}
 use Rattle.gpu_snapshot.specs.Opened.{Opened, Captured, Restored, Unknown, BreaksOff, BadWord, opened}
 use Rattle.gpu_snapshot.specs.Opening.{opening_cost}
-use Rattle.gpu_snapshot.specs.PlayAny.{PlayAny, FindsBadWord, HasNoBadWord, IsGood, any_ending, played_opened, spent}
+use Rattle.gpu_snapshot.specs.PlayAny.{played_file, FindsBadWord, HasNoBadWord, IsGood, any_ending, played_opened}
+use Rattle.gpu_snapshot.specs.PlayAny.{spent}
 use Rattle.gpu_snapshot.specs.declared.ending.AnyEnding.{AnyEnding}
 use Rattle.gpu_snapshot.proofs.Played.{finds_needed}
 use Rattle.gpu_snapshot.specs.declared.ending.AnyEnding.TheVariants as any
@@ -57,14 +58,14 @@ no_finals mode heard t (WriteFailed n) other = refl
 -- all that is written of a replay, by its tale and its ending
 out_is : (mode : Mode) (heard : List Reading) (r : Played) (t : Tale) (ending : Ending) → r.tale ≡ t
     → ending_under mode r ≡ ending
-    → Out mode heard r ≡ lines_of mode t ++ finals_at ending mode (told_notes t.notes heard) t.state.gpu
+    → out_bytes mode heard r ≡ lines_of mode t ++ finals_at ending mode (told_notes t.notes heard) t.state.gpu
 out_is mode heard r t ending tale is =
     ap (λ (e : Ending). lines_of mode r.tale ++ finals_at e mode (told_notes r.tale.notes heard) r.tale.state.gpu) is
     ∙ ap (λ (t : Tale). lines_of mode t ++ finals_at ending mode (told_notes t.notes heard) t.state.gpu) tale
 
 lines_are : (mode : Mode) (heard : List Reading) (r : Played) (t : Tale) (ending : Ending) → r.tale ≡ t
     → ending_under mode r ≡ ending
-    → IsNotDone ending → lines_of mode t ≡ Out mode heard r
+    → IsNotDone ending → lines_of mode t ≡ out_bytes mode heard r
 lines_are mode heard r t ending tale is other =
     sym (out_is mode heard r t ending tale is ∙ ap (λ xs. lines_of mode t ++ xs) (no_finals mode heard t ending other)
     ∙ append-nil (lines_of mode t))
@@ -161,7 +162,7 @@ pub record EndsCaptured (mode : Mode) (heard : List Reading) (bytes taken rest :
     : Type 0 where
   pub ends : ending_under mode (play_file bytes) ≡ ending
   pub tale : (play_file bytes).tale ≡ t
-  pub held : now.out.held ≡ appended before.out.held (Out mode heard (play_file bytes))
+  pub held : now.out.held ≡ appended before.out.held (out_bytes mode heard (play_file bytes))
   pub decides : ((more : List ℕ) → ending_under mode (play_file (taken ++ more)) ≡ ending) ⊎ (rest ≡ [])
 
 -- a file with no bad word ends as it is played
@@ -449,10 +450,10 @@ module _ (mode : Mode) (heard heard_now : List Reading) (before now : Outside) (
 
   pub cost_run : (ending : Ending) (ends : Ends ending)
       → ((rest : List ℕ) → opening ≤ opening_cost (ends.taken ++ rest))
-      → now.steps ≤ before.steps + opening_cost bytes + OutCost mode (play_file bytes)
+      → now.steps ≤ before.steps + opening_cost bytes + out_cost mode (play_file bytes)
   cost_run ending ends cost =
       let is_cut = taken_of ending ends in
-      let played : now.steps ≤ before.steps + opening + OutCost mode (play_file bytes) =
+      let played : now.steps ≤ before.steps + opening + out_cost mode (play_file bytes) =
       rw is_cut.all (ends.cost is_cut.rest)
       in
       let first = opened_within ending ends cost in
@@ -460,10 +461,10 @@ module _ (mode : Mode) (heard heard_now : List Reading) (before now : Outside) (
 
   pub box_cost_run : (ending : Ending) (ends : Ends ending)
       → ((rest : List ℕ) → opening ≤ opening_cost (ends.taken ++ rest))
-      → now.steps ≤ before.steps + opening_cost bytes + OutBoxCost mode (play_file bytes)
+      → now.steps ≤ before.steps + opening_cost bytes + out_box_cost mode (play_file bytes)
   box_cost_run ending ends cost =
       let is_cut = taken_of ending ends in
-      let played : now.steps ≤ before.steps + opening + OutBoxCost mode (play_file bytes) =
+      let played : now.steps ≤ before.steps + opening + out_box_cost mode (play_file bytes) =
       rw is_cut.all (ends.box_cost is_cut.rest)
       in
       let first = opened_within ending ends cost in
@@ -485,10 +486,10 @@ module _ (mode : Mode) (heard heard_now : List Reading) (before now : Outside) (
 
   -- nothing was played
   bad_played : play_file bytes ≡ played_opened first bytes (BadWord byte word)
-  unfolding PlayAny
+  unfolding played_file
   bad_played = ap (played_opened first bytes) bad_found
 
-  bad_nothing : Out mode heard (play_file bytes) ≡ []
+  bad_nothing : out_bytes mode heard (play_file bytes) ≡ []
   bad_nothing =
       let ending = Stopped (next_number first.played) (BadRecord byte word) in
       let tale : (play_file bytes).tale ≡ first = ap (λ (r : Played). r.tale) bad_played in

@@ -1,17 +1,17 @@
 -- Words that are played one after another.
 use Rattle.std.proofs.Common.{◌≡◌, ◌≤◌, ◌+◌, ◌<◌, ◌++◌, ℕ, zero, suc, List, [], ◌∷◌, length, take, get_or, map}
 use Rattle.std.proofs.Common.{Option, Result, Ok, Err, OnOk, IfOk, IfErr, option_to_list, arith, refl, ap, sym}
-use Rattle.std.proofs.Common.{subst, append_assoc, ◌∙◌}
+use Rattle.std.proofs.Common.{append_assoc, ◌∙◌}
 use Rattle.std.proofs.lemmas.Grind.{fold-append}
 use Rattle.std.proofs.lemmas.List.{append-nil, map-append, take_all}
 use Rattle.gp0_packets.specs.declared.note.Note.{Note}
 use Rattle.gpu_capture.specs.declared.event.Event.{Event}
 use Rattle.gpu_capture.specs.declared.event.Event.TheVariants.{Gp0}
-use Rattle.gpu_core.specs.Machine.{State, Feed}
+use Rattle.gpu_core.specs.Machine.{State, after_gp0}
 use Rattle.gpu_taps.specs.Tally.{Reading, reading_after}
 use Rattle.event_play.specs.Replay.{Tale, next_number}
 use Rattle.event_play.specs.RigState.{RigState, Stands}
-use Rattle.event_play.specs.Step.{Machine, Stepped, Step, StepCost, StepBoxCost}
+use Rattle.event_play.specs.Step.{Machine, Stepped, event_step, event_cost, event_box_cost}
 use Rattle.event_play.specs.Stepping.{HasStepped}
 use Rattle.event_play.specs.Streams.{Outlets}
 use Rattle.event_play.specs.Told.{told_notes}
@@ -28,8 +28,8 @@ tale_on t event machine shown notes = record {
   played = next_number t.played;
   shown = t.shown ++ option_to_list shown;
   notes = t.notes ++ notes;
-  cost = t.cost + StepCost t.state event;
-  box_cost = t.box_cost + StepBoxCost t.state event;
+  cost = t.cost + event_cost t.state event;
+  box_cost = t.box_cost + event_box_cost t.state event;
 }
 
 abbrev gpu_after : State → Result Stepped EventFault → State
@@ -38,17 +38,17 @@ gpu_after s (Err fault) = s
 
 -- an event without a fault
 event_on : (t : Tale) (event : Event) (more : List Event) (machine : Machine) (shown : Option ℕ) (notes : List Note)
-    → Step t.state (next_number t.played) event ≡ Ok (record { machine = machine; shown = shown; notes = notes })
+    → event_step t.state (next_number t.played) event ≡ Ok (record { machine = machine; shown = shown; notes = notes })
     → whole_replay t (event ∷ more) ≡ whole_replay (tale_on t event machine shown notes) more
 event_on t event more machine shown notes is = rw is refl
 
 -- it keeps the height
 word_height : (s : Machine) (number word : ℕ) (shown : Option ℕ) (machine : Machine) (notes : List Note)
-    → Step s number (Gp0 word) ≡ Ok (record { machine = machine; shown = shown; notes = notes })
+    → event_step s number (Gp0 word) ≡ Ok (record { machine = machine; shown = shown; notes = notes })
     → machine.gpu.parts.regs.height ≡ s.gpu.parts.regs.height
-unfolding Step
+unfolding event_step
 word_height s number word shown machine notes is =
-    let same : Feed s.gpu word ≡ machine.gpu = ap (λ (r : Result Stepped EventFault). gpu_after s.gpu r) is in
+    let same : after_gp0 s.gpu word ≡ machine.gpu = ap (λ (r : Result Stepped EventFault). gpu_after s.gpu r) is in
     ap (λ (s : State). s.parts.regs.height) (sym same) ∙ feed_height s.gpu word
 
 events_before : (words : List ℕ) (word : ℕ) (more : List Event)
@@ -65,7 +65,7 @@ module _ (first : Tale) (words : List ℕ) (word : ℕ) (start before now : Outl
       → HavePlayed first (words ++ word ∷ []) start now rig
   stepped_on played shown step count =
       let number = ap next_number played.stands.played in
-      let is : Step played.tale.state (next_number played.tale.played) (Gp0 word)
+      let is : event_step played.tale.state (next_number played.tale.played) (Gp0 word)
       ≡ Ok (record { machine = step.machine; shown = shown; notes = step.notes }) =
       rw number step.is
       in
@@ -83,15 +83,15 @@ module _ (first : Tale) (words : List ℕ) (word : ℕ) (start before now : Outl
       }
 
   -- it is no fault
-  no_fault : (s : Machine) (number : ℕ) (fault : EventFault) → Step s number (Gp0 word) ≡ Err fault → ⊥
-  unfolding Step
+  no_fault : (s : Machine) (number : ℕ) (fault : EventFault) → event_step s number (Gp0 word) ≡ Err fault → ⊥
+  unfolding event_step
   no_fault s number fault is = cc
 
   pub word_on : (r : Result (Option ℕ) EventFault) → HavePlayed first words start before was
       → ((s : Machine) → Stands was s → IfOk r (λ shown. HasStepped s (next_number was.played)
       (Gp0 word) shown before now rig))
       → OnOk r (rig.played ≡ next_number was.played)
-      → ((s : Machine) → Stands was s → IfErr r (λ fault. Step s (next_number was.played) (Gp0 word) ≡ Err fault))
+      → ((s : Machine) → Stands was s → IfErr r (λ fault. event_step s (next_number was.played) (Gp0 word) ≡ Err fault))
       → HavePlayed first (words ++ word ∷ []) start now rig
   word_on (Ok shown) played stepped count fault = stepped_on played shown
       (stepped played.tale.state played.stands.state) count

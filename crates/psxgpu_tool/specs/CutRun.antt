@@ -6,8 +6,8 @@ use Rattle.gpu_capture.specs.Capture.{Captured, capture, limit}
 use Rattle.gpu_capture.specs.declared.event.Stop.TheVariants.{End}
 use Rattle.gpu_taps.specs.Tally.{Reading}
 use Rattle.picture_out.specs.Dump.{dump_cost}
-use Rattle.event_play.specs.Out.{lines_of, Out}
-use Rattle.event_play.specs.Replay.{Played, Replay, Tale, raised}
+use Rattle.event_play.specs.Out.{lines_of, out_bytes}
+use Rattle.event_play.specs.Replay.{Played, played_events, Tale, raised}
 use Rattle.event_play.specs.RigState.{RigState}
 use Rattle.event_play.specs.Told.{told_notes}
 use Rattle.event_play.specs.declared.ending.Ending.TheVariants.{Done}
@@ -22,7 +22,7 @@ use Rattle.psxgpu_tool.specs.Outside.{Outside, Says, HasFailed, HasFailedToRead}
 
 -- the first n events of a capture, on a new machine
 abbrev pub play_first : (n : ℕ) → Captured → Played
-play_first n captured = Replay (raised first captured.version) (take n captured.events) End []
+play_first n captured = played_events (raised first captured.version) (take n captured.events) End []
 
 -- the state behind them, the records of the others, and an End record
 abbrev pub cut_of : (n : ℕ) → Captured → List ℕ
@@ -42,13 +42,13 @@ IsWithin cost t before now = now.steps ≤ before.steps + cost + dump_cost t.sta
 
 -- the whole capture, where these bytes stand behind it
 abbrev pub play_whole : Captured → (rest : List ℕ) → Played
-play_whole captured rest = Replay (raised first captured.version) captured.events captured.ending rest
+play_whole captured rest = played_events (raised first captured.version) captured.events captured.ending rest
 
 -- A file goes on where a capture was cut, whatever bytes stand behind it: what the whole capture writes is what was
 -- due, and then what the file writes, by taps that have heard the first events. Both end alike.
 pub record GoesOnAs (was : Tale) (whole file : (rest : List ℕ) → Played) : Type 0 where
   pub writes : (mode : Mode) (heard : List Reading) (rest : List ℕ)
-      → Out mode heard (whole rest) ≡ lines_of mode was ++ Out mode (told_notes was.notes heard) (file rest)
+      → out_bytes mode heard (whole rest) ≡ lines_of mode was ++ out_bytes mode (told_notes was.notes heard) (file rest)
   pub ends : (rest : List ℕ) → EndAlike (file rest) (whole rest)
 
 -- the file of a capture that was cut, where these bytes stand behind it

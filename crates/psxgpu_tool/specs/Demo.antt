@@ -64,5 +64,5 @@ unfoldable pub demo_words : (n : ℕ) → List ℕ
 demo_words n = prologue ++ first_packets n n
 
 -- each word is an event
-abbrev pub Demo : (n : ℕ) → List Event
-Demo n = map Gp0 (demo_words n)
+abbrev pub demo_events : (n : ℕ) → List Event
+demo_events n = map Gp0 (demo_words n)

@@ -1,6 +1,6 @@
 -- What is written of a demo (our own rule).
 use Rattle.std.specs.Prelude.{ℕ, ◌+◌, ◌*◌, List, ◌++◌, flat_map, sum}
-use Rattle.gpu_core.specs.Machine.{State, Status}
+use Rattle.gpu_core.specs.Machine.{State, status_word}
 use Rattle.gpu_taps.specs.Tally.{Reading}
 use Rattle.packet_text.specs.Line.{status_line}
 use Rattle.packet_text.specs.Tap.{tap_line, sum_line}
@@ -8,28 +8,28 @@ use Rattle.px_num.specs.Height.{short_height}
 use Rattle.event_play.specs.Replay.{Tale, from_state}
 use Rattle.event_play.specs.Step.{first_machine}
 use Rattle.event_play.specs.Told.{told_notes}
-use Rattle.psxgpu_tool.specs.Demo.{Demo}
+use Rattle.psxgpu_tool.specs.Demo.{demo_events}
 use Rattle.psxgpu_tool.specs.Words.{whole_replay}
 
 -- the line of each tap, the status line, and the sum of all cells
 abbrev pub demo_bytes : (heard : List Reading) → State → List ℕ
-demo_bytes heard s = flat_map tap_line heard ++ (status_line (Status s) ++ sum_line (sum s.parts.m))
+demo_bytes heard s = flat_map tap_line heard ++ (status_line (status_word s) ++ sum_line (sum s.parts.m))
 
 -- the tale of the demo with n packets, on a new machine
 abbrev pub demo_tale : (n : ℕ) → Tale
-demo_tale n = (whole_replay (from_state first_machine 0) (Demo n)).tale
+demo_tale n = (whole_replay (from_state first_machine 0) (demo_events n)).tale
 
 -- all that is written, by what the taps said when they were handed in
-abbrev pub DemoOut : (n : ℕ) → (heard : List Reading) → List ℕ
-DemoOut n heard = demo_bytes (told_notes (demo_tale n).notes heard) (demo_tale n).state.gpu
+abbrev pub demo_out : (n : ℕ) → (heard : List Reading) → List ℕ
+demo_out n heard = demo_bytes (told_notes (demo_tale n).notes heard) (demo_tale n).state.gpu
 
 -- the store steps of reading all cells, sixteen at a step
 abbrev pub cells_cost : ℕ
 cells_cost = 64 * short_height
 
 -- the most store steps of playing and writing, and the same by the boxes
-abbrev pub DemoCost : (n : ℕ) → ℕ
-DemoCost n = (demo_tale n).cost + cells_cost
+abbrev pub demo_cost : (n : ℕ) → ℕ
+demo_cost n = (demo_tale n).cost + cells_cost
 
-abbrev pub DemoBoxCost : (n : ℕ) → ℕ
-DemoBoxCost n = (demo_tale n).box_cost + cells_cost
+abbrev pub demo_box_cost : (n : ℕ) → ℕ
+demo_box_cost n = (demo_tale n).box_cost + cells_cost

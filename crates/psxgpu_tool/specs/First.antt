@@ -1,11 +1,11 @@
 -- A capture on a new machine.
 use Rattle.std.specs.Prelude.{ℕ, List}
 use Rattle.gpu_taps.specs.Tally.{Reading}
-use Rattle.event_play.specs.Replay.{Tale, Played, Play, from_state}
+use Rattle.event_play.specs.Replay.{Tale, Played, played_capture, from_state}
 use Rattle.event_play.specs.Step.{first_machine}
 use Rattle.event_play.specs.Streams.{Streams, streams}
 use Rattle.event_play.specs.declared.ending.Mode.{Mode}
-use Rattle.gpu_snapshot.specs.PlayAny.{PlayAny, AnyUnder}
+use Rattle.gpu_snapshot.specs.PlayAny.{played_file, any_ending_under}
 use Rattle.gpu_snapshot.specs.declared.ending.AnyEnding.{AnyEnding}
 use Rattle.psxgpu_tool.specs.Outside.{Outside}
 
@@ -14,15 +14,15 @@ first = from_state first_machine 0
 
 -- a whole capture
 abbrev pub play_of : List ℕ → Played
-play_of bytes = Play first bytes
+play_of bytes = played_capture first bytes
 
 -- a file: a whole capture, or a snapshot and what is recorded behind it
 abbrev pub play_file : List ℕ → Played
-play_file bytes = PlayAny first bytes
+play_file bytes = played_file first bytes
 
 -- how a file ends under a mode
 abbrev pub file_ending : Mode → List ℕ → AnyEnding
-file_ending mode bytes = AnyUnder mode first bytes
+file_ending mode bytes = any_ending_under mode first bytes
 
 -- what playing sees of the outside
 abbrev pub seen : List Reading → Outside → Streams

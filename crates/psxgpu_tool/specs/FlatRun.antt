@@ -6,7 +6,7 @@ use Rattle.gpu_taps.specs.Tally.{Reading}
 use Rattle.event_play.specs.Replay.{raised}
 use Rattle.event_play.specs.RigState.{RigState}
 use Rattle.event_play.specs.declared.ending.Ending.TheVariants.{Done}
-use Rattle.capture_flat.specs.Flat.{FlatAll}
+use Rattle.capture_flat.specs.Flat.{flat_replay}
 use Rattle.capture_flat.specs.Out.{flat_file, flat_version}
 use Rattle.capture_flat.specs.Passing.{EndsFlat, IsEnding, IsFlatCapture}
 use Rattle.capture_flat.specs.declared.ending.FlatEnding.{FlatEnding}
@@ -26,7 +26,7 @@ pub record FlatWhole (bytes : List ℕ) (before now : Outside) : Type 0 where
   pub held : now.out.held ≡ appended before.out.held (flat_of (capture bytes))
   pub fits : length (flat_of (capture bytes)) ≤ limit
   pub is_flat : IsFlatCapture first (play_of bytes).tale (flat_version (capture bytes).version)
-      (FlatAll (raised first (capture bytes).version) (capture bytes).events) (flat_of (capture bytes))
+      (flat_replay (raised first (capture bytes).version) (capture bytes).events) (flat_of (capture bytes))
 
 -- the status by the capture alone: it is refused where its flat capture would be too long, and else it ends as it is
 -- played

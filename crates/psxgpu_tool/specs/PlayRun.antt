@@ -4,7 +4,7 @@ use Rattle.std.specs.Prelude.{◌≡◌, ◌≤◌, ◌+◌, ◌++◌, ◌⊎◌
 use Rattle.dev_io.specs.Device.{appended}
 use Rattle.gpu_capture.specs.declared.event.Stop.TheVariants.{Truncated, ReadFault}
 use Rattle.gpu_taps.specs.Tally.{Reading}
-use Rattle.event_play.specs.Out.{Out, OutCost, OutBoxCost}
+use Rattle.event_play.specs.Out.{out_bytes, out_cost, out_box_cost}
 use Rattle.event_play.specs.Playing.{AreAllNeeded, LacksBytes}
 use Rattle.event_play.specs.Replay.{Tale}
 use Rattle.event_play.specs.Told.{told_notes}
@@ -21,7 +21,7 @@ use Rattle.psxgpu_tool.specs.Outside.{Outside, Says, HasFailed, HasFailedToRead}
 pub record WholeRun (mode : Mode) (heard : List Reading) (bytes : List ℕ) (before now : Outside) : Type 0 where
   pub ending : file_ending mode bytes ≡ Played Done
   pub left : now.source.left ≡ Some (play_file bytes).rest
-  pub held : now.out.held ≡ appended before.out.held (Out mode heard (play_file bytes))
+  pub held : now.out.held ≡ appended before.out.held (out_bytes mode heard (play_file bytes))
 
 abbrev pub Whole : Mode → List Reading → (before now : Outside) → Type 0
 Whole mode heard before now = IfSome before.source.left (λ bytes. WholeRun mode heard bytes before now)
@@ -40,7 +40,7 @@ pub record Decided (mode : Mode) (bytes : List ℕ) (now : Outside) : Type 0 whe
 -- written, and err says why and where, and then the last items.
 pub record RefusedRun (mode : Mode) (heard : List Reading) (bytes : List ℕ) (before now : Outside) : Type 0 where
   pub status : any_status (file_ending mode bytes) ≡ 2
-  pub held : now.out.held ≡ appended before.out.held (Out mode heard (play_file bytes))
+  pub held : now.out.held ≡ appended before.out.held (out_bytes mode heard (play_file bytes))
   pub decided : Decided mode bytes now
   pub says : Says before.err now.err (any_text (file_ending mode bytes)
       (told_notes (play_file bytes).tale.notes heard))
@@ -58,7 +58,7 @@ pub record StarvedRun (mode : Mode) (heard : List Reading) (bytes : List ℕ) (b
   pub event : ℕ
   pub byte : ℕ
   pub ending : file_ending mode taken ≡ Played (Stopped event (Truncated byte))
-  pub held : now.out.held ≡ appended before.out.held (Out mode heard (play_file taken))
+  pub held : now.out.held ≡ appended before.out.held (out_bytes mode heard (play_file taken))
   pub says : Says before.err now.err (ending_line (Stopped event (ReadFault byte)))
 
 abbrev pub Starved : Mode → List Reading → (before now : Outside) → Type 0
@@ -91,12 +91,12 @@ EndsAsCaptured mode before status = IfSome before.source.left
 -- no more store steps than reading a state, the events and the output cost
 abbrev pub WithinCost : Mode → (before now : Outside) → Type 0
 WithinCost mode before now = IfSome before.source.left
-    (λ bytes. now.steps ≤ before.steps + opening_cost bytes + OutCost mode (play_file bytes))
+    (λ bytes. now.steps ≤ before.steps + opening_cost bytes + out_cost mode (play_file bytes))
 
 -- no more than four for each cell of the boxes of what is drawn, those of reading a state, and the output's
 abbrev pub WithinBoxCost : Mode → (before now : Outside) → Type 0
 WithinBoxCost mode before now = IfSome before.source.left
-    (λ bytes. now.steps ≤ before.steps + opening_cost bytes + OutBoxCost mode (play_file bytes))
+    (λ bytes. now.steps ≤ before.steps + opening_cost bytes + out_box_cost mode (play_file bytes))
 
 -- what a run does that plays a capture; with status 5 it does nothing but say so
 pub record PlayRun (mode : Mode) (heard : List Reading) (before now : Outside) (status : ℕ) : Type 0 where

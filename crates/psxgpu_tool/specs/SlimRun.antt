@@ -8,7 +8,7 @@ use Rattle.gpu_capture.specs.declared.event.Stop.TheVariants.{End}
 use Rattle.gpu_taps.specs.Tally.{Reading}
 use Rattle.event_play.specs.Ports.{AreAtPorts}
 use Rattle.dead_drawing.specs.Laws.{height_for}
-use Rattle.dead_drawing.specs.Slim.{Slim}
+use Rattle.dead_drawing.specs.Slim.{slim_events}
 use Rattle.capture_flat.specs.Passing.{IsFlatCapture}
 use Rattle.capture_slim.specs.Passing.{EndsSlim, IsEnding, slim_file, streams}
 use Rattle.capture_slim.specs.declared.ending.SlimEnding.{SlimEnding}
@@ -31,7 +31,7 @@ pub record SlimWhole (bytes : List ℕ) (before now : Outside) : Type 0 where
   pub held : now.out.held ≡ appended before.out.held (slim_of (capture bytes))
   pub fits : length (slim_of (capture bytes)) ≤ limit
   pub is_slim : IsFlatCapture first (play_of bytes).tale (capture bytes).version
-      (Slim (height_for (capture bytes).version) (capture bytes).events) (slim_of (capture bytes))
+      (slim_events (height_for (capture bytes).version) (capture bytes).events) (slim_of (capture bytes))
 
 -- the exit status of a capture that ends so
 abbrev pub stop_status : Stop → ℕ

@@ -3,14 +3,14 @@ use Rattle.std.specs.Prelude.{◌≡◌, ◌≤◌, ◌+◌, ◌++◌, ℕ, List
 use Rattle.gpu_capture.specs.declared.event.Event.{Event}
 use Rattle.gpu_capture.specs.declared.event.Event.TheVariants.{Gp0}
 use Rattle.gpu_capture.specs.declared.event.Stop.TheVariants.{End}
-use Rattle.event_play.specs.Replay.{Tale, Played, Replay}
+use Rattle.event_play.specs.Replay.{Tale, Played, played_events}
 use Rattle.event_play.specs.RigState.{RigState, StandsFor}
 use Rattle.event_play.specs.Streams.{Outlets}
 use Rattle.event_play.specs.Told.{told_notes}
 
 -- the replay of a list of events that is whole
 abbrev pub whole_replay : Tale → List Event → Played
-whole_replay first events = Replay first events End []
+whole_replay first events = played_events first events End []
 
 -- Since a rig stood for the first tale these words were played: their replay comes to a tale for which the rig stands
 -- now, the taps were told its notes, the store steps are within its cost, and video memory is as high as it was.

@@ -24,6 +24,15 @@ ghost use Rattle.snapshot_words.specs.Sections.{
 
 use gp0_words::first_len;
 
+/// How many bytes main memory has.
+const MEMORY_BYTES: u32 = 0x20_0000;
+
+/// How many words main memory has.
+const MEMORY_WORDS: u32 = MEMORY_BYTES / 4;
+
+/// The most words of a block.
+const BLOCK_WORDS: u32 = 65_536;
+
 /// A part of a state.
 #[derive(Clone, Copy, Debug, PartialEq, Eq)]
 pub enum Section {
@@ -70,7 +79,7 @@ fn is_within(low: u32, high: u32, word: u32) -> bool
 fn is_address(word: u32) -> bool
     ensures { result ≡ is_address word }
 {
-    word % 4 == 0 && word < 0x20_0000
+    word % 4 == 0 && word < MEMORY_BYTES
 }
 
 fn is_line(word: u32) -> bool
@@ -209,8 +218,8 @@ fn allows_words(got: &[u32], word: u32) -> bool
 {
     match got.len() {
         1 => is_address(word),
-        2 => is_within(1, 524_288, word),
-        3 => is_within(1, 65_536, word),
+        2 => is_within(1, MEMORY_WORDS, word),
+        3 => is_within(1, BLOCK_WORDS, word),
         _ => word <= 3,
     }
 }

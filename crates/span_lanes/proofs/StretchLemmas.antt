@@ -4,7 +4,7 @@ use Rattle.std.proofs.Common.{arith}
 use Rattle.std.specs.Int.Bits.{and_zero_r, or_zero_r}
 use Rattle.std.proofs.lemmas.Bool.Decides.{nat_tests}
 use Rattle.std.proofs.lemmas.Nat.{and_mask}
-use Rattle.texture_page.specs.Page.{texel_place, column, windowed, index_in}
+use Rattle.texture_page.specs.Page.{texel_place, clut_place, column, windowed, index_in}
 use Rattle.span_lanes.specs.declared.stretch.Stretch.{Stretch}
 use Rattle.span_lanes.specs.declared.span.Texture.{Texture}
 use Rattle.span_lanes.specs.declared.span.Paint.TheVariants.{TexturedRow}
@@ -15,7 +15,7 @@ use Rattle.span_lanes.specs.Cost.{texel_steps}
 use Rattle.span_lanes.specs.declared.coordinates.Coordinates.{Coordinates}
 use Rattle.span_lanes.specs.Stretch.{IsStretch}
 use Rattle.span_lanes.specs.Texels.{AreBeside, lane_place}
-use Rattle.span_lanes.proofs.TexelLemmas.{texel_direct, texel_four}
+use Rattle.span_lanes.proofs.TexelLemmas.{texel_direct, texel_eight, texel_four}
 
 -- without bits of the mask a window changes no coordinate
 pub open_window : (mask off u : ℕ) → mask ≡ 0 → u ≤ 255 → windowed mask off u ≡ u
@@ -61,6 +61,24 @@ four_texel span t s x i e m is four lt entry =
     texel_four t _ _ m (s.u + i) (get_or m (1024 * s.y + (t.page.x + (s.u + i) / 4)) 0) e four (sym column)
     (rw (four, column, row, here) refl) entry
 
+-- a texel of eight bits, by its entry
+pub eight_texel : (span : Span) (t : Texture) (s : Stretch) (x i e : ℕ) (m : List ℕ) → IsStretch span t s
+    → t.page.depth ≡ 1 → i < span.n
+    → e ≡ at_cell m
+    (clut_place t.clut (index_in 1 (s.u + i) (get_or m (1024 * s.y + (t.page.x + (s.u + i) / 2)) 0)))
+    → e ≡ texel t (paint_u span.paint x span.y i) (paint_v span.paint x span.y i) m
+eight_texel span t s x i e m is eight lt entry =
+    let column = is.column x i lt in
+    let row = is.row x i lt in
+    let room = is.eights eight in
+    let here : (t.page.x + (s.u + i) / 2) % 1024 ≡ t.page.x + (s.u + i) / 2 = omega arith in
+    texel_eight t _ _ m (s.u + i) (get_or m (1024 * s.y + (t.page.x + (s.u + i) / 2)) 0) e eight (sym column)
+    (rw (eight, column, row, here) refl) entry
+
+-- the part of a halfword for a column
+pub same_half : (a b h : ℕ) → a % 2 ≡ b % 2 → index_in 1 a h ≡ index_in 1 b h
+same_half a b h same = rw same refl
+
 -- the part of a halfword for a column
 pub same_part : (a b h : ℕ) → a % 4 ≡ b % 4 → index_in 0 a h ≡ index_in 0 b h
 same_part a b h same = rw same refl
@@ -74,11 +92,13 @@ pub row_stretch : (span : Span) (t : Texture) (color u v : ℕ) (flip : Bool) (s
     → span.paint ≡ TexturedRow color t u v flip → flip ≡ false → t.window.mask_x ≡ 0
     → s.u ≡ u → s.y ≡ t.page.y + windowed t.window.mask_y t.window.off_y v → s.y ≤ t.page.y + 255 → u + span.n ≤ 256
     → (2 ≤ t.page.depth → t.page.x + (u + span.n) ≤ 1024)
+    → (t.page.depth ≡ 1 → t.page.x + (u + span.n) / 2 + 16 ≤ 1024)
     → (t.page.depth ≡ 0 → t.page.x + (u + span.n) / 4 + 16 ≤ 1024) → IsStretch span t s
-row_stretch span t color u v flip s paint rises clear at row low in_page wholes fours = record {
+row_stretch span t color u v flip s paint rises clear at row low in_page wholes eights fours = record {
   low = low;
   in_page = rw at in_page;
   wholes = rw at wholes;
+  eights = rw at eights;
   fours = rw at fours;
   column = λ x i lt.
       let small : u + i ≤ 255 = omega arith in

@@ -1,7 +1,7 @@
 -- Texels of a chunk.
 use Rattle.std.proofs.Common.{◌≡◌, ◌<◌, ◌≤◌, ℕ, ℤ, zero, suc, List, [], ◌∷◌, ◌++◌, Option, None, Some, Bool, true}
 use Rattle.std.proofs.Common.{false, cond, eqb, ◌&&◌, not, ◌+◌, ◌-◌, ◌*◌, take, ltb, min, map, get_or, refl, sym, ap}
-use Rattle.std.proofs.Common.{◌∙◌, arith, add-one}
+use Rattle.std.proofs.Common.{◌∙◌, ◌^◌, IsTrue, arith, add-one}
 use Rattle.std.specs.List.{range_with_len}
 use Rattle.std.proofs.lemmas.List.FromFn.{map-range_with_len_more, get_or-map-range_with_len}
 use Rattle.std.proofs.lemmas.List.{get_or-take}
@@ -45,6 +45,16 @@ place_of t us vs k cells j e lt =
     ∙ ap (λ (l : List Cell). get_or l j none) e
     ∙ get_or-map-range_with_len (λ i. texel_place t.page t.window (get_or us i 0) (get_or vs i 0)) 0 k j j none lt
     (omega arith)
+
+-- a halfword has its own bit 15
+pub as_it_is : (h : ℕ) → h < 2 ^ 16 → h ≡ packed_pixel h (is_high h) false
+as_it_is h few = grind (arith, nat_tests)
+
+-- what is drawn as it is
+pub raw_front : (raw : Bool) (color : ℕ) (shift : ℤ) (t h : ℕ) → IsTrue raw → h ≡ front_of raw color shift t → h ≡ t
+unfolding front_of
+raw_front true color shift t h is front = front
+raw_front false color shift t h is front = absurd (cc is)
 
 low_depth : (n : ℕ) → n < 2 → ltb n 2 ≡ true
 low_depth n lt = grind (arith, nat_tests)

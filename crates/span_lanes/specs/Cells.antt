@@ -6,9 +6,10 @@ use Rattle.vram_store.specs.Plot.{draw_at}
 
 -- the cells of a list in its order: each takes its pixel, or none, from video memory as it is by then, and is plotted
 -- under the mask setting
-abbrev pub Cells : (Cell → List ℕ → Option ℕ) → ℕ → List Cell → List ℕ → List ℕ
-Cells shade mask [] m = m
-Cells shade mask (cell ∷ cells) m = Cells shade mask cells (draw_at mask (1024 * cell.y + cell.x) (shade cell m) m)
+abbrev pub drawn_cells : (Cell → List ℕ → Option ℕ) → ℕ → List Cell → List ℕ → List ℕ
+drawn_cells shade mask [] m = m
+drawn_cells shade mask (cell ∷ cells) m =
+    drawn_cells shade mask cells (draw_at mask (1024 * cell.y + cell.x) (shade cell m) m)
 
 abbrev pub cell_in_row : ℕ → ℕ → ℕ → Cell
 cell_in_row x y i = record { x = x + i; y = y }

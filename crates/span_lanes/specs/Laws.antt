@@ -4,7 +4,7 @@ use Rattle.texture_page.specs.declared.page.Page.{Page}
 use Rattle.span_lanes.specs.declared.span.Paint.TheVariants.{TexturedRow}
 use Rattle.span_lanes.specs.declared.span.Span.{Span}
 use Rattle.span_lanes.specs.declared.span.Texture.{Texture}
-use Rattle.span_lanes.specs.Cells.{Cells, row_cells}
+use Rattle.span_lanes.specs.Cells.{drawn_cells, row_cells}
 use Rattle.span_lanes.specs.Shade.{drawn_span, shade_at}
 use Rattle.span_lanes.specs.Cost.{span_cost}
 
@@ -12,7 +12,7 @@ use Rattle.span_lanes.specs.Cost.{span_cost}
 abbrev pub SpanLaw : Type 0
 SpanLaw =
     (span : Span) (n : ℕ) (m : List ℕ)
-    → drawn_span span n m ≡ Cells (shade_at span) span.brush.mask (row_cells span.x span.y n) m
+    → drawn_span span n m ≡ drawn_cells (shade_at span) span.brush.mask (row_cells span.x span.y n) m
 
 -- a span costs at most four steps a cell
 abbrev pub CostLaw : Type 0

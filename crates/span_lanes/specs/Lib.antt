@@ -11,6 +11,7 @@ pub mod Pen
 pub mod Plan
 pub mod Shade
 pub mod Stretch
+pub mod Strip
 pub mod Swatches
 pub mod Texels
 pub mod Track

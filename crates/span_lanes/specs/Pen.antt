@@ -1,5 +1,5 @@
 -- A paint and a brush for many spans.
-use Rattle.std.specs.Prelude.{ℕ, Option, None, MatchOption, IfSome, ◌≡◌, pos, IsTrue}
+use Rattle.std.specs.Prelude.{ℕ, List, Option, None, MatchOption, IfSome, ◌≡◌, pos, IsTrue}
 use Rattle.edge_walk.specs.Plane.{IsPlane}
 use Rattle.edge_walk.specs.Triangle.{Corners, is_inside}
 use Rattle.span_lanes.specs.declared.slopes.Slopes.{Slopes}
@@ -12,7 +12,7 @@ use Rattle.span_lanes.specs.declared.tint.Tint.{Tint}
 use Rattle.span_lanes.specs.declared.tint.Tint.TheVariants.{Plain, Planes}
 use Rattle.span_lanes.specs.Lanes.{IsSolid}
 use Rattle.span_lanes.specs.Shade.{color_in}
-use Rattle.span_lanes.specs.Swatches.{AreColored}
+use Rattle.span_lanes.specs.Swatches.{AreColored, AreFresh, entries_of}
 
 pub record Ink : Type 0 where
   pub paint : Paint
@@ -32,8 +32,24 @@ paint_row v (Shaded tri) = Shaded tri
 paint_row v (TexturedTri tri texture) = TexturedTri tri texture
 paint_row v (TexturedRow color texture u old flip) = TexturedRow color texture u v flip
 
-abbrev pub with_row : ℕ → Ink → Ink
-with_row v ink = record { paint = paint_row v ink.paint; brush = ink.brush }
+abbrev pub ink_row : ℕ → Ink → Ink
+ink_row v ink = record { paint = paint_row v ink.paint; brush = ink.brush }
+
+-- what a pen draws with, and the sixteen entries of the palette that it saw, if it keeps them
+pub record Loaded : Type 0 where
+  pub ink : Ink
+  pub palette : Option (List ℕ)
+
+-- one that has seen no palette
+abbrev pub new_pen : Paint → Brush → Loaded
+new_pen paint brush = record { ink = record { paint = paint; brush = brush }; palette = None }
+
+abbrev pub with_row : ℕ → Loaded → Loaded
+with_row v pen = record { ink = ink_row v pen.ink; palette = pen.palette }
+
+-- the palette that a pen keeps, if any, is the one in video memory
+abbrev pub IsFresh : Loaded → List ℕ → Type 0
+IsFresh pen m = AreFresh pen.ink.paint m pen.palette
 
 -- ---- what is made ready
 
@@ -74,8 +90,11 @@ pub record IsReady (ink : Ink) (solid : Option ℕ) (tint : Tint) (slopes : Opti
   pub colors : IsTint ink.paint tint
   pub coordinates : HasSlopes ink.paint slopes
 
--- the same with a palette under a colour
+-- the same with a palette under a colour, if it is kept
 pub record IsPen (ink : Ink) (solid : Option ℕ) (tint : Tint) (slopes : Option Slopes)
-    (swatches : Swatches) : Type 0 where
+    (last : Option Swatches) : Type 0 where
   pub ready : IsReady ink solid tint slopes
-  pub colored : AreColored swatches
+  pub colored : IfSome last AreColored
+
+abbrev pub loaded_of : Span → Option Swatches → Loaded
+loaded_of span last = record { ink = ink_of span; palette = entries_of last }

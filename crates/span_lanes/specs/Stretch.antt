@@ -7,12 +7,13 @@ use Rattle.span_lanes.specs.declared.span.Span.{Span}
 use Rattle.span_lanes.specs.Paints.{paint_u, paint_v}
 
 -- the texels of a span stand in a row of video memory, their columns in the page one more from cell to cell, and the
--- cells that they stand in do not wrap: with texels of fifteen bits those alone, with texels of four bits the first of
--- any sixteen texels and fifteen cells more
+-- cells that they stand in do not wrap: with texels of fifteen bits those alone, with smaller ones the first of any
+-- sixteen texels and fifteen cells more
 pub record IsStretch (span : Span) (t : Texture) (stretch : Stretch) : Type 0 where
   pub low : stretch.y ≤ t.page.y + 255
   pub in_page : stretch.u + span.n ≤ 256
   pub wholes : 2 ≤ t.page.depth → t.page.x + (stretch.u + span.n) ≤ 1024
+  pub eights : t.page.depth ≡ 1 → t.page.x + (stretch.u + span.n) / 2 + 16 ≤ 1024
   pub fours : t.page.depth ≡ 0 → t.page.x + (stretch.u + span.n) / 4 + 16 ≤ 1024
   pub column : (x i : ℕ) → i < span.n
       → windowed t.window.mask_x t.window.off_x (paint_u span.paint x span.y i) ≡ stretch.u + i

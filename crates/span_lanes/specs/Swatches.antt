@@ -1,12 +1,14 @@
 -- A palette of sixteen entries as it is drawn.
 use Rattle.std.specs.Prelude.{ℕ, ◌≡◌, ◌≢◌, ◌<◌, ◌/◌, ◌%◌, ◌&&◌, not, false, Bool, pos, List, length, slice_index}
+use Rattle.std.specs.Prelude.{Option, None, Some, IfSome}
 use Rattle.px_num.specs.Lanes.{EachLane}
 use Rattle.texture_page.specs.Page.{clut_place}
 use Rattle.span_lanes.specs.declared.span.Texture.{Texture}
+use Rattle.span_lanes.specs.declared.span.Paint.{Paint}
 use Rattle.span_lanes.specs.declared.span.Span.{Span}
 use Rattle.span_lanes.specs.declared.swatches.Swatches.{Swatches}
 use Rattle.span_lanes.specs.Guard.{IsApart}
-use Rattle.span_lanes.specs.Shade.{at_cell, front_of}
+use Rattle.span_lanes.specs.Shade.{at_cell, front_of, texture_of}
 
 -- the entries of a texture's palette, and what a colour makes of each without dither
 pub record AreSwatches (t : Texture) (m : List ℕ) (swatches : Swatches) : Type 0 where
@@ -22,6 +24,30 @@ pub record AreColored (swatches : Swatches) : Type 0 where
   pub fronts_long : length swatches.fronts ≡ 16
   pub front : EachLane (λ i. slice_index swatches.fronts i
       ≡ front_of swatches.raw swatches.color (pos 0) (slice_index swatches.entries i))
+
+-- sixteen entries are those of a texture's palette in video memory
+abbrev pub AreEntries : Texture → (m entries : List ℕ) → Type 0
+AreEntries t m entries = EachLane (λ i. slice_index entries i ≡ at_cell m (clut_place t.clut i))
+
+-- the entries that are kept, if any, are those of the palette of a paint's texture in video memory
+abbrev pub AreFresh : Paint → List ℕ → Option (List ℕ) → Type 0
+AreFresh paint m palette = IfSome palette (λ entries. IfSome (texture_of paint) (λ t. AreEntries t m entries))
+
+abbrev pub entries_of : Option Swatches → Option (List ℕ)
+entries_of None = None
+entries_of (Some swatches) = Some swatches.entries
+
+-- the palette that is kept, if any, is that of a paint's texture in video memory, under its colour
+pub record IsKept (paint : Paint) (m : List ℕ) (last : Option Swatches) : Type 0 where
+  pub colored : IfSome last AreColored
+  pub fresh : AreFresh paint m (entries_of last)
+
+-- the palette of a texture in video memory under a colour
+pub record IsPalette (t : Texture) (m : List ℕ) (tint : ℕ) (s : Swatches) : Type 0 where
+  pub colored : AreColored s
+  pub swatches : AreSwatches t m s
+  pub raw : s.raw ≡ t.raw
+  pub color : s.color ≡ tint
 
 -- the first k lanes are what a colour makes of texels without dither
 pub record AreFronts (raw : Bool) (color k : ℕ) (texels fronts : List ℕ) : Type 0 where

@@ -41,9 +41,8 @@ fn is_beside_page(span: &Span, texture: &Texture) -> bool
         × ((span.now.x + span.now.n ≤ texture.now.page.x)
         ⊎ (texture.now.page.x + page_width texture.now.page.depth ≤ span.now.x)))) }
 {
-    let outside = lies_outside(texture.page.y, span.y);
-    let beside = lies_beside(texture.page.x, width_of(texture.page.depth), span.x, span.n);
-    outside || beside
+    lies_outside(texture.page.y, span.y)
+        || lies_beside(texture.page.x, width_of(texture.page.depth), span.x, span.n)
 }
 
 // Whether the palette, if there is one, has another row.
@@ -57,7 +56,8 @@ fn is_off_palette(span: &Span, texture: &Texture) -> bool
 pub(crate) fn is_apart(span: &Span, texture: &Texture) -> bool
     requires span { IsSpan span.now }
     requires texture { texture_of span.now.paint ≡ Some texture.now }
-    ensures { IsTrue result → IsApart span.now }
+    ensures apart { IsTrue result → IsApart span.now }
+    ensures palette { IsTrue result → texture.now.page.depth ≡ 0 → texture.now.clut / 64 % 512 ≢ span.now.y }
 {
     is_beside_page(span, texture) && is_off_palette(span, texture)
 }

@@ -11,6 +11,7 @@ use crate::Texture;
 use crate::coordinates::Coordinates;
 use crate::fetch::{halfwords_of, ramp, same};
 use crate::nibbles::{entries_at, indexes};
+use crate::octets::octets;
 use crate::places::places_of;
 use px_num::lanes::{add, shifted_down, splat};
 use std::simd::prelude::*;
@@ -91,6 +92,28 @@ pub(crate) fn sixteen_indexes<L: Ledger>(
     let across = add(splat(u % 4), ramp());
     let cells = vram.load16(page + u / 4, y, 16, steps);
     indexes(across, entries_at(cells, shifted_down(across, 2)))
+}
+
+// The indexes of sixteen texels of eight bits from a column of a page on, in a row of video memory.
+#[inline(always)]
+pub(crate) fn sixteen_octets<L: Ledger>(
+    vram: &Vram,
+    page: u16,
+    u: u16,
+    y: u16,
+    steps: &mut Steps<L>,
+) -> u16x16
+    requires in_page { u ≤ 255 }
+    requires in_row { page + u / 2 + 16 ≤ 1024 }
+    requires in_height { y < height_of vram.now }
+    ensures long { length result ≡ 16 }
+    ensures low { EachLane (λ i. slice_index result i < 256) }
+    ensures value { EachLane (λ i. slice_index result i ≡ index_in 1 (u + i) (at vram.now (page + (u + i) / 2) y)) }
+    ensures cost { steps.new ≤ steps.old + 1 }
+{
+    let across = add(splat(u % 2), ramp());
+    let cells = vram.load16(page + u / 2, y, 16, steps);
+    octets(across, entries_at(cells, shifted_down(across, 1)))
 }
 
 // The indexes of sixteen texels of four bits that stand side by side.

@@ -1,12 +1,13 @@
 // Spans, each by what suits it.
-ghost use Rattle.std.specs.Prelude.{◌≡◌, ◌≤◌, ◌+◌, ◌*◌, Some, length};
+ghost use Rattle.std.specs.Prelude.{◌≡◌, ◌≤◌, ◌+◌, ◌*◌, IfSome, Some, length};
 ghost use Rattle.vram_store.specs.Vram.{height_of};
 ghost use Rattle.span_lanes.specs.Shade.{IsSpan, LiesIn, texture_of, drawn_span};
 ghost use Rattle.span_lanes.specs.declared.hues.Hues.TheVariants.{One};
 ghost use Rattle.span_lanes.specs.declared.span.Paint.TheVariants.{TexturedTri, TexturedRow};
 ghost use Rattle.span_lanes.specs.Pen.{IsTint, AreSlopes, HasSlopes, IsReady, ink_of};
 ghost use Rattle.span_lanes.specs.Hues.{AreHues};
-ghost use Rattle.span_lanes.specs.Swatches.{AreColored};
+ghost use Rattle.span_lanes.specs.Stretch.{IsStretch};
+ghost use Rattle.span_lanes.specs.Swatches.{IsKept};
 ghost use Rattle.span_lanes.specs.Cost.{span_cost};
 
 use crate::hues::{Hues, hues_of};
@@ -15,6 +16,8 @@ use crate::row::TexelRow;
 use crate::sheet::draw_planned;
 use crate::slopes::Slopes;
 use crate::solid::draw_solid;
+use crate::stretch::{Stretch, stretch_of};
+use crate::strip::{draw_strip, suits_strip};
 use crate::swatches::Swatches;
 use crate::tint::Tint;
 use crate::untextured::draw_untextured;
@@ -23,6 +26,31 @@ use edge_walk::Tri;
 use std::sync::ledger::Ledger;
 use vram_store::{Steps, Vram};
 
+// A row of texels whose chunks are planned.
+#[inline(never)]
+fn draw_planned_row<L: Ledger>(
+    vram: &mut Vram,
+    span: &Span,
+    texture: &Texture,
+    row: TexelRow,
+    stretch: Option<Stretch>,
+    last: &mut Option<Swatches>,
+    steps: &mut Steps<L>,
+)
+    requires span { IsSpan span.now }
+    requires height { LiesIn (height_of vram.old) span.now }
+    requires paint { span.now.paint ≡ TexturedRow row.color texture.now row.u row.v row.flip }
+    requires stretch { IfSome stretch (IsStretch span.now texture.now) }
+    requires last { IsKept span.now.paint vram.old last.old }
+    ensures cells { vram.new ≡ drawn_span span.now span.now.n vram.old }
+    ensures long { length vram.new ≡ length vram.old }
+    ensures last { IsKept span.now.paint vram.new last.new }
+    ensures cost { steps.new ≤ steps.old + span_cost span.now }
+{
+    let plan = row_plan(span, texture, row, stretch);
+    draw_planned(vram, span, texture, &plan, last, steps);
+}
+
 // A row of texels.
 #[inline(never)]
 fn draw_row<L: Ledger>(
@@ -30,50 +58,27 @@ fn draw_row<L: Ledger>(
     span: &Span,
     texture: &Texture,
     row: TexelRow,
-    last: &mut Swatches,
+    last: &mut Option<Swatches>,
     steps: &mut Steps<L>,
 )
     requires span { IsSpan span.now }
     requires height { LiesIn (height_of vram.old) span.now }
     requires paint { span.now.paint ≡ TexturedRow row.color texture.now row.u row.v row.flip }
-    requires last { AreColored last.old }
+    requires last { IsKept span.now.paint vram.old last.old }
     ensures cells { vram.new ≡ drawn_span span.now span.now.n vram.old }
     ensures long { length vram.new ≡ length vram.old }
-    ensures last { AreColored last.new }
+    ensures last { IsKept span.now.paint vram.new last.new }
     ensures cost { steps.new ≤ steps.old + span_cost span.now }
 {
-    let plan = row_plan(span, texture, row);
-    draw_planned(vram, span, texture, &plan, last, steps);
+    match stretch_of(span, texture, row) {
+        Some(stretch) if suits_strip(span, texture) => {
+            draw_strip(vram, span, texture, &stretch, row.color, last, steps)
+        }
+        stretch => draw_planned_row(vram, span, texture, row, stretch, last, steps),
+    }
 }
 
-// A row of a triangle with a texture, by its colours.
-#[inline(always)]
-fn draw_sheet<L: Ledger>(
-    vram: &mut Vram,
-    span: &Span,
-    tri: &Tri,
-    texture: &Texture,
-    hues: Hues,
-    slopes: &Slopes,
-    last: &mut Swatches,
-    steps: &mut Steps<L>,
-)
-    requires span { IsSpan span.now }
-    requires height { LiesIn (height_of vram.old) span.now }
-    requires paint { span.now.paint ≡ TexturedTri tri.now texture.now }
-    requires hues { AreHues span.now.paint span.now.x span.now.y span.now.n hues }
-    requires slopes { AreSlopes tri.now slopes.now }
-    requires last { AreColored last.old }
-    ensures cells { vram.new ≡ drawn_span span.now span.now.n vram.old }
-    ensures long { length vram.new ≡ length vram.old }
-    ensures last { AreColored last.new }
-    ensures cost { steps.new ≤ steps.old + span_cost span.now }
-{
-    let plan = tri_plan(span, tri, texture, hues, slopes);
-    draw_planned(vram, span, texture, &plan, last, steps);
-}
-
-// The same under one colour.
+// A row of a triangle with a texture under one colour.
 #[inline(never)]
 fn draw_plain_sheet<L: Ledger>(
     vram: &mut Vram,
@@ -82,7 +87,7 @@ fn draw_plain_sheet<L: Ledger>(
     texture: &Texture,
     color: u32,
     slopes: &Slopes,
-    last: &mut Swatches,
+    last: &mut Option<Swatches>,
     steps: &mut Steps<L>,
 )
     requires span { IsSpan span.now }
@@ -90,22 +95,14 @@ fn draw_plain_sheet<L: Ledger>(
     requires paint { span.now.paint ≡ TexturedTri tri.now texture.now }
     requires hues { AreHues span.now.paint span.now.x span.now.y span.now.n (One color) }
     requires slopes { AreSlopes tri.now slopes.now }
-    requires last { AreColored last.old }
+    requires last { IsKept span.now.paint vram.old last.old }
     ensures cells { vram.new ≡ drawn_span span.now span.now.n vram.old }
     ensures long { length vram.new ≡ length vram.old }
-    ensures last { AreColored last.new }
+    ensures last { IsKept span.now.paint vram.new last.new }
     ensures cost { steps.new ≤ steps.old + span_cost span.now }
 {
-    draw_sheet(
-        vram,
-        span,
-        tri,
-        texture,
-        Hues::One { color },
-        slopes,
-        last,
-        steps,
-    );
+    let plan = tri_plan(span, tri, texture, Hues::One { color }, slopes);
+    draw_planned(vram, span, texture, &plan, last, steps);
 }
 
 // The same under several.
@@ -117,7 +114,7 @@ fn draw_mixed_sheet<L: Ledger>(
     texture: &Texture,
     hues: Hues,
     slopes: &Slopes,
-    last: &mut Swatches,
+    last: &mut Option<Swatches>,
     steps: &mut Steps<L>,
 )
     requires span { IsSpan span.now }
@@ -125,13 +122,14 @@ fn draw_mixed_sheet<L: Ledger>(
     requires paint { span.now.paint ≡ TexturedTri tri.now texture.now }
     requires hues { AreHues span.now.paint span.now.x span.now.y span.now.n hues }
     requires slopes { AreSlopes tri.now slopes.now }
-    requires last { AreColored last.old }
+    requires last { IsKept span.now.paint vram.old last.old }
     ensures cells { vram.new ≡ drawn_span span.now span.now.n vram.old }
     ensures long { length vram.new ≡ length vram.old }
-    ensures last { AreColored last.new }
+    ensures last { IsKept span.now.paint vram.new last.new }
     ensures cost { steps.new ≤ steps.old + span_cost span.now }
 {
-    draw_sheet(vram, span, tri, texture, hues, slopes, last, steps);
+    let plan = tri_plan(span, tri, texture, hues, slopes);
+    draw_planned(vram, span, texture, &plan, last, steps);
 }
 
 // A row of a triangle with a texture.
@@ -143,7 +141,7 @@ fn draw_tri<L: Ledger>(
     texture: &Texture,
     tint: &Tint,
     slopes: &Slopes,
-    last: &mut Swatches,
+    last: &mut Option<Swatches>,
     steps: &mut Steps<L>,
 )
     requires span { IsSpan span.now }
@@ -151,10 +149,10 @@ fn draw_tri<L: Ledger>(
     requires paint { span.now.paint ≡ TexturedTri tri.now texture.now }
     requires tint { IsTint span.now.paint tint.now }
     requires slopes { AreSlopes tri.now slopes.now }
-    requires last { AreColored last.old }
+    requires last { IsKept span.now.paint vram.old last.old }
     ensures cells { vram.new ≡ drawn_span span.now span.now.n vram.old }
     ensures long { length vram.new ≡ length vram.old }
-    ensures last { AreColored last.new }
+    ensures last { IsKept span.now.paint vram.new last.new }
     ensures cost { steps.new ≤ steps.old + span_cost span.now }
 {
     let hues = hues_of(span, tint);
@@ -173,17 +171,17 @@ fn draw_varied<L: Ledger>(
     span: &Span,
     tint: &Tint,
     slopes: &Option<Slopes>,
-    last: &mut Swatches,
+    last: &mut Option<Swatches>,
     steps: &mut Steps<L>,
 )
     requires span { IsSpan span.now }
     requires height { LiesIn (height_of vram.old) span.now }
     requires tint { IsTint span.now.paint tint.now }
     requires slopes { HasSlopes span.now.paint slopes.now }
-    requires last { AreColored last.old }
+    requires last { IsKept span.now.paint vram.old last.old }
     ensures cells { vram.new ≡ drawn_span span.now span.now.n vram.old }
     ensures long { length vram.new ≡ length vram.old }
-    ensures last { AreColored last.new }
+    ensures last { IsKept span.now.paint vram.new last.new }
     ensures cost { steps.new ≤ steps.old + span_cost span.now }
 {
     match &span.paint {
@@ -219,16 +217,16 @@ pub(crate) fn draw_ready<L: Ledger>(
     solid: Option<u16>,
     tint: &Tint,
     slopes: &Option<Slopes>,
-    last: &mut Swatches,
+    last: &mut Option<Swatches>,
     steps: &mut Steps<L>,
 )
     requires span { IsSpan span.now }
     requires height { LiesIn (height_of vram.old) span.now }
     requires ready { IsReady (ink_of span.now) solid tint.now slopes.now }
-    requires last { AreColored last.old }
+    requires last { IsKept span.now.paint vram.old last.old }
     ensures cells { vram.new ≡ drawn_span span.now span.now.n vram.old }
     ensures long { length vram.new ≡ length vram.old }
-    ensures last { AreColored last.new }
+    ensures last { IsKept span.now.paint vram.new last.new }
     ensures cost { steps.new ≤ steps.old + span_cost span.now }
 {
     match solid {

@@ -171,7 +171,7 @@ pub(crate) fn sixteen_entries<L: Ledger>(vram: &Vram, clut: u16, steps: &mut Ste
 
 // The entries of a palette by their indexes, one by one.
 #[inline(always)]
-fn gather_entries<L: Ledger>(
+pub(crate) fn gather_entries<L: Ledger>(
     vram: &Vram,
     clut: u16,
     indexes: u16x16,

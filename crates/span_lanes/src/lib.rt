@@ -35,6 +35,7 @@ mod solid;
 mod span;
 mod store;
 mod stretch;
+mod strip;
 mod swatches;
 mod textured;
 mod tint;

@@ -1,14 +1,14 @@
 // A paint made ready.
 ghost use Rattle.std.specs.Prelude.{◌≡◌, ◌≤◌, ◌+◌, length};
 ghost use Rattle.vram_store.specs.Vram.{height_of};
-ghost use Rattle.span_lanes.specs.Cells.{Cells, row_cells};
+ghost use Rattle.span_lanes.specs.Cells.{drawn_cells, row_cells};
 ghost use Rattle.span_lanes.specs.Cost.{span_cost};
 ghost use Rattle.span_lanes.specs.Shade.{IsSpan, LiesIn, shade_at};
 
 use crate::draw::draw_ready;
 use crate::slopes::{Slopes, slopes_of};
 use crate::solid::solid_of;
-use crate::swatches::{Swatches, no_swatches};
+use crate::swatches::Swatches;
 use crate::tint::{Tint, tint_of};
 use crate::{Brush, Paint, Span};
 use std::marker::Model;
@@ -24,31 +24,31 @@ pub struct Pen {
     solid: Option<u16>,
     tint: Tint,
     slopes: Option<Slopes>,
-    // the palette that was seen last, and what a colour makes of it
-    swatches: Swatches,
+    // the palette that was seen, and what a colour makes of it
+    last: Option<Swatches>,
 }
 
 impl Model for Pen {
-    ghost use Rattle.span_lanes.specs.Pen.{Ink, ink_of, IsPen};
+    ghost use Rattle.span_lanes.specs.Pen.{ink_of, loaded_of, IsPen, Loaded};
 
-    ghost Value = { Ink };
+    ghost Value = { Loaded };
 
-    ghost view = { λ pen. ink_of pen.span };
+    ghost view = { λ pen. loaded_of pen.span pen.last };
 
-    ghost invariant = { λ pen. IsPen (ink_of pen.span) pen.solid pen.tint pen.slopes pen.swatches };
+    ghost invariant = { λ pen. IsPen (ink_of pen.span) pen.solid pen.tint pen.slopes pen.last };
 }
 
 impl Pen {
     ghost use Rattle.std.specs.Prelude.{◌≡◌, ◌≤◌, ◌+◌, length};
     ghost use Rattle.vram_store.specs.Vram.{height_of};
-    ghost use Rattle.span_lanes.specs.Cells.{Cells, row_cells};
+    ghost use Rattle.span_lanes.specs.Cells.{drawn_cells, row_cells};
     ghost use Rattle.span_lanes.specs.Cost.{span_cost};
-    ghost use Rattle.span_lanes.specs.Pen.{ink_span, with_row};
+    ghost use Rattle.span_lanes.specs.Pen.{ink_span, new_pen, with_row, IsFresh};
     ghost use Rattle.span_lanes.specs.Shade.{IsSpan, LiesIn, shade_at};
 
     /// A paint and a brush made ready.
     pub fn new(paint: &Paint, brush: &Brush) -> Pen
-        ensures { result ≡ record { paint = paint.now; brush = brush.now } }
+        ensures { result ≡ new_pen paint.now brush.now }
     {
         Pen {
             span: Span {
@@ -61,7 +61,7 @@ impl Pen {
             solid: solid_of(paint, brush),
             tint: tint_of(paint),
             slopes: slopes_of(paint),
-            swatches: no_swatches(),
+            last: None,
         }
     }
 
@@ -77,13 +77,15 @@ impl Pen {
 
     /// Draws n cells from (x, y) to the right, as [`draw_span`] does.
     pub fn draw<L: Ledger>(&mut self, vram: &mut Vram, x: u16, y: u16, n: u16, steps: &mut Steps<L>)
-        requires span { IsSpan (ink_span self.old x y n) }
-        requires height { LiesIn (height_of vram.old) (ink_span self.old x y n) }
-        ensures pen { self.new ≡ self.old }
+        requires span { IsSpan (ink_span self.old.ink x y n) }
+        requires height { LiesIn (height_of vram.old) (ink_span self.old.ink x y n) }
+        requires fresh { IsFresh self.old vram.old }
+        ensures ink { self.new.ink ≡ self.old.ink }
+        ensures fresh { IsFresh self.new vram.new }
         ensures cells { vram.new
-            ≡ Cells (shade_at (ink_span self.old x y n)) self.old.brush.mask (row_cells x y n) vram.old }
+            ≡ drawn_cells (shade_at (ink_span self.old.ink x y n)) self.old.ink.brush.mask (row_cells x y n) vram.old }
         ensures long { length vram.new ≡ length vram.old }
-        ensures cost { steps.new ≤ steps.old + span_cost (ink_span self.old x y n) }
+        ensures cost { steps.new ≤ steps.old + span_cost (ink_span self.old.ink x y n) }
     {
         self.span.x = x;
         self.span.y = y;
@@ -94,7 +96,7 @@ impl Pen {
             self.solid,
             &self.tint,
             &self.slopes,
-            &mut self.swatches,
+            &mut self.last,
             steps,
         );
     }
@@ -117,7 +119,7 @@ pub fn draw_span<L: Ledger>(vram: &mut Vram, span: &Span, steps: &mut Steps<L>)
     requires span { IsSpan span.now }
     requires height { LiesIn (height_of vram.old) span.now }
     ensures cells { vram.new
-        ≡ Cells (shade_at span.now) span.now.brush.mask (row_cells span.now.x span.now.y span.now.n) vram.old }
+        ≡ drawn_cells (shade_at span.now) span.now.brush.mask (row_cells span.now.x span.now.y span.now.n) vram.old }
     ensures long { length vram.new ≡ length vram.old }
     ensures cost { steps.new ≤ steps.old + span_cost span.now }
 {

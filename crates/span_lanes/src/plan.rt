@@ -13,7 +13,7 @@ use crate::colors::{Shifts, shifts_of};
 use crate::hues::Hues;
 use crate::row::TexelRow;
 use crate::slopes::Slopes;
-use crate::stretch::{Stretch, stretch_of};
+use crate::stretch::Stretch;
 use crate::track::{Along, Track, tri_track};
 use crate::{Span, Texture};
 use edge_walk::Tri;
@@ -62,9 +62,15 @@ fn plan_with(
 
 // The plan of a row of texels.
 #[inline(always)]
-pub(crate) fn row_plan(span: &Span, texture: &Texture, row: TexelRow) -> Plan
+pub(crate) fn row_plan(
+    span: &Span,
+    texture: &Texture,
+    row: TexelRow,
+    stretch: Option<Stretch>,
+) -> Plan
     requires span { IsSpan span.now }
     requires paint { span.now.paint ≡ TexturedRow row.color texture.now row.u row.v row.flip }
+    requires stretch { IfSome stretch (IsStretch span.now texture.now) }
     ensures { IsPlan span.now texture.now result }
 {
     let track = Track {
@@ -74,7 +80,6 @@ pub(crate) fn row_plan(span: &Span, texture: &Texture, row: TexelRow) -> Plan
         },
         v: Along::Same { v: row.v },
     };
-    let stretch = stretch_of(span, texture, row);
     plan_with(
         span,
         texture,

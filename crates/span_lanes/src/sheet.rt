@@ -7,7 +7,7 @@ ghost use Rattle.span_lanes.specs.Guard.{HasHazard, IsApart};
 ghost use Rattle.span_lanes.specs.Lanes.{HasCoordinates};
 ghost use Rattle.span_lanes.specs.Plan.{HasTexels, IsPlanned};
 ghost use Rattle.span_lanes.specs.Stretch.{IsStretch};
-ghost use Rattle.span_lanes.specs.Swatches.{AreColored};
+ghost use Rattle.span_lanes.specs.Swatches.{IsKept};
 ghost use Rattle.span_lanes.specs.Cost.{chunk_cost, span_cost};
 
 use crate::coordinates::Coordinates;
@@ -67,7 +67,7 @@ fn draw_stretch<L: Ledger>(
     requires chunk { IsChunk span.now first k }
     requires whole { first % 16 ≡ 0 }
     requires stretch { IsStretch span.now texture.now stretch.now }
-    requires depth { 2 ≤ texture.now.page.depth }
+    requires depth { 1 ≤ texture.now.page.depth }
     requires apart { IsApart span.now }
     ensures cells { vram.new ≡ drawn_chunk span.now first k vram.old }
     ensures long { length vram.new ≡ length vram.old }
@@ -135,33 +135,6 @@ fn draw_guarded<L: Ledger>(
     }
 }
 
-// A textured chunk of a span that is known to read nothing that it writes.
-#[inline(always)]
-fn draw_free<L: Ledger>(
-    vram: &mut Vram,
-    span: &Span,
-    texture: &Texture,
-    plan: &Plan,
-    first: u16,
-    k: u8,
-    steps: &mut Steps<L>,
-)
-    requires planned { IsPlanned (height_of vram.old) span.now texture.now plan.now }
-    requires chunk { IsChunk span.now first k }
-    requires whole { first % 16 ≡ 0 }
-    requires apart { IsApart span.now }
-    ensures cells { vram.new ≡ drawn_chunk span.now first k vram.old }
-    ensures long { length vram.new ≡ length vram.old }
-    ensures cost { steps.new ≤ steps.old + chunk_cost span.now first k }
-{
-    match &plan.stretch {
-        Some(stretch) if texture.page.depth >= 2 => {
-            draw_stretch(vram, span, texture, plan, stretch, first, k, steps)
-        }
-        _ => draw_apart(vram, span, texture, plan, first, k, steps),
-    }
-}
-
 // A textured chunk.
 #[inline(always)]
 fn draw_textured<L: Ledger>(
@@ -180,11 +153,15 @@ fn draw_textured<L: Ledger>(
     ensures long { length vram.new ≡ length vram.old }
     ensures cost { steps.new ≤ steps.old + chunk_cost span.now first k }
 {
-    if plan.apart {
-        draw_free(vram, span, texture, plan, first, k, steps);
-    } else {
-        let at = track_lanes(&plan.track, first);
-        draw_guarded(vram, span, texture, *plan, at, first, k, steps);
+    match &plan.stretch {
+        Some(stretch) if plan.apart && texture.page.depth >= 1 => {
+            draw_stretch(vram, span, texture, plan, stretch, first, k, steps)
+        }
+        _ if plan.apart => draw_apart(vram, span, texture, plan, first, k, steps),
+        _ => {
+            let at = track_lanes(&plan.track, first);
+            draw_guarded(vram, span, texture, *plan, at, first, k, steps)
+        }
     }
 }
 
@@ -219,20 +196,23 @@ pub(crate) fn draw_planned<L: Ledger>(
     span: &Span,
     texture: &Texture,
     plan: &Plan,
-    last: &mut Swatches,
+    last: &mut Option<Swatches>,
     steps: &mut Steps<L>,
 )
     requires planned { IsPlanned (height_of vram.old) span.now texture.now plan.now }
-    requires last { AreColored last.old }
+    requires last { IsKept span.now.paint vram.old last.old }
     ensures cells { vram.new ≡ drawn_span span.now span.now.n vram.old }
     ensures long { length vram.new ≡ length vram.old }
-    ensures last { AreColored last.new }
+    ensures last { IsKept span.now.paint vram.new last.new }
     ensures cost { steps.new ≤ steps.old + span_cost span.now }
 {
     match plan.hues {
         Hues::One { color } if suits(span, texture, plan) => {
             draw_swatches(vram, span, texture, plan, color, last, steps)
         }
-        _ => draw_chunks(vram, span, texture, plan, steps),
+        _ => {
+            *last = None;
+            draw_chunks(vram, span, texture, plan, steps)
+        }
     }
 }

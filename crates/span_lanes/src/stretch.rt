@@ -1,12 +1,15 @@
 // Texels that stand side by side in a row of video memory.
-ghost use Rattle.std.specs.Prelude.{◌≡◌, ◌≤◌, ◌<◌, ◌+◌, ◌/◌, IfSome, IsTrue, false};
+ghost use Rattle.std.specs.Prelude.{◌≡◌, ◌≤◌, ◌<◌, ◌+◌, ◌*◌, ◌/◌, IfSome, IsTrue, false};
 ghost use Rattle.vram_store.specs.Vram.{height_of};
 ghost use Rattle.span_lanes.specs.declared.span.Paint.TheVariants.{TexturedRow};
 ghost use Rattle.span_lanes.specs.Chunk.{IsChunk};
+ghost use Rattle.span_lanes.specs.Cost.{texel_steps};
 ghost use Rattle.span_lanes.specs.Plan.{HasTexels};
 ghost use Rattle.span_lanes.specs.Shade.{IsSpan, IsTexture};
 ghost use Rattle.span_lanes.specs.Stretch.{IsStretch};
 
+use crate::beside::sixteen_octets;
+use crate::fetch::gather_entries;
 use crate::row::TexelRow;
 use crate::{Span, Texture};
 use std::simd::prelude::*;
@@ -27,11 +30,12 @@ fn has_room(texture: &Texture, u: u16, n: u16) -> bool
     requires texture { IsTexture texture.now }
     requires in_page { u + n ≤ 256 }
     ensures wholes { IsTrue result → 2 ≤ texture.now.page.depth → texture.now.page.x + (u + n) ≤ 1024 }
+    ensures eights { IsTrue result → texture.now.page.depth ≡ 1 → texture.now.page.x + (u + n) / 2 + 16 ≤ 1024 }
     ensures fours { IsTrue result → texture.now.page.depth ≡ 0 → texture.now.page.x + (u + n) / 4 + 16 ≤ 1024 }
 {
     match texture.page.depth {
         0 => texture.page.x + (u + n) / 4 + 16 <= 1024,
-        1 => false,
+        1 => texture.page.x + (u + n) / 2 + 16 <= 1024,
         _ => texture.page.x + u + n <= 1024,
     }
 }
@@ -65,7 +69,7 @@ pub(crate) fn stretch_of(span: &Span, texture: &Texture, row: TexelRow) -> Optio
 
 // k texels of fifteen bits that stand side by side.
 #[inline(always)]
-pub(crate) fn read_stretch<L: Ledger>(
+fn read_wholes<L: Ledger>(
     vram: &Vram,
     span: &Span,
     texture: &Texture,
@@ -79,8 +83,56 @@ pub(crate) fn read_stretch<L: Ledger>(
     requires stretch { IsStretch span.now texture.now stretch.now }
     requires depth { 2 ≤ texture.now.page.depth }
     ensures texels { HasTexels span.now texture.now first k vram.now result }
-    ensures cost { steps.new ≤ steps.old + 1 }
+    ensures cost { steps.new ≤ steps.old + k }
 {
     let _ = span;
     vram.load16(texture.page.x + stretch.u + first, stretch.y, k, steps)
+}
+
+// k texels of eight bits that stand side by side.
+#[inline(always)]
+fn read_eights<L: Ledger>(
+    vram: &Vram,
+    span: &Span,
+    texture: &Texture,
+    stretch: &Stretch,
+    first: u16,
+    k: u8,
+    steps: &mut Steps<L>,
+) -> u16x16
+    requires page { texture.now.page.y + 255 < height_of vram.now }
+    requires chunk { IsChunk span.now first k }
+    requires stretch { IsStretch span.now texture.now stretch.now }
+    requires depth { texture.now.page.depth ≡ 1 }
+    ensures texels { HasTexels span.now texture.now first k vram.now result }
+    ensures cost { steps.new ≤ steps.old + 2 * k }
+{
+    let _ = span;
+    let u = stretch.u + first;
+    let index = sixteen_octets(vram, texture.page.x, u, stretch.y, steps);
+    gather_entries(vram, texture.clut, index, k, steps)
+}
+
+// k texels of eight or fifteen bits that stand side by side.
+#[inline(always)]
+pub(crate) fn read_stretch<L: Ledger>(
+    vram: &Vram,
+    span: &Span,
+    texture: &Texture,
+    stretch: &Stretch,
+    first: u16,
+    k: u8,
+    steps: &mut Steps<L>,
+) -> u16x16
+    requires page { texture.now.page.y + 255 < height_of vram.now }
+    requires chunk { IsChunk span.now first k }
+    requires stretch { IsStretch span.now texture.now stretch.now }
+    requires depth { 1 ≤ texture.now.page.depth }
+    ensures texels { HasTexels span.now texture.now first k vram.now result }
+    ensures cost { steps.new ≤ steps.old + texel_steps texture.now.page.depth * k }
+{
+    match texture.page.depth {
+        1 => read_eights(vram, span, texture, stretch, first, k, steps),
+        _ => read_wholes(vram, span, texture, stretch, first, k, steps),
+    }
 }

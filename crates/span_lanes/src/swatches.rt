@@ -1,5 +1,5 @@
 // Textures of four bits under one colour, whose palette is read and coloured once a span.
-ghost use Rattle.std.specs.Prelude.{◌≡◌, ◌≤◌, ◌<◌, ◌+◌, ◌%◌, IsTrue};
+ghost use Rattle.std.specs.Prelude.{◌≡◌, ◌≤◌, ◌<◌, ◌+◌, ◌%◌, IfSome, IsTrue, MatchOption, Some};
 ghost use Rattle.std.specs.Prelude.{length, slice_index};
 ghost use Rattle.vram_store.specs.Vram.{height_of};
 ghost use Rattle.span_lanes.specs.declared.hues.Hues.TheVariants.{One};
@@ -8,24 +8,22 @@ ghost use Rattle.span_lanes.specs.Cost.{chunk_cost, span_cost};
 ghost use Rattle.span_lanes.specs.Lanes.{AreCoordinates};
 ghost use Rattle.span_lanes.specs.Plan.{HasTexels, IsPlan, IsPlanned};
 ghost use Rattle.span_lanes.specs.Shade.{IsTexture, drawn_span};
-ghost use Rattle.span_lanes.specs.Stretch.{IsStretch};
-ghost use Rattle.span_lanes.specs.Swatches.{AreColored, AreFronts, AreSwatches, SuitsPalette};
+ghost use Rattle.span_lanes.specs.Swatches.{AreColored, AreEntries, AreFronts, AreSwatches};
+ghost use Rattle.span_lanes.specs.Swatches.{IsKept, IsPalette, SuitsPalette};
 ghost use Rattle.px_num.specs.Lanes.{EachLane};
 ghost use Rattle.span_lanes.specs.Texels.{AreTexels};
 
-use crate::beside::{indexes_of, sixteen_indexes};
+use crate::beside::indexes_of;
 use crate::colors::no_shifts;
 use crate::coordinates::Coordinates;
-use crate::fetch::{same, sixteen_entries};
+use crate::fetch::sixteen_entries;
 use crate::hues::Hues;
 use crate::nibbles::entries_at;
 use crate::plan::{Plan, is_dithered};
 use crate::store::store_chunk;
-use crate::stretch::Stretch;
 use crate::textured::{collect_fronts, fronts};
 use crate::track::track_lanes;
 use crate::{Span, Texture};
-use px_num::lanes::splat;
 use std::simd::prelude::*;
 use std::sync::ledger::Ledger;
 use vram_store::{Steps, Vram};
@@ -41,22 +39,9 @@ pub(crate) struct Swatches {
 
 // Texels, and what a colour makes of them.
 #[derive(Clone, Copy)]
-struct Drawn {
-    texels: u16x16,
-    fronts: u16x16,
-}
-
-// Sixteen entries of no palette.
-#[tactic(auto, unfolding(crate::specs::Shade::front_of))]
-pub(crate) fn no_swatches() -> Swatches
-    ensures { AreColored result }
-{
-    Swatches {
-        raw: true,
-        color: 0,
-        entries: splat(0),
-        fronts: splat(0),
-    }
+pub(crate) struct Drawn {
+    pub(crate) texels: u16x16,
+    pub(crate) fronts: u16x16,
 }
 
 // What a colour makes of sixteen entries.
@@ -77,98 +62,57 @@ fn colored(raw: bool, color: u32, entries: u16x16) -> Swatches
     }
 }
 
-// Whether these are the entries, under the same colour.
+// Whether a palette is kept under this colour.
 #[inline(always)]
-fn is_of(swatches: &Swatches, raw: bool, color: u32, entries: u16x16) -> bool
-    requires long { (length swatches.now.entries ≡ 16) × (length entries ≡ 16) }
-    ensures raw { IsTrue result → swatches.now.raw ≡ raw }
-    ensures color { IsTrue result → swatches.now.color ≡ color }
-    ensures entries { IsTrue result
-        → EachLane (λ i. slice_index swatches.now.entries i ≡ slice_index entries i) }
+fn is_under(last: &Option<Swatches>, raw: bool, color: u32) -> bool
+    ensures { IsTrue result → MatchOption last.now ⊥ (λ s. (s.raw ≡ raw) × (s.color ≡ color)) }
 {
-    let known = same(swatches.entries, entries);
-    swatches.raw == raw && swatches.color == color && known
+    match last {
+        Some(kept) => kept.raw == raw && kept.color == color,
+        None => false,
+    }
 }
 
-// The palette of a texture as it is now, under a colour; it is coloured anew where it is not what was seen last.
+// Reads the palette of a texture and colours it, unless it is kept under this colour.
+#[inline(always)]
+#[tactic(auto, using(crate::proofs::SwatchLemmas::kept_palette))]
+pub(crate) fn refresh<L: Ledger>(
+    vram: &Vram,
+    texture: &Texture,
+    color: u32,
+    last: &mut Option<Swatches>,
+    steps: &mut Steps<L>,
+)
+    requires colored { IfSome last.old AreColored }
+    requires fresh { IfSome last.old (λ s. AreEntries texture.now vram.now s.entries) }
+    ensures palette { MatchOption last.new ⊥ (IsPalette texture.now vram.now color) }
+    ensures cost { steps.new ≤ steps.old + 1 }
+{
+    if !is_under(last, texture.raw, color) {
+        let entries = sixteen_entries(vram, texture.clut, steps);
+        *last = Some(colored(texture.raw, color, entries));
+    }
+}
+
+// The palette of a texture under a colour, which is kept from then on.
 #[inline(always)]
 fn swatches_of<L: Ledger>(
     vram: &Vram,
     texture: &Texture,
     color: u32,
-    last: &Swatches,
+    last: &mut Option<Swatches>,
     steps: &mut Steps<L>,
 ) -> Swatches
-    requires last { AreColored last.now }
-    ensures swatches { AreSwatches texture.now vram.now result }
-    ensures color { result.color ≡ color }
-    ensures colored { AreColored result }
+    requires colored { IfSome last.old AreColored }
+    requires fresh { IfSome last.old (λ s. AreEntries texture.now vram.now s.entries) }
+    ensures palette { IsPalette texture.now vram.now color result }
+    ensures kept { last.new ≡ Some result }
     ensures cost { steps.new ≤ steps.old + 1 }
 {
-    let entries = sixteen_entries(vram, texture.clut, steps);
-    if is_of(last, texture.raw, color, entries) {
-        *last
-    } else {
-        colored(texture.raw, color, entries)
-    }
-}
-
-// k texels by their coordinates.
-#[inline(always)]
-fn read_drawn<L: Ledger>(
-    vram: &Vram,
-    texture: &Texture,
-    swatches: &Swatches,
-    at: &Coordinates,
-    k: u8,
-    steps: &mut Steps<L>,
-) -> Drawn
-    requires texture { IsTexture texture.now }
-    requires page { texture.now.page.y + 255 < height_of vram.now }
-    requires depth { texture.now.page.depth ≡ 0 }
-    requires swatches { AreSwatches texture.now vram.now swatches.now }
-    requires at { AreCoordinates at.now.us × AreCoordinates at.now.vs }
-    requires few { (1 ≤ k) × (k ≤ 16) }
-    ensures long { length result.texels ≡ 16 }
-    ensures texels { AreTexels texture.now at.now k vram.now result.texels }
-    ensures fronts { AreFronts texture.now.raw swatches.now.color k result.texels result.fronts }
-    ensures cost { steps.new ≤ steps.old + k }
-{
-    let index = indexes_of(vram, texture, at, k, steps);
-    Drawn {
-        texels: entries_at(swatches.entries, index),
-        fronts: entries_at(swatches.fronts, index),
-    }
-}
-
-// k texels of four bits that stand side by side.
-#[inline(always)]
-fn read_beside<L: Ledger>(
-    vram: &Vram,
-    span: &Span,
-    texture: &Texture,
-    stretch: &Stretch,
-    swatches: &Swatches,
-    first: u16,
-    k: u8,
-    steps: &mut Steps<L>,
-) -> Drawn
-    requires page { texture.now.page.y + 255 < height_of vram.now }
-    requires depth { texture.now.page.depth ≡ 0 }
-    requires chunk { IsChunk span.now first k }
-    requires stretch { IsStretch span.now texture.now stretch.now }
-    requires swatches { AreSwatches texture.now vram.now swatches.now }
-    ensures texels { HasTexels span.now texture.now first k vram.now result.texels }
-    ensures fronts { AreFronts texture.now.raw swatches.now.color k result.texels result.fronts }
-    ensures cost { steps.new ≤ steps.old + 1 }
-{
-    let _ = span;
-    let _ = k;
-    let u = stretch.u + first;
-    let index = sixteen_indexes(vram, texture.page.x, u, stretch.y, steps);
-    Drawn {
-        texels: entries_at(swatches.entries, index),
-        fronts: entries_at(swatches.fronts, index),
+    refresh(vram, texture, color, last, steps);
+    match &*last {
+        Some(kept) => *kept,
+        None => unreachable!(),
     }
 }
 
@@ -195,33 +139,10 @@ fn read_scattered<L: Ledger>(
 {
     let _ = span;
     let at = track_lanes(&plan.track, first);
-    read_drawn(vram, texture, swatches, &at, k, steps)
-}
-
-// k texels of a chunk.
-#[inline(always)]
-fn read_swatches<L: Ledger>(
-    vram: &Vram,
-    span: &Span,
-    texture: &Texture,
-    plan: &Plan,
-    swatches: &Swatches,
-    first: u16,
-    k: u8,
-    steps: &mut Steps<L>,
-) -> Drawn
-    requires planned { IsPlanned (height_of vram.now) span.now texture.now plan.now }
-    requires depth { texture.now.page.depth ≡ 0 }
-    requires chunk { IsChunk span.now first k }
-    requires whole { first % 16 ≡ 0 }
-    requires swatches { AreSwatches texture.now vram.now swatches.now }
-    ensures texels { HasTexels span.now texture.now first k vram.now result.texels }
-    ensures fronts { AreFronts texture.now.raw swatches.now.color k result.texels result.fronts }
-    ensures cost { steps.new ≤ steps.old + k }
-{
-    match &plan.stretch {
-        Some(stretch) => read_beside(vram, span, texture, stretch, swatches, first, k, steps),
-        None => read_scattered(vram, span, texture, plan, swatches, first, k, steps),
+    let index = indexes_of(vram, texture, &at, k, steps);
+    Drawn {
+        texels: entries_at(swatches.entries, index),
+        fronts: entries_at(swatches.fronts, index),
     }
 }
 
@@ -248,7 +169,7 @@ fn swatch_chunk<L: Ledger>(
     ensures swatches { AreSwatches texture.now vram.new swatches.now }
     ensures cost { steps.new + 1 ≤ steps.old + chunk_cost span.now first k }
 {
-    let drawn = read_swatches(vram, span, texture, plan, swatches, first, k, steps);
+    let drawn = read_scattered(vram, span, texture, plan, swatches, first, k, steps);
     let lanes = collect_fronts(
         vram,
         span,
@@ -270,20 +191,19 @@ pub(crate) fn draw_swatches<L: Ledger>(
     texture: &Texture,
     plan: &Plan,
     color: u32,
-    last: &mut Swatches,
+    last: &mut Option<Swatches>,
     steps: &mut Steps<L>,
 )
     requires planned { IsPlanned (height_of vram.old) span.now texture.now plan.now }
     requires suits { SuitsPalette span.now texture.now }
     requires hue { plan.now.hues ≡ One color }
-    requires last { AreColored last.old }
+    requires last { IsKept span.now.paint vram.old last.old }
     ensures cells { vram.new ≡ drawn_span span.now span.now.n vram.old }
     ensures long { length vram.new ≡ length vram.old }
-    ensures last { AreColored last.new }
+    ensures last { IsKept span.now.paint vram.new last.new }
     ensures cost { steps.new ≤ steps.old + span_cost span.now }
 {
     let swatches = swatches_of(vram, texture, color, last, steps);
-    *last = swatches;
     let whole = span.n / 16;
     for c in 0..whole {
         swatch_chunk(vram, span, texture, plan, &swatches, 16 * c, 16, steps);

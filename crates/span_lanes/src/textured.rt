@@ -1,5 +1,6 @@
 // Textured chunks, all their lanes at once.
-ghost use Rattle.std.specs.Prelude.{◌≡◌, ◌≤◌, ◌<◌, ◌+◌, ◌*◌, ◌%◌, ◌^◌, ◌==◌, ◌&&◌, if◌then◌else◌, false, pos, Some, ℕ};
+ghost use Rattle.std.specs.Prelude.{◌≡◌, ◌≤◌, ◌<◌, ◌+◌, ◌*◌, ◌%◌, ◌^◌, ◌==◌, ◌&&◌, if◌then◌else◌};
+ghost use Rattle.std.specs.Prelude.{false, pos, IsTrue, Some, ℕ};
 ghost use Rattle.std.specs.Prelude.{take, length, slice_index, slice_index_or};
 ghost use Rattle.blend_dither.specs.Color.{modulated_of, packed_pixel, blended_of, red_of, green_of, blue_of};
 ghost use Rattle.px_num.specs.Height.{short_height};
@@ -24,7 +25,8 @@ use crate::hues::{Hues, hue_lanes};
 use crate::lanes::{Lanes, both, drawn_bits};
 use crate::pixel::palette_entry;
 use crate::plan::Plan;
-use crate::{Span, Texture};
+use crate::swatches::Drawn;
+use crate::{Brush, Span, Texture};
 use blend_dither::blend_lanes;
 use px_num::Cell;
 use px_num::lanes::{add, mul, shifted_down, splat, sub_or_zero};
@@ -184,6 +186,40 @@ fn plotted_lanes(semi: bool, mode: u8, back: u16x16, texels: u16x16, front: u16x
     with_high(blend_high(semi, mode, back, front, bits), bits)
 }
 
+// Sixteen texels as they are.
+#[inline(always)]
+#[tactic(auto, using(crate::proofs::TexelLemmas::as_it_is))]
+fn as_they_are(texels: u16x16) -> u16x16
+    requires { length texels ≡ 16 }
+    ensures long { length result ≡ 16 }
+    ensures value { EachLane (λ i. slice_index result i
+        ≡ packed_pixel (slice_index texels i) (is_high (slice_index texels i)) false) }
+{
+    texels
+}
+
+// The halfwords of k texels over the contents of their cells: the texels themselves where they are drawn as they are.
+#[inline(always)]
+#[tactic(auto, unfolding(crate::specs::Shade::blended_if))]
+fn plotted_of(brush: &Brush, raw: bool, back: u16x16, drawn: Drawn, k: u8) -> u16x16
+    requires mode { brush.now.mode ≤ 3 }
+    requires long { (length back ≡ 16) × (length drawn.texels ≡ 16) × (length drawn.fronts ≡ 16) }
+    requires few { k ≤ 16 }
+    requires raw { IsTrue raw → (j : ℕ) → j < k → slice_index drawn.fronts j ≡ slice_index drawn.texels j }
+    ensures long { length result ≡ 16 }
+    ensures value { (j : ℕ) → j < k → slice_index result j
+        ≡ packed_pixel
+        (blended_if (brush.now.semi && is_high (slice_index drawn.texels j)) brush.now.mode (slice_index back j)
+        (slice_index drawn.fronts j))
+        (is_high (slice_index drawn.texels j)) false }
+{
+    if raw && !brush.semi {
+        as_they_are(drawn.texels)
+    } else {
+        plotted_lanes(brush.semi, brush.mode, back, drawn.texels, drawn.fronts)
+    }
+}
+
 // Sixteen texels under the colours from cell `first` on.
 #[inline(always)]
 fn modulated(hues: &Hues, shifts: Shifts, first: u16, texels: u16x16) -> u16x16
@@ -236,11 +272,14 @@ pub(crate) fn collect_fronts<L: Ledger>(
     ensures lanes { HasChunk span.now first k vram.now result }
     ensures cost { steps.new ≤ steps.old + 1 }
 {
-    let _ = texture;
     let x = span.x + first;
     let brush = span.brush;
     let back = back_of(vram, &brush, x, span.y, k, steps);
-    let plotted = plotted_lanes(brush.semi, brush.mode, back, texels, front);
+    let drawn = Drawn {
+        texels,
+        fronts: front,
+    };
+    let plotted = plotted_of(&brush, texture.raw, back, drawn, k);
     Lanes {
         cells: force_lanes(brush.mask, plotted),
         bits: both(open_bits(brush.mask, back), drawn_bits(texels)),

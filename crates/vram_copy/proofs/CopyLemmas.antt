@@ -1,24 +1,46 @@
 -- Runs of cells that are copied at once or one after another.
-use Rattle.std.proofs.Common.{◌≡◌, ◌<◌, ◌≤◌, ◌⊎◌, inl, inr, ◌+◌, ◌*◌, ◌-◌, ◌/◌, ◌%◌, ℕ, Bool, true, false, cond, List}
-use Rattle.std.proofs.Common.{Option, Some, None, length, get_or, arith, refl, ap, sym, ◌∙◌}
+use Rattle.std.proofs.Common.{◌≡◌, ◌<◌, ◌≤◌, ◌⊎◌, inl, inr, ◌+◌, ◌*◌, ◌-◌, ◌/◌, ◌%◌, ℕ, Bool, true, false, cond}
+use Rattle.std.proofs.Common.{List, Option, Some, None, length, get_or, arith, refl, ap, sym, ◌∙◌}
 use Rattle.std.proofs.lemmas.Bool.{cases_lt}
 use Rattle.px_num.specs.declared.shape.Cell.{Cell}
 use Rattle.px_num.proofs.FoldLemmas.{each_below-add, each_below-same}
 use Rattle.overlap_guard.specs.Hazard.{HasCopyHazard, has_copy_hazard}
 use Rattle.overlap_guard.proofs.TestLemmas.{copy_iff, same_bool, false_of}
 use Rattle.vram_store.specs.Vram.{IsStored, at, set, bit}
-use Rattle.vram_store.specs.Plot.{is_testing, is_kept, forced, plot, draw_at, draw_lane, drawn_lanes}
+use Rattle.vram_store.specs.Plot.{is_testing, is_forcing, is_kept, forced, plot, draw_at, draw_lane, drawn_lanes}
 use Rattle.vram_store.specs.Chunk.{IsBlind, IsLane, HasLanes}
 use Rattle.vram_store.proofs.ChunkLaw.{chunk_law}
 use Rattle.vram_store.proofs.Drawn.{plot_is}
 use Rattle.vram_store.proofs.MaskLemmas.{kept_untested}
 use Rattle.vram_copy.specs.Rect.{beside, right}
-use Rattle.vram_copy.specs.Copy.{Copy, copied_rows, copied_row, copied_run}
+use Rattle.vram_copy.specs.Copy.{copied_rectangle, copied_rows, copied_row, copied_run}
 
 pub plot_untested : (m : List ℕ) (mask x y color : ℕ) → is_testing mask ≡ false → plot m mask x y color
     ≡ set m x y (forced mask color)
 unfolding plot
 plot_untested m mask x y color off = rw (kept_untested mask (at m x y) off) refl
+
+-- ---- a plot asks the two bits of the setting alone
+
+pub plot_alike : (m : List ℕ) (a b x y color : ℕ) → is_testing a ≡ is_testing b → is_forcing a ≡ is_forcing b
+    → plot m a x y color ≡ plot m b x y color
+unfolding plot is_kept forced
+plot_alike m a b x y color tests forces = rw (tests, forces) refl
+
+pub run_alike : (m : List ℕ) (a b : ℕ) (s t : Cell) (n : ℕ) → is_testing a ≡ is_testing b
+    → is_forcing a ≡ is_forcing b → copied_run m a s t n ≡ copied_run m b s t n
+run_alike m a b s t n tests forces =
+    each_below-same (λ i cells. plot cells a (t.x + i) t.y (get_or cells (1024 * s.y + (s.x + i)) 0))
+    (λ i cells. plot cells b (t.x + i) t.y (get_or cells (1024 * s.y + (s.x + i)) 0)) n m
+    (λ i cells lt. plot_alike cells a b (t.x + i) t.y (get_or cells (1024 * s.y + (s.x + i)) 0) tests forces)
+
+pub set_bit_alone : (is_testing 1 ≡ false) × (is_forcing 1 ≡ true)
+unfolding is_testing is_forcing
+set_bit_alone = (refl, refl)
+
+pub no_bit : (is_testing 0 ≡ false) × (is_forcing 0 ≡ false)
+unfolding is_testing is_forcing
+no_bit = (refl, refl)
 
 -- the number of a cell
 abbrev pub place : Cell → ℕ
@@ -172,8 +194,8 @@ row_more m now new mask s t source target done n at_s at_t room_s room_t so_far 
 -- all rows, at the height that video memory has
 pub copied_is_whole : (height : ℕ) (m new : List ℕ) (mask : ℕ) (source target : Cell) (w j h : ℕ)
     → length m ≡ 1024 * height
-    → new ≡ copied_rows height m mask source target w j → j ≡ h → new ≡ Copy m mask source target w h
-unfolding Copy
+    → new ≡ copied_rows height m mask source target w j → j ≡ h → new ≡ copied_rectangle m mask source target w h
+unfolding copied_rectangle
 copied_is_whole height m new mask source target w j h long so_far all =
     let e : height ≡ length m / 1024 = omega arith in
     so_far ∙ ap (λ rows. copied_rows rows m mask source target w j) e

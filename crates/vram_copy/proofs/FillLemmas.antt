@@ -10,7 +10,7 @@ use Rattle.vram_store.specs.Chunk.{IsLane}
 use Rattle.vram_store.proofs.ChunkLaw.{chunk_law}
 use Rattle.vram_store.proofs.MaskLemmas.{kept_untested, forced_off}
 use Rattle.vram_store.proofs.Ones.{ones}
-use Rattle.vram_copy.specs.Fill.{filled_row, filled_rows, Fill}
+use Rattle.vram_copy.specs.Fill.{filled_row, filled_rows, filled_rectangle}
 
 -- without the mask setting a halfword is written as it is
 set_over : (cell color : ℕ) → written_over 0 cell (Some color) ≡ Some color
@@ -58,8 +58,8 @@ row_chunk m old new x y k color whole so_far ran =
 
 -- all rows, at the height that video memory has
 pub filled_is_whole : (height : ℕ) (m new : List ℕ) (x y w j h color : ℕ) → length m ≡ 1024 * height
-    → new ≡ filled_rows height m x y w j color → j ≡ h → new ≡ Fill m x y w h color
-unfolding Fill
+    → new ≡ filled_rows height m x y w j color → j ≡ h → new ≡ filled_rectangle m x y w h color
+unfolding filled_rectangle
 filled_is_whole height m new x y w j h color long so_far all =
     let e : height ≡ length m / 1024 = omega arith in
     so_far ∙ ap (λ rows. filled_rows rows m x y w j color) e

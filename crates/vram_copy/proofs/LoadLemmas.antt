@@ -5,16 +5,16 @@ use Rattle.std.proofs.lemmas.Nat.{div-mul-add, mod-mul-add}
 use Rattle.px_num.specs.declared.shape.Cell.{Cell}
 use Rattle.px_num.proofs.FoldLemmas.{each_below-add, each_below-same, each_below-next}
 use Rattle.vram_store.specs.Vram.{IsStored, height_of, bit}
-use Rattle.vram_store.specs.Plot.{is_kept, forced, plot, draw_at, draw_lane, drawn_lanes}
+use Rattle.vram_store.specs.Plot.{is_testing, is_forcing, is_kept, forced, plot, draw_at, draw_lane, drawn_lanes}
 use Rattle.vram_store.proofs.ChunkLaw.{chunk_law}
 use Rattle.vram_store.proofs.Drawn.{plot_is, length-put_at}
 use Rattle.vram_copy.specs.Loads.{loaded, loaded_run}
 use Rattle.vram_copy.specs.Places.{IsPlace}
 use Rattle.vram_copy.specs.Words.{pixel_cell, pixel_of, half_of, pixels_next, pixels_in, advanced, advanced_by}
-use Rattle.vram_copy.specs.Words.{words_left, pixels_from, LoadWord, LoadWords}
+use Rattle.vram_copy.specs.Words.{words_left, pixels_from, loaded_word, loaded_words}
 use Rattle.vram_copy.specs.declared.cursor.Place.{Place}
 use Rattle.vram_copy.specs.declared.transfer.Transfer.{Transfer}
-use Rattle.vram_copy.proofs.CopyLemmas.{place, lane_of}
+use Rattle.vram_copy.proofs.CopyLemmas.{place, lane_of, plot_alike}
 use Rattle.vram_copy.proofs.WordLemmas.{cell_is}
 
 -- ---- a run
@@ -47,6 +47,13 @@ run_at_once old new mask to words first n lanes bits colors open_cells stored =
     })
     stored
     ∙ sym (run_is old mask to words first n)
+
+pub load_alike : (m : List ℕ) (a b : ℕ) (to : Cell) (words : List ℕ) (first n : ℕ) → is_testing a ≡ is_testing b
+    → is_forcing a ≡ is_forcing b → loaded_run m a to words first n ≡ loaded_run m b to words first n
+load_alike m a b to words first n tests forces =
+    each_below-same (λ i cells. plot cells a (to.x + i) to.y (pixel_of words (first + i)))
+    (λ i cells. plot cells b (to.x + i) to.y (pixel_of words (first + i))) n m
+    (λ i cells lt. plot_alike cells a b (to.x + i) to.y (pixel_of words (first + i)) tests forces)
 
 pub run_more : (m now new : List ℕ) (mask : ℕ) (to : Cell) (words : List ℕ) (first done n : ℕ)
     → now ≡ loaded_run m mask to words first done
@@ -167,11 +174,11 @@ later_draw height mask job word words i cells two =
 
 pub words_are_pixels : (height : ℕ) (m : List ℕ) (mask : ℕ) (job : Transfer) (words : List ℕ) → height ≡ height_of m
     → length words ≤ words_left job
-    → loaded height m mask job words (pixels_in job (length words)) ≡ LoadWords m mask job words
-unfolding LoadWord
+    → loaded height m mask job words (pixels_in job (length words)) ≡ loaded_words m mask job words
+unfolding loaded_word
 words_are_pixels height m mask job [] rows wanted = let none : pixels_in job 0 ≡ 0 = omega arith in rw none refl
 words_are_pixels height m mask job (word ∷ words) rows wanted =
-    let now : List ℕ = LoadWord m mask job word in
+    let now : List ℕ = loaded_word m mask job word in
     let long : length now ≡ length m = length-load (height_of m) m mask job word (pixels_next job) in
     let same : height ≡ height_of now = rows ∙ ap (λ n. n / 1024) (sym long) in
     ap (loaded height m mask job (word ∷ words)) (pixels_more job (length words))
@@ -191,7 +198,8 @@ words_are_pixels height m mask job (word ∷ words) rows wanted =
 -- all pixels of the words, at the height that video memory has
 pub words_done : (height : ℕ) (m new : List ℕ) (mask : ℕ) (job : Transfer) (words : List ℕ) (done : ℕ)
     → height ≡ height_of m → length words ≤ words_left job
-    → done ≡ pixels_in job (length words) → new ≡ loaded height m mask job words done → new ≡ LoadWords m mask job words
+    → done ≡ pixels_in job (length words) → new ≡ loaded height m mask job words done
+    → new ≡ loaded_words m mask job words
 words_done height m new mask job words done rows wanted all so_far =
     so_far ∙ ap (loaded height m mask job words) all ∙ words_are_pixels height m mask job words rows wanted
 

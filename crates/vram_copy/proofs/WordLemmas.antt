@@ -6,7 +6,7 @@ use Rattle.vram_store.specs.Vram.{height_of, at}
 use Rattle.vram_copy.specs.Places.{IsPlace}
 use Rattle.vram_copy.specs.declared.cursor.Place.{Place}
 use Rattle.vram_copy.specs.declared.transfer.Transfer.{Transfer}
-use Rattle.vram_copy.specs.Words.{pixel_cell, StoreWord}
+use Rattle.vram_copy.specs.Words.{pixel_cell, stored_word}
 
 -- the cell at a place
 pub cell_is : (height : ℕ) (job : Transfer) (place : Place) (i x y : ℕ) → IsPlace job.w place i
@@ -30,8 +30,8 @@ pub store_two : (height : ℕ) (m : List ℕ) (job : Transfer) (word low high : 
     → height ≡ height_of m
     → first ≡ pixel_cell height job job.at → second ≡ pixel_cell height job (job.at + 1)
     → low ≡ at m first.x first.y → job.at + 1 < job.w * job.h → high ≡ at m second.x second.y
-    → word ≡ low + high * 2 ^ 16 → word ≡ StoreWord m job
-unfolding StoreWord
+    → word ≡ low + high * 2 ^ 16 → word ≡ stored_word m job
+unfolding stored_word
 store_two height m job word low high first second rows e f lows more highs joined =
     let twice = two_left (job.w * job.h) job.at more in
     rw (twice, joined, lows, highs, e, f, ← rows, no_more job.at) (omega arith)
@@ -39,8 +39,8 @@ store_two height m job word low high first second rows e f lows more highs joine
 pub store_one : (height : ℕ) (m : List ℕ) (job : Transfer) (word low : ℕ) (first : Cell) → height ≡ height_of m
     → first ≡ pixel_cell height job job.at → low ≡ at m first.x first.y
     → job.at < job.w * job.h → job.w * job.h ≤ job.at + 1
-    → word ≡ low + 0 * 2 ^ 16 → word ≡ StoreWord m job
-unfolding StoreWord
+    → word ≡ low + 0 * 2 ^ 16 → word ≡ stored_word m job
+unfolding stored_word
 store_one height m job word low first rows e lows some last joined =
     let once = one_left (job.w * job.h) job.at some last in
     rw (once, joined, lows, e, ← rows, no_more job.at) (omega arith)

@@ -21,8 +21,8 @@ copied_rows height m mask source target w h =
     each_below (λ j cells. copied_row cells mask (down height source j) (down height target j) w) h m
 
 -- a rectangle is copied
-unfoldable pub Copy : List ℕ → ℕ → Cell → Cell → ℕ → ℕ → List ℕ
-Copy m mask source target w h = copied_rows (height_of m) m mask source target w h
+unfoldable pub copied_rectangle : List ℕ → ℕ → Cell → Cell → ℕ → ℕ → List ℕ
+copied_rectangle m mask source target w h = copied_rows (height_of m) m mask source target w h
 
 -- n cells that leave no row, one after another
 abbrev pub copied_run : List ℕ → ℕ → Cell → Cell → ℕ → List ℕ

@@ -12,5 +12,5 @@ abbrev pub filled_rows : ℕ → List ℕ → ℕ → ℕ → ℕ → ℕ → �
 filled_rows height m x y w h color = each_below (λ j cells. filled_row cells x ((y + j) % height) w color) h m
 
 -- a rectangle is filled, whatever the mask setting is
-unfoldable pub Fill : List ℕ → ℕ → ℕ → ℕ → ℕ → ℕ → List ℕ
-Fill m x y w h color = filled_rows (height_of m) m x y w h color
+unfoldable pub filled_rectangle : List ℕ → ℕ → ℕ → ℕ → ℕ → ℕ → List ℕ
+filled_rectangle m x y w h color = filled_rows (height_of m) m x y w h color

@@ -48,13 +48,13 @@ pixels_from height m mask job word n =
     (λ i cells. let cell = pixel_cell height job (job.at + i) in plot cells mask cell.x cell.y (half_of word i)) n m
 
 -- the pixels of a word are plotted; the spare half of an odd count is dropped
-unfoldable pub LoadWord : List ℕ → ℕ → Transfer → ℕ → List ℕ
-LoadWord m mask job word = pixels_from (height_of m) m mask job word (pixels_next job)
+unfoldable pub loaded_word : List ℕ → ℕ → Transfer → ℕ → List ℕ
+loaded_word m mask job word = pixels_from (height_of m) m mask job word (pixels_next job)
 
 -- words are plotted one after another
-abbrev pub LoadWords : List ℕ → ℕ → Transfer → List ℕ → List ℕ
-LoadWords m mask job [] = m
-LoadWords m mask job (word ∷ words) = LoadWords (LoadWord m mask job word) mask (advanced job) words
+abbrev pub loaded_words : List ℕ → ℕ → Transfer → List ℕ → List ℕ
+loaded_words m mask job [] = m
+loaded_words m mask job (word ∷ words) = loaded_words (loaded_word m mask job word) mask (advanced job) words
 
 -- pixel number i of some words
 abbrev pub pixel_of : List ℕ → ℕ → ℕ
@@ -67,5 +67,5 @@ word_of height m job n =
     (λ i word. let cell = pixel_cell height job (job.at + i) in word + at m cell.x cell.y * 2 ^ (16 * i)) n 0
 
 -- the next pixels as a word; the spare half of an odd count is 0
-unfoldable pub StoreWord : List ℕ → Transfer → ℕ
-StoreWord m job = word_of (height_of m) m job (pixels_next job)
+unfoldable pub stored_word : List ℕ → Transfer → ℕ
+stored_word m job = word_of (height_of m) m job (pixels_next job)

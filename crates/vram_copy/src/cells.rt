@@ -1,6 +1,6 @@
 // Cells of a rectangle, counted from its first.
-ghost use Rattle.std.specs.Prelude.{◌≡◌, ◌≤◌, ◌<◌};
-ghost use Rattle.vram_copy.specs.Rect.{right, down};
+ghost use Rattle.std.specs.Prelude.{◌≡◌, ◌≤◌, ◌<◌, ◌+◌};
+ghost use Rattle.vram_copy.specs.Rect.{beside, right, down};
 
 use px_num::{Cell, wrap_at, wrap_x};
 
@@ -24,5 +24,17 @@ pub fn cell_down(cell: Cell, j: u16, height: u16) -> Cell
     Cell {
         x: cell.x,
         y: wrap_at(cell.y as u32 + j as u32, height),
+    }
+}
+
+/// The cell so many columns to the right, in a row that is not left.
+#[inline(always)]
+pub fn cell_beside(cell: Cell, i: u16) -> Cell
+    requires { cell.x + i < 1024 }
+    ensures { result ≡ beside cell i }
+{
+    Cell {
+        x: cell.x + i,
+        y: cell.y,
     }
 }

@@ -2,16 +2,16 @@
 ghost use Rattle.std.specs.Prelude.{◌≡◌, ◌≤◌, ◌<◌, ◌+◌, ◌-◌, ◌*◌, ℕ, false, min, length};
 ghost use Rattle.overlap_guard.specs.Hazard.{has_copy_hazard};
 ghost use Rattle.vram_store.specs.Vram.{height_of};
-ghost use Rattle.vram_copy.specs.Copy.{Copy, copied_row, copied_run};
-ghost use Rattle.vram_copy.specs.Rect.{beside, LieInRow};
+ghost use Rattle.vram_copy.specs.Copy.{copied_rectangle, copied_row, copied_run};
+ghost use Rattle.vram_copy.specs.Rect.{LieInRow};
 ghost use Rattle.vram_copy.specs.Costs.{piece_len, chunk_cost, piece_cost, row_cost, copy_cost};
 
 use crate::cells::{cell_down, cell_right};
-use crate::plots::{copy_cell, open_cells};
+use crate::chunks::{Way, copy_at_once, copy_chunks};
+use crate::plots::copy_cell;
 use overlap_guard::copy_hazard;
 use px_num::Cell;
 use std::sync::ledger::Ledger;
-use vram_store::mask::force_lanes;
 use vram_store::{Steps, Vram};
 
 /// Copies `h` rows of `w` cells from one place to another, plotting them under the mask setting
@@ -31,38 +31,33 @@ pub fn copy<L: Ledger>(
     h: u16,
     steps: &mut Steps<L>,
 )
-    ensures cells { vram.new ≡ Copy vram.old mask from to w h }
+    ensures cells { vram.new ≡ copied_rectangle vram.old mask from to w h }
     ensures long { length vram.new ≡ length vram.old }
     ensures cost { steps.new ≤ steps.old + copy_cost (height_of vram.old) from to w h }
 {
     let height = vram.height();
     for j in 0..h {
-        let source = cell_down(from, j, height);
-        let target = cell_down(to, j, height);
-        copy_row(vram, mask, source, target, w, steps);
+        let way = Way {
+            from: cell_down(from, j, height),
+            to: cell_down(to, j, height),
+        };
+        copy_row(vram, mask, way, w, steps);
     }
 }
 
-fn copy_row<L: Ledger>(
-    vram: &mut Vram,
-    mask: u8,
-    from: Cell,
-    to: Cell,
-    w: u16,
-    steps: &mut Steps<L>,
-)
-    requires source_in { from.y < height_of vram.old }
-    requires target_in { to.y < height_of vram.old }
-    ensures cells { vram.new ≡ copied_row vram.old mask from to w }
+fn copy_row<L: Ledger>(vram: &mut Vram, mask: u8, way: Way, w: u16, steps: &mut Steps<L>)
+    requires source_in { way.from.y < height_of vram.old }
+    requires target_in { way.to.y < height_of vram.old }
+    ensures cells { vram.new ≡ copied_row vram.old mask way.from way.to w }
     ensures long { length vram.new ≡ length vram.old }
-    ensures cost { steps.new ≤ steps.old + row_cost from to w }
+    ensures cost { steps.new ≤ steps.old + row_cost way.from way.to w }
 {
     let mut done = 0;
     while done < w {
-        let source = cell_right(from, done);
-        let target = cell_right(to, done);
-        let n = piece_len(source.x, target.x, w - done);
-        copy_piece(vram, mask, source, target, n, steps);
+        let from = cell_right(way.from, done);
+        let to = cell_right(way.to, done);
+        let n = piece_len(from.x, to.x, w - done);
+        copy_piece(vram, mask, Way { from, to }, n, steps);
         done += n;
     }
 }
@@ -84,169 +79,80 @@ fn piece_len(source_x: u16, target_x: u16, left: u16) -> u16
 
 // Cells that leave no row. The guard is asked once: both sides go on by as much, so they stay as far apart.
 #[inline(always)]
-fn copy_piece<L: Ledger>(
-    vram: &mut Vram,
-    mask: u8,
-    from: Cell,
-    to: Cell,
-    n: u16,
-    steps: &mut Steps<L>,
-)
+fn copy_piece<L: Ledger>(vram: &mut Vram, mask: u8, way: Way, n: u16, steps: &mut Steps<L>)
     requires some { 1 ≤ n }
-    requires source_in { LieInRow (height_of vram.old) from n }
-    requires target_in { LieInRow (height_of vram.old) to n }
-    ensures cells { vram.new ≡ copied_run vram.old mask from to n }
+    requires source_in { LieInRow (height_of vram.old) way.from n }
+    requires target_in { LieInRow (height_of vram.old) way.to n }
+    ensures cells { vram.new ≡ copied_run vram.old mask way.from way.to n }
     ensures long { length vram.new ≡ length vram.old }
-    ensures cost { steps.new ≤ steps.old + piece_cost from to n }
+    ensures cost { steps.new ≤ steps.old + piece_cost way.from way.to n }
 {
-    if copy_hazard(from, to, n.min(16) as u8) {
-        copy_guarded(vram, mask, from, to, n, steps);
+    if copy_hazard(way.from, way.to, n.min(16) as u8) {
+        copy_guarded(vram, mask, way, n, steps);
     } else {
-        copy_apart(vram, mask, from, to, n, steps);
+        copy_apart(vram, mask, way, n, steps);
     }
 }
 
 // A piece that does not meet itself, in whole chunks and a last one.
 #[inline(always)]
-fn copy_apart<L: Ledger>(
-    vram: &mut Vram,
-    mask: u8,
-    from: Cell,
-    to: Cell,
-    n: u16,
-    steps: &mut Steps<L>,
-)
-    requires source_in { LieInRow (height_of vram.old) from n }
-    requires target_in { LieInRow (height_of vram.old) to n }
-    requires free { has_copy_hazard from to (min n 16) ≡ false }
-    ensures cells { vram.new ≡ copied_run vram.old mask from to n }
+fn copy_apart<L: Ledger>(vram: &mut Vram, mask: u8, way: Way, n: u16, steps: &mut Steps<L>)
+    requires source_in { LieInRow (height_of vram.old) way.from n }
+    requires target_in { LieInRow (height_of vram.old) way.to n }
+    requires free { has_copy_hazard way.from way.to (min n 16) ≡ false }
+    ensures cells { vram.new ≡ copied_run vram.old mask way.from way.to n }
     ensures long { length vram.new ≡ length vram.old }
-    ensures cost { steps.new ≤ steps.old + piece_cost from to n }
+    ensures cost { steps.new ≤ steps.old + piece_cost way.from way.to n }
 {
-    for c in 0..n / 16 {
-        let done = 16 * c;
-        copy_at_once(vram, mask, beside(from, done), beside(to, done), 16, steps);
-    }
+    copy_chunks(vram, mask, way, n / 16, steps);
     let done = n / 16 * 16;
     if done < n {
-        let last = (n - done) as u8;
-        copy_at_once(
-            vram,
-            mask,
-            beside(from, done),
-            beside(to, done),
-            last,
-            steps,
-        );
+        copy_at_once(vram, mask, way.beside(done), (n - done) as u8, steps);
     }
 }
 
 // A piece, chunk by chunk under the guard.
-fn copy_guarded<L: Ledger>(
-    vram: &mut Vram,
-    mask: u8,
-    from: Cell,
-    to: Cell,
-    n: u16,
-    steps: &mut Steps<L>,
-)
-    requires source_in { LieInRow (height_of vram.old) from n }
-    requires target_in { LieInRow (height_of vram.old) to n }
-    ensures cells { vram.new ≡ copied_run vram.old mask from to n }
+fn copy_guarded<L: Ledger>(vram: &mut Vram, mask: u8, way: Way, n: u16, steps: &mut Steps<L>)
+    requires source_in { LieInRow (height_of vram.old) way.from n }
+    requires target_in { LieInRow (height_of vram.old) way.to n }
+    ensures cells { vram.new ≡ copied_run vram.old mask way.from way.to n }
     ensures long { length vram.new ≡ length vram.old }
-    ensures cost { steps.new ≤ steps.old + piece_cost from to n }
+    ensures cost { steps.new ≤ steps.old + piece_cost way.from way.to n }
 {
     let mut done = 0;
     while done < n {
         let k = (n - done).min(16);
-        copy_chunk(
-            vram,
-            mask,
-            beside(from, done),
-            beside(to, done),
-            k as u8,
-            steps,
-        );
+        copy_chunk(vram, mask, way.beside(done), k as u8, steps);
         done += k;
     }
 }
 
-// The cell so many columns to the right, in a row that is not left.
-#[inline(always)]
-fn beside(cell: Cell, i: u16) -> Cell
-    requires { cell.x + i < 1024 }
-    ensures { result ≡ beside cell i }
-{
-    Cell {
-        x: cell.x + i,
-        y: cell.y,
-    }
-}
-
 #[tactic(auto, unfolding(crate::specs::Costs::chunk_cost))]
-fn copy_chunk<L: Ledger>(
-    vram: &mut Vram,
-    mask: u8,
-    from: Cell,
-    to: Cell,
-    n: u8,
-    steps: &mut Steps<L>,
-)
+fn copy_chunk<L: Ledger>(vram: &mut Vram, mask: u8, way: Way, n: u8, steps: &mut Steps<L>)
     requires count { (1 ≤ n) × (n ≤ 16) }
-    requires source_in { LieInRow (height_of vram.old) from n }
-    requires target_in { LieInRow (height_of vram.old) to n }
-    ensures cells { vram.new ≡ copied_run vram.old mask from to n }
+    requires source_in { LieInRow (height_of vram.old) way.from n }
+    requires target_in { LieInRow (height_of vram.old) way.to n }
+    ensures cells { vram.new ≡ copied_run vram.old mask way.from way.to n }
     ensures long { length vram.new ≡ length vram.old }
-    ensures cost { steps.new ≤ steps.old + chunk_cost from to n }
+    ensures cost { steps.new ≤ steps.old + chunk_cost way.from way.to n }
 {
-    if copy_hazard(from, to, n) {
-        copy_in_turn(vram, mask, from, to, n, steps);
+    if copy_hazard(way.from, way.to, n) {
+        copy_in_turn(vram, mask, way, n, steps);
     } else {
-        copy_at_once(vram, mask, from, to, n, steps);
+        copy_at_once(vram, mask, way, n, steps);
     }
 }
 
 // Cell after cell.
-fn copy_in_turn<L: Ledger>(
-    vram: &mut Vram,
-    mask: u8,
-    from: Cell,
-    to: Cell,
-    n: u8,
-    steps: &mut Steps<L>,
-)
-    requires source_in { LieInRow (height_of vram.old) from n }
-    requires target_in { LieInRow (height_of vram.old) to n }
-    ensures cells { vram.new ≡ copied_run vram.old mask from to n }
+fn copy_in_turn<L: Ledger>(vram: &mut Vram, mask: u8, way: Way, n: u8, steps: &mut Steps<L>)
+    requires source_in { LieInRow (height_of vram.old) way.from n }
+    requires target_in { LieInRow (height_of vram.old) way.to n }
+    ensures cells { vram.new ≡ copied_run vram.old mask way.from way.to n }
     ensures long { length vram.new ≡ length vram.old }
     ensures cost { steps.new ≤ steps.old + 3 * n }
 {
     for i in 0..n {
-        let i = i as u16;
-        copy_cell(vram, mask, beside(from, i), beside(to, i), steps);
+        let Way { from, to } = way.beside(i as u16);
+        copy_cell(vram, mask, from, to, steps);
     }
-}
-
-// All cells together, where none is read after it was written.
-#[inline(always)]
-fn copy_at_once<L: Ledger>(
-    vram: &mut Vram,
-    mask: u8,
-    from: Cell,
-    to: Cell,
-    n: u8,
-    steps: &mut Steps<L>,
-)
-    requires count { (1 ≤ n) × (n ≤ 16) }
-    requires source_in { LieInRow (height_of vram.old) from n }
-    requires target_in { LieInRow (height_of vram.old) to n }
-    requires free { has_copy_hazard from to n ≡ false }
-    ensures cells { vram.new ≡ copied_run vram.old mask from to n }
-    ensures long { length vram.new ≡ length vram.old }
-    ensures cost { steps.new ≤ steps.old + 3 }
-{
-    let colors = vram.load16(from.x, from.y, n, steps);
-    let lanes = force_lanes(mask, colors);
-    let open = open_cells(vram, mask, to, n, steps);
-    vram.store16(to.x, to.y, n, lanes, open, steps);
 }

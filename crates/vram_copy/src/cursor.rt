@@ -2,9 +2,9 @@
 ghost use Rattle.std.specs.Prelude.{ℕ, ◌≡◌, ◌≤◌, ◌<◌, ◌+◌, ◌*◌, ◌/◌, ◌%◌, ◌^◌, length, min, nat_lt};
 ghost use Rattle.vram_copy.specs.Places.{IsPlace};
 ghost use Rattle.vram_copy.specs.Words.{advanced, advanced_by, pixel_cell, pixels_in, pixels_next, words_left};
-ghost use Rattle.vram_copy.specs.Words.{LoadWord, LoadWords, StoreWord};
+ghost use Rattle.vram_copy.specs.Words.{loaded_word, loaded_words, stored_word};
 
-use crate::loads::load_run;
+use crate::loads::{Stretch, load_run};
 use crate::transfer::Transfer;
 use px_num::{Cell, wrap_at, wrap_x};
 use std::marker::Model;
@@ -117,7 +117,7 @@ impl Cursor {
         steps: &mut Steps<L>,
     )
         requires more { self.old.at < self.old.w * self.old.h }
-        ensures cells { vram.new ≡ LoadWord vram.old mask self.old word }
+        ensures cells { vram.new ≡ loaded_word vram.old mask self.old word }
         ensures long { length vram.new ≡ length vram.old }
         ensures job { self.new ≡ advanced self.old }
         ensures cost { steps.new ≤ steps.old + 2 * pixels_next self.old }
@@ -135,7 +135,7 @@ impl Cursor {
         steps: &mut Steps<L>,
     )
         requires wanted { length words.now ≤ words_left self.old }
-        ensures cells { vram.new ≡ LoadWords vram.old mask self.old words.now }
+        ensures cells { vram.new ≡ loaded_words vram.old mask self.old words.now }
         ensures long { length vram.new ≡ length vram.old }
         ensures job { self.new ≡ advanced_by self.old (length words.now) }
         ensures cost { steps.new ≤ steps.old + 2 * pixels_in self.old (length words.now) }
@@ -148,7 +148,12 @@ impl Cursor {
         while done < count {
             let to = cell_at(&job, place, height);
             let n = run_len(count - done, job.w - place.column, 1024 - to.x);
-            load_run(vram, mask, to, words, done as usize, n, steps);
+            let stretch = Stretch {
+                to,
+                first: done as usize,
+                n,
+            };
+            load_run(vram, mask, words, stretch, steps);
             place = place_behind(&job, place, n);
             done += n as u32;
         }
@@ -160,7 +165,7 @@ impl Cursor {
     /// half is 0.
     pub fn store_word<L: Ledger>(&mut self, vram: &Vram, steps: &mut Steps<L>) -> u32
         requires more { self.old.at < self.old.w * self.old.h }
-        ensures word { result ≡ StoreWord vram.now self.old }
+        ensures word { result ≡ stored_word vram.now self.old }
         ensures job { self.new ≡ advanced self.old }
         ensures cost { steps.new ≡ steps.old + pixels_next self.old }
     {

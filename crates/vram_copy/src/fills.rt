@@ -2,9 +2,9 @@
 ghost use Rattle.std.specs.Prelude.{◌≡◌, ◌<◌, ◌+◌, ◌*◌, ◌/◌, ◌%◌, length};
 ghost use Rattle.vram_store.specs.Vram.{height_of};
 ghost use Rattle.vram_copy.specs.Costs.{fill_cost};
-ghost use Rattle.vram_copy.specs.Fill.{Fill, filled_row};
+ghost use Rattle.vram_copy.specs.Fill.{filled_rectangle, filled_row};
 
-use px_num::{wrap_at, wrap_x};
+use px_num::{Cell, wrap_at, wrap_x};
 use std::simd::prelude::*;
 use std::sync::ledger::Ledger;
 use vram_store::{Steps, Vram};
@@ -26,28 +26,28 @@ pub fn fill<L: Ledger>(
 )
     requires column { x % 16 ≡ 0 }
     requires width { w % 16 ≡ 0 }
-    ensures cells { vram.new ≡ Fill vram.old x y w h color }
+    ensures cells { vram.new ≡ filled_rectangle vram.old x y w h color }
     ensures long { length vram.new ≡ length vram.old }
     ensures cost { steps.new ≡ steps.old + fill_cost w h }
 {
     let height = vram.height();
     for j in 0..h {
         let row = wrap_at(y as u32 + j as u32, height);
-        fill_row(vram, x, row, w, color, steps);
+        fill_row(vram, Cell { x, y: row }, w, color, steps);
     }
 }
 
-fn fill_row<L: Ledger>(vram: &mut Vram, x: u16, y: u16, w: u16, color: u16, steps: &mut Steps<L>)
-    requires column { x % 16 ≡ 0 }
+fn fill_row<L: Ledger>(vram: &mut Vram, first: Cell, w: u16, color: u16, steps: &mut Steps<L>)
+    requires column { first.x % 16 ≡ 0 }
     requires width { w % 16 ≡ 0 }
-    requires in_height { y < height_of vram.old }
-    ensures cells { vram.new ≡ filled_row vram.old x y w color }
+    requires in_height { first.y < height_of vram.old }
+    ensures cells { vram.new ≡ filled_row vram.old first.x first.y w color }
     ensures long { length vram.new ≡ length vram.old }
     ensures cost { steps.new ≡ steps.old + w / 16 }
 {
     let lanes = u16x16::splat(color);
     for k in 0..w / 16 {
-        let column = wrap_x(x as u32 + 16 * k as u32);
-        vram.store16(column, y, 16, lanes, 0xffff, steps);
+        let column = wrap_x(first.x as u32 + 16 * k as u32);
+        vram.store16(column, first.y, 16, lanes, 0xffff, steps);
     }
 }

@@ -10,6 +10,7 @@
 ghost use Rattle.std.specs.Prelude.{◌≡◌, ◌<◌, ◌%◌};
 
 mod cells;
+mod chunks;
 mod copies;
 mod cursor;
 mod fills;

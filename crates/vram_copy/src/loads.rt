@@ -10,33 +10,66 @@ use crate::plots::{open_cells, plot_pixel};
 use px_num::Cell;
 use std::simd::prelude::*;
 use std::sync::ledger::Ledger;
-use vram_store::mask::force_lanes;
+use vram_store::mask::{force_lanes, forces, tests};
 use vram_store::{Steps, Vram};
 
-/// Plots n pixels of words, from number `first` on, in cells of a row. At most two steps each.
+/// Cells of a row that pixels of words come to.
+#[derive(Clone, Copy)]
+pub struct Stretch {
+    /// The first cell.
+    pub to: Cell,
+    /// The number of its pixel.
+    pub first: usize,
+    /// How many cells.
+    pub n: u16,
+}
+
+/// Plots pixels of words in cells of a row, at most two steps each. The mask setting is asked once.
 pub fn load_run<L: Ledger>(
     vram: &mut Vram,
     mask: u8,
-    to: Cell,
     words: &[u32],
-    first: usize,
-    n: u16,
+    stretch: Stretch,
     steps: &mut Steps<L>,
 )
-    requires target_in { LieInRow (height_of vram.old) to n }
-    requires in_words { first + n ≤ 2 * length words.now }
-    ensures cells { vram.new ≡ loaded_run vram.old mask to words.now first n }
+    requires target_in { LieInRow (height_of vram.old) stretch.to stretch.n }
+    requires in_words { stretch.first + stretch.n ≤ 2 * length words.now }
+    ensures cells { vram.new ≡ loaded_run vram.old mask stretch.to words.now stretch.first stretch.n }
     ensures long { length vram.new ≡ length vram.old }
-    ensures cost { steps.new ≤ steps.old + 2 * n }
+    ensures cost { steps.new ≤ steps.old + 2 * stretch.n }
+{
+    if tests(mask) {
+        load_each(vram, mask, words, stretch, steps);
+    } else if forces(mask) {
+        load_each(vram, 1, words, stretch, steps);
+    } else {
+        load_each(vram, 0, words, stretch, steps);
+    }
+}
+
+// The same, compiled for each setting.
+#[inline(always)]
+fn load_each<L: Ledger>(
+    vram: &mut Vram,
+    mask: u8,
+    words: &[u32],
+    stretch: Stretch,
+    steps: &mut Steps<L>,
+)
+    requires target_in { LieInRow (height_of vram.old) stretch.to stretch.n }
+    requires in_words { stretch.first + stretch.n ≤ 2 * length words.now }
+    ensures cells { vram.new ≡ loaded_run vram.old mask stretch.to words.now stretch.first stretch.n }
+    ensures long { length vram.new ≡ length vram.old }
+    ensures cost { steps.new ≤ steps.old + 2 * stretch.n }
 {
     let mut done = 0;
-    while done < n {
+    while done < stretch.n {
         let cell = Cell {
-            x: to.x + done,
-            y: to.y,
+            x: stretch.to.x + done,
+            y: stretch.to.y,
         };
-        let next = first + done as usize;
-        if next % 2 == 0 && n - done >= 16 {
+        let next = stretch.first + done as usize;
+        if next % 2 == 0 && stretch.n - done >= 16 {
             load_sixteen(vram, mask, cell, words, next, steps);
             done += 16;
         } else {

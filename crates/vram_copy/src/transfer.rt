@@ -1,7 +1,7 @@
 // Loads and stores, a word of up to two pixels at a time.
 ghost use Rattle.std.specs.Prelude.{◌≡◌, ◌≤◌, ◌<◌, ◌+◌, ◌*◌, length};
 ghost use Rattle.vram_copy.specs.Words.{advanced, advanced_by, pixels_in, pixels_next, words_left};
-ghost use Rattle.vram_copy.specs.Words.{LoadWord, LoadWords, StoreWord};
+ghost use Rattle.vram_copy.specs.Words.{loaded_word, loaded_words, stored_word};
 
 use crate::cursor::Cursor;
 use std::sync::ledger::Ledger;
@@ -37,7 +37,7 @@ pub fn load_word<L: Ledger>(
     steps: &mut Steps<L>,
 )
     requires more { job.old.at < job.old.w * job.old.h }
-    ensures cells { vram.new ≡ LoadWord vram.old mask job.old word }
+    ensures cells { vram.new ≡ loaded_word vram.old mask job.old word }
     ensures long { length vram.new ≡ length vram.old }
     ensures job { job.new ≡ advanced job.old }
     ensures cost { steps.new ≤ steps.old + 2 * pixels_next job.old }
@@ -59,7 +59,7 @@ pub fn load_words<L: Ledger>(
     steps: &mut Steps<L>,
 )
     requires wanted { length words.now ≤ words_left job.old }
-    ensures cells { vram.new ≡ LoadWords vram.old mask job.old words.now }
+    ensures cells { vram.new ≡ loaded_words vram.old mask job.old words.now }
     ensures long { length vram.new ≡ length vram.old }
     ensures job { job.new ≡ advanced_by job.old (length words.now) }
     ensures cost { steps.new ≤ steps.old + 2 * pixels_in job.old (length words.now) }
@@ -77,7 +77,7 @@ pub fn load_words<L: Ledger>(
 /// The transfer goes on by the pixels given, one step each (psx-spx, GP0(C0h)).
 pub fn store_word<L: Ledger>(vram: &Vram, job: &mut Transfer, steps: &mut Steps<L>) -> u32
     requires more { job.old.at < job.old.w * job.old.h }
-    ensures word { result ≡ StoreWord vram.now job.old }
+    ensures word { result ≡ stored_word vram.now job.old }
     ensures job { job.new ≡ advanced job.old }
     ensures cost { steps.new ≡ steps.old + pixels_next job.old }
 {

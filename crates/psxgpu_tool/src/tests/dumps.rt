@@ -3,6 +3,7 @@ use crate::tests::capture::capture;
 use crate::tests::{LINES, status_over};
 use dev_io::{MemSink, MemSource};
 use std::alloc::Global;
+use std::io;
 use std::test::Fail;
 
 /// The bytes of video memory of 512 rows, and of 1024.
@@ -10,17 +11,99 @@ const SHORT: usize = 1_048_576;
 
 const TALL: usize = 2_097_152;
 
-// The value of a cell: that of the run of cells, first and last, in which it lies, and 0 outside all.
-fn cell(runs: &[(usize, usize, u16)], place: usize) -> u16 {
-    for (first, last, value) in runs {
-        if *first <= place && place <= *last {
-            return *value;
+/// The rows of the triangle (0, 0), (8, 0), (0, 8) in white.
+const TRIANGLE: &str =
+    "0-7=7fff 1024-1030=7fff 2048-2053=7fff 3072-3076=7fff 4096-4099=7fff 5120-5122=7fff
+    6144-6145=7fff 7168-7168=7fff";
+
+/// What packets leave in video memory: records, a bar, and the runs of cells that are not 0, with a semicolon behind
+/// each case.
+const DUMPS: &str = "
+|;
+gp0 20000ff 11 10001 | 16-31=1f;
+gp0 e6000001 20000ff 1ff03f0 20020 | 0-15=1f 1008-1023=1f 523264-523279=1f 524272-524287=1f;
+gp0 a0000000 0 10001 1234, gp0 80000000 0 1 10010 | 0-16=1234;
+gp0 a0000000 0 10001 1234, gp0 80000000 0 1 0 | 0-1023=1234;
+gp0 a0000000 0 10001 8000 e6000002 a0000000 0 10001 1234 | 0-0=8000;
+gp0 e407ffff e1000100, gp0 a0000000 0 10001 1234, gp0 65000000 1 0 10004 | 0-4=1234;
+gp0 e407ffff e1000001, gp0 a0000000 0 10002 220011, gp0 a0000000 40 10001 1, gp0 65000000 0 0 10003
+    | 0-2=22 64-64=1;
+gp0 e407ffff 20ffffff 0 8 80000
+    | 0-7=7fff 1024-1030=7fff 2048-2053=7fff 3072-3076=7fff 4096-4099=7fff 5120-5122=7fff 6144-6145=7fff
+    7168-7168=7fff;
+gp0 e407ffff 2affffff 0 8 80000 80008
+    | 0-7=3def 1024-1031=3def 2048-2055=3def 3072-3079=3def 4096-4103=3def 5120-5127=3def 6144-6151=3def
+    7168-7175=3def;
+gp0 20ffffff 0 8 80000 | 0-0=7fff;
+gp0 e407ffff 480000ff 0 50005002, stat, gp0 55555555, stat | 0-2=1f;
+gp0 e407ffff, dma 6 10c 4 11000002, ram 200 4000104 20ffffff 0 8 80000, ram 108 200, dma 2 10c 0 1000401
+    | 0-7=7fff 1024-1030=7fff 2048-2053=7fff 3072-3076=7fff 4096-4099=7fff 5120-5122=7fff 6144-6145=7fff
+    7168-7168=7fff;
+gp0 e407ffff 20ffffff, stat, ram 100 1000200 0, ram 200 1ffffff 8, dma 2 100 0 1000401, stat, gp0 80000,
+stat
+    | 0-7=7fff 1024-1030=7fff 2048-2053=7fff 3072-3076=7fff 4096-4099=7fff 5120-5122=7fff 6144-6145=7fff
+    7168-7168=7fff;
+gp0 e407ffff e1000081, gp0 a0000000 3 10002 550033, gp0 a0000000 40 10001 1413, gp0 65000000 4 3f0000 10002
+    | 3-5=33 64-64=1413;
+gp0 e407ffff 600000ff 0 10004 e1000020 62080808 1 10002 | 0-0=1f 1-2=43f 3-3=1f;
+gp0 e407ffff 600000ff 0 10004 e1000000 62080808 1 10002 | 0-0=1f 1-2=10 3-3=1f;
+gp0 e407ffff 600000ff 0 10004 e1000040 62080808 1 10002 | 0-0=1f 1-2=1e 3-3=1f;
+gp0 e407ffff 600000ff 0 10004 e1000060 62080808 1 10002 | 0-0=1f 1-2=1f 3-3=1f;
+gp0 e3000401 e4000803 e50007ff 700000ff 0 | 1025-1027=1f 2049-2051=1f;
+gp0 e3000401 e4000400 e50007ff 700000ff 0 |;
+gp0 a0000000 0 10003 22221111 3333 e407ffff e1001100 65000000 10 2 10003
+    | 0-0=1111 1-1=2222 2-2=3333 16-16=3333 17-17=2222 18-18=1111;
+gp0 a0000000 0 10003 22221111 3333 e407ffff e1000100 e2000001 65000000 20 8 10003
+    | 0-0=1111 1-1=2222 2-2=3333 32-32=1111 33-33=2222 34-34=3333;
+gp0 e407ffff 400000ff 0 10003 | 0-1=1f 1026-1027=1f;
+gp0 e407ffff 400000ff 10003 0 | 0-1=1f 1026-1027=1f;
+gp0 e407ffff 20ffffff 0 3ff 80000
+    | 0-1022=7fff 1024-1919=7fff 2048-2815=7fff 3072-3711=7fff 4096-4607=7fff 5120-5503=7fff 6144-6399=7fff
+    7168-7295=7fff;
+";
+
+/// Cells from a first to a last one, which have all one value.
+#[derive(Clone, Copy)]
+struct Run {
+    first: usize,
+    last: usize,
+    value: u16,
+}
+
+// A run, written as its first and its last cell in decimal and its value in hexadecimal.
+fn run_of(word: &str) -> Option<Run> {
+    let (cells, value) = word.split_once('=')?;
+    let (first, last) = cells.split_once('-')?;
+    Some(Run {
+        first: first.parse().ok()?,
+        last: last.parse().ok()?,
+        value: u16::from_str_radix(value, 16).ok()?,
+    })
+}
+
+// The runs of a text, and none where a word is no run.
+fn runs_of(alloc: Global, text: &str) -> io::Result<Option<Vec<Run>>> {
+    let mut runs = Vec::new(alloc);
+    for word in text.split_whitespace() {
+        match run_of(word) {
+            Some(run) => runs.push(run)?,
+            None => return Ok(None),
+        }
+    }
+    Ok(Some(runs))
+}
+
+// The value of a cell: that of the run in which it lies, and 0 outside all.
+fn cell(runs: &[Run], place: usize) -> u16 {
+    for run in runs {
+        if run.first <= place && place <= run.last {
+            return run.value;
         }
     }
     0
 }
 
-fn is_dump(bytes: &[u8], len: usize, runs: &[(usize, usize, u16)]) -> bool {
+fn is_dump(bytes: &[u8], len: usize, runs: &[Run]) -> bool {
     for (at, byte) in bytes.iter().enumerate() {
         let [low, high] = cell(runs, at / 2).to_le_bytes();
         if *byte != (if at % 2 == 0 { low } else { high }) {
@@ -31,196 +114,21 @@ fn is_dump(bytes: &[u8], len: usize, runs: &[(usize, usize, u16)]) -> bool {
 }
 
 // Whether the dump behind these records has these runs of cells, and zeros elsewhere.
-fn is_met(
-    alloc: Global,
-    head: &[u8],
-    records: &str,
-    len: usize,
-    runs: &[(usize, usize, u16)],
-) -> Result<bool, Fail> {
+fn is_met(alloc: Global, head: &[u8], records: &str, len: usize, runs: &str) -> Result<bool, Fail> {
+    let runs = runs_of(alloc, runs)?.ok_or("no runs")?;
     let mut source = MemSource::new(capture(alloc, head, records)?);
     let mut dump = MemSink::new(alloc, len)?;
     let mut err = MemSink::new(alloc, LINES)?;
     let status = status_over(alloc, "vram", &mut source, &mut dump, &mut err)?;
-    Ok(status == 0 && is_dump(dump.bytes(), len, runs) && err.bytes().len() == 0)
+    Ok(status == 0 && is_dump(dump.bytes(), len, &runs) && err.bytes().len() == 0)
 }
 
 #[test]
 fn cells_of_packets(rt: HostRuntime) -> Result<(), Fail> {
-    for (records, runs) in [
-        ("", [].as_slice()),
-        ("gp0 20000ff 11 10001", [(16, 31, 0x001f)].as_slice()),
-        (
-            "gp0 e6000001 20000ff 1ff03f0 20020",
-            [
-                (0, 15, 0x001f),
-                (1008, 1023, 0x001f),
-                (523264, 523279, 0x001f),
-                (524272, 524287, 0x001f),
-            ]
-            .as_slice(),
-        ),
-        (
-            "gp0 a0000000 0 10001 1234, gp0 80000000 0 1 10010",
-            [(0, 16, 0x1234)].as_slice(),
-        ),
-        (
-            "gp0 a0000000 0 10001 1234, gp0 80000000 0 1 0",
-            [(0, 1023, 0x1234)].as_slice(),
-        ),
-        (
-            "gp0 a0000000 0 10001 8000 e6000002 a0000000 0 10001 1234",
-            [(0, 0, 0x8000)].as_slice(),
-        ),
-        (
-            "gp0 e407ffff e1000100, gp0 a0000000 0 10001 1234, gp0 65000000 1 0 10004",
-            [(0, 4, 0x1234)].as_slice(),
-        ),
-        (
-            "gp0 e407ffff e1000001, gp0 a0000000 0 10002 220011, gp0 a0000000 40 10001 1, \
-            gp0 65000000 0 0 10003",
-            [(0, 2, 0x0022), (64, 64, 0x0001)].as_slice(),
-        ),
-        (
-            "gp0 e407ffff 20ffffff 0 8 80000",
-            [
-                (0, 7, 0x7fff),
-                (1024, 1030, 0x7fff),
-                (2048, 2053, 0x7fff),
-                (3072, 3076, 0x7fff),
-                (4096, 4099, 0x7fff),
-                (5120, 5122, 0x7fff),
-                (6144, 6145, 0x7fff),
-                (7168, 7168, 0x7fff),
-            ]
-            .as_slice(),
-        ),
-        (
-            "gp0 e407ffff 2affffff 0 8 80000 80008",
-            [
-                (0, 7, 0x3def),
-                (1024, 1031, 0x3def),
-                (2048, 2055, 0x3def),
-                (3072, 3079, 0x3def),
-                (4096, 4103, 0x3def),
-                (5120, 5127, 0x3def),
-                (6144, 6151, 0x3def),
-                (7168, 7175, 0x3def),
-            ]
-            .as_slice(),
-        ),
-        ("gp0 20ffffff 0 8 80000", [(0, 0, 0x7fff)].as_slice()),
-        (
-            "gp0 e407ffff 480000ff 0 50005002, stat, gp0 55555555, stat",
-            [(0, 2, 0x001f)].as_slice(),
-        ),
-        (
-            "gp0 e407ffff, dma 6 10c 4 11000002, ram 200 4000104 20ffffff 0 8 80000, ram 108 200, \
-            dma 2 10c 0 1000401",
-            [
-                (0, 7, 0x7fff),
-                (1024, 1030, 0x7fff),
-                (2048, 2053, 0x7fff),
-                (3072, 3076, 0x7fff),
-                (4096, 4099, 0x7fff),
-                (5120, 5122, 0x7fff),
-                (6144, 6145, 0x7fff),
-                (7168, 7168, 0x7fff),
-            ]
-            .as_slice(),
-        ),
-        (
-            "gp0 e407ffff 20ffffff, stat, ram 100 1000200 0, ram 200 1ffffff 8, dma 2 100 0 1000401, \
-            stat, gp0 80000, stat",
-            [
-                (0, 7, 0x7fff),
-                (1024, 1030, 0x7fff),
-                (2048, 2053, 0x7fff),
-                (3072, 3076, 0x7fff),
-                (4096, 4099, 0x7fff),
-                (5120, 5122, 0x7fff),
-                (6144, 6145, 0x7fff),
-                (7168, 7168, 0x7fff),
-            ]
-            .as_slice(),
-        ),
-        (
-            "gp0 e407ffff e1000081, gp0 a0000000 3 10002 550033, gp0 a0000000 40 10001 1413, \
-            gp0 65000000 4 3f0000 10002",
-            [(3, 5, 0x0033), (64, 64, 0x1413)].as_slice(),
-        ),
-        (
-            "gp0 e407ffff 600000ff 0 10004 e1000020 62080808 1 10002",
-            [(0, 0, 0x001f), (1, 2, 0x043f), (3, 3, 0x001f)].as_slice(),
-        ),
-        (
-            "gp0 e407ffff 600000ff 0 10004 e1000000 62080808 1 10002",
-            [(0, 0, 0x001f), (1, 2, 0x0010), (3, 3, 0x001f)].as_slice(),
-        ),
-        (
-            "gp0 e407ffff 600000ff 0 10004 e1000040 62080808 1 10002",
-            [(0, 0, 0x001f), (1, 2, 0x001e), (3, 3, 0x001f)].as_slice(),
-        ),
-        (
-            "gp0 e407ffff 600000ff 0 10004 e1000060 62080808 1 10002",
-            [(0, 0, 0x001f), (1, 2, 0x001f), (3, 3, 0x001f)].as_slice(),
-        ),
-        (
-            "gp0 e3000401 e4000803 e50007ff 700000ff 0",
-            [(1025, 1027, 0x001f), (2049, 2051, 0x001f)].as_slice(),
-        ),
-        ("gp0 e3000401 e4000400 e50007ff 700000ff 0", [].as_slice()),
-        (
-            "gp0 a0000000 0 10003 22221111 3333 e407ffff e1001100 65000000 10 2 10003",
-            [
-                (0, 0, 0x1111),
-                (1, 1, 0x2222),
-                (2, 2, 0x3333),
-                (16, 16, 0x3333),
-                (17, 17, 0x2222),
-                (18, 18, 0x1111),
-            ]
-            .as_slice(),
-        ),
-        (
-            "gp0 a0000000 0 10003 22221111 3333 e407ffff e1000100 e2000001 65000000 20 8 10003",
-            [
-                (0, 0, 0x1111),
-                (1, 1, 0x2222),
-                (2, 2, 0x3333),
-                (32, 32, 0x1111),
-                (33, 33, 0x2222),
-                (34, 34, 0x3333),
-            ]
-            .as_slice(),
-        ),
-        (
-            "gp0 e407ffff 400000ff 0 10003",
-            [(0, 1, 0x001f), (1026, 1027, 0x001f)].as_slice(),
-        ),
-        (
-            "gp0 e407ffff 400000ff 10003 0",
-            [(0, 1, 0x001f), (1026, 1027, 0x001f)].as_slice(),
-        ),
-        (
-            "gp0 e407ffff 20ffffff 0 3ff 80000",
-            [
-                (0, 1022, 0x7fff),
-                (1024, 1919, 0x7fff),
-                (2048, 2815, 0x7fff),
-                (3072, 3711, 0x7fff),
-                (4096, 4607, 0x7fff),
-                (5120, 5503, 0x7fff),
-                (6144, 6399, 0x7fff),
-                (7168, 7295, 0x7fff),
-            ]
-            .as_slice(),
-        ),
-    ] {
-        assert!(rt;
-            is_met(rt.alloc(), b"PSXGPUC1", records, SHORT, runs)?,
-            "{records}"
-        );
+    for case in DUMPS.trim_end().split_terminator(';') {
+        let (records, runs) = case.split_once('|').ok_or("no bar")?;
+        let met = is_met(rt.alloc(), b"PSXGPUC1", records, SHORT, runs)?;
+        assert!(rt; met, "{records}");
     }
     Ok(())
 }
@@ -229,28 +137,11 @@ fn cells_of_packets(rt: HostRuntime) -> Result<(), Fail> {
 fn heights_and_turns(rt: HostRuntime) -> Result<(), Fail> {
     let alloc = rt.alloc();
     let fill = "gp0 20000ff 2000000 10001";
-    assert!(rt; is_met(alloc, b"PSXGPUC3", fill, TALL, &[(524_288, 524_303, 0x1f)])?);
-    assert!(rt; is_met(alloc, b"PSXGPUC1", fill, SHORT, &[(0, 15, 0x1f)])?);
+    assert!(rt; is_met(alloc, b"PSXGPUC3", fill, TALL, "524288-524303=1f")?);
+    assert!(rt; is_met(alloc, b"PSXGPUC1", fill, SHORT, "0-15=1f")?);
     let list = "gp0 e407ffff, ram 100 2000200 20ffffff 0, ram 200 2ffffff 8 80000, \
         begin 100 0 1000401, turn 1, stat, turn 1, stat";
-    assert!(rt;
-        is_met(
-            alloc,
-            b"PSXGPUC2",
-            list,
-            SHORT,
-            &[
-                (0, 7, 0x7fff),
-                (1024, 1030, 0x7fff),
-                (2048, 2053, 0x7fff),
-                (3072, 3076, 0x7fff),
-                (4096, 4099, 0x7fff),
-                (5120, 5122, 0x7fff),
-                (6144, 6145, 0x7fff),
-                (7168, 7168, 0x7fff)
-            ]
-        )?
-    );
+    assert!(rt; is_met(alloc, b"PSXGPUC2", list, SHORT, TRIANGLE)?);
     Ok(())
 }
 

@@ -1,14 +1,14 @@
 use Rattle.std.proofs.Common.{◌∙◌, sym, ap, append-nil}
-use Rattle.gp0_words.specs.Items.{Items, Rest}
+use Rattle.gp0_words.specs.Items.{items_of, pending_behind}
 use Rattle.gp0_words.proofs.Front.{items_front, rest_front, no_prefix}
 use Rattle.gp0_words.proofs.laws.packets_are_cut.Goals as goal
 
 pub returns-clause-cut : goal.returns-clause-cut
-unfolding Items Rest
+unfolding items_of pending_behind
 returns-clause-cut c = λ p words h. (
   items_front p words h,
   rest_front p words h,
-  ap Rest (sym (append-nil p))
+  ap pending_behind (sym (append-nil p))
       ∙ rest_front p _ h,
 )
 

@@ -10,4 +10,4 @@ returns-then-has_room c =
     (c.rises.ensures.rising c.if-rises.true) (c.rises.ensures.open c.if-rises.true)
     refl (ap (λ (cell : Cell). cell.y) c.texel_cell-y.ensures.value) c.texel_cell-y.ensures.in_page
     (c.rises.ensures.in_page c.if-rises.true) (c.has_room.ensures.wholes c.if-has_room.true)
-    (c.has_room.ensures.fours c.if-has_room.true)
+    (c.has_room.ensures.eights c.if-has_room.true) (c.has_room.ensures.fours c.if-has_room.true)

@@ -7,7 +7,7 @@ use Rattle.span_lanes.proofs.swatches.draw_swatches.Goals as goal
 pub loop-c-init : goal.loop-c-init
 loop-c-init g c = record {
   drawn = drawn_begun c.args.span.now _ _ c.args.vram.now (omega arith);
-  swatches = c.swatches_of-swatches.ensures.swatches;
+  swatches = c.swatches_of-swatches.ensures.palette.swatches;
 }
 
 pub loop-c-preserved : goal.loop-c-preserved

@@ -13,7 +13,7 @@ collect_fronts-lanes-requires-clause-front g c j lt =
     let hue = rw (c.requires.hue, same_x) at
     (c.requires.planned.plan.hues c.args.first j (omega arith) (omega arith)) in
     rw (← hue, no_shift (span.brush.dither && not c.args.texture.now.raw) x span.y c.requires.suits.even)
-    (c.read_swatches-drawn.ensures.fronts.front j lt)
+    (c.read_scattered-drawn.ensures.fronts.front j lt)
 
 pub store_chunk-requires-clause-blind : goal.store_chunk-requires-clause-blind
 store_chunk-requires-clause-blind g c =
@@ -34,7 +34,7 @@ returns-clause-cost g c =
     omega (
       arith,
       cost,
-      c.read_swatches-drawn.ensures.cost,
+      c.read_scattered-drawn.ensures.cost,
       c.collect_fronts-lanes.ensures.cost,
       c.store_chunk.ensures.cost,
     )

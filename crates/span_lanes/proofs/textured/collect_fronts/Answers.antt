@@ -3,7 +3,7 @@ use Rattle.span_lanes.specs.Shade.{textured_pixel, shift_of, texel}
 use Rattle.span_lanes.specs.Paints.{paint_color, paint_u, paint_v}
 use Rattle.span_lanes.specs.Lanes.{DoesFor}
 use Rattle.span_lanes.proofs.BackLemmas.{textured_back, kept_back}
-use Rattle.span_lanes.proofs.TexelLemmas.{shade_textured, textured_lane}
+use Rattle.span_lanes.proofs.TexelLemmas.{raw_front, shade_textured, textured_lane}
 use Rattle.span_lanes.proofs.textured.collect_fronts.Goals as goal
 
 pub returns-clause-lanes : goal.returns-clause-lanes
@@ -32,9 +32,14 @@ returns-clause-lanes g c = record {
       ∙ textured_back span.brush t.raw color shift cell _ (texel t u v c.args.vram.now) back
       ∙ ap (λ (h : ℕ). textured_pixel span.brush t.raw color shift (get_or c.back_of-back.result j 0) h) (sym same))
       (c.requires.front j lt)
-      (c.plotted_lanes-plotted.ensures.value j in_lanes)
+      (c.plotted_of-plotted.ensures.value j lt)
       (c.both.ensures j in_lanes)
       (c.open_bits.ensures j in_lanes ∙ ap (λ (b : Bool). cond b 0 1) (kept_back span.brush cell _ back))
       (c.drawn_bits.ensures j in_lanes)
       (c.force_lanes.ensures.value j in_lanes);
 }
+
+pub plotted_of-plotted-requires-clause-raw : goal.plotted_of-plotted-requires-clause-raw
+plotted_of-plotted-requires-clause-raw g c raw j lt =
+    raw_front c.args.texture.now.raw _ _ (get_or c.args.texels j 0) (get_or c.args.front j 0) raw
+    (c.requires.front j lt)

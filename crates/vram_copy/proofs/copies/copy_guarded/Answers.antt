@@ -11,12 +11,12 @@ loop-done-preserved g c =
     record {
       in_piece = omega (arith, more, few);
       whole = λ lt. omega (arith, more, few, whole, lt);
-      cells = piece_more _ _ _ c.args.mask c.args.from c.args.to c.beside.result c.beside-in-loop-done.result
+      cells = piece_more _ _ _ c.args.mask c.args.way.from c.args.way.to c.beside.result.from c.beside.result.to
           c.loop-done.done c.min-k.result
-          c.beside.ensures c.beside-in-loop-done.ensures c.loop-done.invariant.cells c.copy_chunk.ensures.cells;
+          c.beside.ensures.from c.beside.ensures.to c.loop-done.invariant.cells c.copy_chunk.ensures.cells;
       long = c.copy_chunk.ensures.long ∙ c.loop-done.invariant.long;
-      cost = piece_spent c.args.from c.args.to c.beside.result c.beside-in-loop-done.result c.loop-done.done
+      cost = piece_spent c.args.way.from c.args.way.to c.beside.result.from c.beside.result.to c.loop-done.done
           c.min-k.result _ _ _
-          c.beside.ensures c.beside-in-loop-done.ensures whole (omega (arith, more, few))
+          c.beside.ensures.from c.beside.ensures.to whole (omega (arith, more, few))
           (omega (arith, few)) c.loop-done.invariant.cost c.copy_chunk.ensures.cost;
     }

@@ -1,13 +1,16 @@
-use Rattle.std.proofs.Common.{◌∙◌, arith}
-use Rattle.vram_copy.proofs.LoadLemmas.{run_more}
+use Rattle.std.proofs.Common.{◌∙◌, sym}
+use Rattle.vram_copy.proofs.CopyLemmas.{set_bit_alone, no_bit}
+use Rattle.vram_copy.proofs.LoadLemmas.{load_alike}
 use Rattle.vram_copy.proofs.loads.load_run.Goals as goal
 
-pub loop-done-preserved-then-n-done-ge16 : goal.loop-done-preserved-then-n-done-ge16
-loop-done-preserved-then-n-done-ge16 g c = record {
-  in_run = let room = c.if-n-done-ge16.true in omega (arith, room);
-  cells = run_more _ _ _ c.args.mask c.args.to c.args.words.now c.args.first c.loop-done.done 16
-      c.loop-done.invariant.cells c.load_sixteen.ensures.cells;
-  long = c.load_sixteen.ensures.long ∙ c.loop-done.invariant.long;
-  cost = let before = c.loop-done.invariant.cost in let step = c.load_sixteen.ensures.cost in
-      omega (arith, before, step);
-}
+pub returns-then-forces-clause-cells : goal.returns-then-forces-clause-cells
+returns-then-forces-clause-cells g c =
+    c.load_each-then-forces.ensures.cells ∙ load_alike _ 1 c.args.mask c.args.stretch.to c.args.words.now
+    c.args.stretch.first c.args.stretch.n (set_bit_alone.0 ∙ sym c.if-tests.false ∙ c.tests.ensures)
+    (set_bit_alone.1 ∙ sym c.if-forces.true ∙ c.forces.ensures)
+
+pub returns-else-forces-clause-cells : goal.returns-else-forces-clause-cells
+returns-else-forces-clause-cells g c =
+    c.load_each-else-forces.ensures.cells ∙ load_alike _ 0 c.args.mask c.args.stretch.to c.args.words.now
+    c.args.stretch.first c.args.stretch.n (no_bit.0 ∙ sym c.if-tests.false ∙ c.tests.ensures)
+    (no_bit.1 ∙ sym c.if-forces.false ∙ c.forces.ensures)

@@ -1,7 +1,7 @@
 use Rattle.std.proofs.Common.{Some, sym, ap, ◌∙◌, arith}
 use Rattle.gp0_words.specs.declared.item.Item.TheVariants as item
 use Rattle.gpu_core.specs.Kept.{Kept}
-use Rattle.gpu_core.specs.Machine.{Parts, Effect}
+use Rattle.gpu_core.specs.Machine.{Parts, effect_of}
 use Rattle.gpu_core.proofs.Fed.{fed, data_effect, data_cost, data_note, register_packet, register_note}
 use Rattle.gpu_core.proofs.Link.{environment-keeps, linked, linked_inside}
 use Rattle.gpu_core.proofs.gpu.Gpu.gp0.Goals as goal
@@ -54,7 +54,8 @@ returns-then-passes-clause-feed g c = λ s e.
     let is = fed s (record { parts = p; pending = c.push_pixels.new.self }) _ c.args.event c.args.word _
     (rw same (e ∙ sym c.self.view_is)) push in
     let f : Parts → Kept = λ p. record { parts = p; pending = c.push_pixels.new.self } in
-    is.feed ∙ ap f (ap (Effect p) (register_packet p.regs.height c.args.word (c.passes.ensures.class c.if-passes.true))
+    is.feed ∙ ap f (ap (effect_of p)
+    (register_packet p.regs.height c.args.word (c.passes.ensures.class c.if-passes.true))
     ∙ sym c.set_register.ensures)
 
 pub returns-then-passes-clause-note : goal.returns-then-passes-clause-note

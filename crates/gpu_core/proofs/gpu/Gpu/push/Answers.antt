@@ -1,8 +1,8 @@
 use Rattle.std.proofs.Common.{Some, None, sym, ap, ◌∙◌, arith, refl}
 use Rattle.gpu_core.specs.Area.{note_of}
-use Rattle.gpu_core.specs.Cost.{FeedCost, item_cost}
+use Rattle.gpu_core.specs.Cost.{gp0_cost, item_cost}
 use Rattle.gpu_core.specs.Kept.{Kept}
-use Rattle.gpu_core.specs.Machine.{Parts, Feed, FeedNote, after_item}
+use Rattle.gpu_core.specs.Machine.{Parts, after_gp0, gp0_note, after_item}
 use Rattle.gpu_core.proofs.Link.{linked}
 use Rattle.gpu_core.proofs.States.{new_item-is}
 use Rattle.gpu_core.proofs.gpu.Gpu.push.Goals as goal
@@ -16,7 +16,7 @@ invariant_of-self-in-Some g c =
     rw (c.in-Some.ensures.pending, load) link
 
 pub returns-in-None-clause-feed : goal.returns-in-None-clause-feed
-unfolding Feed
+unfolding after_gp0
 returns-in-None-clause-feed g c = λ s e.
     let kept = e ∙ sym c.self.view_is in
     let held = ap (λ (k : Kept). k.pending) kept in
@@ -26,19 +26,19 @@ returns-in-None-clause-feed g c = λ s e.
     rw (new, rest) (ap f kept)
 
 pub returns-in-None-clause-note : goal.returns-in-None-clause-note
-unfolding FeedNote
+unfolding gp0_note
 returns-in-None-clause-note g c = λ s e.
     let held = ap (λ (k : Kept). k.pending) (e ∙ sym c.self.view_is) in
     rw (new_item-is s.words c.args.word None (c.in-None.ensures.item s.words held)) refl
 
 pub returns-in-None-clause-cost : goal.returns-in-None-clause-cost
-unfolding FeedCost
+unfolding gp0_cost
 returns-in-None-clause-cost g c = λ s e.
     let held = ap (λ (k : Kept). k.pending) (e ∙ sym c.self.view_is) in
     rw (new_item-is s.words c.args.word None (c.in-None.ensures.item s.words held)) (omega arith)
 
 pub returns-in-Some-clause-feed : goal.returns-in-Some-clause-feed
-unfolding Feed
+unfolding after_gp0
 returns-in-Some-clause-feed g c = λ s e.
     let kept = e ∙ sym c.self.view_is in
     let held = ap (λ (k : Kept). k.pending) kept in
@@ -50,7 +50,7 @@ returns-in-Some-clause-feed g c = λ s e.
     rw (new, rest) (ap f parts)
 
 pub returns-in-Some-clause-note : goal.returns-in-Some-clause-note
-unfolding FeedNote
+unfolding gp0_note
 returns-in-Some-clause-note g c = λ s e.
     let kept = e ∙ sym c.self.view_is in
     let held = ap (λ (k : Kept). k.pending) kept in
@@ -59,7 +59,7 @@ returns-in-Some-clause-note g c = λ s e.
     (ap Some (told ∙ sym c.take_item-note.ensures.note) ∙ sym c.tell.ensures.note)
 
 pub returns-in-Some-clause-cost : goal.returns-in-Some-clause-cost
-unfolding FeedCost
+unfolding gp0_cost
 returns-in-Some-clause-cost g c = λ s e.
     let kept = e ∙ sym c.self.view_is in
     let held = ap (λ (k : Kept). k.pending) kept in

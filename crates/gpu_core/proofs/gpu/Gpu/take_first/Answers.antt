@@ -2,7 +2,7 @@ use Rattle.std.proofs.Common.{◌≡◌, ◌+◌, ◌∷◌, [], ℕ, List, take
 use Rattle.std.proofs.lemmas.List.{take_more}
 use Rattle.gpu_core.specs.Feeds.{SetsRegisters, TakesWords}
 use Rattle.gpu_core.specs.Kept.{kept_of}
-use Rattle.gpu_core.specs.Machine.{FeedNote}
+use Rattle.gpu_core.specs.Machine.{gp0_note}
 use Rattle.gpu_core.proofs.Feeds.{one_taken, set_taken}
 use Rattle.gpu_core.proofs.gpu.Gpu.take_first.Goals as goal
 
@@ -30,7 +30,7 @@ returns-clause-takes g c = λ s e.
     let one : take 1 words ≡ word ∷ [] = take_more words 0 0 c.requires in
     let heard = map g.T.Listener.heard c.args.taps.now.items in
     let heard_now = map g.T.Listener.heard c.gp0.new.taps.items in
-    let note = ap (λ n. FeedNote s n word) (sym c.saturating_add.ensures) ∙ c.gp0.ensures.note s kept in
+    let note = ap (λ n. gp0_note s n word) (sym c.saturating_add.ensures) ∙ c.gp0.ensures.note s kept in
     let Q : List ℕ
     → Type 0 = λ l. TakesWords s (c.args.played + 1) l c.gp0.new.self heard heard_now c.args.steps.now
     c.gp0.new.steps in

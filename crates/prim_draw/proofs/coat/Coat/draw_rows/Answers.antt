@@ -1,6 +1,7 @@
 use Rattle.std.proofs.Common.{◌≡◌, ◌≤◌, ◌+◌, ℕ, pos, ◌∙◌, sym, refl, ap, subst, add-one, arith, List, IfSome}
 use Rattle.std.proofs.lemmas.Int.{ints}
 use Rattle.px_num.specs.declared.shape.Cell.{Cell}
+use Rattle.span_lanes.specs.Pen.{IsFresh}
 use Rattle.edge_walk.specs.Walk.{AreRows}
 use Rattle.prim_draw.specs.Boxes.{block_of}
 use Rattle.prim_draw.specs.Triangles.{draws, pixel_at, painted_cells, run_cells, row_inside}
@@ -26,7 +27,8 @@ loop-j-init g c =
       cells = refl;
       cost = omega arith;
       long = refl;
-      coat = ap coat_of_ink c.new-pen.ensures;
+      coat = ap (λ pen. coat_of_ink pen.ink) c.new-pen.ensures;
+      fresh = subst (λ pen. IsFresh pen c.args.vram.now) (sym c.new-pen.ensures) tt;
       stands = subst (λ y. AreRows c.args.tri.now c.args.clip.now y c.rows-rows.result) first c.rows-rows.ensures;
     }
 
@@ -42,7 +44,7 @@ pub draw_run-requires-clause-run : goal.draw_run-requires-clause-run
 draw_run-requires-clause-run g c =
     let row = row_at _ _ _ _ _ c.requires.small c.block_of-block.ensures.value c.loop-j-test.true
     c.loop-j.invariant.stands in
-    let paint_is : c.args.self.now.paint ≡ c.loop-j.pen.paint = ap (λ k. k.paint) (sym c.loop-j.invariant.coat) in
+    let paint_is : c.args.self.now.paint ≡ c.loop-j.pen.ink.paint = ap (λ k. k.paint) (sym c.loop-j.invariant.coat) in
     subst (λ paint. IfSome c.next_run-run.result (CanDraw paint (c.block_of-block.result.y + c.loop-j.j))) paint_is
     (can_draw c.args.tri.now c.args.self.now.paint (c.block_of-block.result.y + c.loop-j.j) c.next_run-run.result
     c.requires.fits (c.next_run-run.ensures.inside _ _ _ row))
@@ -68,7 +70,8 @@ loop-j-preserved g c =
           (ap (λ k. side_by_side k (run_cells found y)) h.coat
           ∙ ap (λ (cells : List Cell). side_by_side coat cells) found_is) c.draw_run.ensures.cost));
       long = c.draw_run.ensures.long ∙ h.long;
-      coat = ap coat_of_ink c.draw_run.ensures.pen ∙ h.coat;
+      coat = ap coat_of_ink c.draw_run.ensures.ink ∙ h.coat;
+      fresh = c.draw_run.ensures.fresh;
       stands = subst (λ (k : ℕ). AreRows t c.args.clip.now (pos k) c.next_run-run.new.rows) next
           (c.next_run-run.ensures.next _ _ _ row);
     }

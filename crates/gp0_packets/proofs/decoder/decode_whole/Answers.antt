@@ -1,4 +1,4 @@
-use Rattle.gp0_packets.proofs.decoder.whole.Goals as goal
+use Rattle.gp0_packets.proofs.decoder.decode_whole.Goals as goal
 
 pub returns-in-1-clause-ranges : goal.returns-in-1-clause-ranges
 returns-in-1-clause-ranges c = c.polygon.ensures.ranges c.args.height

@@ -1,0 +1,21 @@
+use Rattle.std.proofs.Common.{◌≡◌, ◌<◌, ◌+◌, arith}
+use Rattle.span_lanes.proofs.StretchLemmas.{eight_texel}
+use Rattle.span_lanes.proofs.stretch.read_eights.Goals as goal
+
+pub sixteen_octets-index-requires-clause-in_row : goal.sixteen_octets-index-requires-clause-in_row
+sixteen_octets-index-requires-clause-in_row g c =
+    let room = c.requires.stretch.eights c.requires.depth in
+    omega (arith, room)
+
+pub returns-clause-texels : goal.returns-clause-texels
+returns-clause-texels g c = record {
+  long = c.gather_entries.ensures.long;
+  value = λ j lt.
+      let lane : j < 16 = omega arith in
+      let s = c.args.stretch.now in
+      let column : s.u + c.args.first + j ≡ s.u + (c.args.first + j) = omega arith in
+      let position = rw column at (c.sixteen_octets-index.ensures.value j lane) in
+      eight_texel c.args.span.now c.args.texture.now s _ (c.args.first + j) _ c.args.vram.now
+      c.requires.stretch c.requires.depth (omega arith)
+      (rw position at (c.gather_entries.ensures.value j lt));
+}

@@ -1,0 +1,191 @@
+// Rows of texels of four bits that stand side by side, whose palette is coloured once.
+ghost use Rattle.std.specs.Prelude.{◌≡◌, ◌≤◌, ◌<◌, ◌+◌, ◌%◌, ℕ, IsTrue, Some, pos};
+ghost use Rattle.std.specs.Prelude.{length, slice_index};
+ghost use Rattle.px_num.specs.Lanes.{EachLane};
+ghost use Rattle.vram_store.specs.Vram.{height_of};
+ghost use Rattle.span_lanes.specs.Chunk.{IsChunk, drawn_chunk};
+ghost use Rattle.span_lanes.specs.Cost.{chunk_cost, span_cost};
+ghost use Rattle.span_lanes.specs.Paints.{paint_color};
+ghost use Rattle.span_lanes.specs.Shade.{IsSpan, LiesIn, drawn_span, front_of, texture_of};
+ghost use Rattle.span_lanes.specs.Stretch.{IsStretch};
+ghost use Rattle.span_lanes.specs.Strip.{IsStrip};
+ghost use Rattle.span_lanes.specs.Swatches.{AreColored, IsKept, SuitsPalette};
+
+use crate::apart::is_apart;
+use crate::beside::sixteen_indexes;
+use crate::nibbles::entries_at;
+use crate::plan::is_dithered;
+use crate::store::store_chunk;
+use crate::stretch::Stretch;
+use crate::swatches::{Drawn, Swatches, refresh};
+use crate::textured::collect_fronts;
+use crate::{Span, Texture};
+use std::simd::prelude::*;
+use std::sync::ledger::Ledger;
+use vram_store::{Steps, Vram};
+
+// Where the texels of a row stand, and their palette.
+#[derive(Clone, Copy)]
+pub(crate) struct Strip {
+    pub(crate) stretch: Stretch,
+    pub(crate) swatches: Swatches,
+}
+
+// Whether the palette of a row of texels of four bits can be coloured once.
+#[inline(always)]
+pub(crate) fn suits_strip(span: &Span, texture: &Texture) -> bool
+    requires span { IsSpan span.now }
+    requires texture { texture_of span.now.paint ≡ Some texture.now }
+    ensures { IsTrue result → SuitsPalette span.now texture.now }
+{
+    let dithered = is_dithered(span.brush.dither, texture.raw);
+    texture.page.depth == 0 && !dithered && is_apart(span, texture)
+}
+
+// Sixteen texels by their indexes, and what the colour makes of them.
+#[inline(always)]
+#[tactic(auto, unfolding(crate::specs::Shade::front_of))]
+fn drawn_at(swatches: &Swatches, raw: bool, index: u16x16) -> Drawn
+    requires colored { AreColored swatches.now }
+    requires raw { swatches.now.raw ≡ raw }
+    requires long { length index ≡ 16 }
+    requires low { EachLane (λ i. slice_index index i < 16) }
+    ensures long { (length result.texels ≡ 16) × (length result.fronts ≡ 16) }
+    ensures texels { EachLane (λ i. slice_index result.texels i
+        ≡ slice_index swatches.now.entries (slice_index index i)) }
+    ensures fronts { EachLane (λ i. slice_index result.fronts i
+        ≡ front_of raw swatches.now.color (pos 0) (slice_index result.texels i)) }
+{
+    let texels = entries_at(swatches.entries, index);
+    let fronts = if raw {
+        texels
+    } else {
+        entries_at(swatches.fronts, index)
+    };
+    Drawn { texels, fronts }
+}
+
+// A chunk.
+#[inline(always)]
+fn strip_chunk<L: Ledger>(
+    vram: &mut Vram,
+    span: &Span,
+    texture: &Texture,
+    strip: &Strip,
+    first: u16,
+    k: u8,
+    steps: &mut Steps<L>,
+)
+    requires strip { IsStrip span.now texture.now vram.old strip.now }
+    requires chunk { IsChunk span.now first k }
+    ensures cells { vram.new ≡ drawn_chunk span.now first k vram.old }
+    ensures long { length vram.new ≡ length vram.old }
+    ensures strip { IsStrip span.now texture.now vram.new strip.now }
+    ensures cost { steps.new + 1 ≤ steps.old + chunk_cost span.now first k }
+{
+    let u = strip.stretch.u + first;
+    let index = sixteen_indexes(vram, texture.page.x, u, strip.stretch.y, steps);
+    let drawn = drawn_at(&strip.swatches, texture.raw, index);
+    let lanes = collect_fronts(
+        vram,
+        span,
+        texture,
+        drawn.texels,
+        drawn.fronts,
+        first,
+        k,
+        steps,
+    );
+    store_chunk(vram, span, first, k, &lanes, steps);
+}
+
+// All chunks of a row; each spares a step.
+#[inline(always)]
+fn draw_chunks<L: Ledger>(
+    vram: &mut Vram,
+    span: &Span,
+    texture: &Texture,
+    strip: &Strip,
+    steps: &mut Steps<L>,
+)
+    requires strip { IsStrip span.now texture.now vram.old strip.now }
+    ensures cells { vram.new ≡ drawn_span span.now span.now.n vram.old }
+    ensures long { length vram.new ≡ length vram.old }
+    ensures strip { IsStrip span.now texture.now vram.new strip.now }
+    ensures cost { steps.new + 1 ≤ steps.old + span_cost span.now }
+{
+    let whole = span.n / 16;
+    for c in 0..whole {
+        strip_chunk(vram, span, texture, strip, 16 * c, 16, steps);
+    }
+    let rest = span.n % 16;
+    if rest > 0 {
+        strip_chunk(vram, span, texture, strip, 16 * whole, rest as u8, steps);
+    }
+}
+
+// The same, by whether the texels are drawn as they are.
+#[inline(always)]
+fn draw_by_raw<L: Ledger>(
+    vram: &mut Vram,
+    span: &Span,
+    texture: &Texture,
+    strip: &Strip,
+    steps: &mut Steps<L>,
+)
+    requires strip { IsStrip span.now texture.now vram.old strip.now }
+    ensures cells { vram.new ≡ drawn_span span.now span.now.n vram.old }
+    ensures long { length vram.new ≡ length vram.old }
+    ensures strip { IsStrip span.now texture.now vram.new strip.now }
+    ensures cost { steps.new + 1 ≤ steps.old + span_cost span.now }
+{
+    if texture.raw {
+        let texture = Texture {
+            raw: true,
+            ..*texture
+        };
+        draw_chunks(vram, span, &texture, strip, steps);
+    } else {
+        let texture = Texture {
+            raw: false,
+            ..*texture
+        };
+        draw_chunks(vram, span, &texture, strip, steps);
+    }
+}
+
+// A row of texels under a colour.
+#[inline(always)]
+pub(crate) fn draw_strip<L: Ledger>(
+    vram: &mut Vram,
+    span: &Span,
+    texture: &Texture,
+    stretch: &Stretch,
+    color: u32,
+    last: &mut Option<Swatches>,
+    steps: &mut Steps<L>,
+)
+    requires span { IsSpan span.now }
+    requires height { LiesIn (height_of vram.old) span.now }
+    requires hue { (x y : ℕ) → paint_color span.now.paint x y ≡ color }
+    requires texture { texture_of span.now.paint ≡ Some texture.now }
+    requires stretch { IsStretch span.now texture.now stretch.now }
+    requires suits { SuitsPalette span.now texture.now }
+    requires last { IsKept span.now.paint vram.old last.old }
+    ensures cells { vram.new ≡ drawn_span span.now span.now.n vram.old }
+    ensures long { length vram.new ≡ length vram.old }
+    ensures last { IsKept span.now.paint vram.new last.new }
+    ensures cost { steps.new ≤ steps.old + span_cost span.now }
+{
+    refresh(vram, texture, color, last, steps);
+    match &*last {
+        Some(kept) => {
+            let strip = Strip {
+                stretch: *stretch,
+                swatches: *kept,
+            };
+            draw_by_raw(vram, span, texture, &strip, steps);
+        }
+        None => unreachable!(),
+    }
+}
