@@ -43,6 +43,7 @@ mod track;
 mod untextured;
 
 pub use pen::{Pen, draw_span};
+pub use solid::{draw_solid, solid_of};
 pub use span::{Brush, Paint, Span, Texture};
 
 #[cfg(test)]

@@ -35,8 +35,8 @@ fn solid_color(brush: &Brush, color: u32) -> Option<u16>
     }
 }
 
-// The halfword that each cell becomes, where there is one whatever they hold.
-pub(crate) fn solid_of(paint: &Paint, brush: &Brush) -> Option<u16>
+/// The halfword that each cell becomes, where there is one whatever they hold.
+pub fn solid_of(paint: &Paint, brush: &Brush) -> Option<u16>
     ensures { HasHalfword paint.now brush.now result }
 {
     match paint {
@@ -65,8 +65,9 @@ fn solid_chunk<L: Ledger>(
     vram.store16(span.x + first, span.y, k, splat(h), 0xffff, steps);
 }
 
-// The cells of a span that all become one halfword.
-pub(crate) fn draw_solid<L: Ledger>(vram: &mut Vram, span: &Span, h: u16, steps: &mut Steps<L>)
+/// Draws the cells of a span that all become one halfword, as [`draw_span`](crate::draw_span) does.
+#[inline(always)]
+pub fn draw_solid<L: Ledger>(vram: &mut Vram, span: &Span, h: u16, steps: &mut Steps<L>)
     requires span { IsSpan span.now }
     requires height { LiesIn (height_of vram.old) span.now }
     requires solid { IsSolid span.now h }
