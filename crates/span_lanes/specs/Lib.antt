@@ -10,6 +10,7 @@ pub mod Paints
 pub mod Pen
 pub mod Plan
 pub mod Shade
+pub mod Spans
 pub mod Stretch
 pub mod Strip
 pub mod Swatches

@@ -52,8 +52,8 @@ fn draw_planned_row<L: Ledger>(
 }
 
 // A row of texels.
-#[inline(never)]
-fn draw_row<L: Ledger>(
+#[inline(always)]
+pub(crate) fn draw_row<L: Ledger>(
     vram: &mut Vram,
     span: &Span,
     texture: &Texture,
@@ -74,7 +74,10 @@ fn draw_row<L: Ledger>(
         Some(stretch) if suits_strip(span, texture) => {
             draw_strip(vram, span, texture, &stretch, row.color, last, steps)
         }
-        stretch => draw_planned_row(vram, span, texture, row, stretch, last, steps),
+        stretch => {
+            let (span, texture) = (*span, *texture);
+            draw_planned_row(vram, &span, &texture, row, stretch, last, steps);
+        }
     }
 }
 

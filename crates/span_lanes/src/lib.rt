@@ -33,6 +33,7 @@ mod sheet;
 mod slopes;
 mod solid;
 mod span;
+mod spans;
 mod store;
 mod stretch;
 mod strip;
@@ -45,6 +46,7 @@ mod untextured;
 pub use pen::{Pen, draw_span};
 pub use solid::{draw_solid, solid_of};
 pub use span::{Brush, Paint, Span, Texture};
+pub use spans::{Spans, draw_spans};
 
 #[cfg(test)]
 mod tests {
