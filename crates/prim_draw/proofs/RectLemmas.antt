@@ -1,17 +1,21 @@
 -- Rows of a rectangle.
 use Rattle.std.proofs.Common.{◌≡◌, ◌≤◌, ◌<◌, ℕ, ◌+◌, ◌-◌, pos, ◌≤ℤ◌, ◌-ℤ◌, unsigned_abs, List, Option, None, Some, Bool}
-use Rattle.std.proofs.Common.{true, false, refl, sym, ap, ◌∙◌, arith, add-one}
+use Rattle.std.proofs.Common.{true, false, refl, sym, ap, ◌∙◌, subst, zero, suc, arith}
 use Rattle.std.proofs.lemmas.Int.{ints}
 use Rattle.px_num.specs.declared.shape.Cell.{Cell}
 use Rattle.span_lanes.specs.Cells.{drawn_cells, row_cells}
-use Rattle.span_lanes.specs.Pen.{Ink, Loaded, ink_row, ink_span, paint_row, with_row}
+use Rattle.span_lanes.specs.Cost.{span_cost}
+use Rattle.span_lanes.specs.Spans.{drawn_row, drawn_rows, nth_span, paint_down, rows_cost, AreSpans}
+use Rattle.span_lanes.specs.declared.span.Paint.TheVariants.{TexturedRow}
+use Rattle.span_lanes.specs.declared.span.Span.{Span}
+use Rattle.span_lanes.specs.declared.spans.Spans.{Spans}
 use Rattle.span_lanes.specs.Shade.{paint_pixel, row_u, shade, shade_at, texture_of, HasInside, IsSpan, LiesIn}
 use Rattle.span_lanes.specs.declared.span.Paint.{Paint}
 use Rattle.span_lanes.specs.declared.span.Brush.{Brush}
 use Rattle.span_lanes.specs.declared.span.Texture.{Texture}
 use Rattle.span_lanes.proofs.CellsLemmas.{cells_append, row_same}
 use Rattle.prim_draw.specs.Boxes.{cells_in_rows, IsBlock}
-use Rattle.prim_draw.specs.Costs.{tile_span}
+use Rattle.prim_draw.specs.Costs.{tile_rows_cost, tile_span}
 use Rattle.prim_draw.specs.Rectangles.{paint_from, tile_paint, tile_pixel, IsTile}
 use Rattle.prim_draw.specs.declared.boxes.Block.{Block}
 use Rattle.prim_draw.specs.declared.rectangles.Extent.{Extent}
@@ -46,48 +50,33 @@ row_pixels tile e b y m left right =
     (arith, ints, left) in
     rw (back, on) (along tile tile.texture tile.brush column row i (b.x + i) y now (omega (arith, lt, right))))
 
-pub row_drawn : (pixel : Cell → List ℕ → Option ℕ) (mask x y w j : ℕ) (first before after : List ℕ)
-    → before ≡ drawn_cells pixel mask (cells_in_rows x y w j) first
-    → after ≡ drawn_cells pixel mask (row_cells x (y + j) w) before
-    → after ≡ drawn_cells pixel mask (cells_in_rows x y w (j + 1)) first
-row_drawn pixel mask x y w j first before after so_far here =
-    here
-    ∙ ap (drawn_cells pixel mask (row_cells x (y + j) w)) so_far
-    ∙ sym (cells_append pixel mask (cells_in_rows x y w j) (row_cells x (y + j) w) first)
-    ∙ ap (λ (k : ℕ). drawn_cells pixel mask (cells_in_rows x y w k) first) (sym (add-one j))
+-- ---- the spans of a block
 
--- ---- one pen for all rows
+-- the row of a texel, some rows down from some rows down
+row_further : (v : ℕ) (falls : Bool) (rows j : ℕ) → rows + j ≤ 1023
+    → row_u (row_u v falls rows) falls j ≡ row_u v falls (rows + j)
+unfolding row_u
+row_further v true rows j le = omega arith
+row_further v false rows j le = omega arith
 
--- what the cells of a row are drawn with, from a column and a row of the whole rectangle on
-abbrev pub tile_ink : Tile → ℕ → ℕ → Ink
-tile_ink tile column row = record { paint = tile_paint tile column row; brush = tile.brush }
+paint_further : (tile : Tile) (texture : Option Texture) (column rows j : ℕ) → rows + j ≤ 1023
+    → paint_down tile.flip_y j (paint_from tile texture column rows) ≡ paint_from tile texture column (rows + j)
+paint_further tile None column rows j le = refl
+paint_further tile (Some texture) column rows j le =
+    ap (λ k. TexturedRow tile.color texture (row_u tile.u tile.flip_x column) k tile.flip_x)
+    (row_further tile.v tile.flip_y rows j le)
 
-other_row : (tile : Tile) (texture : Option Texture) (column row next : ℕ)
-    → paint_row (row_u tile.v tile.flip_y next) (paint_from tile texture column row)
-    ≡ paint_from tile texture column next
-other_row tile None column row next = refl
-other_row tile (Some texture) column row next = refl
+-- the spans of a block of a rectangle, by the paint of the first
+abbrev pub painted_spans : Tile → Block → Paint → Spans
+painted_spans tile b paint = record {
+  first = record { x = b.x; y = b.y; n = b.w; paint = paint; brush = tile.brush };
+  rows = b.h;
+  falls = tile.flip_y;
+}
 
-next_ink : (tile : Tile) (column row next : ℕ) → ink_row (row_u tile.v tile.flip_y next) (tile_ink tile column row)
-    ≡ tile_ink tile column next
-unfolding tile_paint
-next_ink tile column row next = ap (λ (paint : Paint). record { paint = paint; brush = tile.brush })
-    (other_row tile tile.texture column row next)
-
--- a pen that took a row
-pub taken : (tile : Tile) (pen now : Loaded) (column row v : ℕ) → (old : ℕ) × (pen.ink ≡ tile_ink tile column old)
-    → now ≡ with_row v pen → v ≡ row_u tile.v tile.flip_y row → now.ink ≡ tile_ink tile column row
-taken tile pen now column row v before is v_is = ap (λ k. k.ink) is ∙ ap (ink_row v) before.1
-    ∙ ap (λ k. ink_row k (tile_ink tile column before.0)) v_is ∙ next_ink tile column before.0 row
-
--- the span of row j of a block
-pub span_is : (tile : Tile) (e : Extent) (b : Block) (j column rows : ℕ) → column ≡ unsigned_abs (pos b.x -ℤ e.left)
-    → rows ≡ unsigned_abs (pos b.y -ℤ e.top) → e.top ≤ℤ pos b.y
-    → ink_span (tile_ink tile column (rows + j)) b.x (b.y + j) b.w ≡ tile_span tile e b (b.y + j)
-span_is tile e b j column rows column_is rows_is above =
-    let row : rows + j ≡ unsigned_abs (pos (b.y + j) -ℤ e.top) = omega (arith, ints, rows_is, above) in
-    ap (λ k. ink_span (tile_ink tile k (rows + j)) b.x (b.y + j) b.w) column_is
-    ∙ ap (λ k. ink_span (tile_ink tile (unsigned_abs (pos b.x -ℤ e.left)) k) b.x (b.y + j) b.w) row
+-- the same, so many columns and rows from the first cell of the rectangle
+abbrev pub tile_spans : Tile → Block → (columns rows : ℕ) → Spans
+tile_spans tile b columns rows = painted_spans tile b (tile_paint tile columns rows)
 
 texture_is : (tile : Tile) (texture : Option Texture) (column row : ℕ)
     → texture_of (paint_from tile texture column row) ≡ texture
@@ -100,7 +89,7 @@ free tile None column row x y n = tt
 free tile (Some texture) column row x y n = tt
 
 module _ (tile : Tile) (e : Extent) (b : Block) (y height : ℕ) (is : IsTile height tile) where
-  pub can_span : IsBlock 1024 b → IsSpan (tile_span tile e b y)
+  can_span : IsBlock 1024 b → IsSpan (tile_span tile e b y)
   unfolding tile_paint
   can_span block = record {
     some = block.columns;
@@ -112,9 +101,52 @@ module _ (tile : Tile) (e : Extent) (b : Block) (y height : ℕ) (is : IsTile he
     inside = free tile tile.texture (unsigned_abs (pos b.x -ℤ e.left)) (unsigned_abs (pos y -ℤ e.top)) b.x y b.w;
   }
 
-  pub span_lies : y < height → LiesIn height (tile_span tile e b y)
+  span_lies : y < height → LiesIn height (tile_span tile e b y)
   unfolding tile_paint
   span_lies row = record {
     row = row;
     page = rw (texture_is tile tile.texture (unsigned_abs (pos b.x -ℤ e.left)) (unsigned_abs (pos y -ℤ e.top))) is.page;
+  }
+
+module _ (tile : Tile) (e : Extent) (b : Block) (columns rows : ℕ) (left : e.left ≤ℤ pos b.x) (top : e.top ≤ℤ pos b.y)
+    (columns_is : columns ≡ unsigned_abs (pos b.x -ℤ e.left)) (rows_is : rows ≡ unsigned_abs (pos b.y -ℤ e.top))
+    (right : columns + b.w ≤ 1023) (bottom : rows + b.h ≤ 1023) where
+  -- span j of a block
+  nth_is : (j : ℕ) → j ≤ b.h → nth_span (tile_spans tile b columns rows) j ≡ tile_span tile e b (b.y + j)
+  unfolding tile_paint
+  nth_is j le =
+      let row : rows + j ≡ unsigned_abs (pos (b.y + j) -ℤ e.top) = omega (arith, ints, rows_is, top) in
+      ap (λ (paint : Paint). record { x = b.x; y = b.y + j; n = b.w; paint = paint; brush = tile.brush })
+      (paint_further tile tile.texture columns rows j (omega (arith, bottom, le))
+      ∙ ap (λ k. paint_from tile tile.texture k (rows + j)) columns_is
+      ∙ ap (paint_from tile tile.texture (unsigned_abs (pos b.x -ℤ e.left))) row)
+
+  -- the spans of a block are its cells
+  pub rows_drawn : (j : ℕ) (m : List ℕ) → j ≤ b.h → drawn_rows (tile_spans tile b columns rows) j m
+      ≡ drawn_cells (tile_pixel tile e) tile.brush.mask (cells_in_rows b.x b.y b.w j) m
+  rows_drawn zero m le = refl
+  rows_drawn (suc j) m le =
+      ap (λ (s : Span). drawn_row s (drawn_rows (tile_spans tile b columns rows) j m)) (nth_is j (omega (arith, le)))
+      ∙ row_pixels tile e b (b.y + j) (drawn_rows (tile_spans tile b columns rows) j m) left
+      (omega (arith, right, columns_is))
+      ∙ ap (drawn_cells (tile_pixel tile e) tile.brush.mask (row_cells b.x (b.y + j) b.w))
+      (rows_drawn j m (omega (arith, le)))
+      ∙ sym (cells_append (tile_pixel tile e) tile.brush.mask (cells_in_rows b.x b.y b.w j)
+      (row_cells b.x (b.y + j) b.w) m)
+
+  pub rows_cost_is : (j : ℕ) → j ≤ b.h → rows_cost (tile_spans tile b columns rows) j ≡ tile_rows_cost tile e b j
+  rows_cost_is zero le = refl
+  rows_cost_is (suc j) le =
+      let so_far = rows_cost_is j (omega (arith, le)) in
+      let here = ap span_cost (nth_is j (omega (arith, le))) in
+      rw (so_far, here) refl
+
+  pub are_spans : (height : ℕ) → IsTile height tile → IsBlock 1024 b → IsBlock height b
+      → AreSpans height (tile_spans tile b columns rows)
+  are_spans height is small block = record {
+    short = small.bottom;
+    each = λ j lt. subst (λ (s : Span). IsSpan s) (sym (nth_is j (omega (arith, lt))))
+        (can_span tile e b (b.y + j) height is small);
+    lie = λ j lt. subst (λ (s : Span). LiesIn height s) (sym (nth_is j (omega (arith, lt))))
+        (span_lies tile e b (b.y + j) height is (omega (arith, lt, block.bottom)));
   }

@@ -15,7 +15,7 @@ use crate::settings::{brush_in, texture_in};
 use crate::style::Style;
 use gp1_status::Regs;
 use px_num::{Box2, sign11};
-use span_lanes::{Brush, Paint, Pen, Texture};
+use span_lanes::{Brush, Paint, Span, Spans, Texture, draw_spans};
 use std::sync::ledger::Ledger;
 use vram_store::{Steps, Vram};
 
@@ -204,12 +204,20 @@ impl Tile {
         ensures long { length vram.new ≡ length vram.old }
         ensures cost { steps.new ≤ steps.old + tile_rows_cost self.now extent.now block.now block.now.h }
     {
-        let first = cells_before(extent, block);
-        let mut pen = Pen::new(&self.paint_at(first.columns, first.rows), &self.brush);
-        for j in 0..block.h {
-            pen.set_row(texel_at(self.v, self.flip_y, first.rows + j));
-            pen.draw(vram, block.x, block.y + j, block.w, steps);
-        }
+        let before = cells_before(extent, block);
+        let first = Span {
+            x: block.x,
+            y: block.y,
+            n: block.w,
+            paint: self.paint_at(before.columns, before.rows),
+            brush: self.brush,
+        };
+        let spans = Spans {
+            first,
+            rows: block.h,
+            falls: self.flip_y,
+        };
+        draw_spans(vram, &spans, steps);
     }
 
     /// Draws a rectangle.
