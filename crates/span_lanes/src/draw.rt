@@ -1,22 +1,26 @@
 // Spans, each by what suits it.
-ghost use Rattle.std.specs.Prelude.{◌≡◌, ◌≤◌, ◌+◌, ◌*◌, IfSome, Some, length};
+ghost use Rattle.std.specs.Prelude.{◌≡◌, ◌≢◌, ◌≤◌, ◌+◌, ◌*◌, ◌/◌, ◌%◌, Some, length};
 ghost use Rattle.vram_store.specs.Vram.{height_of};
 ghost use Rattle.span_lanes.specs.Shade.{IsSpan, LiesIn, texture_of, drawn_span};
 ghost use Rattle.span_lanes.specs.declared.hues.Hues.TheVariants.{One};
 ghost use Rattle.span_lanes.specs.declared.span.Paint.TheVariants.{TexturedTri, TexturedRow};
 ghost use Rattle.span_lanes.specs.Pen.{IsTint, AreSlopes, HasSlopes, IsReady, ink_of};
+ghost use Rattle.span_lanes.specs.Guard.{IsApart};
 ghost use Rattle.span_lanes.specs.Hues.{AreHues};
 ghost use Rattle.span_lanes.specs.Stretch.{IsStretch};
 ghost use Rattle.span_lanes.specs.Swatches.{IsKept};
 ghost use Rattle.span_lanes.specs.Cost.{span_cost};
 
+use crate::apart::is_apart;
 use crate::hues::{Hues, hues_of};
 use crate::plan::{row_plan, tri_plan};
 use crate::row::TexelRow;
+use crate::shading::shading_of;
 use crate::sheet::draw_planned;
 use crate::slopes::Slopes;
 use crate::solid::draw_solid;
-use crate::stretch::{Stretch, stretch_of};
+use crate::stretch::{Stretch, row_stretch, tri_stretch};
+use crate::stretched::{Stretched, draw_stretched};
 use crate::strip::{draw_strip, suits_strip};
 use crate::swatches::Swatches;
 use crate::tint::Tint;
@@ -26,6 +30,43 @@ use edge_walk::Tri;
 use std::sync::ledger::Ledger;
 use vram_store::{Steps, Vram};
 
+// A row whose texels stand side by side, and that reads nothing that it writes.
+#[inline(always)]
+fn draw_beside<L: Ledger>(
+    vram: &mut Vram,
+    span: &Span,
+    texture: &Texture,
+    stretch: Stretch,
+    hues: Hues,
+    last: &mut Option<Swatches>,
+    steps: &mut Steps<L>,
+)
+    requires span { IsSpan span.now }
+    requires height { LiesIn (height_of vram.old) span.now }
+    requires texture { texture_of span.now.paint ≡ Some texture.now }
+    requires stretch { IsStretch span.now texture.now stretch }
+    requires hues { AreHues span.now.paint span.now.x span.now.y span.now.n hues }
+    requires apart { IsApart span.now }
+    requires palette { texture.now.page.depth ≡ 0 → texture.now.clut / 64 % 512 ≢ span.now.y }
+    requires last { IsKept span.now.paint vram.old last.old }
+    ensures cells { vram.new ≡ drawn_span span.now span.now.n vram.old }
+    ensures long { length vram.new ≡ length vram.old }
+    ensures last { IsKept span.now.paint vram.new last.new }
+    ensures cost { steps.new ≤ steps.old + span_cost span.now }
+{
+    match hues {
+        Hues::One { color } if suits_strip(span, texture) => {
+            draw_strip(vram, span, texture, &stretch, color, last, steps)
+        }
+        _ => {
+            *last = None;
+            let shading = shading_of(span, texture, hues);
+            let stretched = Stretched { stretch, shading };
+            draw_stretched(vram, span, texture, &stretched, steps)
+        }
+    }
+}
+
 // A row of texels whose chunks are planned.
 #[inline(never)]
 fn draw_planned_row<L: Ledger>(
@@ -33,21 +74,19 @@ fn draw_planned_row<L: Ledger>(
     span: &Span,
     texture: &Texture,
     row: TexelRow,
-    stretch: Option<Stretch>,
     last: &mut Option<Swatches>,
     steps: &mut Steps<L>,
 )
     requires span { IsSpan span.now }
     requires height { LiesIn (height_of vram.old) span.now }
     requires paint { span.now.paint ≡ TexturedRow row.color texture.now row.u row.v row.flip }
-    requires stretch { IfSome stretch (IsStretch span.now texture.now) }
     requires last { IsKept span.now.paint vram.old last.old }
     ensures cells { vram.new ≡ drawn_span span.now span.now.n vram.old }
     ensures long { length vram.new ≡ length vram.old }
     ensures last { IsKept span.now.paint vram.new last.new }
     ensures cost { steps.new ≤ steps.old + span_cost span.now }
 {
-    let plan = row_plan(span, texture, row, stretch);
+    let plan = row_plan(span, texture, row);
     draw_planned(vram, span, texture, &plan, last, steps);
 }
 
@@ -70,11 +109,70 @@ fn draw_row<L: Ledger>(
     ensures last { IsKept span.now.paint vram.new last.new }
     ensures cost { steps.new ≤ steps.old + span_cost span.now }
 {
-    match stretch_of(span, texture, row) {
-        Some(stretch) if suits_strip(span, texture) => {
-            draw_strip(vram, span, texture, &stretch, row.color, last, steps)
+    match row_stretch(span, texture, row) {
+        Some(stretch) if is_apart(span, texture) => {
+            let hues = Hues::One { color: row.color };
+            draw_beside(vram, span, texture, stretch, hues, last, steps)
         }
-        stretch => draw_planned_row(vram, span, texture, row, stretch, last, steps),
+        _ => draw_planned_row(vram, span, texture, row, last, steps),
+    }
+}
+
+// A row of a triangle whose chunks are planned.
+#[inline(never)]
+fn draw_planned_tri<L: Ledger>(
+    vram: &mut Vram,
+    span: &Span,
+    tri: &Tri,
+    texture: &Texture,
+    hues: Hues,
+    slopes: &Slopes,
+    last: &mut Option<Swatches>,
+    steps: &mut Steps<L>,
+)
+    requires span { IsSpan span.now }
+    requires height { LiesIn (height_of vram.old) span.now }
+    requires paint { span.now.paint ≡ TexturedTri tri.now texture.now }
+    requires hues { AreHues span.now.paint span.now.x span.now.y span.now.n hues }
+    requires slopes { AreSlopes tri.now slopes.now }
+    requires last { IsKept span.now.paint vram.old last.old }
+    ensures cells { vram.new ≡ drawn_span span.now span.now.n vram.old }
+    ensures long { length vram.new ≡ length vram.old }
+    ensures last { IsKept span.now.paint vram.new last.new }
+    ensures cost { steps.new ≤ steps.old + span_cost span.now }
+{
+    let plan = tri_plan(span, tri, texture, hues, slopes);
+    draw_planned(vram, span, texture, &plan, last, steps);
+}
+
+// A row of a triangle under these colours.
+#[inline(always)]
+fn draw_sheet<L: Ledger>(
+    vram: &mut Vram,
+    span: &Span,
+    tri: &Tri,
+    texture: &Texture,
+    hues: Hues,
+    slopes: &Slopes,
+    last: &mut Option<Swatches>,
+    steps: &mut Steps<L>,
+)
+    requires span { IsSpan span.now }
+    requires height { LiesIn (height_of vram.old) span.now }
+    requires paint { span.now.paint ≡ TexturedTri tri.now texture.now }
+    requires hues { AreHues span.now.paint span.now.x span.now.y span.now.n hues }
+    requires slopes { AreSlopes tri.now slopes.now }
+    requires last { IsKept span.now.paint vram.old last.old }
+    ensures cells { vram.new ≡ drawn_span span.now span.now.n vram.old }
+    ensures long { length vram.new ≡ length vram.old }
+    ensures last { IsKept span.now.paint vram.new last.new }
+    ensures cost { steps.new ≤ steps.old + span_cost span.now }
+{
+    match tri_stretch(span, tri, texture, slopes) {
+        Some(stretch) if is_apart(span, texture) => {
+            draw_beside(vram, span, texture, stretch, hues, last, steps)
+        }
+        _ => draw_planned_tri(vram, span, tri, texture, hues, slopes, last, steps),
     }
 }
 
@@ -101,8 +199,8 @@ fn draw_plain_sheet<L: Ledger>(
     ensures last { IsKept span.now.paint vram.new last.new }
     ensures cost { steps.new ≤ steps.old + span_cost span.now }
 {
-    let plan = tri_plan(span, tri, texture, Hues::One { color }, slopes);
-    draw_planned(vram, span, texture, &plan, last, steps);
+    let hues = Hues::One { color };
+    draw_sheet(vram, span, tri, texture, hues, slopes, last, steps);
 }
 
 // The same under several.
@@ -128,8 +226,7 @@ fn draw_mixed_sheet<L: Ledger>(
     ensures last { IsKept span.now.paint vram.new last.new }
     ensures cost { steps.new ≤ steps.old + span_cost span.now }
 {
-    let plan = tri_plan(span, tri, texture, hues, slopes);
-    draw_planned(vram, span, texture, &plan, last, steps);
+    draw_sheet(vram, span, tri, texture, hues, slopes, last, steps);
 }
 
 // A row of a triangle with a texture.

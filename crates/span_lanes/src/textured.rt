@@ -10,7 +10,7 @@ ghost use Rattle.span_lanes.specs.Chunk.{IsChunk, HasChunk};
 ghost use Rattle.span_lanes.specs.Shade.{IsTexture, IsSpan, LiesIn, texture_of, is_high, blended_if, front_of, at_cell};
 ghost use Rattle.span_lanes.specs.Shade.{shade};
 ghost use Rattle.span_lanes.specs.Hues.{hue_at};
-ghost use Rattle.span_lanes.specs.Plan.{IsPlan, HasTexels, HasFronts};
+ghost use Rattle.span_lanes.specs.Plan.{IsShading, HasTexels, HasFronts};
 ghost use Rattle.span_lanes.specs.Lanes.{AreShifts, AreCoordinates};
 ghost use Rattle.span_lanes.specs.Guard.{texel_cells};
 ghost use Rattle.overlap_guard.specs.Hazard.{cell_at};
@@ -24,7 +24,7 @@ use crate::coordinates::Coordinates;
 use crate::hues::{Hues, hue_lanes};
 use crate::lanes::{Lanes, both, drawn_bits};
 use crate::pixel::palette_entry;
-use crate::plan::Plan;
+use crate::shading::Shading;
 use crate::swatches::Drawn;
 use crate::{Brush, Span, Texture};
 use blend_dither::blend_lanes;
@@ -292,7 +292,7 @@ pub(crate) fn collect_textured<L: Ledger>(
     vram: &Vram,
     span: &Span,
     texture: &Texture,
-    plan: &Plan,
+    shading: &Shading,
     texels: u16x16,
     first: u16,
     k: u8,
@@ -303,11 +303,11 @@ pub(crate) fn collect_textured<L: Ledger>(
     requires chunk { IsChunk span.now first k }
     requires whole { first % 16 ≡ 0 }
     requires texture { texture_of span.now.paint ≡ Some texture.now }
-    requires plan { IsPlan span.now texture.now plan.now }
+    requires shading { IsShading span.now texture.now shading.now }
     requires texels { HasTexels span.now texture.now first k vram.now texels }
     ensures lanes { HasChunk span.now first k vram.now result }
     ensures cost { steps.new ≤ steps.old + 1 }
 {
-    let front = fronts(texture.raw, &plan.hues, plan.shifts, first, texels);
+    let front = fronts(texture.raw, &shading.hues, shading.shifts, first, texels);
     collect_fronts(vram, span, texture, texels, front, first, k, steps)
 }
