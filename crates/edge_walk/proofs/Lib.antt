@@ -7,6 +7,7 @@ pub mod MixLemmas
 pub mod NearLemmas
 pub mod PlaneLemmas
 pub mod RowLemmas
+pub mod ScaleLemmas
 pub mod SpanLemmas
 pub mod SlopeLemmas
 mod SmallLemmas

@@ -1,8 +1,8 @@
 -- Colour and texture coordinates of a triangle's cells (our own rule).
 use Rattle.std.specs.Prelude.{ℕ, ◌+◌, ◌*◌, ◌/◌, ◌%◌, ◌^◌, ◌==◌, ◌≡◌, ◌≤◌, if◌then◌else◌, unsigned_abs, ℤ, pos, ◌-ℤ◌}
-use Rattle.std.specs.Prelude.{◌*ℤ◌}
+use Rattle.std.specs.Prelude.{◌*ℤ◌, ◌+ℤ◌, IsTrue}
 use Rattle.px_num.specs.declared.shape.Vertex.{Vertex}
-use Rattle.edge_walk.specs.Triangle.{Corners, edge, doubled_area, oriented}
+use Rattle.edge_walk.specs.Triangle.{Corners, edge, doubled_area, oriented, is_inside}
 
 -- red, green, blue, u and v of a vertex, numbered from 0
 abbrev pub attribute : ℕ → Vertex → ℕ
@@ -53,3 +53,10 @@ pub record HasColor (t : Corners) (x y : ℤ) (color : ℕ) : Type 0 where
   pub red : attribute_at t 0 x y ≡ color % 256
   pub green : attribute_at t 1 x y ≡ color / 256 % 256
   pub blue : attribute_at t 2 x y ≡ color / 65536 % 256
+
+-- along each row u is one more from cell to cell, and v the same
+pub record IsUnscaled (t : Corners) : Type 0 where
+  pub across : (x y : ℤ) (i : ℕ) → IsTrue (is_inside t x y) → IsTrue (is_inside t (x +ℤ pos i) y)
+      → attribute_at t 3 (x +ℤ pos i) y ≡ attribute_at t 3 x y + i
+  pub down : (x y : ℤ) (i : ℕ) → IsTrue (is_inside t x y) → IsTrue (is_inside t (x +ℤ pos i) y)
+      → attribute_at t 4 (x +ℤ pos i) y ≡ attribute_at t 4 x y

@@ -3,7 +3,7 @@ use crate::divisor::Divisor;
 use crate::edge::{all_three, doubled_area, is_on_side, is_small};
 use crate::extent::bounding_box;
 use crate::line::{RowLine, keep_first};
-use crate::mix::{attribute, mixed, row_mix, weights_at};
+use crate::mix::{attribute, mixed, row_mix, step_across, weights_at};
 use crate::plane::Plane;
 use crate::rows::{Limits, row_limits};
 use crate::side::{Ends, Side};
@@ -63,7 +63,7 @@ impl Tri {
     ghost use Rattle.std.specs.Prelude.{◌≡◌, ◌^◌, IfSome, SomeIff, MatchOption, IsTrue, ◌↔◌, pos, ℤ, false, ◌≤◌, ◌<◌};
     ghost use Rattle.std.specs.Prelude.{◌+ℤ◌, ℕ, length, slice_index};
     ghost use Rattle.px_num.specs.Lanes.{EachLane};
-    ghost use Rattle.edge_walk.specs.Attribute.{attribute_at, HasColor};
+    ghost use Rattle.edge_walk.specs.Attribute.{attribute_at, HasColor, IsUnscaled};
     ghost use Rattle.edge_walk.specs.Extent.{bounding_box};
     ghost use Rattle.edge_walk.specs.Held.{divisor_for};
     ghost use Rattle.edge_walk.specs.Line.{IsRowLine};
@@ -247,6 +247,16 @@ impl Tri {
         } else {
             None
         }
+    }
+
+    /// Whether u is one more from cell to cell of each row, and v stays the same.
+    pub fn is_unscaled(&self) -> bool
+        ensures { IsTrue result → IsUnscaled self.now }
+    {
+        let t = self.upright();
+        let across = step_across(&t.a, &t.b, &t.c, 3);
+        let down = step_across(&t.a, &t.b, &t.c, 4);
+        across == self.area as i64 && down == 0
     }
 
     /// `attr_at` of the `n` cells inside from (x, y) to the right, and 0 in the lanes from `n` on.

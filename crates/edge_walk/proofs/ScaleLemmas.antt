@@ -1,0 +1,79 @@
+-- Triangles along whose rows texels stand side by side.
+use Rattle.std.proofs.Common.{ℕ, ◌+◌, ◌*◌, ◌/◌, ◌≤◌, ◌<◌, ◌≡◌, ℤ, pos, ◌+ℤ◌, ◌*ℤ◌, IsTrue, unsigned_abs, refl, sym, ap}
+use Rattle.std.proofs.Common.{◌∙◌, arith}
+use Rattle.std.proofs.lemmas.Int.{ints}
+use Rattle.std.proofs.Math.Nat.{add-mul-div_left}
+use Rattle.px_num.specs.declared.shape.Vertex.{Vertex}
+use Rattle.edge_walk.specs.Triangle.{Corners, corners, oriented, doubled_area, is_inside, is_within, IsUpright}
+use Rattle.edge_walk.specs.Attribute.{attribute, attribute_at, mixed_of, step_of, weight, AreBytes, IsUnscaled}
+use Rattle.edge_walk.proofs.Corner.{inside_is}
+use Rattle.edge_walk.proofs.MixLemmas.{edges_of, lane_is, sum_is, weight_is, IsLane}
+
+-- an attribute some cells on, by its step
+further : (a b c : Vertex) (which area : ℕ) (x y step : ℤ) (i : ℕ) → IsUpright (corners a b c)
+    → AreBytes which (corners a b c) → pos area ≡ doubled_area (corners a b c)
+    → step ≡ step_of (corners a b c) which → IsTrue (is_within (corners a b c) x y)
+    → IsTrue (is_within (corners a b c) (x +ℤ pos i) y)
+    → IsLane (corners a b c) which (x +ℤ pos i) y
+    (pos (weight b c x y * attribute which a + weight c a x y * attribute which b + weight a b x y * attribute which c)
+    +ℤ step *ℤ pos i) area
+further a b c which area x y step i upright bytes area_is step_is here there =
+    let edges = edges_of a b c x y upright here in
+    let first = weight_is b c x y edges.bc_low in
+    let second = weight_is c a x y edges.ca_low in
+    let third = weight_is a b x y edges.ab_low in
+    let sum = sum_is a b c x y (weight b c x y) (weight c a x y) (weight a b x y) first second third in
+    lane_is a b c which x y i _ _ _ _ area step upright there first second third sum bytes refl
+    (omega (arith, ints, sum, area_is)) step_is
+
+rising : (start area i : ℕ) → 0 < area → unsigned_abs (pos start +ℤ pos area *ℤ pos i) / area ≡ start / area + i
+rising start area i some =
+    let whole : unsigned_abs (pos start +ℤ pos area *ℤ pos i) ≡ start + area * i = omega (arith, ints) in
+    ap (λ z. z / area) whole ∙ add-mul-div_left start i some
+
+staying : (start area i : ℕ) → unsigned_abs (pos start +ℤ pos 0 *ℤ pos i) / area ≡ start / area
+staying start area i =
+    let whole : unsigned_abs (pos start +ℤ pos 0 *ℤ pos i) ≡ start = omega (arith, ints) in
+    ap (λ z. z / area) whole
+
+-- an attribute that rises by one
+pub one_more : (a b c : Vertex) (which area : ℕ) (x y step : ℤ) (i : ℕ) → IsUpright (corners a b c)
+    → AreBytes which (corners a b c) → pos area ≡ doubled_area (corners a b c)
+    → step ≡ step_of (corners a b c) which → step ≡ pos area → IsTrue (is_within (corners a b c) x y)
+    → IsTrue (is_within (corners a b c) (x +ℤ pos i) y)
+    → mixed_of (corners a b c) which (x +ℤ pos i) y ≡ mixed_of (corners a b c) which x y + i
+unfolding mixed_of
+one_more a b c which area x y step i upright bytes area_is step_is rises here there =
+    let lane = further a b c which area x y step i upright bytes area_is step_is here there in
+    let whole : unsigned_abs (doubled_area (corners a b c)) ≡ area = ap unsigned_abs (sym area_is) in
+    sym lane.value ∙ rw (rises, whole) (rising _ area i (omega (arith, ints, area_is, upright.area)))
+
+-- an attribute that stays
+pub the_same : (a b c : Vertex) (which area : ℕ) (x y step : ℤ) (i : ℕ) → IsUpright (corners a b c)
+    → AreBytes which (corners a b c) → pos area ≡ doubled_area (corners a b c)
+    → step ≡ step_of (corners a b c) which → step ≡ pos 0 → IsTrue (is_within (corners a b c) x y)
+    → IsTrue (is_within (corners a b c) (x +ℤ pos i) y)
+    → mixed_of (corners a b c) which (x +ℤ pos i) y ≡ mixed_of (corners a b c) which x y
+unfolding mixed_of
+the_same a b c which area x y step i upright bytes area_is step_is stays here there =
+    let lane = further a b c which area x y step i upright bytes area_is step_is here there in
+    let whole : unsigned_abs (doubled_area (corners a b c)) ≡ area = ap unsigned_abs (sym area_is) in
+    sym lane.value ∙ rw (stays, whole) (staying _ area i)
+
+-- along the rows of a triangle
+pub unscaled_is : (t : Corners) (a b c : Vertex) (area : ℕ) (across down : ℤ) → corners a b c ≡ oriented t
+    → IsUpright (corners a b c) → AreBytes 3 (corners a b c) → AreBytes 4 (corners a b c)
+    → pos area ≡ doubled_area (corners a b c) → across ≡ step_of (corners a b c) 3
+    → down ≡ step_of (corners a b c) 4 → across ≡ pos area → down ≡ pos 0 → IsUnscaled t
+unscaled_is t a b c area across down same upright us vs area_is across_is down_is rises stays = record {
+  across = λ x y i here there.
+      ap (λ w. mixed_of w 3 (x +ℤ pos i) y) (sym same)
+      ∙ one_more a b c 3 area x y across i upright us area_is across_is rises (sym (inside_is t a b c same x y) ∙ here)
+      (sym (inside_is t a b c same (x +ℤ pos i) y) ∙ there)
+      ∙ ap (λ w. mixed_of w 3 x y + i) same;
+  down = λ x y i here there.
+      ap (λ w. mixed_of w 4 (x +ℤ pos i) y) (sym same)
+      ∙ the_same a b c 4 area x y down i upright vs area_is down_is stays (sym (inside_is t a b c same x y) ∙ here)
+      (sym (inside_is t a b c same (x +ℤ pos i) y) ∙ there)
+      ∙ ap (λ w. mixed_of w 4 x y) same;
+}
