@@ -1,13 +1,12 @@
 // Spans, each by what suits it.
-ghost use Rattle.std.specs.Prelude.{◌≡◌, ◌≢◌, ◌≤◌, ◌+◌, ◌*◌, ◌/◌, ◌%◌, Some, length};
+ghost use Rattle.std.specs.Prelude.{◌≡◌, ◌≢◌, ◌≤◌, ◌+◌, ◌*◌, ◌/◌, ◌%◌, length};
 ghost use Rattle.vram_store.specs.Vram.{height_of};
-ghost use Rattle.span_lanes.specs.Shade.{IsSpan, LiesIn, texture_of, drawn_span};
+ghost use Rattle.span_lanes.specs.Shade.{IsSpan, LiesIn, drawn_span};
 ghost use Rattle.span_lanes.specs.declared.hues.Hues.TheVariants.{One};
 ghost use Rattle.span_lanes.specs.declared.span.Paint.TheVariants.{TexturedTri, TexturedRow};
 ghost use Rattle.span_lanes.specs.Pen.{IsTint, AreSlopes, HasSlopes, IsReady, ink_of};
-ghost use Rattle.span_lanes.specs.Guard.{IsApart};
 ghost use Rattle.span_lanes.specs.Hues.{AreHues};
-ghost use Rattle.span_lanes.specs.Stretch.{IsStretch};
+ghost use Rattle.span_lanes.specs.Stretch.{IsStretched};
 ghost use Rattle.span_lanes.specs.Swatches.{IsKept};
 ghost use Rattle.span_lanes.specs.Cost.{span_cost};
 
@@ -15,12 +14,11 @@ use crate::apart::is_apart;
 use crate::hues::{Hues, hues_of};
 use crate::plan::{row_plan, tri_plan};
 use crate::row::TexelRow;
-use crate::shading::shading_of;
 use crate::sheet::draw_planned;
 use crate::slopes::Slopes;
 use crate::solid::draw_solid;
 use crate::stretch::{Stretch, row_stretch, tri_stretch};
-use crate::stretched::{Stretched, draw_stretched};
+use crate::stretched::draw_stretched;
 use crate::strip::{draw_strip, suits_strip};
 use crate::swatches::Swatches;
 use crate::tint::Tint;
@@ -36,17 +34,13 @@ fn draw_beside<L: Ledger>(
     vram: &mut Vram,
     span: &Span,
     texture: &Texture,
-    stretch: Stretch,
-    hues: Hues,
+    stretch: &Stretch,
+    tint: &Tint,
     last: &mut Option<Swatches>,
     steps: &mut Steps<L>,
 )
-    requires span { IsSpan span.now }
-    requires height { LiesIn (height_of vram.old) span.now }
-    requires texture { texture_of span.now.paint ≡ Some texture.now }
-    requires stretch { IsStretch span.now texture.now stretch }
-    requires hues { AreHues span.now.paint span.now.x span.now.y span.now.n hues }
-    requires apart { IsApart span.now }
+    requires stretched { IsStretched (height_of vram.old) span.now texture.now stretch.now }
+    requires tint { IsTint span.now.paint tint.now }
     requires palette { texture.now.page.depth ≡ 0 → texture.now.clut / 64 % 512 ≢ span.now.y }
     requires last { IsKept span.now.paint vram.old last.old }
     ensures cells { vram.new ≡ drawn_span span.now span.now.n vram.old }
@@ -54,15 +48,13 @@ fn draw_beside<L: Ledger>(
     ensures last { IsKept span.now.paint vram.new last.new }
     ensures cost { steps.new ≤ steps.old + span_cost span.now }
 {
-    match hues {
-        Hues::One { color } if suits_strip(span, texture) => {
-            draw_strip(vram, span, texture, &stretch, color, last, steps)
+    match tint {
+        Tint::Plain { color } if suits_strip(span, texture) => {
+            draw_strip(vram, span, texture, stretch, *color, last, steps)
         }
         _ => {
             *last = None;
-            let shading = shading_of(span, texture, hues);
-            let stretched = Stretched { stretch, shading };
-            draw_stretched(vram, span, texture, &stretched, steps)
+            draw_stretched(vram, span, texture, stretch, tint, steps)
         }
     }
 }
@@ -91,18 +83,20 @@ fn draw_planned_row<L: Ledger>(
 }
 
 // A row of texels.
-#[inline(never)]
+#[inline(always)]
 fn draw_row<L: Ledger>(
     vram: &mut Vram,
     span: &Span,
     texture: &Texture,
     row: TexelRow,
+    tint: &Tint,
     last: &mut Option<Swatches>,
     steps: &mut Steps<L>,
 )
     requires span { IsSpan span.now }
     requires height { LiesIn (height_of vram.old) span.now }
     requires paint { span.now.paint ≡ TexturedRow row.color texture.now row.u row.v row.flip }
+    requires tint { IsTint span.now.paint tint.now }
     requires last { IsKept span.now.paint vram.old last.old }
     ensures cells { vram.new ≡ drawn_span span.now span.now.n vram.old }
     ensures long { length vram.new ≡ length vram.old }
@@ -111,72 +105,13 @@ fn draw_row<L: Ledger>(
 {
     match row_stretch(span, texture, row) {
         Some(stretch) if is_apart(span, texture) => {
-            let hues = Hues::One { color: row.color };
-            draw_beside(vram, span, texture, stretch, hues, last, steps)
+            draw_beside(vram, span, texture, &stretch, tint, last, steps)
         }
         _ => draw_planned_row(vram, span, texture, row, last, steps),
     }
 }
 
-// A row of a triangle whose chunks are planned.
-#[inline(never)]
-fn draw_planned_tri<L: Ledger>(
-    vram: &mut Vram,
-    span: &Span,
-    tri: &Tri,
-    texture: &Texture,
-    hues: Hues,
-    slopes: &Slopes,
-    last: &mut Option<Swatches>,
-    steps: &mut Steps<L>,
-)
-    requires span { IsSpan span.now }
-    requires height { LiesIn (height_of vram.old) span.now }
-    requires paint { span.now.paint ≡ TexturedTri tri.now texture.now }
-    requires hues { AreHues span.now.paint span.now.x span.now.y span.now.n hues }
-    requires slopes { AreSlopes tri.now slopes.now }
-    requires last { IsKept span.now.paint vram.old last.old }
-    ensures cells { vram.new ≡ drawn_span span.now span.now.n vram.old }
-    ensures long { length vram.new ≡ length vram.old }
-    ensures last { IsKept span.now.paint vram.new last.new }
-    ensures cost { steps.new ≤ steps.old + span_cost span.now }
-{
-    let plan = tri_plan(span, tri, texture, hues, slopes);
-    draw_planned(vram, span, texture, &plan, last, steps);
-}
-
-// A row of a triangle under these colours.
-#[inline(always)]
-fn draw_sheet<L: Ledger>(
-    vram: &mut Vram,
-    span: &Span,
-    tri: &Tri,
-    texture: &Texture,
-    hues: Hues,
-    slopes: &Slopes,
-    last: &mut Option<Swatches>,
-    steps: &mut Steps<L>,
-)
-    requires span { IsSpan span.now }
-    requires height { LiesIn (height_of vram.old) span.now }
-    requires paint { span.now.paint ≡ TexturedTri tri.now texture.now }
-    requires hues { AreHues span.now.paint span.now.x span.now.y span.now.n hues }
-    requires slopes { AreSlopes tri.now slopes.now }
-    requires last { IsKept span.now.paint vram.old last.old }
-    ensures cells { vram.new ≡ drawn_span span.now span.now.n vram.old }
-    ensures long { length vram.new ≡ length vram.old }
-    ensures last { IsKept span.now.paint vram.new last.new }
-    ensures cost { steps.new ≤ steps.old + span_cost span.now }
-{
-    match tri_stretch(span, tri, texture, slopes) {
-        Some(stretch) if is_apart(span, texture) => {
-            draw_beside(vram, span, texture, stretch, hues, last, steps)
-        }
-        _ => draw_planned_tri(vram, span, tri, texture, hues, slopes, last, steps),
-    }
-}
-
-// A row of a triangle with a texture under one colour.
+// A row of a triangle under one colour, whose chunks are planned.
 #[inline(never)]
 fn draw_plain_sheet<L: Ledger>(
     vram: &mut Vram,
@@ -199,8 +134,8 @@ fn draw_plain_sheet<L: Ledger>(
     ensures last { IsKept span.now.paint vram.new last.new }
     ensures cost { steps.new ≤ steps.old + span_cost span.now }
 {
-    let hues = Hues::One { color };
-    draw_sheet(vram, span, tri, texture, hues, slopes, last, steps);
+    let plan = tri_plan(span, tri, texture, Hues::One { color }, slopes);
+    draw_planned(vram, span, texture, &plan, last, steps);
 }
 
 // The same under several.
@@ -226,12 +161,13 @@ fn draw_mixed_sheet<L: Ledger>(
     ensures last { IsKept span.now.paint vram.new last.new }
     ensures cost { steps.new ≤ steps.old + span_cost span.now }
 {
-    draw_sheet(vram, span, tri, texture, hues, slopes, last, steps);
+    let plan = tri_plan(span, tri, texture, hues, slopes);
+    draw_planned(vram, span, texture, &plan, last, steps);
 }
 
-// A row of a triangle with a texture.
-#[inline(always)]
-fn draw_tri<L: Ledger>(
+// A row of a triangle with a texture, whose chunks are planned.
+#[inline(never)]
+fn draw_planned_tri<L: Ledger>(
     vram: &mut Vram,
     span: &Span,
     tri: &Tri,
@@ -258,6 +194,37 @@ fn draw_tri<L: Ledger>(
             vram, span, tri, texture, color, slopes, last, steps,
         ),
         Hues::Lines { .. } => draw_mixed_sheet(vram, span, tri, texture, hues, slopes, last, steps),
+    }
+}
+
+// A row of a triangle with a texture.
+#[inline(always)]
+fn draw_tri<L: Ledger>(
+    vram: &mut Vram,
+    span: &Span,
+    tri: &Tri,
+    texture: &Texture,
+    tint: &Tint,
+    slopes: &Slopes,
+    last: &mut Option<Swatches>,
+    steps: &mut Steps<L>,
+)
+    requires span { IsSpan span.now }
+    requires height { LiesIn (height_of vram.old) span.now }
+    requires paint { span.now.paint ≡ TexturedTri tri.now texture.now }
+    requires tint { IsTint span.now.paint tint.now }
+    requires slopes { AreSlopes tri.now slopes.now }
+    requires last { IsKept span.now.paint vram.old last.old }
+    ensures cells { vram.new ≡ drawn_span span.now span.now.n vram.old }
+    ensures long { length vram.new ≡ length vram.old }
+    ensures last { IsKept span.now.paint vram.new last.new }
+    ensures cost { steps.new ≤ steps.old + span_cost span.now }
+{
+    match tri_stretch(span, tri, texture, slopes) {
+        Some(stretch) if is_apart(span, texture) => {
+            draw_beside(vram, span, texture, &stretch, tint, last, steps)
+        }
+        _ => draw_planned_tri(vram, span, tri, texture, tint, slopes, last, steps),
     }
 }
 
@@ -301,7 +268,7 @@ fn draw_varied<L: Ledger>(
                 v: *v,
                 flip: *flip,
             };
-            draw_row(vram, span, texture, row, last, steps)
+            draw_row(vram, span, texture, row, tint, last, steps)
         }
     }
 }

@@ -87,16 +87,7 @@ fn strip_chunk<L: Ledger>(
     let u = strip.stretch.u + first;
     let index = sixteen_indexes(vram, texture.page.x, u, strip.stretch.y, steps);
     let drawn = drawn_at(&strip.swatches, texture.raw, index);
-    let lanes = collect_fronts(
-        vram,
-        span,
-        texture,
-        drawn.texels,
-        drawn.fronts,
-        first,
-        k,
-        steps,
-    );
+    let lanes = collect_fronts(vram, span, texture, drawn, first, k, steps);
     store_chunk(vram, span, first, k, &lanes, steps);
 }
 
@@ -140,23 +131,24 @@ fn draw_by_raw<L: Ledger>(
     ensures strip { IsStrip span.now texture.now vram.new strip.now }
     ensures cost { steps.new + 1 ≤ steps.old + span_cost span.now }
 {
+    let span = *span;
     if texture.raw {
         let texture = Texture {
             raw: true,
             ..*texture
         };
-        draw_chunks(vram, span, &texture, strip, steps);
+        draw_chunks(vram, &span, &texture, strip, steps);
     } else {
         let texture = Texture {
             raw: false,
             ..*texture
         };
-        draw_chunks(vram, span, &texture, strip, steps);
+        draw_chunks(vram, &span, &texture, strip, steps);
     }
 }
 
 // A row of texels under a colour.
-#[inline(always)]
+#[inline(never)]
 pub(crate) fn draw_strip<L: Ledger>(
     vram: &mut Vram,
     span: &Span,

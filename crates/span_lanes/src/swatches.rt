@@ -171,16 +171,7 @@ fn swatch_chunk<L: Ledger>(
     ensures cost { steps.new + 1 ≤ steps.old + chunk_cost span.now first k }
 {
     let drawn = read_scattered(vram, span, texture, plan, swatches, first, k, steps);
-    let lanes = collect_fronts(
-        vram,
-        span,
-        texture,
-        drawn.texels,
-        drawn.fronts,
-        first,
-        k,
-        steps,
-    );
+    let lanes = collect_fronts(vram, span, texture, drawn, first, k, steps);
     store_chunk(vram, span, first, k, &lanes, steps);
 }
 

@@ -256,8 +256,7 @@ pub(crate) fn collect_fronts<L: Ledger>(
     vram: &Vram,
     span: &Span,
     texture: &Texture,
-    texels: u16x16,
-    front: u16x16,
+    drawn: Drawn,
     first: u16,
     k: u8,
     steps: &mut Steps<L>,
@@ -266,23 +265,19 @@ pub(crate) fn collect_fronts<L: Ledger>(
     requires height { LiesIn (height_of vram.now) span.now }
     requires chunk { IsChunk span.now first k }
     requires texture { texture_of span.now.paint ≡ Some texture.now }
-    requires texels { HasTexels span.now texture.now first k vram.now texels }
-    requires long { length front ≡ 16 }
-    requires front { HasFronts span.now texture.now first k texels front }
+    requires texels { HasTexels span.now texture.now first k vram.now drawn.texels }
+    requires long { length drawn.fronts ≡ 16 }
+    requires front { HasFronts span.now texture.now first k drawn.texels drawn.fronts }
     ensures lanes { HasChunk span.now first k vram.now result }
     ensures cost { steps.new ≤ steps.old + 1 }
 {
     let x = span.x + first;
     let brush = span.brush;
     let back = back_of(vram, &brush, x, span.y, k, steps);
-    let drawn = Drawn {
-        texels,
-        fronts: front,
-    };
     let plotted = plotted_of(&brush, texture.raw, back, drawn, k);
     Lanes {
         cells: force_lanes(brush.mask, plotted),
-        bits: both(open_bits(brush.mask, back), drawn_bits(texels)),
+        bits: both(open_bits(brush.mask, back), drawn_bits(drawn.texels)),
     }
 }
 
@@ -308,6 +303,7 @@ pub(crate) fn collect_textured<L: Ledger>(
     ensures lanes { HasChunk span.now first k vram.now result }
     ensures cost { steps.new ≤ steps.old + 1 }
 {
-    let front = fronts(texture.raw, &shading.hues, shading.shifts, first, texels);
-    collect_fronts(vram, span, texture, texels, front, first, k, steps)
+    let fronts = fronts(texture.raw, &shading.hues, shading.shifts, first, texels);
+    let drawn = Drawn { texels, fronts };
+    collect_fronts(vram, span, texture, drawn, first, k, steps)
 }

@@ -1,7 +1,8 @@
-use Rattle.std.proofs.Common.{arith}
+use Rattle.std.proofs.Common.{refl, arith}
+use Rattle.span_lanes.specs.Shade.{front_of}
 use Rattle.span_lanes.proofs.BlindLemmas.{span_blind}
 use Rattle.span_lanes.proofs.PlanLemmas.{apart_cost}
-use Rattle.span_lanes.proofs.stretched.stretched_chunk.Goals as goal
+use Rattle.span_lanes.proofs.stretched.raw_chunk.Goals as goal
 
 pub read_stretch-texels-requires-clause-page : goal.read_stretch-texels-requires-clause-page
 read_stretch-texels-requires-clause-page g c = rw c.requires.stretched.texture at c.requires.stretched.lies.page
@@ -20,6 +21,10 @@ returns-clause-cost g c =
       arith,
       cost,
       c.read_stretch-texels.ensures.cost,
-      c.collect_textured-lanes.ensures.cost,
+      c.collect_fronts-lanes.ensures.cost,
       c.store_chunk.ensures.cost,
     )
+
+pub collect_fronts-lanes-requires-clause-front : goal.collect_fronts-lanes-requires-clause-front
+unfolding front_of
+collect_fronts-lanes-requires-clause-front g c j lt = rw c.requires.raw refl
