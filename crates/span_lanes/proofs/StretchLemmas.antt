@@ -1,20 +1,23 @@
 -- Texels that stand side by side.
-use Rattle.std.proofs.Common.{◌≡◌, ◌<◌, ◌≤◌, ℕ, List, Bool, false, ◌+◌, ◌*◌, ◌/◌, ◌%◌, get_or, refl, sym, ap, ◌∙◌}
+use Rattle.std.proofs.Common.{◌≡◌, ◌<◌, ◌≤◌, ℕ, List, Bool, false, ◌+◌, ◌*◌, ◌/◌, ◌%◌, get_or, refl, sym, ap, ◌∙◌, pos, IsTrue}
 use Rattle.std.proofs.Common.{arith}
 use Rattle.std.specs.Int.Bits.{and_zero_r, or_zero_r}
 use Rattle.std.proofs.lemmas.Bool.Decides.{nat_tests}
 use Rattle.std.proofs.lemmas.Nat.{and_mask}
 use Rattle.texture_page.specs.Page.{texel_place, clut_place, column, windowed, index_in}
+use Rattle.edge_walk.specs.Attribute.{IsUnscaled}
+use Rattle.edge_walk.specs.Triangle.{Corners, is_inside}
 use Rattle.span_lanes.specs.declared.stretch.Stretch.{Stretch}
 use Rattle.span_lanes.specs.declared.span.Texture.{Texture}
-use Rattle.span_lanes.specs.declared.span.Paint.TheVariants.{TexturedRow}
+use Rattle.span_lanes.specs.declared.span.Paint.TheVariants.{TexturedRow, TexturedTri}
 use Rattle.span_lanes.specs.declared.span.Span.{Span}
 use Rattle.span_lanes.specs.Paints.{paint_u, paint_v}
-use Rattle.span_lanes.specs.Shade.{row_u, texel, at_cell}
+use Rattle.span_lanes.specs.Shade.{row_u, texel, at_cell, attribute_in, AreInside, IsSpan}
 use Rattle.span_lanes.specs.Cost.{texel_steps}
 use Rattle.span_lanes.specs.declared.coordinates.Coordinates.{Coordinates}
-use Rattle.span_lanes.specs.Stretch.{IsStretch}
+use Rattle.span_lanes.specs.Stretch.{IsRising, IsStretch}
 use Rattle.span_lanes.specs.Texels.{AreBeside, lane_place}
+use Rattle.span_lanes.proofs.TintLemmas.{first_cell}
 use Rattle.span_lanes.proofs.TexelLemmas.{texel_direct, texel_eight, texel_four}
 
 -- without bits of the mask a window changes no coordinate
@@ -32,12 +35,12 @@ deep_column depth u deep = grind (arith, nat_tests)
 
 -- a texel of fifteen bits
 pub whole_texel : (span : Span) (t : Texture) (s : Stretch) (x i h : ℕ) (m : List ℕ) → IsStretch span t s
-    → 2 ≤ t.page.depth → i < span.n
+    → 2 ≤ t.page.depth → i < span.n → x ≡ span.x + i
     → h ≡ get_or m (1024 * s.y + (t.page.x + (s.u + i))) 0
     → h ≡ texel t (paint_u span.paint x span.y i) (paint_v span.paint x span.y i) m
-whole_texel span t s x i h m is deep lt read =
-    let column = is.column x i lt in
-    let row = is.row x i lt in
+whole_texel span t s x i h m is deep lt at read =
+    let column = rw (← at) at (is.column i lt) in
+    let row = rw (← at) at (is.row i lt) in
     let wide = deep_column t.page.depth (s.u + i) deep in
     let room = is.wholes deep in
     let here : (t.page.x + (s.u + i)) % 1024 ≡ t.page.x + (s.u + i) = omega arith in
@@ -48,14 +51,14 @@ whole_texel span t s x i h m is deep lt read =
 
 -- a texel of four bits, by its entry
 pub four_texel : (span : Span) (t : Texture) (s : Stretch) (x i e : ℕ) (m : List ℕ) → IsStretch span t s
-    → t.page.depth ≡ 0 → i < span.n
+    → t.page.depth ≡ 0 → i < span.n → x ≡ span.x + i
     → e ≡ get_or m
     (1024 * (t.clut / 64 % 512) +
     (t.clut % 64 * 16 + index_in 0 (s.u + i) (get_or m (1024 * s.y + (t.page.x + (s.u + i) / 4)) 0)) % 1024) 0
     → e ≡ texel t (paint_u span.paint x span.y i) (paint_v span.paint x span.y i) m
-four_texel span t s x i e m is four lt entry =
-    let column = is.column x i lt in
-    let row = is.row x i lt in
+four_texel span t s x i e m is four lt at entry =
+    let column = rw (← at) at (is.column i lt) in
+    let row = rw (← at) at (is.row i lt) in
     let room = is.fours four in
     let here : (t.page.x + (s.u + i) / 4) % 1024 ≡ t.page.x + (s.u + i) / 4 = omega arith in
     texel_four t _ _ m (s.u + i) (get_or m (1024 * s.y + (t.page.x + (s.u + i) / 4)) 0) e four (sym column)
@@ -63,13 +66,13 @@ four_texel span t s x i e m is four lt entry =
 
 -- a texel of eight bits, by its entry
 pub eight_texel : (span : Span) (t : Texture) (s : Stretch) (x i e : ℕ) (m : List ℕ) → IsStretch span t s
-    → t.page.depth ≡ 1 → i < span.n
+    → t.page.depth ≡ 1 → i < span.n → x ≡ span.x + i
     → e ≡ at_cell m
     (clut_place t.clut (index_in 1 (s.u + i) (get_or m (1024 * s.y + (t.page.x + (s.u + i) / 2)) 0)))
     → e ≡ texel t (paint_u span.paint x span.y i) (paint_v span.paint x span.y i) m
-eight_texel span t s x i e m is eight lt entry =
-    let column = is.column x i lt in
-    let row = is.row x i lt in
+eight_texel span t s x i e m is eight lt at entry =
+    let column = rw (← at) at (is.column i lt) in
+    let row = rw (← at) at (is.row i lt) in
     let room = is.eights eight in
     let here : (t.page.x + (s.u + i) / 2) % 1024 ≡ t.page.x + (s.u + i) / 2 = omega arith in
     texel_eight t _ _ m (s.u + i) (get_or m (1024 * s.y + (t.page.x + (s.u + i) / 2)) 0) e eight (sym column)
@@ -87,25 +90,47 @@ same_part a b h same = rw same refl
 pub deep_steps : (depth : ℕ) → 2 ≤ depth → texel_steps depth ≡ 1
 deep_steps depth deep = grind (arith, nat_tests)
 
--- where the texels of a row stand side by side
-pub row_stretch : (span : Span) (t : Texture) (color u v : ℕ) (flip : Bool) (s : Stretch)
-    → span.paint ≡ TexturedRow color t u v flip → flip ≡ false → t.window.mask_x ≡ 0
+-- where the texels of a span stand side by side
+pub rising_stretch : (span : Span) (t : Texture) (u v : ℕ) (s : Stretch) → IsRising span u v → t.window.mask_x ≡ 0
     → s.u ≡ u → s.y ≡ t.page.y + windowed t.window.mask_y t.window.off_y v → s.y ≤ t.page.y + 255 → u + span.n ≤ 256
     → (2 ≤ t.page.depth → t.page.x + (u + span.n) ≤ 1024)
     → (t.page.depth ≡ 1 → t.page.x + (u + span.n) / 2 + 16 ≤ 1024)
     → (t.page.depth ≡ 0 → t.page.x + (u + span.n) / 4 + 16 ≤ 1024) → IsStretch span t s
-row_stretch span t color u v flip s paint rises clear at row low in_page wholes eights fours = record {
+rising_stretch span t u v s is clear at row low in_page wholes eights fours = record {
   low = low;
   in_page = rw at in_page;
   wholes = rw at wholes;
   eights = rw at eights;
   fours = rw at fours;
-  column = λ x i lt.
+  column = λ i lt.
       let small : u + i ≤ 255 = omega arith in
-      let here = rising u i small in
-      rw (paint, rises, at, here) (open_window t.window.mask_x t.window.off_x (u + i) clear small);
-  row = λ x i lt. rw (paint, row) refl;
+      rw (is.column i lt small, at) (open_window t.window.mask_x t.window.off_x (u + i) clear small);
+  row = λ i lt. rw (is.row i lt, row) refl;
 }
+
+-- the texels of a row that is not flipped
+pub row_rising : (span : Span) (t : Texture) (color u v : ℕ) (flip : Bool)
+    → span.paint ≡ TexturedRow color t u v flip → flip ≡ false → IsRising span u v
+row_rising span t color u v flip paint rises = record {
+  column = λ i lt small. rw (paint, rises) (rising u i small);
+  row = λ i lt. rw paint refl;
+}
+
+-- those of a row of a triangle whose texels are as large as cells
+pub tri_rising : (span : Span) (tri : Corners) (t : Texture) (u v : ℕ) → span.paint ≡ TexturedTri tri t
+    → IsSpan span → IsUnscaled tri → u ≡ attribute_in tri 3 span.x span.y → v ≡ attribute_in tri 4 span.x span.y
+    → IsRising span u v
+tri_rising span tri t u v paint is same across down = record {
+  column = λ i lt small. rw (paint, across)
+      (same.across (pos span.x) (pos span.y) i first (cells i lt));
+  row = λ i lt. rw (paint, down) (same.down (pos span.x) (pos span.y) i first (cells i lt));
+}
+  where
+    cells : AreInside tri span.x span.y span.n
+    cells = rw paint at is.inside
+
+    first : IsTrue (is_inside tri (pos span.x) (pos span.y))
+    first = first_cell tri span.x span.y span.n is.some cells
 
 -- sixteen cells of texels of fifteen bits do not wrap
 pub beside_room : (t : Texture) (at : Coordinates) → 2 ≤ t.page.depth → AreBeside t at

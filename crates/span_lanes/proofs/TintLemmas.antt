@@ -26,7 +26,7 @@ plain_hues (TexturedTri tri texture) color x y n is inside = λ at j lane lt. is
 plain_hues (TexturedRow own texture u v flip) color x y n is inside = λ at j lane lt. let e : color ≡ own = cc in e
 
 -- the first cell of a row of a triangle
-first_cell : (tri : Corners) (x y n : ℕ) → 1 ≤ n → AreInside tri x y n → IsTrue (is_inside tri (pos x) (pos y))
+pub first_cell : (tri : Corners) (x y n : ℕ) → 1 ≤ n → AreInside tri x y n → IsTrue (is_inside tri (pos x) (pos y))
 first_cell tri x y n some inside = let e : x + 0 ≡ x = omega arith in rw e at (inside 0 (omega arith))
 
 -- three channels

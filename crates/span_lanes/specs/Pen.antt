@@ -1,5 +1,6 @@
 -- A paint and a brush for many spans.
 use Rattle.std.specs.Prelude.{ℕ, List, Option, None, MatchOption, IfSome, ◌≡◌, pos, IsTrue}
+use Rattle.edge_walk.specs.Attribute.{IsUnscaled}
 use Rattle.edge_walk.specs.Plane.{IsPlane}
 use Rattle.edge_walk.specs.Triangle.{Corners, is_inside}
 use Rattle.span_lanes.specs.declared.slopes.Slopes.{Slopes}
@@ -65,9 +66,11 @@ IsTint (Shaded tri) tint = IsTintOf tri tint
 IsTint (TexturedTri tri texture) tint = IsTintOf tri tint
 IsTint (TexturedRow color texture u v flip) tint = tint ≡ Plain color
 
--- the texel coordinates of a triangle
-abbrev pub AreSlopes : Corners → Slopes → Type 0
-AreSlopes tri slopes = IsPlane tri 3 slopes.u × IsPlane tri 4 slopes.v
+-- the texel coordinates of a triangle, and whether they are known to go from cell to cell as texels do
+pub record AreSlopes (tri : Corners) (slopes : Slopes) : Type 0 where
+  pub u : IsPlane tri 3 slopes.u
+  pub v : IsPlane tri 4 slopes.v
+  pub unscaled : IsTrue slopes.unscaled → IsUnscaled tri
 
 -- those of a paint, where it has a triangle with a texture
 abbrev pub HasSlopes : Paint → Option Slopes → Type 0

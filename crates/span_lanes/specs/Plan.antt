@@ -1,22 +1,25 @@
 -- What is one for all chunks of a textured span.
-use Rattle.std.specs.Prelude.{ℕ, ◌≡◌, ◌+◌, ◌<◌, ◌&&◌, not, IsTrue, IfSome, Some, List, length, slice_index}
+use Rattle.std.specs.Prelude.{ℕ, ◌≡◌, ◌+◌, ◌<◌, ◌&&◌, not, IsTrue, Some, List, length, slice_index}
 use Rattle.span_lanes.specs.declared.plan.Plan.{Plan}
+use Rattle.span_lanes.specs.declared.shading.Shading.{Shading}
 use Rattle.span_lanes.specs.declared.span.Texture.{Texture}
 use Rattle.span_lanes.specs.declared.span.Span.{Span}
 use Rattle.span_lanes.specs.Shade.{IsSpan, LiesIn, texture_of, texel, front_of, shift_of}
 use Rattle.span_lanes.specs.Guard.{IsApart}
 use Rattle.span_lanes.specs.Hues.{AreHues}
 use Rattle.span_lanes.specs.Lanes.{AreShiftsAt}
-use Rattle.span_lanes.specs.Stretch.{IsStretch}
 use Rattle.span_lanes.specs.Track.{IsTrack}
 use Rattle.span_lanes.specs.Paints.{paint_color, paint_u, paint_v}
 
+-- the colours of a textured span, and its dither offsets
+pub record IsShading (span : Span) (t : Texture) (shading : Shading) : Type 0 where
+  pub hues : AreHues span.paint span.x span.y span.n shading.hues
+  pub shifts : AreShiftsAt (span.brush.dither && not t.raw) span.x span.y shading.shifts.lanes
+
 pub record IsPlan (span : Span) (t : Texture) (plan : Plan) : Type 0 where
-  pub hues : AreHues span.paint span.x span.y span.n plan.hues
-  pub shifts : AreShiftsAt (span.brush.dither && not t.raw) span.x span.y plan.shifts.lanes
+  pub shading : IsShading span t plan.shading
   pub track : IsTrack span.paint span.x span.y span.n plan.track
   pub apart : IsTrue plan.apart → IsApart span
-  pub stretch : IfSome plan.stretch (IsStretch span t)
 
 -- a textured span that can be drawn in video memory of a height, and what was chosen for it
 pub record IsPlanned (height : ℕ) (s : Span) (t : Texture) (p : Plan) : Type 0 where

@@ -4,7 +4,8 @@ use Rattle.vram_store.specs.Vram.{height_of}
 use Rattle.span_lanes.specs.declared.span.Texture.{Texture}
 use Rattle.span_lanes.specs.declared.span.Span.{Span}
 use Rattle.span_lanes.specs.declared.strip.Strip.{Strip}
-use Rattle.span_lanes.specs.Paints.{paint_color}
+use Rattle.span_lanes.specs.declared.hues.Hues.TheVariants.{One}
+use Rattle.span_lanes.specs.Hues.{AreHues}
 use Rattle.span_lanes.specs.Shade.{IsSpan, LiesIn, texture_of}
 use Rattle.span_lanes.specs.Stretch.{IsStretch}
 use Rattle.span_lanes.specs.Swatches.{AreColored, AreSwatches, SuitsPalette}
@@ -14,7 +15,7 @@ pub record IsStrip (s : Span) (t : Texture) (m : List ℕ) (strip : Strip) : Typ
   pub span : IsSpan s
   pub lies : LiesIn (height_of m) s
   pub texture : texture_of s.paint ≡ Some t
-  pub hue : (x y : ℕ) → paint_color s.paint x y ≡ strip.swatches.color
+  pub hue : AreHues s.paint s.x s.y s.n (One strip.swatches.color)
   pub stretch : IsStretch s t strip.stretch
   pub suits : SuitsPalette s t
   pub raw : strip.swatches.raw ≡ t.raw

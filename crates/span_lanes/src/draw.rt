@@ -1,22 +1,24 @@
 // Spans, each by what suits it.
-ghost use Rattle.std.specs.Prelude.{◌≡◌, ◌≤◌, ◌+◌, ◌*◌, IfSome, Some, length};
+ghost use Rattle.std.specs.Prelude.{◌≡◌, ◌≢◌, ◌≤◌, ◌+◌, ◌*◌, ◌/◌, ◌%◌, length};
 ghost use Rattle.vram_store.specs.Vram.{height_of};
-ghost use Rattle.span_lanes.specs.Shade.{IsSpan, LiesIn, texture_of, drawn_span};
+ghost use Rattle.span_lanes.specs.Shade.{IsSpan, LiesIn, drawn_span};
 ghost use Rattle.span_lanes.specs.declared.hues.Hues.TheVariants.{One};
 ghost use Rattle.span_lanes.specs.declared.span.Paint.TheVariants.{TexturedTri, TexturedRow};
 ghost use Rattle.span_lanes.specs.Pen.{IsTint, AreSlopes, HasSlopes, IsReady, ink_of};
 ghost use Rattle.span_lanes.specs.Hues.{AreHues};
-ghost use Rattle.span_lanes.specs.Stretch.{IsStretch};
+ghost use Rattle.span_lanes.specs.Stretch.{IsStretched};
 ghost use Rattle.span_lanes.specs.Swatches.{IsKept};
 ghost use Rattle.span_lanes.specs.Cost.{span_cost};
 
+use crate::apart::is_apart;
 use crate::hues::{Hues, hues_of};
 use crate::plan::{row_plan, tri_plan};
 use crate::row::TexelRow;
 use crate::sheet::draw_planned;
 use crate::slopes::Slopes;
 use crate::solid::draw_solid;
-use crate::stretch::{Stretch, stretch_of};
+use crate::stretch::{Stretch, row_stretch, tri_stretch};
+use crate::stretched::draw_stretched;
 use crate::strip::{draw_strip, suits_strip};
 use crate::swatches::Swatches;
 use crate::tint::Tint;
@@ -26,6 +28,37 @@ use edge_walk::Tri;
 use std::sync::ledger::Ledger;
 use vram_store::{Steps, Vram};
 
+// A row whose texels stand side by side, and that reads nothing that it writes.
+#[inline(always)]
+fn draw_beside<L: Ledger>(
+    vram: &mut Vram,
+    span: &Span,
+    texture: &Texture,
+    stretch: &Stretch,
+    tint: &Tint,
+    last: &mut Option<Swatches>,
+    steps: &mut Steps<L>,
+)
+    requires stretched { IsStretched (height_of vram.old) span.now texture.now stretch.now }
+    requires tint { IsTint span.now.paint tint.now }
+    requires palette { texture.now.page.depth ≡ 0 → texture.now.clut / 64 % 512 ≢ span.now.y }
+    requires last { IsKept span.now.paint vram.old last.old }
+    ensures cells { vram.new ≡ drawn_span span.now span.now.n vram.old }
+    ensures long { length vram.new ≡ length vram.old }
+    ensures last { IsKept span.now.paint vram.new last.new }
+    ensures cost { steps.new ≤ steps.old + span_cost span.now }
+{
+    match tint {
+        Tint::Plain { color } if suits_strip(span, texture) => {
+            draw_strip(vram, span, texture, stretch, *color, last, steps)
+        }
+        _ => {
+            *last = None;
+            draw_stretched(vram, span, texture, stretch, tint, steps)
+        }
+    }
+}
+
 // A row of texels whose chunks are planned.
 #[inline(never)]
 fn draw_planned_row<L: Ledger>(
@@ -33,21 +66,19 @@ fn draw_planned_row<L: Ledger>(
     span: &Span,
     texture: &Texture,
     row: TexelRow,
-    stretch: Option<Stretch>,
     last: &mut Option<Swatches>,
     steps: &mut Steps<L>,
 )
     requires span { IsSpan span.now }
     requires height { LiesIn (height_of vram.old) span.now }
     requires paint { span.now.paint ≡ TexturedRow row.color texture.now row.u row.v row.flip }
-    requires stretch { IfSome stretch (IsStretch span.now texture.now) }
     requires last { IsKept span.now.paint vram.old last.old }
     ensures cells { vram.new ≡ drawn_span span.now span.now.n vram.old }
     ensures long { length vram.new ≡ length vram.old }
     ensures last { IsKept span.now.paint vram.new last.new }
     ensures cost { steps.new ≤ steps.old + span_cost span.now }
 {
-    let plan = row_plan(span, texture, row, stretch);
+    let plan = row_plan(span, texture, row);
     draw_planned(vram, span, texture, &plan, last, steps);
 }
 
@@ -58,30 +89,32 @@ pub(crate) fn draw_row<L: Ledger>(
     span: &Span,
     texture: &Texture,
     row: TexelRow,
+    tint: &Tint,
     last: &mut Option<Swatches>,
     steps: &mut Steps<L>,
 )
     requires span { IsSpan span.now }
     requires height { LiesIn (height_of vram.old) span.now }
     requires paint { span.now.paint ≡ TexturedRow row.color texture.now row.u row.v row.flip }
+    requires tint { IsTint span.now.paint tint.now }
     requires last { IsKept span.now.paint vram.old last.old }
     ensures cells { vram.new ≡ drawn_span span.now span.now.n vram.old }
     ensures long { length vram.new ≡ length vram.old }
     ensures last { IsKept span.now.paint vram.new last.new }
     ensures cost { steps.new ≤ steps.old + span_cost span.now }
 {
-    match stretch_of(span, texture, row) {
-        Some(stretch) if suits_strip(span, texture) => {
-            draw_strip(vram, span, texture, &stretch, row.color, last, steps)
+    match row_stretch(span, texture, row) {
+        Some(stretch) if is_apart(span, texture) => {
+            draw_beside(vram, span, texture, &stretch, tint, last, steps)
         }
-        stretch => {
+        _ => {
             let (span, texture) = (*span, *texture);
-            draw_planned_row(vram, &span, &texture, row, stretch, last, steps);
+            draw_planned_row(vram, &span, &texture, row, last, steps);
         }
     }
 }
 
-// A row of a triangle with a texture under one colour.
+// A row of a triangle under one colour, whose chunks are planned.
 #[inline(never)]
 fn draw_plain_sheet<L: Ledger>(
     vram: &mut Vram,
@@ -135,9 +168,9 @@ fn draw_mixed_sheet<L: Ledger>(
     draw_planned(vram, span, texture, &plan, last, steps);
 }
 
-// A row of a triangle with a texture.
-#[inline(always)]
-fn draw_tri<L: Ledger>(
+// A row of a triangle with a texture, whose chunks are planned.
+#[inline(never)]
+fn draw_planned_tri<L: Ledger>(
     vram: &mut Vram,
     span: &Span,
     tri: &Tri,
@@ -164,6 +197,37 @@ fn draw_tri<L: Ledger>(
             vram, span, tri, texture, color, slopes, last, steps,
         ),
         Hues::Lines { .. } => draw_mixed_sheet(vram, span, tri, texture, hues, slopes, last, steps),
+    }
+}
+
+// A row of a triangle with a texture.
+#[inline(always)]
+fn draw_tri<L: Ledger>(
+    vram: &mut Vram,
+    span: &Span,
+    tri: &Tri,
+    texture: &Texture,
+    tint: &Tint,
+    slopes: &Slopes,
+    last: &mut Option<Swatches>,
+    steps: &mut Steps<L>,
+)
+    requires span { IsSpan span.now }
+    requires height { LiesIn (height_of vram.old) span.now }
+    requires paint { span.now.paint ≡ TexturedTri tri.now texture.now }
+    requires tint { IsTint span.now.paint tint.now }
+    requires slopes { AreSlopes tri.now slopes.now }
+    requires last { IsKept span.now.paint vram.old last.old }
+    ensures cells { vram.new ≡ drawn_span span.now span.now.n vram.old }
+    ensures long { length vram.new ≡ length vram.old }
+    ensures last { IsKept span.now.paint vram.new last.new }
+    ensures cost { steps.new ≤ steps.old + span_cost span.now }
+{
+    match tri_stretch(span, tri, texture, slopes) {
+        Some(stretch) if is_apart(span, texture) => {
+            draw_beside(vram, span, texture, &stretch, tint, last, steps)
+        }
+        _ => draw_planned_tri(vram, span, tri, texture, tint, slopes, last, steps),
     }
 }
 
@@ -207,7 +271,7 @@ fn draw_varied<L: Ledger>(
                 v: *v,
                 flip: *flip,
             };
-            draw_row(vram, span, texture, row, last, steps)
+            draw_row(vram, span, texture, row, tint, last, steps)
         }
     }
 }

@@ -6,7 +6,6 @@ ghost use Rattle.span_lanes.specs.Shade.{drawn_span};
 ghost use Rattle.span_lanes.specs.Guard.{HasHazard, IsApart};
 ghost use Rattle.span_lanes.specs.Lanes.{HasCoordinates};
 ghost use Rattle.span_lanes.specs.Plan.{HasTexels, IsPlanned};
-ghost use Rattle.span_lanes.specs.Stretch.{IsStretch};
 ghost use Rattle.span_lanes.specs.Swatches.{IsKept};
 ghost use Rattle.span_lanes.specs.Cost.{chunk_cost, span_cost};
 
@@ -16,7 +15,6 @@ use crate::guard::{reads_itself, texels_at};
 use crate::hues::Hues;
 use crate::plan::Plan;
 use crate::store::{draw_cells, store_chunk};
-use crate::stretch::{Stretch, read_stretch};
 use crate::swatches::{Swatches, draw_swatches, suits};
 use crate::textured::{collect_textured, read_texels};
 use crate::track::track_lanes;
@@ -47,34 +45,8 @@ fn draw_texels<L: Ledger>(
     ensures long { length vram.new ≡ length vram.old }
     ensures cost { steps.new ≤ steps.old + 2 }
 {
-    let lanes = collect_textured(vram, span, texture, plan, texels, first, k, steps);
+    let lanes = collect_textured(vram, span, texture, &plan.shading, texels, first, k, steps);
     store_chunk(vram, span, first, k, &lanes, steps);
-}
-
-// A textured chunk whose texels stand side by side, and that does not read what it writes.
-#[inline(always)]
-fn draw_stretch<L: Ledger>(
-    vram: &mut Vram,
-    span: &Span,
-    texture: &Texture,
-    plan: &Plan,
-    stretch: &Stretch,
-    first: u16,
-    k: u8,
-    steps: &mut Steps<L>,
-)
-    requires planned { IsPlanned (height_of vram.old) span.now texture.now plan.now }
-    requires chunk { IsChunk span.now first k }
-    requires whole { first % 16 ≡ 0 }
-    requires stretch { IsStretch span.now texture.now stretch.now }
-    requires depth { 1 ≤ texture.now.page.depth }
-    requires apart { IsApart span.now }
-    ensures cells { vram.new ≡ drawn_chunk span.now first k vram.old }
-    ensures long { length vram.new ≡ length vram.old }
-    ensures cost { steps.new ≤ steps.old + chunk_cost span.now first k }
-{
-    let texels = read_stretch(vram, span, texture, stretch, first, k, steps);
-    draw_texels(vram, span, texture, plan, texels, first, k, steps);
 }
 
 // A textured chunk that does not read what it writes.
@@ -153,15 +125,11 @@ fn draw_textured<L: Ledger>(
     ensures long { length vram.new ≡ length vram.old }
     ensures cost { steps.new ≤ steps.old + chunk_cost span.now first k }
 {
-    match &plan.stretch {
-        Some(stretch) if plan.apart && texture.page.depth >= 1 => {
-            draw_stretch(vram, span, texture, plan, stretch, first, k, steps)
-        }
-        _ if plan.apart => draw_apart(vram, span, texture, plan, first, k, steps),
-        _ => {
-            let at = track_lanes(&plan.track, first);
-            draw_guarded(vram, span, texture, *plan, at, first, k, steps)
-        }
+    if plan.apart {
+        draw_apart(vram, span, texture, plan, first, k, steps);
+    } else {
+        let at = track_lanes(&plan.track, first);
+        draw_guarded(vram, span, texture, *plan, at, first, k, steps);
     }
 }
 
@@ -206,7 +174,7 @@ pub(crate) fn draw_planned<L: Ledger>(
     ensures last { IsKept span.now.paint vram.new last.new }
     ensures cost { steps.new ≤ steps.old + span_cost span.now }
 {
-    match plan.hues {
+    match plan.shading.hues {
         Hues::One { color } if suits(span, texture, plan) => {
             draw_swatches(vram, span, texture, plan, color, last, steps)
         }

@@ -1,8 +1,12 @@
 // The texel coordinates of a triangle.
-ghost use Rattle.std.specs.Prelude.{◌≡◌};
+ghost use Rattle.std.specs.Prelude.{◌≡◌, ℕ, pos, IsTrue};
+ghost use Rattle.edge_walk.specs.Plane.{IsPlane};
+ghost use Rattle.edge_walk.specs.Triangle.{Corners, is_inside};
 ghost use Rattle.span_lanes.specs.Pen.{AreSlopes, HasSlopes};
+ghost use Rattle.span_lanes.specs.Shade.{attribute_in};
 
 use crate::Paint;
+use crate::hues::line_of;
 use crate::tint::plane_of;
 use edge_walk::{Plane, Tri};
 
@@ -11,6 +15,8 @@ use edge_walk::{Plane, Tri};
 pub(crate) struct Slopes {
     pub(crate) u: Plane,
     pub(crate) v: Plane,
+    // whether it is known that u rises by one from cell to cell of each row, and v stays
+    pub(crate) unscaled: bool,
 }
 
 fn tri_slopes(tri: &Tri) -> Slopes
@@ -19,6 +25,7 @@ fn tri_slopes(tri: &Tri) -> Slopes
     Slopes {
         u: plane_of(tri, 3),
         v: plane_of(tri, 4),
+        unscaled: tri.is_unscaled(),
     }
 }
 
@@ -29,4 +36,13 @@ pub(crate) fn slopes_of(paint: &Paint) -> Option<Slopes>
         Paint::TexturedTri { tri, .. } => Some(tri_slopes(tri)),
         _ => None,
     }
+}
+
+// An attribute of a triangle at a cell inside.
+#[inline(always)]
+pub(crate) fn value_of(plane: &Plane, x: u16, y: u16) -> u8
+    ensures { (tri : Corners) (which : ℕ)
+        → IsPlane tri which plane.now → IsTrue (is_inside tri (pos x) (pos y)) → result ≡ attribute_in tri which x y }
+{
+    line_of(plane, x, y).value()
 }

@@ -7,6 +7,7 @@ ghost use Rattle.span_lanes.specs.Spans.{drawn_rows, nth_span, paint_down, rows_
 
 use crate::draw::draw_row;
 use crate::row::TexelRow;
+use crate::tint::Tint;
 use crate::{Paint, Pen, Span, Texture};
 use std::sync::ledger::Ledger;
 use vram_store::{Steps, Vram};
@@ -54,6 +55,7 @@ fn draw_texel_rows<L: Ledger>(
     ensures cost { steps.new ≤ steps.old + rows_cost spans.now spans.now.rows }
 {
     let Span { x, y, n, brush, .. } = spans.first;
+    let tint = Tint::Plain { color: row.color };
     let mut last = None;
     for j in 0..spans.rows {
         let v = row_down(row.v, spans.falls, j);
@@ -72,7 +74,7 @@ fn draw_texel_rows<L: Ledger>(
             paint,
             brush,
         };
-        draw_row(vram, &span, texture, here, &mut last, steps);
+        draw_row(vram, &span, texture, here, &tint, &mut last, steps);
     }
 }
 

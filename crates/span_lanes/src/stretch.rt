@@ -1,17 +1,21 @@
 // Texels that stand side by side in a row of video memory.
-ghost use Rattle.std.specs.Prelude.{◌≡◌, ◌≤◌, ◌<◌, ◌+◌, ◌*◌, ◌/◌, IfSome, IsTrue, false};
+ghost use Rattle.std.specs.Prelude.{◌≡◌, ◌≤◌, ◌<◌, ◌+◌, ◌*◌, ◌/◌, IfSome, IsTrue};
 ghost use Rattle.vram_store.specs.Vram.{height_of};
-ghost use Rattle.span_lanes.specs.declared.span.Paint.TheVariants.{TexturedRow};
+ghost use Rattle.span_lanes.specs.declared.span.Paint.TheVariants.{TexturedRow, TexturedTri};
 ghost use Rattle.span_lanes.specs.Chunk.{IsChunk};
 ghost use Rattle.span_lanes.specs.Cost.{texel_steps};
+ghost use Rattle.span_lanes.specs.Pen.{AreSlopes};
 ghost use Rattle.span_lanes.specs.Plan.{HasTexels};
 ghost use Rattle.span_lanes.specs.Shade.{IsSpan, IsTexture};
-ghost use Rattle.span_lanes.specs.Stretch.{IsStretch};
+ghost use Rattle.span_lanes.specs.Stretch.{IsRising, IsStretch};
 
-use crate::beside::sixteen_octets;
-use crate::fetch::gather_entries;
+use crate::beside::{sixteen_indexes, sixteen_octets};
+use crate::fetch::{gather_entries, sixteen_entries};
+use crate::nibbles::entries_at;
 use crate::row::TexelRow;
+use crate::slopes::{Slopes, value_of};
 use crate::{Span, Texture};
+use edge_walk::Tri;
 use std::simd::prelude::*;
 use std::sync::ledger::Ledger;
 use texture_page::texel_cell;
@@ -40,28 +44,65 @@ fn has_room(texture: &Texture, u: u16, n: u16) -> bool
     }
 }
 
-// Whether the columns of n texels of a row are one more from cell to cell.
+// Whether a window leaves the columns of n texels as they are, and they do not wrap.
 #[inline(always)]
-fn rises(texture: &Texture, row: TexelRow, n: u16) -> bool
+fn is_open(texture: &Texture, u: u8, n: u16) -> bool
     requires row { n ≤ 1024 }
     ensures open { IsTrue result → texture.now.window.mask_x ≡ 0 }
-    ensures rising { IsTrue result → row.flip ≡ false }
-    ensures in_page { IsTrue result → row.u + n ≤ 256 }
+    ensures in_page { IsTrue result → u + n ≤ 256 }
 {
-    texture.window.mask_x == 0 && !row.flip && row.u as u16 + n <= 256
+    texture.window.mask_x == 0 && u as u16 + n <= 256
+}
+
+// Where the texels of a span stand side by side, if they do, by the coordinates of the first.
+#[inline(always)]
+fn stretch_from(span: &Span, texture: &Texture, u: u8, v: u8) -> Option<Stretch>
+    requires texture { IsTexture texture.now }
+    requires row { span.now.n ≤ 1024 }
+    requires rising { IsRising span.now u v }
+    ensures { IfSome result (IsStretch span.now texture.now) }
+{
+    let column = u as u16;
+    if is_open(texture, u, span.n) && has_room(texture, column, span.n) {
+        let y = texel_cell(&texture.page, &texture.window, u, v).y;
+        Some(Stretch { u: column, y })
+    } else {
+        None
+    }
 }
 
 // Where the texels of a row stand side by side, if they do.
 #[inline(always)]
-pub(crate) fn stretch_of(span: &Span, texture: &Texture, row: TexelRow) -> Option<Stretch>
+pub(crate) fn row_stretch(span: &Span, texture: &Texture, row: TexelRow) -> Option<Stretch>
     requires span { IsSpan span.now }
     requires paint { span.now.paint ≡ TexturedRow row.color texture.now row.u row.v row.flip }
     ensures { IfSome result (IsStretch span.now texture.now) }
 {
-    let u = row.u as u16;
-    if rises(texture, row, span.n) && has_room(texture, u, span.n) {
-        let y = texel_cell(&texture.page, &texture.window, row.u, row.v).y;
-        Some(Stretch { u, y })
+    if row.flip {
+        None
+    } else {
+        stretch_from(span, texture, row.u, row.v)
+    }
+}
+
+// Where the texels of a row of a triangle are known to stand side by side.
+#[inline(always)]
+pub(crate) fn tri_stretch(
+    span: &Span,
+    tri: &Tri,
+    texture: &Texture,
+    slopes: &Slopes,
+) -> Option<Stretch>
+    requires span { IsSpan span.now }
+    requires paint { span.now.paint ≡ TexturedTri tri.now texture.now }
+    requires slopes { AreSlopes tri.now slopes.now }
+    ensures { IfSome result (IsStretch span.now texture.now) }
+{
+    let _ = tri;
+    if slopes.unscaled {
+        let u = value_of(&slopes.u, span.x, span.y);
+        let v = value_of(&slopes.v, span.x, span.y);
+        stretch_from(span, texture, u, v)
     } else {
         None
     }
@@ -113,7 +154,33 @@ fn read_eights<L: Ledger>(
     gather_entries(vram, texture.clut, index, k, steps)
 }
 
-// k texels of eight or fifteen bits that stand side by side.
+// k texels of four bits that stand side by side.
+#[inline(always)]
+fn read_fours<L: Ledger>(
+    vram: &Vram,
+    span: &Span,
+    texture: &Texture,
+    stretch: &Stretch,
+    first: u16,
+    k: u8,
+    steps: &mut Steps<L>,
+) -> u16x16
+    requires page { texture.now.page.y + 255 < height_of vram.now }
+    requires chunk { IsChunk span.now first k }
+    requires stretch { IsStretch span.now texture.now stretch.now }
+    requires depth { texture.now.page.depth ≡ 0 }
+    ensures texels { HasTexels span.now texture.now first k vram.now result }
+    ensures cost { steps.new ≤ steps.old + 2 * k }
+{
+    let _ = span;
+    let _ = k;
+    let u = stretch.u + first;
+    let index = sixteen_indexes(vram, texture.page.x, u, stretch.y, steps);
+    let entries = sixteen_entries(vram, texture.clut, steps);
+    entries_at(entries, index)
+}
+
+// k texels that stand side by side.
 #[inline(always)]
 pub(crate) fn read_stretch<L: Ledger>(
     vram: &Vram,
@@ -127,11 +194,11 @@ pub(crate) fn read_stretch<L: Ledger>(
     requires page { texture.now.page.y + 255 < height_of vram.now }
     requires chunk { IsChunk span.now first k }
     requires stretch { IsStretch span.now texture.now stretch.now }
-    requires depth { 1 ≤ texture.now.page.depth }
     ensures texels { HasTexels span.now texture.now first k vram.now result }
     ensures cost { steps.new ≤ steps.old + texel_steps texture.now.page.depth * k }
 {
     match texture.page.depth {
+        0 => read_fours(vram, span, texture, stretch, first, k, steps),
         1 => read_eights(vram, span, texture, stretch, first, k, steps),
         _ => read_wholes(vram, span, texture, stretch, first, k, steps),
     }

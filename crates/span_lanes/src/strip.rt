@@ -1,20 +1,21 @@
 // Rows of texels of four bits that stand side by side, whose palette is coloured once.
-ghost use Rattle.std.specs.Prelude.{◌≡◌, ◌≤◌, ◌<◌, ◌+◌, ◌%◌, ℕ, IsTrue, Some, pos};
+ghost use Rattle.std.specs.Prelude.{◌≡◌, ◌≤◌, ◌<◌, ◌+◌, ◌/◌, ◌%◌, ◌≢◌, IsTrue, Some, pos};
 ghost use Rattle.std.specs.Prelude.{length, slice_index};
 ghost use Rattle.px_num.specs.Lanes.{EachLane};
 ghost use Rattle.vram_store.specs.Vram.{height_of};
 ghost use Rattle.span_lanes.specs.Chunk.{IsChunk, drawn_chunk};
 ghost use Rattle.span_lanes.specs.Cost.{chunk_cost, span_cost};
-ghost use Rattle.span_lanes.specs.Paints.{paint_color};
+ghost use Rattle.span_lanes.specs.Guard.{IsApart};
+ghost use Rattle.span_lanes.specs.declared.hues.Hues.TheVariants.{One};
+ghost use Rattle.span_lanes.specs.Hues.{AreHues};
 ghost use Rattle.span_lanes.specs.Shade.{IsSpan, LiesIn, drawn_span, front_of, texture_of};
 ghost use Rattle.span_lanes.specs.Stretch.{IsStretch};
 ghost use Rattle.span_lanes.specs.Strip.{IsStrip};
 ghost use Rattle.span_lanes.specs.Swatches.{AreColored, IsKept, SuitsPalette};
 
-use crate::apart::is_apart;
 use crate::beside::sixteen_indexes;
 use crate::nibbles::entries_at;
-use crate::plan::is_dithered;
+use crate::shading::is_dithered;
 use crate::store::store_chunk;
 use crate::stretch::Stretch;
 use crate::swatches::{Drawn, Swatches, refresh};
@@ -31,15 +32,15 @@ pub(crate) struct Strip {
     pub(crate) swatches: Swatches,
 }
 
-// Whether the palette of a row of texels of four bits can be coloured once.
+// Whether the palette of a row of texels of four bits can be coloured once, where the row has another row's palette.
 #[inline(always)]
 pub(crate) fn suits_strip(span: &Span, texture: &Texture) -> bool
-    requires span { IsSpan span.now }
-    requires texture { texture_of span.now.paint ≡ Some texture.now }
+    requires apart { IsApart span.now }
+    requires palette { texture.now.page.depth ≡ 0 → texture.now.clut / 64 % 512 ≢ span.now.y }
     ensures { IsTrue result → SuitsPalette span.now texture.now }
 {
     let dithered = is_dithered(span.brush.dither, texture.raw);
-    texture.page.depth == 0 && !dithered && is_apart(span, texture)
+    texture.page.depth == 0 && !dithered
 }
 
 // Sixteen texels by their indexes, and what the colour makes of them.
@@ -86,16 +87,7 @@ fn strip_chunk<L: Ledger>(
     let u = strip.stretch.u + first;
     let index = sixteen_indexes(vram, texture.page.x, u, strip.stretch.y, steps);
     let drawn = drawn_at(&strip.swatches, texture.raw, index);
-    let lanes = collect_fronts(
-        vram,
-        span,
-        texture,
-        drawn.texels,
-        drawn.fronts,
-        first,
-        k,
-        steps,
-    );
+    let lanes = collect_fronts(vram, span, texture, drawn, first, k, steps);
     store_chunk(vram, span, first, k, &lanes, steps);
 }
 
@@ -139,23 +131,24 @@ fn draw_by_raw<L: Ledger>(
     ensures strip { IsStrip span.now texture.now vram.new strip.now }
     ensures cost { steps.new + 1 ≤ steps.old + span_cost span.now }
 {
+    let span = *span;
     if texture.raw {
         let texture = Texture {
             raw: true,
             ..*texture
         };
-        draw_chunks(vram, span, &texture, strip, steps);
+        draw_chunks(vram, &span, &texture, strip, steps);
     } else {
         let texture = Texture {
             raw: false,
             ..*texture
         };
-        draw_chunks(vram, span, &texture, strip, steps);
+        draw_chunks(vram, &span, &texture, strip, steps);
     }
 }
 
 // A row of texels under a colour.
-#[inline(always)]
+#[inline(never)]
 pub(crate) fn draw_strip<L: Ledger>(
     vram: &mut Vram,
     span: &Span,
@@ -167,7 +160,7 @@ pub(crate) fn draw_strip<L: Ledger>(
 )
     requires span { IsSpan span.now }
     requires height { LiesIn (height_of vram.old) span.now }
-    requires hue { (x y : ℕ) → paint_color span.now.paint x y ≡ color }
+    requires hue { AreHues span.now.paint span.now.x span.now.y span.now.n (One color) }
     requires texture { texture_of span.now.paint ≡ Some texture.now }
     requires stretch { IsStretch span.now texture.now stretch.now }
     requires suits { SuitsPalette span.now texture.now }

@@ -1,4 +1,4 @@
-// Textures of four bits under one colour, whose palette is read and coloured once a span.
+// Textures of four bits under one colour, whose palette is read and coloured once a primitive.
 ghost use Rattle.std.specs.Prelude.{◌≡◌, ◌≤◌, ◌<◌, ◌+◌, ◌%◌, IfSome, IsTrue, MatchOption, Some};
 ghost use Rattle.std.specs.Prelude.{length, slice_index};
 ghost use Rattle.vram_store.specs.Vram.{height_of};
@@ -19,7 +19,8 @@ use crate::coordinates::Coordinates;
 use crate::fetch::sixteen_entries;
 use crate::hues::Hues;
 use crate::nibbles::entries_at;
-use crate::plan::{Plan, is_dithered};
+use crate::plan::Plan;
+use crate::shading::is_dithered;
 use crate::store::store_chunk;
 use crate::textured::{collect_fronts, fronts};
 use crate::track::track_lanes;
@@ -162,7 +163,7 @@ fn swatch_chunk<L: Ledger>(
     requires chunk { IsChunk span.now first k }
     requires whole { first % 16 ≡ 0 }
     requires suits { SuitsPalette span.now texture.now }
-    requires hue { plan.now.hues ≡ One swatches.now.color }
+    requires hue { plan.now.shading.hues ≡ One swatches.now.color }
     requires swatches { AreSwatches texture.now vram.old swatches.now }
     ensures cells { vram.new ≡ drawn_chunk span.now first k vram.old }
     ensures long { length vram.new ≡ length vram.old }
@@ -170,16 +171,7 @@ fn swatch_chunk<L: Ledger>(
     ensures cost { steps.new + 1 ≤ steps.old + chunk_cost span.now first k }
 {
     let drawn = read_scattered(vram, span, texture, plan, swatches, first, k, steps);
-    let lanes = collect_fronts(
-        vram,
-        span,
-        texture,
-        drawn.texels,
-        drawn.fronts,
-        first,
-        k,
-        steps,
-    );
+    let lanes = collect_fronts(vram, span, texture, drawn, first, k, steps);
     store_chunk(vram, span, first, k, &lanes, steps);
 }
 
@@ -196,7 +188,7 @@ pub(crate) fn draw_swatches<L: Ledger>(
 )
     requires planned { IsPlanned (height_of vram.old) span.now texture.now plan.now }
     requires suits { SuitsPalette span.now texture.now }
-    requires hue { plan.now.hues ≡ One color }
+    requires hue { plan.now.shading.hues ≡ One color }
     requires last { IsKept span.now.paint vram.old last.old }
     ensures cells { vram.new ≡ drawn_span span.now span.now.n vram.old }
     ensures long { length vram.new ≡ length vram.old }

@@ -10,7 +10,7 @@ ghost use Rattle.span_lanes.specs.Chunk.{IsChunk, HasChunk};
 ghost use Rattle.span_lanes.specs.Shade.{IsTexture, IsSpan, LiesIn, texture_of, is_high, blended_if, front_of, at_cell};
 ghost use Rattle.span_lanes.specs.Shade.{shade};
 ghost use Rattle.span_lanes.specs.Hues.{hue_at};
-ghost use Rattle.span_lanes.specs.Plan.{IsPlan, HasTexels, HasFronts};
+ghost use Rattle.span_lanes.specs.Plan.{IsShading, HasTexels, HasFronts};
 ghost use Rattle.span_lanes.specs.Lanes.{AreShifts, AreCoordinates};
 ghost use Rattle.span_lanes.specs.Guard.{texel_cells};
 ghost use Rattle.overlap_guard.specs.Hazard.{cell_at};
@@ -24,7 +24,7 @@ use crate::coordinates::Coordinates;
 use crate::hues::{Hues, hue_lanes};
 use crate::lanes::{Lanes, both, drawn_bits};
 use crate::pixel::palette_entry;
-use crate::plan::Plan;
+use crate::shading::Shading;
 use crate::swatches::Drawn;
 use crate::{Brush, Span, Texture};
 use blend_dither::blend_lanes;
@@ -256,8 +256,7 @@ pub(crate) fn collect_fronts<L: Ledger>(
     vram: &Vram,
     span: &Span,
     texture: &Texture,
-    texels: u16x16,
-    front: u16x16,
+    drawn: Drawn,
     first: u16,
     k: u8,
     steps: &mut Steps<L>,
@@ -266,23 +265,19 @@ pub(crate) fn collect_fronts<L: Ledger>(
     requires height { LiesIn (height_of vram.now) span.now }
     requires chunk { IsChunk span.now first k }
     requires texture { texture_of span.now.paint ≡ Some texture.now }
-    requires texels { HasTexels span.now texture.now first k vram.now texels }
-    requires long { length front ≡ 16 }
-    requires front { HasFronts span.now texture.now first k texels front }
+    requires texels { HasTexels span.now texture.now first k vram.now drawn.texels }
+    requires long { length drawn.fronts ≡ 16 }
+    requires front { HasFronts span.now texture.now first k drawn.texels drawn.fronts }
     ensures lanes { HasChunk span.now first k vram.now result }
     ensures cost { steps.new ≤ steps.old + 1 }
 {
     let x = span.x + first;
     let brush = span.brush;
     let back = back_of(vram, &brush, x, span.y, k, steps);
-    let drawn = Drawn {
-        texels,
-        fronts: front,
-    };
     let plotted = plotted_of(&brush, texture.raw, back, drawn, k);
     Lanes {
         cells: force_lanes(brush.mask, plotted),
-        bits: both(open_bits(brush.mask, back), drawn_bits(texels)),
+        bits: both(open_bits(brush.mask, back), drawn_bits(drawn.texels)),
     }
 }
 
@@ -292,7 +287,7 @@ pub(crate) fn collect_textured<L: Ledger>(
     vram: &Vram,
     span: &Span,
     texture: &Texture,
-    plan: &Plan,
+    shading: &Shading,
     texels: u16x16,
     first: u16,
     k: u8,
@@ -303,11 +298,12 @@ pub(crate) fn collect_textured<L: Ledger>(
     requires chunk { IsChunk span.now first k }
     requires whole { first % 16 ≡ 0 }
     requires texture { texture_of span.now.paint ≡ Some texture.now }
-    requires plan { IsPlan span.now texture.now plan.now }
+    requires shading { IsShading span.now texture.now shading.now }
     requires texels { HasTexels span.now texture.now first k vram.now texels }
     ensures lanes { HasChunk span.now first k vram.now result }
     ensures cost { steps.new ≤ steps.old + 1 }
 {
-    let front = fronts(texture.raw, &plan.hues, plan.shifts, first, texels);
-    collect_fronts(vram, span, texture, texels, front, first, k, steps)
+    let fronts = fronts(texture.raw, &shading.hues, shading.shifts, first, texels);
+    let drawn = Drawn { texels, fronts };
+    collect_fronts(vram, span, texture, drawn, first, k, steps)
 }

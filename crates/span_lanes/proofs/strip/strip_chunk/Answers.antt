@@ -23,7 +23,7 @@ collect_fronts-lanes-requires-clause-texels g c = record {
       let column : s.u + c.args.first + j ≡ s.u + (c.args.first + j) = omega arith in
       let position = rw column at (c.sixteen_indexes-index.ensures.value j lane) in
       four_texel c.args.span.now c.args.texture.now s _
-      (c.args.first + j) _ c.args.vram.now is.stretch is.suits.depth (omega arith)
+      (c.args.first + j) _ c.args.vram.now is.stretch is.suits.depth (omega arith) (omega arith)
       (rw position at (c.drawn_at-drawn.ensures.texels j lane ∙ is.swatches.entry _ few));
 }
 
@@ -31,11 +31,11 @@ pub collect_fronts-lanes-requires-clause-front : goal.collect_fronts-lanes-requi
 collect_fronts-lanes-requires-clause-front g c j lt =
     let span = c.args.span.now in
     let x : ℕ = span.x + c.args.first + j in
-    rw (
-      no_shift (span.brush.dither && not c.args.texture.now.raw) x span.y c.requires.strip.suits.even,
-      c.requires.strip.hue,
-    )
-    (c.drawn_at-drawn.ensures.fronts j (omega arith))
+    let lane : j < 16 = omega arith in
+    let same_x : span.x + (c.args.first + j) ≡ x = omega arith in
+    let hue = rw same_x at (c.requires.strip.hue c.args.first j lane (omega arith)) in
+    rw (← hue, no_shift (span.brush.dither && not c.args.texture.now.raw) x span.y c.requires.strip.suits.even)
+    (c.drawn_at-drawn.ensures.fronts j lane)
 
 pub store_chunk-requires-clause-blind : goal.store_chunk-requires-clause-blind
 store_chunk-requires-clause-blind g c =

@@ -11,7 +11,7 @@ collect_fronts-lanes-requires-clause-front g c j lt =
     let x : ℕ = span.x + c.args.first + j in
     let same_x : span.x + (c.args.first + j) ≡ x = omega arith in
     let hue = rw (c.requires.hue, same_x) at
-    (c.requires.planned.plan.hues c.args.first j (omega arith) (omega arith)) in
+    (c.requires.planned.plan.shading.hues c.args.first j (omega arith) (omega arith)) in
     rw (← hue, no_shift (span.brush.dither && not c.args.texture.now.raw) x span.y c.requires.suits.even)
     (c.read_scattered-drawn.ensures.fronts.front j lt)
 

@@ -41,5 +41,5 @@ returns-clause-lanes g c = record {
 
 pub plotted_of-plotted-requires-clause-raw : goal.plotted_of-plotted-requires-clause-raw
 plotted_of-plotted-requires-clause-raw g c raw j lt =
-    raw_front c.args.texture.now.raw _ _ (get_or c.args.texels j 0) (get_or c.args.front j 0) raw
+    raw_front c.args.texture.now.raw _ _ (get_or c.args.drawn.texels j 0) (get_or c.args.drawn.fronts j 0) raw
     (c.requires.front j lt)

@@ -9,7 +9,7 @@ collect_fronts-requires-clause-front g c j lt =
     let in_lanes : j < 16 = omega arith in
     let x : ℕ = span.x + c.args.first + j in
     let same_x : span.x + (c.args.first + j) ≡ x = omega arith in
-    let hue = rw same_x at (c.requires.plan.hues c.args.first j in_lanes (omega arith)) in
-    let again = c.requires.plan.shifts.value j in_lanes
+    let hue = rw same_x at (c.requires.shading.hues c.args.first j in_lanes (omega arith)) in
+    let again = c.requires.shading.shifts.value j in_lanes
     ∙ shift_again (span.brush.dither && not t.raw) span.x x span.y j (omega (arith, c.requires.whole)) in
-    rw (hue, again) at (c.fronts-front.ensures.value j in_lanes)
+    rw (hue, again) at (c.fronts-fronts.ensures.value j in_lanes)

@@ -1,0 +1,23 @@
+use Rattle.std.proofs.Common.{◌≡◌, ◌<◌, ◌+◌, ◌∙◌, arith}
+use Rattle.span_lanes.proofs.StretchLemmas.{four_texel}
+use Rattle.span_lanes.proofs.stretch.read_fours.Goals as goal
+
+pub sixteen_indexes-index-requires-clause-in_row : goal.sixteen_indexes-index-requires-clause-in_row
+sixteen_indexes-index-requires-clause-in_row g c =
+    let room = c.requires.stretch.fours c.requires.depth in
+    omega (arith, room)
+
+pub returns-clause-texels : goal.returns-clause-texels
+returns-clause-texels g c = record {
+  long = c.entries_at.ensures.long;
+  value = λ j lt.
+      let lane : j < 16 = omega arith in
+      let few = c.sixteen_indexes-index.ensures.low j lane in
+      let s = c.args.stretch.now in
+      let column : s.u + c.args.first + j ≡ s.u + (c.args.first + j) = omega arith in
+      let position = rw column at (c.sixteen_indexes-index.ensures.value j lane) in
+      four_texel c.args.span.now c.args.texture.now s _ (c.args.first + j) _ c.args.vram.now
+      c.requires.stretch c.requires.depth (omega arith) (omega arith)
+      (rw position at
+      (c.entries_at.ensures.value j lane ∙ c.sixteen_entries-entries.ensures.value _ few));
+}

@@ -1,0 +1,272 @@
+// Textured rows that read nothing that they write, whose texels stand side by side.
+ghost use Rattle.std.specs.Prelude.{◌≡◌, ◌≤◌, ◌+◌, ◌*◌, ◌%◌, true, false, length};
+ghost use Rattle.vram_store.specs.Vram.{height_of};
+ghost use Rattle.span_lanes.specs.declared.hues.Hues.TheVariants.{One};
+ghost use Rattle.span_lanes.specs.Chunk.{IsChunk, drawn_chunk};
+ghost use Rattle.span_lanes.specs.Cost.{chunk_cost, span_cost};
+ghost use Rattle.span_lanes.specs.Hues.{AreHues};
+ghost use Rattle.span_lanes.specs.Pen.{IsTint};
+ghost use Rattle.span_lanes.specs.Plan.{IsShading};
+ghost use Rattle.span_lanes.specs.Shade.{drawn_span};
+ghost use Rattle.span_lanes.specs.Stretch.{IsStretched};
+
+use crate::hues::{Hues, hues_of};
+use crate::shading::{Shading, shading_of};
+use crate::store::store_chunk;
+use crate::stretch::{Stretch, read_stretch};
+use crate::swatches::Drawn;
+use crate::textured::{collect_fronts, collect_textured};
+use crate::tint::Tint;
+use crate::{Span, Texture};
+use std::sync::ledger::Ledger;
+use vram_store::{Steps, Vram};
+
+// A chunk of texels that are drawn as they are.
+#[inline(always)]
+fn raw_chunk<L: Ledger>(
+    vram: &mut Vram,
+    span: &Span,
+    texture: &Texture,
+    stretch: &Stretch,
+    first: u16,
+    k: u8,
+    steps: &mut Steps<L>,
+)
+    requires stretched { IsStretched (height_of vram.old) span.now texture.now stretch.now }
+    requires raw { texture.now.raw ≡ true }
+    requires chunk { IsChunk span.now first k }
+    ensures cells { vram.new ≡ drawn_chunk span.now first k vram.old }
+    ensures long { length vram.new ≡ length vram.old }
+    ensures cost { steps.new ≤ steps.old + chunk_cost span.now first k }
+{
+    let texels = read_stretch(vram, span, texture, stretch, first, k, steps);
+    let drawn = Drawn {
+        texels,
+        fronts: texels,
+    };
+    let lanes = collect_fronts(vram, span, texture, drawn, first, k, steps);
+    store_chunk(vram, span, first, k, &lanes, steps);
+}
+
+// All chunks of them.
+#[inline(always)]
+fn raw_chunks<L: Ledger>(
+    vram: &mut Vram,
+    span: &Span,
+    texture: &Texture,
+    stretch: &Stretch,
+    steps: &mut Steps<L>,
+)
+    requires stretched { IsStretched (height_of vram.old) span.now texture.now stretch.now }
+    requires raw { texture.now.raw ≡ true }
+    ensures cells { vram.new ≡ drawn_span span.now span.now.n vram.old }
+    ensures long { length vram.new ≡ length vram.old }
+    ensures cost { steps.new ≤ steps.old + span_cost span.now }
+{
+    let whole = span.n / 16;
+    for c in 0..whole {
+        raw_chunk(vram, span, texture, stretch, 16 * c, 16, steps);
+    }
+    let rest = span.n % 16;
+    if rest > 0 {
+        raw_chunk(vram, span, texture, stretch, 16 * whole, rest as u8, steps);
+    }
+}
+
+// A row of texels that are drawn as they are.
+#[inline(never)]
+fn draw_raw<L: Ledger>(
+    vram: &mut Vram,
+    span: &Span,
+    texture: &Texture,
+    stretch: &Stretch,
+    steps: &mut Steps<L>,
+)
+    requires stretched { IsStretched (height_of vram.old) span.now texture.now stretch.now }
+    requires raw { texture.now.raw ≡ true }
+    ensures cells { vram.new ≡ drawn_span span.now span.now.n vram.old }
+    ensures long { length vram.new ≡ length vram.old }
+    ensures cost { steps.new ≤ steps.old + span_cost span.now }
+{
+    let span = *span;
+    let texture = Texture {
+        raw: true,
+        ..*texture
+    };
+    let stretch = *stretch;
+    raw_chunks(vram, &span, &texture, &stretch, steps);
+}
+
+// A chunk under colours.
+#[inline(always)]
+fn shaded_chunk<L: Ledger>(
+    vram: &mut Vram,
+    span: &Span,
+    texture: &Texture,
+    stretch: &Stretch,
+    shading: &Shading,
+    first: u16,
+    k: u8,
+    steps: &mut Steps<L>,
+)
+    requires stretched { IsStretched (height_of vram.old) span.now texture.now stretch.now }
+    requires shading { IsShading span.now texture.now shading.now }
+    requires chunk { IsChunk span.now first k }
+    requires whole { first % 16 ≡ 0 }
+    ensures cells { vram.new ≡ drawn_chunk span.now first k vram.old }
+    ensures long { length vram.new ≡ length vram.old }
+    ensures cost { steps.new ≤ steps.old + chunk_cost span.now first k }
+{
+    let texels = read_stretch(vram, span, texture, stretch, first, k, steps);
+    let lanes = collect_textured(vram, span, texture, shading, texels, first, k, steps);
+    store_chunk(vram, span, first, k, &lanes, steps);
+}
+
+// All chunks under colours.
+#[inline(always)]
+fn shaded_chunks<L: Ledger>(
+    vram: &mut Vram,
+    span: &Span,
+    texture: &Texture,
+    stretch: &Stretch,
+    shading: &Shading,
+    steps: &mut Steps<L>,
+)
+    requires stretched { IsStretched (height_of vram.old) span.now texture.now stretch.now }
+    requires shading { IsShading span.now texture.now shading.now }
+    ensures cells { vram.new ≡ drawn_span span.now span.now.n vram.old }
+    ensures long { length vram.new ≡ length vram.old }
+    ensures cost { steps.new ≤ steps.old + span_cost span.now }
+{
+    let whole = span.n / 16;
+    for c in 0..whole {
+        shaded_chunk(vram, span, texture, stretch, shading, 16 * c, 16, steps);
+    }
+    let rest = span.n % 16;
+    if rest > 0 {
+        shaded_chunk(
+            vram,
+            span,
+            texture,
+            stretch,
+            shading,
+            16 * whole,
+            rest as u8,
+            steps,
+        );
+    }
+}
+
+// A row under colours.
+#[inline(always)]
+fn draw_hues<L: Ledger>(
+    vram: &mut Vram,
+    span: &Span,
+    texture: &Texture,
+    stretch: &Stretch,
+    hues: Hues,
+    steps: &mut Steps<L>,
+)
+    requires stretched { IsStretched (height_of vram.old) span.now texture.now stretch.now }
+    requires raw { texture.now.raw ≡ false }
+    requires hues { AreHues span.now.paint span.now.x span.now.y span.now.n hues }
+    ensures cells { vram.new ≡ drawn_span span.now span.now.n vram.old }
+    ensures long { length vram.new ≡ length vram.old }
+    ensures cost { steps.new ≤ steps.old + span_cost span.now }
+{
+    let span = *span;
+    let texture = Texture {
+        raw: false,
+        ..*texture
+    };
+    let stretch = *stretch;
+    let shading = shading_of(&span, &texture, hues);
+    shaded_chunks(vram, &span, &texture, &stretch, &shading, steps);
+}
+
+// A row under one colour.
+#[inline(never)]
+fn draw_one<L: Ledger>(
+    vram: &mut Vram,
+    span: &Span,
+    texture: &Texture,
+    stretch: &Stretch,
+    color: u32,
+    steps: &mut Steps<L>,
+)
+    requires stretched { IsStretched (height_of vram.old) span.now texture.now stretch.now }
+    requires raw { texture.now.raw ≡ false }
+    requires hues { AreHues span.now.paint span.now.x span.now.y span.now.n (One color) }
+    ensures cells { vram.new ≡ drawn_span span.now span.now.n vram.old }
+    ensures long { length vram.new ≡ length vram.old }
+    ensures cost { steps.new ≤ steps.old + span_cost span.now }
+{
+    draw_hues(vram, span, texture, stretch, Hues::One { color }, steps);
+}
+
+// A row under several.
+#[inline(never)]
+fn draw_lines<L: Ledger>(
+    vram: &mut Vram,
+    span: &Span,
+    texture: &Texture,
+    stretch: &Stretch,
+    hues: Hues,
+    steps: &mut Steps<L>,
+)
+    requires stretched { IsStretched (height_of vram.old) span.now texture.now stretch.now }
+    requires raw { texture.now.raw ≡ false }
+    requires hues { AreHues span.now.paint span.now.x span.now.y span.now.n hues }
+    ensures cells { vram.new ≡ drawn_span span.now span.now.n vram.old }
+    ensures long { length vram.new ≡ length vram.old }
+    ensures cost { steps.new ≤ steps.old + span_cost span.now }
+{
+    draw_hues(vram, span, texture, stretch, hues, steps);
+}
+
+// A row under its colours.
+#[inline(always)]
+fn draw_shaded<L: Ledger>(
+    vram: &mut Vram,
+    span: &Span,
+    texture: &Texture,
+    stretch: &Stretch,
+    tint: &Tint,
+    steps: &mut Steps<L>,
+)
+    requires stretched { IsStretched (height_of vram.old) span.now texture.now stretch.now }
+    requires raw { texture.now.raw ≡ false }
+    requires tint { IsTint span.now.paint tint.now }
+    ensures cells { vram.new ≡ drawn_span span.now span.now.n vram.old }
+    ensures long { length vram.new ≡ length vram.old }
+    ensures cost { steps.new ≤ steps.old + span_cost span.now }
+{
+    let hues = hues_of(span, tint);
+    match hues {
+        Hues::One { color } => draw_one(vram, span, texture, stretch, color, steps),
+        Hues::Lines { .. } => draw_lines(vram, span, texture, stretch, hues, steps),
+    }
+}
+
+// A row, by whether its texels are drawn as they are.
+#[inline(always)]
+pub(crate) fn draw_stretched<L: Ledger>(
+    vram: &mut Vram,
+    span: &Span,
+    texture: &Texture,
+    stretch: &Stretch,
+    tint: &Tint,
+    steps: &mut Steps<L>,
+)
+    requires stretched { IsStretched (height_of vram.old) span.now texture.now stretch.now }
+    requires tint { IsTint span.now.paint tint.now }
+    ensures cells { vram.new ≡ drawn_span span.now span.now.n vram.old }
+    ensures long { length vram.new ≡ length vram.old }
+    ensures cost { steps.new ≤ steps.old + span_cost span.now }
+{
+    if texture.raw {
+        draw_raw(vram, span, texture, stretch, steps);
+    } else {
+        draw_shaded(vram, span, texture, stretch, tint, steps);
+    }
+}
