@@ -178,34 +178,40 @@ fn draw_clipped<L: Ledger>(
     style: &Style,
     tri: &Tri,
     steps: &mut Steps<L>,
-)
+) -> Option<Box2>
     requires rows { length vram.old ≡ 1024 * regs.now.height }
     requires drawn { is_drawn tri.now ≡ true }
+    ensures area { result ≡ triangle_box regs.now tri.now }
     ensures cells { vram.new ≡ drawn_triangle regs.now style.now tri.now vram.old }
     ensures long { length vram.new ≡ length vram.old }
     ensures cost { steps.new ≤ steps.old + triangle_cost regs.now style.now tri.now }
 {
-    if let Some(clip) = clip_of(regs, tri) {
+    let area = clip_of(regs, tri);
+    if let Some(clip) = &area {
         let coat = coat_of(regs, style, tri);
-        coat.draw_rows(vram, tri, &clip, steps);
+        coat.draw_rows(vram, tri, clip, steps);
     }
+    area
 }
 
-/// Draws a triangle.
+/// Draws a triangle, and answers its box as [`triangle_box`] does.
+#[tactic(auto, unfolding(crate::specs::Triangles::triangle_box, crate::specs::Triangles::drawn_triangle))]
 pub(crate) fn draw_triangle<L: Ledger>(
     vram: &mut Vram,
     regs: &Regs,
     style: &Style,
     corners: &Corners,
     steps: &mut Steps<L>,
-)
+) -> Option<Box2>
     requires rows { length vram.old ≡ 1024 * regs.now.height }
+    ensures area { result ≡ triangle_box regs.now corners.now }
     ensures cells { vram.new ≡ drawn_triangle regs.now style.now corners.now vram.old }
     ensures long { length vram.new ≡ length vram.old }
     ensures cost { steps.new ≤ steps.old + triangle_cost regs.now style.now corners.now }
 {
-    if let Some(tri) = Tri::new(corners.first, corners.second, corners.third) {
-        draw_clipped(vram, regs, style, &tri, steps);
+    match Tri::new(corners.first, corners.second, corners.third) {
+        None => None,
+        Some(tri) => draw_clipped(vram, regs, style, &tri, steps),
     }
 }
 
