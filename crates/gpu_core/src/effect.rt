@@ -4,17 +4,18 @@ ghost use Rattle.gp0_packets.specs.Packets.{environment_of};
 ghost use Rattle.gp0_packets.specs.Ranges.{IsInRange};
 ghost use Rattle.gp0_words.specs.Kinds.{first_len_of};
 ghost use Rattle.gp0_words.specs.declared.item.Item.TheVariants.{Whole};
+ghost use Rattle.prim_draw.specs.Areas.{area_of};
 ghost use Rattle.gpu_core.specs.Area.{note_of};
 ghost use Rattle.gpu_core.specs.Cost.{item_cost, packet_cost};
 ghost use Rattle.gpu_core.specs.Machine.{effect_of, after_item, with_page};
 
-use crate::note::{item_note, words_note};
 use crate::parts::Parts;
 use crate::transfer::start;
-use gp0_packets::{Note, Packet, decode, decode_whole};
+use gp0_packets::{Note, Packet, class_of, decode, decode_whole, head_of};
 use gp0_words::Item;
 use gp1_status::Regs;
-use prim_draw::draw;
+use prim_draw::{area_of, draw};
+use px_num::Box2;
 use std::sync::ledger::Ledger;
 use vram_copy::{copy, fill};
 use vram_store::Steps;
@@ -44,9 +45,13 @@ impl Parts {
         ensures cost { steps.new ≤ steps.old + item_cost self.old (Some item.now) }
     {
         let packet = decode(item, self.regs.is_tall());
-        let note = item_note(&self.regs, event, item, &packet);
-        self.carry_out(&packet, steps);
-        note
+        let area = self.carry_out(&packet, steps);
+        Note {
+            event,
+            class: class_of(item),
+            head: head_of(item),
+            area,
+        }
     }
 
     /// The same of the words of a packet, as many as their first asks for.
@@ -63,36 +68,68 @@ impl Parts {
         ensures cost { steps.new ≤ steps.old + item_cost self.old (Some (Whole words.now)) }
     {
         let packet = decode_whole(words, self.regs.height());
-        let note = words_note(&self.regs, event, words, &packet);
-        self.carry_out(&packet, steps);
-        note
+        let area = self.carry_out(&packet, steps);
+        let head = words[0];
+        Note {
+            event,
+            class: (head >> 29) as u8,
+            head,
+            area,
+        }
     }
 
-    /// Carries out a packet.
-    #[tactic(auto, unfolding(crate::specs::Machine::effect_of, crate::specs::Cost::packet_cost))]
-    pub(crate) fn carry_out<L: Ledger>(&mut self, packet: &Packet, steps: &mut Steps<L>)
+    /// Carries out a packet, and answers its area, which is by the registers as they were before.
+    #[tactic(auto, unfolding(crate::specs::Machine::effect_of, crate::specs::Cost::packet_cost, prim_draw::specs::Areas::area_of))]
+    pub(crate) fn carry_out<L: Ledger>(
+        &mut self,
+        packet: &Packet,
+        steps: &mut Steps<L>,
+    ) -> Option<Box2>
         requires range { IsInRange self.old.regs.height packet.now }
+        ensures area { result ≡ area_of self.old.regs packet.now }
         ensures effect { self.new ≡ effect_of self.old packet.now }
         ensures cost { steps.new ≤ steps.old + packet_cost self.old packet.now }
     {
         match *packet {
-            Packet::Fill { color, x, y, w, h } => fill(&mut self.vram, x, y, w, h, color, steps),
-            Packet::Copy { from, to, w, h } => {
-                copy(&mut self.vram, self.regs.mask(), from, to, w, h, steps);
-            }
-            Packet::Load { x, y, w, h } => self.load = start(x, y, w, h),
-            Packet::Store { x, y, w, h } => self.store = start(x, y, w, h),
-            Packet::Pixels { word } => self.take_pixels(word, steps),
-            Packet::Env { index, value } => self.regs.env(index, value),
-            Packet::Irq => self.regs.raise(),
             Packet::Poly { textured, page, .. } => {
                 put_page(&mut self.regs, textured, page);
-                draw(&mut self.vram, &self.regs, packet, steps);
+                draw(&mut self.vram, &self.regs, packet, steps)
             }
-            Packet::Segment { .. } | Packet::Rect { .. } => {
-                draw(&mut self.vram, &self.regs, packet, steps);
+            Packet::Segment { .. } | Packet::Rect { .. } => draw(
+                &mut self.vram,
+                &self.regs,
+                packet,
+                steps,
+            ),
+            Packet::Fill { color, x, y, w, h } => {
+                fill(&mut self.vram, x, y, w, h, color, steps);
+                area_of(&self.regs, packet)
             }
-            Packet::Nop | Packet::Finish => {}
+            Packet::Copy { from, to, w, h } => {
+                copy(&mut self.vram, self.regs.mask(), from, to, w, h, steps);
+                area_of(&self.regs, packet)
+            }
+            Packet::Load { x, y, w, h } => {
+                self.load = start(x, y, w, h);
+                area_of(&self.regs, packet)
+            }
+            Packet::Store { x, y, w, h } => {
+                self.store = start(x, y, w, h);
+                area_of(&self.regs, packet)
+            }
+            Packet::Pixels { word } => {
+                self.take_pixels(word, steps);
+                None
+            }
+            Packet::Env { index, value } => {
+                self.regs.env(index, value);
+                None
+            }
+            Packet::Irq => {
+                self.regs.raise();
+                None
+            }
+            Packet::Nop | Packet::Finish => None,
         }
     }
 

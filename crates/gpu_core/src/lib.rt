@@ -11,7 +11,6 @@ mod block;
 mod effect;
 mod gpu;
 pub mod laws;
-mod note;
 mod parts;
 mod transfer;
 

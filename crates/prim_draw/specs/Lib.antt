@@ -9,6 +9,7 @@ pub mod Lines
 pub mod Parts
 pub mod Rectangles
 pub mod Settings
+pub mod Solids
 pub mod Spots
 pub mod Staying
 pub mod Triangles

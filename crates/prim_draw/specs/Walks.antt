@@ -1,5 +1,6 @@
 -- The rows of a triangle, one after another.
-use Rattle.std.specs.Prelude.{ℕ, ◌+◌, ◌≤◌, ◌≡◌, Option, IfSome, pos, ◌≤ℤ◌}
+use Rattle.std.specs.Prelude.{ℕ, ◌+◌, ◌≤◌, ◌≡◌, List, Option, IfSome, length, pos, ◌≤ℤ◌}
+use Rattle.std.specs.List.{filter}
 use Rattle.px_num.specs.declared.shape.Box2.{Box2}
 use Rattle.edge_walk.specs.Triangle.{Corners}
 use Rattle.edge_walk.specs.Walk.{AreRows}
@@ -7,8 +8,10 @@ use Rattle.edge_walk.specs.declared.walk.RowWalk.{RowWalk}
 use Rattle.span_lanes.specs.Pen.{Ink}
 use Rattle.span_lanes.specs.Shade.{HasInside}
 use Rattle.span_lanes.specs.declared.span.Paint.{Paint}
-use Rattle.prim_draw.specs.Boxes.{IsOnScreen, block_of}
-use Rattle.prim_draw.specs.Triangles.{IsRun, row_inside, run_cells}
+use Rattle.prim_draw.specs.Boxes.{IsOnScreen, block_of, cells_in_rows}
+use Rattle.prim_draw.specs.Costs.{side_by_side, triangle_rows_cost}
+use Rattle.prim_draw.specs.Triangles.{IsRun, draws, painted_cells, row_inside, run_cells}
+use Rattle.prim_draw.specs.declared.boxes.Block.{Block}
 use Rattle.prim_draw.specs.declared.coat.Coat.{Coat}
 use Rattle.prim_draw.specs.declared.triangles.Run.{Run}
 
@@ -41,3 +44,24 @@ pub record CanDraw (paint : Paint) (y : ℕ) (run : Run) : Type 0 where
   pub some : 1 ≤ run.n
   pub in_row : run.x + run.n ≤ 1024
   pub inside : HasInside paint run.x y run.n
+
+-- ---- what was drawn, with video memory and the steps before and now
+
+-- a run of cells of row y, or none
+pub record DrawsRun (coat : Coat) (y : ℕ) (found : Option Run) (m now : List ℕ) (steps steps_now : ℕ) : Type 0 where
+  pub cells : now ≡ painted_cells coat (run_cells found y) m
+  pub long : length now ≡ length m
+  pub cost : steps_now ≤ steps + side_by_side coat (run_cells found y)
+
+-- the cells of the first rows of a block that are inside of a triangle
+pub record DrawsRows (coat : Coat) (t : Corners) (b : Block) (count : ℕ) (m now : List ℕ)
+    (steps steps_now : ℕ) : Type 0 where
+  pub cells : now ≡ painted_cells coat (filter (draws t) (cells_in_rows b.x b.y b.w count)) m
+  pub long : length now ≡ length m
+  pub cost : steps_now ≤ steps + triangle_rows_cost coat t b count
+
+-- the same of the first rows of a box, and a walk stands at the next one
+pub record StandsBehind (coat : Coat) (t : Corners) (clip : Box2) (b : Block) (count : ℕ) (rows : RowWalk)
+    (m now : List ℕ) (steps steps_now : ℕ) : Type 0 where
+  pub drawn : DrawsRows coat t b count m now steps steps_now
+  pub stands : AreRows t clip (pos (b.y + count)) rows

@@ -22,7 +22,8 @@ fn hull(a: &Box2, b: &Box2) -> Box2
     box_from(&first, &last)
 }
 
-fn joined(a: Option<Box2>, b: Option<Box2>) -> Option<Box2>
+/// The same where either may be none.
+pub(crate) fn joined(a: Option<Box2>, b: Option<Box2>) -> Option<Box2>
     ensures { result ≡ joined a b }
 {
     match a {

@@ -17,6 +17,7 @@ mod polygon;
 mod primitives;
 mod rectangles;
 mod settings;
+mod solid;
 mod style;
 mod triangles;
 

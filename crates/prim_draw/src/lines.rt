@@ -172,22 +172,28 @@ pub(crate) fn placed_ends(regs: &Regs, a: &Vertex, b: &Vertex) -> Ends
     }
 }
 
-/// Draws a segment.
+/// Draws a segment, and answers its box as [`segment_box`] does.
+#[tactic(auto, unfolding(crate::specs::Lines::segment_box))]
 pub(crate) fn draw_segment<L: Ledger>(
     vram: &mut Vram,
     regs: &Regs,
     semi: bool,
     ends: &Ends,
     steps: &mut Steps<L>,
-)
+) -> Option<Box2>
     requires rows { length vram.old ≡ 1024 * regs.now.height }
+    ensures area { result ≡ segment_box regs.now ends.now }
     ensures cells { vram.new ≡ drawn_ends regs.now semi ends.now vram.old }
     ensures long { length vram.new ≡ length vram.old }
     ensures cost { steps.new ≤ steps.old + ends_cost regs.now ends.now }
 {
-    if let Some(segment) = Segment::new(ends.first, ends.second) {
-        let brush = brush_in(regs, semi, true);
-        draw_points(vram, &drawing_area(regs), &brush, &segment, steps);
+    match Segment::new(ends.first, ends.second) {
+        None => None,
+        Some(segment) => {
+            let brush = brush_in(regs, semi, true);
+            draw_points(vram, &drawing_area(regs), &brush, &segment, steps);
+            clipped(regs, &ends_box(ends))
+        }
     }
 }
 

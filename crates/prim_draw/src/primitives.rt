@@ -1,10 +1,12 @@
 // What a packet draws.
 ghost use Rattle.std.specs.Prelude.{◌≡◌, ◌≤◌, ◌+◌, ◌*◌, length};
 ghost use Rattle.gp0_packets.specs.Ranges.{IsInRange, IsPolyInRange};
+ghost use Rattle.prim_draw.specs.Areas.{area_of, polygon_area};
 ghost use Rattle.prim_draw.specs.Costs.{draw_cost, polygon_cost};
 ghost use Rattle.prim_draw.specs.Draw.{drawn_packet};
 ghost use Rattle.prim_draw.specs.Triangles.{drawn_polygon};
 
+use crate::area::{area_of, joined};
 use crate::lines::{draw_segment, placed_ends};
 use crate::polygon::Polygon;
 use crate::rectangles::{extent_at, tile_in};
@@ -12,32 +14,38 @@ use crate::style::{Style, style_of};
 use crate::triangles::{draw_triangle, placed_corners};
 use gp0_packets::Packet;
 use gp1_status::Regs;
+use px_num::Box2;
 use std::sync::ledger::Ledger;
 use vram_store::{Steps, Vram};
 
-// Draws a triangle, or a quad as two.
-#[tactic(auto, unfolding(crate::specs::Triangles::drawn_polygon, crate::specs::Costs::polygon_cost))]
+// Draws a triangle, or a quad as two, and answers its area.
+#[tactic(auto, unfolding(crate::specs::Triangles::drawn_polygon, crate::specs::Costs::polygon_cost, crate::specs::Areas::polygon_area))]
 fn draw_polygon<L: Ledger>(
     vram: &mut Vram,
     regs: &Regs,
     style: &Style,
     polygon: &Polygon,
     steps: &mut Steps<L>,
-)
+) -> Option<Box2>
     requires range { IsPolyInRange polygon.now.a polygon.now.b polygon.now.c polygon.now.d }
     requires rows { length vram.old ≡ 1024 * regs.now.height }
+    ensures area { result ≡ polygon_area regs.now polygon.now }
     ensures cells { vram.new ≡ drawn_polygon regs.now style.now polygon.now vram.old }
     ensures long { length vram.new ≡ length vram.old }
     ensures cost { steps.new ≤ steps.old + polygon_cost regs.now style.now polygon.now }
 {
     let Polygon { four, a, b, c, d } = polygon;
-    draw_triangle(vram, regs, style, &placed_corners(regs, a, b, c), steps);
+    let upper = draw_triangle(vram, regs, style, &placed_corners(regs, a, b, c), steps);
     if *four {
-        draw_triangle(vram, regs, style, &placed_corners(regs, b, c, d), steps);
+        let lower = draw_triangle(vram, regs, style, &placed_corners(regs, b, c, d), steps);
+        joined(upper, lower)
+    } else {
+        upper
     }
 }
 
-/// Draws a polygon, a line or a rectangle. Any other packet changes nothing.
+/// Draws a polygon, a line or a rectangle. Any other packet changes nothing. The answer is the packet's area, as
+/// [`area_of`] gives it.
 ///
 /// The outcome is that of one pixel after another: the cells of a triangle or rectangle from the top row
 /// down and in each row from left to right, and the points of a line in their order. Texture page, depth
@@ -45,10 +53,16 @@ fn draw_polygon<L: Ledger>(
 /// before.
 ///
 /// Video memory and the registers must have the same height, and the packet be in the ranges of `decode`.
-#[tactic(auto, unfolding(crate::specs::Draw::drawn_packet, crate::specs::Costs::draw_cost))]
-pub fn draw<L: Ledger>(vram: &mut Vram, regs: &Regs, packet: &Packet, steps: &mut Steps<L>)
+#[tactic(auto, unfolding(crate::specs::Draw::drawn_packet, crate::specs::Costs::draw_cost, crate::specs::Areas::area_of))]
+pub fn draw<L: Ledger>(
+    vram: &mut Vram,
+    regs: &Regs,
+    packet: &Packet,
+    steps: &mut Steps<L>,
+) -> Option<Box2>
     requires range { IsInRange regs.now.height packet.now }
     requires rows { length vram.old ≡ 1024 * regs.now.height }
+    ensures area { result ≡ area_of regs.now packet.now }
     ensures cells { vram.new ≡ drawn_packet regs.now packet.now vram.old }
     ensures long { length vram.new ≡ length vram.old }
     ensures cost { steps.new ≤ steps.old + draw_cost regs.now packet.now }
@@ -63,10 +77,10 @@ pub fn draw<L: Ledger>(vram: &mut Vram, regs: &Regs, packet: &Packet, steps: &mu
             ..
         } => {
             let polygon = Polygon { four, a, b, c, d };
-            draw_polygon(vram, regs, &style_of(packet), &polygon, steps);
+            draw_polygon(vram, regs, &style_of(packet), &polygon, steps)
         }
         Packet::Segment { a, b, semi } => {
-            draw_segment(vram, regs, semi, &placed_ends(regs, &a, &b), steps);
+            draw_segment(vram, regs, semi, &placed_ends(regs, &a, &b), steps)
         }
         Packet::Rect {
             x,
@@ -78,7 +92,7 @@ pub fn draw<L: Ledger>(vram: &mut Vram, regs: &Regs, packet: &Packet, steps: &mu
             ..
         } => {
             let tile = tile_in(regs, &style_of(packet), u, v);
-            tile.draw(vram, regs, &extent_at(regs, x, y, w, h), steps);
+            tile.draw(vram, regs, &extent_at(regs, x, y, w, h), steps)
         }
         Packet::Nop
         | Packet::Irq
@@ -88,6 +102,6 @@ pub fn draw<L: Ledger>(vram: &mut Vram, regs: &Regs, packet: &Packet, steps: &mu
         | Packet::Store { .. }
         | Packet::Pixels { .. }
         | Packet::Finish
-        | Packet::Env { .. } => {}
+        | Packet::Env { .. } => area_of(regs, packet),
     }
 }

@@ -220,23 +220,26 @@ impl Tile {
         draw_spans(vram, &spans, steps);
     }
 
-    /// Draws a rectangle.
+    /// Draws a rectangle, and answers its box as [`rectangle_box`] does.
     pub(crate) fn draw<L: Ledger>(
         &self,
         vram: &mut Vram,
         regs: &Regs,
         extent: &Extent,
         steps: &mut Steps<L>,
-    )
+    ) -> Option<Box2>
         requires rows { length vram.old ≡ 1024 * regs.now.height }
         requires tile { IsTile regs.now.height self.now }
         requires is { IsExtent extent.now }
+        ensures area { result ≡ rectangle_box regs.now extent.now }
         ensures cells { vram.new ≡ drawn_rectangle regs.now self.now extent.now vram.old }
         ensures long { length vram.new ≡ length vram.old }
         ensures cost { steps.new ≤ steps.old + rectangle_cost regs.now self.now extent.now }
     {
-        if let Some(clip) = rectangle_box(regs, extent) {
-            self.draw_rows(vram, extent, &block_of(&clip), steps);
+        let area = rectangle_box(regs, extent);
+        if let Some(clip) = &area {
+            self.draw_rows(vram, extent, &block_of(clip), steps);
         }
+        area
     }
 }

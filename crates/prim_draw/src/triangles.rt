@@ -13,11 +13,12 @@ ghost use Rattle.prim_draw.specs.Triangles.{draws, drawn_triangle, painted_cells
 ghost use Rattle.prim_draw.specs.Triangles.{run_cells};
 ghost use Rattle.prim_draw.specs.Triangles.{triangle_box, triangle_coat, triangle_paint, FitsTriangle, IsAlike};
 ghost use Rattle.prim_draw.specs.Triangles.{IsCoat};
-ghost use Rattle.prim_draw.specs.Walks.{CanDraw, IsOnRow, TakesRow, coat_of_ink};
+ghost use Rattle.prim_draw.specs.Walks.{CanDraw, DrawsRows, DrawsRun, IsOnRow, TakesRow, coat_of_ink};
 
 use crate::boxes::{block_of, clipped};
 use crate::coat::Coat;
 use crate::settings::{brush_in, placed, texture_in};
+use crate::solid::solid_in;
 use crate::style::Style;
 use edge_walk::{RowWalk, Tri};
 use gp1_status::Regs;
@@ -66,9 +67,9 @@ pub(crate) struct Run {
     pub(crate) n: u16,
 }
 
-// The cells that a triangle draws of the row at which a walk stands, which then goes on.
+/// The cells that a triangle draws of the row at which a walk stands, which then goes on.
 #[inline(always)]
-fn next_run(rows: &mut RowWalk) -> Option<Run>
+pub(crate) fn next_run(rows: &mut RowWalk) -> Option<Run>
     requires { IsOnRow rows.old }
     ensures { TakesRow rows.old rows.new result }
 {
@@ -94,11 +95,9 @@ fn draw_run<L: Ledger>(
     requires row { y < height_of vram.old }
     requires run { IfSome found (CanDraw pen.old.ink.paint y) }
     requires fresh { IsFresh pen.old vram.old }
-    ensures cells { vram.new ≡ painted_cells (coat_of_ink pen.old.ink) (run_cells found y) vram.old }
-    ensures long { length vram.new ≡ length vram.old }
+    ensures drawn { DrawsRun (coat_of_ink pen.old.ink) y found vram.old vram.new steps.old steps.new }
     ensures ink { pen.new.ink ≡ pen.old.ink }
     ensures fresh { IsFresh pen.new vram.new }
-    ensures cost { steps.new ≤ steps.old + side_by_side (coat_of_ink pen.old.ink) (run_cells found y) }
 {
     if let Some(run) = found {
         pen.draw(vram, run.x, y, run.n, steps);
@@ -113,11 +112,8 @@ impl Coat {
         requires small { IsOnScreen 1024 clip.now }
         requires clip { IsOnScreen (height_of vram.old) clip.now }
         requires inside { LiesIn (bounding_box tri.now) clip.now }
-        ensures cells { vram.new
-            ≡ painted_cells self.now (filter (draws tri.now) (cells_of (block_of clip.now))) vram.old }
-        ensures long { length vram.new ≡ length vram.old }
-        ensures cost { steps.new
-            ≤ steps.old + triangle_rows_cost self.now tri.now (block_of clip.now) (block_of clip.now).h }
+        ensures { DrawsRows self.now tri.now (block_of clip.now) (block_of clip.now).h
+            vram.old vram.new steps.old steps.new }
     {
         let block = block_of(clip);
         let mut rows = tri.rows(clip);
@@ -172,40 +168,68 @@ fn clip_of(regs: &Regs, tri: &Tri) -> Option<Box2>
     clipped(regs, &tri.bounds())
 }
 
+// Draws the cells of a box that are inside of a triangle.
+#[inline(always)]
+fn draw_inside<L: Ledger>(
+    vram: &mut Vram,
+    regs: &Regs,
+    style: &Style,
+    tri: &Tri,
+    clip: &Box2,
+    steps: &mut Steps<L>,
+)
+    requires rows { length vram.old ≡ 1024 * regs.now.height }
+    requires small { IsOnScreen 1024 clip.now }
+    requires clip { IsOnScreen regs.now.height clip.now }
+    requires inside { LiesIn (bounding_box tri.now) clip.now }
+    ensures { DrawsRows (triangle_coat regs.now style.now tri.now) tri.now (block_of clip.now) (block_of clip.now).h
+        vram.old vram.new steps.old steps.new }
+{
+    match solid_in(regs, style) {
+        Some(solid) => solid.draw_rows(vram, tri, clip, steps),
+        None => coat_of(regs, style, tri).draw_rows(vram, tri, clip, steps),
+    }
+}
+
 fn draw_clipped<L: Ledger>(
     vram: &mut Vram,
     regs: &Regs,
     style: &Style,
     tri: &Tri,
     steps: &mut Steps<L>,
-)
+) -> Option<Box2>
     requires rows { length vram.old ≡ 1024 * regs.now.height }
     requires drawn { is_drawn tri.now ≡ true }
+    ensures area { result ≡ triangle_box regs.now tri.now }
     ensures cells { vram.new ≡ drawn_triangle regs.now style.now tri.now vram.old }
     ensures long { length vram.new ≡ length vram.old }
     ensures cost { steps.new ≤ steps.old + triangle_cost regs.now style.now tri.now }
 {
-    if let Some(clip) = clip_of(regs, tri) {
-        let coat = coat_of(regs, style, tri);
-        coat.draw_rows(vram, tri, &clip, steps);
+    let area = clip_of(regs, tri);
+    if let Some(clip) = &area {
+        draw_inside(vram, regs, style, tri, clip, steps);
     }
+    area
 }
 
-/// Draws a triangle.
+/// Draws a triangle, and answers its box as [`triangle_box`] does.
+#[tactic(auto, unfolding(crate::specs::Triangles::triangle_box, crate::specs::Triangles::drawn_triangle))]
 pub(crate) fn draw_triangle<L: Ledger>(
     vram: &mut Vram,
     regs: &Regs,
     style: &Style,
     corners: &Corners,
     steps: &mut Steps<L>,
-)
+) -> Option<Box2>
     requires rows { length vram.old ≡ 1024 * regs.now.height }
+    ensures area { result ≡ triangle_box regs.now corners.now }
     ensures cells { vram.new ≡ drawn_triangle regs.now style.now corners.now vram.old }
     ensures long { length vram.new ≡ length vram.old }
     ensures cost { steps.new ≤ steps.old + triangle_cost regs.now style.now corners.now }
 {
-    if let Some(tri) = Tri::new(corners.first, corners.second, corners.third) {
-        draw_clipped(vram, regs, style, &tri, steps);
+    match Tri::new(corners.first, corners.second, corners.third) {
+        None => None,
+        Some(tri) => draw_clipped(vram, regs, style, &tri, steps),
     }
 }
 

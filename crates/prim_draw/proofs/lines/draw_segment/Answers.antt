@@ -21,10 +21,10 @@ returns-in-Some-clause-cost g c =
     let same : c.in-Some.segment ≡ c.args.ends.now = c.in-Some.ensures.value.1 ∙ c.ends.view_is in
     rw near (rw (same, c.drawing_area.ensures.value) at c.draw_points.ensures.cost)
 
-pub returns-in_default-clause-cells : goal.returns-in_default-clause-cells
+pub returns-in-None-clause-cells : goal.returns-in-None-clause-cells
 unfolding drawn_ends
-returns-in_default-clause-cells g c =
+returns-in-None-clause-cells g c =
     let no : is_near c.args.ends.now.first c.args.ends.now.second ≡ false =
     ap (λ (s : Ends). is_near s.first s.second) (sym c.ends.view_is) ∙ sym c.new.ensures.drawn
-    ∙ ap is_some c.in_default.is in
+    ∙ ap is_some c.in-None.is in
     rw no refl

@@ -1,0 +1,23 @@
+-- Colours that each cell becomes, whatever it holds.
+use Rattle.std.specs.Prelude.{ℕ}
+use Rattle.span_lanes.specs.Lanes.{IsSolid}
+use Rattle.span_lanes.specs.declared.span.Brush.{Brush}
+use Rattle.span_lanes.specs.declared.span.Paint.{Paint}
+use Rattle.span_lanes.specs.declared.span.Paint.TheVariants.{Flat}
+use Rattle.prim_draw.specs.declared.coat.Coat.{Coat}
+use Rattle.prim_draw.specs.declared.solid.Solid.{Solid}
+
+abbrev pub flat_coat : (color : ℕ) → Brush → Coat
+flat_coat color brush = record { paint = Flat color; brush = brush }
+
+-- what cells are drawn with
+abbrev pub solid_paint : Solid → Paint
+solid_paint solid = Flat solid.color
+
+abbrev pub solid_coat : Solid → Coat
+solid_coat solid = flat_coat solid.color solid.brush
+
+-- the cells of each span become the same halfword
+abbrev pub IsEven : Solid → Type 0
+IsEven solid = (x y n : ℕ) → IsSolid
+    (record { x = x; y = y; n = n; paint = solid_paint solid; brush = solid.brush }) solid.halfword

@@ -1,0 +1,113 @@
+// Triangles whose cells all become one halfword.
+ghost use Rattle.std.specs.Prelude.{◌≡◌, ◌≤◌, ◌<◌, ℕ, IfSome};
+ghost use Rattle.vram_store.specs.Vram.{height_of};
+ghost use Rattle.edge_walk.specs.Extent.{bounding_box};
+ghost use Rattle.edge_walk.specs.Triangle.{Corners};
+ghost use Rattle.prim_draw.specs.Boxes.{IsOnScreen, LiesIn, block_of};
+ghost use Rattle.prim_draw.specs.Triangles.{IsCoat, triangle_coat};
+ghost use Rattle.prim_draw.specs.Solids.{IsEven, flat_coat, solid_coat, solid_paint};
+ghost use Rattle.prim_draw.specs.Walks.{CanDraw, DrawsRows, DrawsRun};
+
+use crate::boxes::block_of;
+use crate::settings::brush_in;
+use crate::style::Style;
+use crate::triangles::{Run, next_run};
+use edge_walk::Tri;
+use gp1_status::Regs;
+use px_num::Box2;
+use span_lanes::{Brush, Paint, Span, draw_solid, solid_of};
+use std::sync::ledger::Ledger;
+use vram_store::{Steps, Vram};
+
+/// A colour that each cell becomes, whatever it holds, and the halfword that it is there.
+#[derive(Clone, Copy)]
+pub(crate) struct Solid {
+    /// The colour.
+    pub(crate) color: u32,
+    /// How it comes to the cells.
+    pub(crate) brush: Brush,
+    /// What is written.
+    pub(crate) halfword: u16,
+}
+
+/// The colour of a triangle, where each of its cells becomes the same halfword.
+#[inline(always)]
+#[tactic(auto, unfolding(crate::specs::Triangles::triangle_coat, crate::specs::Triangles::triangle_paint))]
+pub(crate) fn solid_in(regs: &Regs, style: &Style) -> Option<Solid>
+    ensures even { IfSome result IsEven }
+    ensures coat { IfSome result (λ solid. IsCoat regs.now.height (solid_coat solid)) }
+    ensures value { IfSome result (λ solid. (t : Corners)
+        → solid_coat solid ≡ triangle_coat regs.now style.now t) }
+{
+    if style.textured || style.shaded {
+        None
+    } else {
+        solid_flat(style.color, &brush_in(regs, style.semi, false))
+    }
+}
+
+// A colour and a brush, where each cell becomes the same halfword.
+#[inline(always)]
+fn solid_flat(color: u32, brush: &Brush) -> Option<Solid>
+    requires mask { brush.now.mask ≤ 3 }
+    requires mode { brush.now.mode ≤ 3 }
+    ensures even { IfSome result IsEven }
+    ensures coat { (height : ℕ) → IfSome result (λ solid. IsCoat height (solid_coat solid)) }
+    ensures value { IfSome result (λ solid. solid_coat solid ≡ flat_coat color brush.now) }
+{
+    match solid_of(&Paint::Flat { color }, brush) {
+        None => None,
+        Some(halfword) => Some(Solid {
+            color,
+            brush: *brush,
+            halfword,
+        }),
+    }
+}
+
+impl Solid {
+    // Draws a run of cells, or none.
+    #[inline(always)]
+    fn draw_run<L: Ledger>(&self, vram: &mut Vram, found: Option<Run>, y: u16, steps: &mut Steps<L>)
+        requires even { IsEven self.now }
+        requires coat { IsCoat (height_of vram.old) (solid_coat self.now) }
+        requires row { y < height_of vram.old }
+        requires run { IfSome found (CanDraw (solid_paint self.now) y) }
+        ensures { DrawsRun (solid_coat self.now) y found vram.old vram.new steps.old steps.new }
+    {
+        if let Some(run) = found {
+            let span = Span {
+                x: run.x,
+                y,
+                n: run.n,
+                paint: Paint::Flat { color: self.color },
+                brush: self.brush,
+            };
+            draw_solid(vram, &span, self.halfword, steps);
+        }
+    }
+
+    /// Draws the cells of a box that are inside of a triangle.
+    pub(crate) fn draw_rows<L: Ledger>(
+        &self,
+        vram: &mut Vram,
+        tri: &Tri,
+        clip: &Box2,
+        steps: &mut Steps<L>,
+    )
+        requires even { IsEven self.now }
+        requires coat { IsCoat (height_of vram.old) (solid_coat self.now) }
+        requires small { IsOnScreen 1024 clip.now }
+        requires clip { IsOnScreen (height_of vram.old) clip.now }
+        requires inside { LiesIn (bounding_box tri.now) clip.now }
+        ensures { DrawsRows (solid_coat self.now) tri.now (block_of clip.now) (block_of clip.now).h
+            vram.old vram.new steps.old steps.new }
+    {
+        let block = block_of(clip);
+        let mut rows = tri.rows(clip);
+        for j in 0..block.h {
+            let run = next_run(&mut rows);
+            self.draw_run(vram, run, block.y + j, steps);
+        }
+    }
+}
