@@ -19,7 +19,25 @@ use crate::textured::{collect_fronts, collect_textured};
 use crate::tint::Tint;
 use crate::{Span, Texture};
 use std::sync::ledger::Ledger;
+use texture_page::Page;
 use vram_store::{Steps, Vram};
+
+// A texture, of which it is known how many bits a texel has and whether it is drawn as it is: each has loops of its own.
+#[inline(always)]
+fn known(texture: &Texture, depth: u8, raw: bool) -> Texture
+    requires depth { texture.now.page.depth ≡ depth }
+    requires raw { texture.now.raw ≡ raw }
+    ensures { result ≡ texture.now }
+{
+    Texture {
+        page: Page {
+            depth,
+            ..texture.page
+        },
+        raw,
+        ..*texture
+    }
+}
 
 // A chunk of texels that are drawn as they are.
 #[inline(always)]
@@ -89,12 +107,12 @@ fn draw_raw<L: Ledger>(
     ensures cost { steps.new ≤ steps.old + span_cost span.now }
 {
     let span = *span;
-    let texture = Texture {
-        raw: true,
-        ..*texture
-    };
     let stretch = *stretch;
-    raw_chunks(vram, &span, &texture, &stretch, steps);
+    match texture.page.depth {
+        0 => raw_chunks(vram, &span, &known(texture, 0, true), &stretch, steps),
+        1 => raw_chunks(vram, &span, &known(texture, 1, true), &stretch, steps),
+        depth => raw_chunks(vram, &span, &known(texture, depth, true), &stretch, steps),
+    }
 }
 
 // A chunk under colours.
@@ -175,13 +193,34 @@ fn draw_hues<L: Ledger>(
     ensures cost { steps.new ≤ steps.old + span_cost span.now }
 {
     let span = *span;
-    let texture = Texture {
-        raw: false,
-        ..*texture
-    };
     let stretch = *stretch;
-    let shading = shading_of(&span, &texture, hues);
-    shaded_chunks(vram, &span, &texture, &stretch, &shading, steps);
+    let shading = shading_of(&span, texture, hues);
+    match texture.page.depth {
+        0 => shaded_chunks(
+            vram,
+            &span,
+            &known(texture, 0, false),
+            &stretch,
+            &shading,
+            steps,
+        ),
+        1 => shaded_chunks(
+            vram,
+            &span,
+            &known(texture, 1, false),
+            &stretch,
+            &shading,
+            steps,
+        ),
+        depth => shaded_chunks(
+            vram,
+            &span,
+            &known(texture, depth, false),
+            &stretch,
+            &shading,
+            steps,
+        ),
+    }
 }
 
 // A row under one colour.
