@@ -1,16 +1,15 @@
 // Textured rows that read nothing that they write, whose texels stand side by side.
 ghost use Rattle.std.specs.Prelude.{◌≡◌, ◌≤◌, ◌+◌, ◌*◌, ◌%◌, true, false, length};
 ghost use Rattle.vram_store.specs.Vram.{height_of};
-ghost use Rattle.span_lanes.specs.declared.hues.Hues.TheVariants.{One};
 ghost use Rattle.span_lanes.specs.Chunk.{IsChunk, drawn_chunk};
 ghost use Rattle.span_lanes.specs.Cost.{chunk_cost, span_cost};
-ghost use Rattle.span_lanes.specs.Hues.{AreHues};
 ghost use Rattle.span_lanes.specs.Pen.{IsTint};
 ghost use Rattle.span_lanes.specs.Plan.{IsShading};
 ghost use Rattle.span_lanes.specs.Shade.{drawn_span};
 ghost use Rattle.span_lanes.specs.Stretch.{IsStretched};
 
-use crate::hues::{Hues, hues_of};
+use crate::hues::hues_of;
+use crate::plainly::{is_plain, plain};
 use crate::shading::{Shading, shading_of};
 use crate::store::store_chunk;
 use crate::stretch::{Stretch, read_stretch};
@@ -91,6 +90,29 @@ fn raw_chunks<L: Ledger>(
     }
 }
 
+// The same, by whether pixels are stored as they are.
+#[inline(always)]
+fn raw_by_brush<L: Ledger>(
+    vram: &mut Vram,
+    span: &Span,
+    texture: &Texture,
+    stretch: &Stretch,
+    steps: &mut Steps<L>,
+)
+    requires stretched { IsStretched (height_of vram.old) span.now texture.now stretch.now }
+    requires raw { texture.now.raw ≡ true }
+    ensures cells { vram.new ≡ drawn_span span.now span.now.n vram.old }
+    ensures long { length vram.new ≡ length vram.old }
+    ensures cost { steps.new ≤ steps.old + span_cost span.now }
+{
+    if is_plain(&span.brush) {
+        raw_chunks(vram, &plain(span), texture, stretch, steps);
+    } else {
+        let span = *span;
+        raw_chunks(vram, &span, texture, stretch, steps);
+    }
+}
+
 // A row of texels that are drawn as they are.
 #[inline(never)]
 fn draw_raw<L: Ledger>(
@@ -106,12 +128,11 @@ fn draw_raw<L: Ledger>(
     ensures long { length vram.new ≡ length vram.old }
     ensures cost { steps.new ≤ steps.old + span_cost span.now }
 {
-    let span = *span;
     let stretch = *stretch;
     match texture.page.depth {
-        0 => raw_chunks(vram, &span, &known(texture, 0, true), &stretch, steps),
-        1 => raw_chunks(vram, &span, &known(texture, 1, true), &stretch, steps),
-        depth => raw_chunks(vram, &span, &known(texture, depth, true), &stretch, steps),
+        0 => raw_by_brush(vram, span, &known(texture, 0, true), &stretch, steps),
+        1 => raw_by_brush(vram, span, &known(texture, 1, true), &stretch, steps),
+        depth => raw_by_brush(vram, span, &known(texture, depth, true), &stretch, steps),
     }
 }
 
@@ -175,96 +196,32 @@ fn shaded_chunks<L: Ledger>(
     }
 }
 
-// A row under colours.
+// The same, by whether pixels are stored as they are.
 #[inline(always)]
-fn draw_hues<L: Ledger>(
+fn shaded_by_brush<L: Ledger>(
     vram: &mut Vram,
     span: &Span,
     texture: &Texture,
     stretch: &Stretch,
-    hues: Hues,
+    shading: &Shading,
     steps: &mut Steps<L>,
 )
     requires stretched { IsStretched (height_of vram.old) span.now texture.now stretch.now }
-    requires raw { texture.now.raw ≡ false }
-    requires hues { AreHues span.now.paint span.now.x span.now.y span.now.n hues }
+    requires shading { IsShading span.now texture.now shading.now }
     ensures cells { vram.new ≡ drawn_span span.now span.now.n vram.old }
     ensures long { length vram.new ≡ length vram.old }
     ensures cost { steps.new ≤ steps.old + span_cost span.now }
 {
-    let span = *span;
-    let stretch = *stretch;
-    let shading = shading_of(&span, texture, hues);
-    match texture.page.depth {
-        0 => shaded_chunks(
-            vram,
-            &span,
-            &known(texture, 0, false),
-            &stretch,
-            &shading,
-            steps,
-        ),
-        1 => shaded_chunks(
-            vram,
-            &span,
-            &known(texture, 1, false),
-            &stretch,
-            &shading,
-            steps,
-        ),
-        depth => shaded_chunks(
-            vram,
-            &span,
-            &known(texture, depth, false),
-            &stretch,
-            &shading,
-            steps,
-        ),
+    if is_plain(&span.brush) {
+        shaded_chunks(vram, &plain(span), texture, stretch, shading, steps);
+    } else {
+        let span = *span;
+        shaded_chunks(vram, &span, texture, stretch, shading, steps);
     }
 }
 
-// A row under one colour.
-#[inline(never)]
-fn draw_one<L: Ledger>(
-    vram: &mut Vram,
-    span: &Span,
-    texture: &Texture,
-    stretch: &Stretch,
-    color: u32,
-    steps: &mut Steps<L>,
-)
-    requires stretched { IsStretched (height_of vram.old) span.now texture.now stretch.now }
-    requires raw { texture.now.raw ≡ false }
-    requires hues { AreHues span.now.paint span.now.x span.now.y span.now.n (One color) }
-    ensures cells { vram.new ≡ drawn_span span.now span.now.n vram.old }
-    ensures long { length vram.new ≡ length vram.old }
-    ensures cost { steps.new ≤ steps.old + span_cost span.now }
-{
-    draw_hues(vram, span, texture, stretch, Hues::One { color }, steps);
-}
-
-// A row under several.
-#[inline(never)]
-fn draw_lines<L: Ledger>(
-    vram: &mut Vram,
-    span: &Span,
-    texture: &Texture,
-    stretch: &Stretch,
-    hues: Hues,
-    steps: &mut Steps<L>,
-)
-    requires stretched { IsStretched (height_of vram.old) span.now texture.now stretch.now }
-    requires raw { texture.now.raw ≡ false }
-    requires hues { AreHues span.now.paint span.now.x span.now.y span.now.n hues }
-    ensures cells { vram.new ≡ drawn_span span.now span.now.n vram.old }
-    ensures long { length vram.new ≡ length vram.old }
-    ensures cost { steps.new ≤ steps.old + span_cost span.now }
-{
-    draw_hues(vram, span, texture, stretch, hues, steps);
-}
-
 // A row under its colours.
-#[inline(always)]
+#[inline(never)]
 fn draw_shaded<L: Ledger>(
     vram: &mut Vram,
     span: &Span,
@@ -280,10 +237,33 @@ fn draw_shaded<L: Ledger>(
     ensures long { length vram.new ≡ length vram.old }
     ensures cost { steps.new ≤ steps.old + span_cost span.now }
 {
-    let hues = hues_of(span, tint);
-    match hues {
-        Hues::One { color } => draw_one(vram, span, texture, stretch, color, steps),
-        Hues::Lines { .. } => draw_lines(vram, span, texture, stretch, hues, steps),
+    let stretch = *stretch;
+    let shading = shading_of(span, texture, hues_of(span, tint));
+    match texture.page.depth {
+        0 => shaded_by_brush(
+            vram,
+            span,
+            &known(texture, 0, false),
+            &stretch,
+            &shading,
+            steps,
+        ),
+        1 => shaded_by_brush(
+            vram,
+            span,
+            &known(texture, 1, false),
+            &stretch,
+            &shading,
+            steps,
+        ),
+        depth => shaded_by_brush(
+            vram,
+            span,
+            &known(texture, depth, false),
+            &stretch,
+            &shading,
+            steps,
+        ),
     }
 }
 
