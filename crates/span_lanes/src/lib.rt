@@ -27,6 +27,7 @@ mod pen;
 mod pixel;
 mod places;
 mod plain;
+mod plainly;
 mod plan;
 mod row;
 mod shading;

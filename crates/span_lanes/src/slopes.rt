@@ -7,7 +7,6 @@ ghost use Rattle.span_lanes.specs.Shade.{attribute_in};
 
 use crate::Paint;
 use crate::hues::line_of;
-use crate::tint::plane_of;
 use edge_walk::{Plane, Tri};
 
 // Both coordinates over a triangle.
@@ -22,9 +21,10 @@ pub(crate) struct Slopes {
 fn tri_slopes(tri: &Tri) -> Slopes
     ensures { AreSlopes tri.now result }
 {
+    let divisor = tri.area_divisor();
     Slopes {
-        u: plane_of(tri, 3),
-        v: plane_of(tri, 4),
+        u: tri.plane(3, &divisor),
+        v: tri.plane(4, &divisor),
         unscaled: tri.is_unscaled(),
     }
 }

@@ -1,16 +1,15 @@
 // Textured rows that read nothing that they write, whose texels stand side by side.
 ghost use Rattle.std.specs.Prelude.{◌≡◌, ◌≤◌, ◌+◌, ◌*◌, ◌%◌, true, false, length};
 ghost use Rattle.vram_store.specs.Vram.{height_of};
-ghost use Rattle.span_lanes.specs.declared.hues.Hues.TheVariants.{One};
 ghost use Rattle.span_lanes.specs.Chunk.{IsChunk, drawn_chunk};
 ghost use Rattle.span_lanes.specs.Cost.{chunk_cost, span_cost};
-ghost use Rattle.span_lanes.specs.Hues.{AreHues};
 ghost use Rattle.span_lanes.specs.Pen.{IsTint};
 ghost use Rattle.span_lanes.specs.Plan.{IsShading};
 ghost use Rattle.span_lanes.specs.Shade.{drawn_span};
 ghost use Rattle.span_lanes.specs.Stretch.{IsStretched};
 
-use crate::hues::{Hues, hues_of};
+use crate::hues::hues_of;
+use crate::plainly::{is_plain, plain};
 use crate::shading::{Shading, shading_of};
 use crate::store::store_chunk;
 use crate::stretch::{Stretch, read_stretch};
@@ -19,7 +18,25 @@ use crate::textured::{collect_fronts, collect_textured};
 use crate::tint::Tint;
 use crate::{Span, Texture};
 use std::sync::ledger::Ledger;
+use texture_page::Page;
 use vram_store::{Steps, Vram};
+
+// A texture, of which it is known how many bits a texel has and whether it is drawn as it is: each has loops of its own.
+#[inline(always)]
+fn known(texture: &Texture, depth: u8, raw: bool) -> Texture
+    requires depth { texture.now.page.depth ≡ depth }
+    requires raw { texture.now.raw ≡ raw }
+    ensures { result ≡ texture.now }
+{
+    Texture {
+        page: Page {
+            depth,
+            ..texture.page
+        },
+        raw,
+        ..*texture
+    }
+}
 
 // A chunk of texels that are drawn as they are.
 #[inline(always)]
@@ -73,6 +90,29 @@ fn raw_chunks<L: Ledger>(
     }
 }
 
+// The same, by whether pixels are stored as they are.
+#[inline(always)]
+fn raw_by_brush<L: Ledger>(
+    vram: &mut Vram,
+    span: &Span,
+    texture: &Texture,
+    stretch: &Stretch,
+    steps: &mut Steps<L>,
+)
+    requires stretched { IsStretched (height_of vram.old) span.now texture.now stretch.now }
+    requires raw { texture.now.raw ≡ true }
+    ensures cells { vram.new ≡ drawn_span span.now span.now.n vram.old }
+    ensures long { length vram.new ≡ length vram.old }
+    ensures cost { steps.new ≤ steps.old + span_cost span.now }
+{
+    if is_plain(&span.brush) {
+        raw_chunks(vram, &plain(span), texture, stretch, steps);
+    } else {
+        let span = *span;
+        raw_chunks(vram, &span, texture, stretch, steps);
+    }
+}
+
 // A row of texels that are drawn as they are.
 #[inline(never)]
 fn draw_raw<L: Ledger>(
@@ -88,13 +128,12 @@ fn draw_raw<L: Ledger>(
     ensures long { length vram.new ≡ length vram.old }
     ensures cost { steps.new ≤ steps.old + span_cost span.now }
 {
-    let span = *span;
-    let texture = Texture {
-        raw: true,
-        ..*texture
-    };
     let stretch = *stretch;
-    raw_chunks(vram, &span, &texture, &stretch, steps);
+    match texture.page.depth {
+        0 => raw_by_brush(vram, span, &known(texture, 0, true), &stretch, steps),
+        1 => raw_by_brush(vram, span, &known(texture, 1, true), &stretch, steps),
+        depth => raw_by_brush(vram, span, &known(texture, depth, true), &stretch, steps),
+    }
 }
 
 // A chunk under colours.
@@ -157,75 +196,32 @@ fn shaded_chunks<L: Ledger>(
     }
 }
 
-// A row under colours.
+// The same, by whether pixels are stored as they are.
 #[inline(always)]
-fn draw_hues<L: Ledger>(
+fn shaded_by_brush<L: Ledger>(
     vram: &mut Vram,
     span: &Span,
     texture: &Texture,
     stretch: &Stretch,
-    hues: Hues,
+    shading: &Shading,
     steps: &mut Steps<L>,
 )
     requires stretched { IsStretched (height_of vram.old) span.now texture.now stretch.now }
-    requires raw { texture.now.raw ≡ false }
-    requires hues { AreHues span.now.paint span.now.x span.now.y span.now.n hues }
+    requires shading { IsShading span.now texture.now shading.now }
     ensures cells { vram.new ≡ drawn_span span.now span.now.n vram.old }
     ensures long { length vram.new ≡ length vram.old }
     ensures cost { steps.new ≤ steps.old + span_cost span.now }
 {
-    let span = *span;
-    let texture = Texture {
-        raw: false,
-        ..*texture
-    };
-    let stretch = *stretch;
-    let shading = shading_of(&span, &texture, hues);
-    shaded_chunks(vram, &span, &texture, &stretch, &shading, steps);
-}
-
-// A row under one colour.
-#[inline(never)]
-fn draw_one<L: Ledger>(
-    vram: &mut Vram,
-    span: &Span,
-    texture: &Texture,
-    stretch: &Stretch,
-    color: u32,
-    steps: &mut Steps<L>,
-)
-    requires stretched { IsStretched (height_of vram.old) span.now texture.now stretch.now }
-    requires raw { texture.now.raw ≡ false }
-    requires hues { AreHues span.now.paint span.now.x span.now.y span.now.n (One color) }
-    ensures cells { vram.new ≡ drawn_span span.now span.now.n vram.old }
-    ensures long { length vram.new ≡ length vram.old }
-    ensures cost { steps.new ≤ steps.old + span_cost span.now }
-{
-    draw_hues(vram, span, texture, stretch, Hues::One { color }, steps);
-}
-
-// A row under several.
-#[inline(never)]
-fn draw_lines<L: Ledger>(
-    vram: &mut Vram,
-    span: &Span,
-    texture: &Texture,
-    stretch: &Stretch,
-    hues: Hues,
-    steps: &mut Steps<L>,
-)
-    requires stretched { IsStretched (height_of vram.old) span.now texture.now stretch.now }
-    requires raw { texture.now.raw ≡ false }
-    requires hues { AreHues span.now.paint span.now.x span.now.y span.now.n hues }
-    ensures cells { vram.new ≡ drawn_span span.now span.now.n vram.old }
-    ensures long { length vram.new ≡ length vram.old }
-    ensures cost { steps.new ≤ steps.old + span_cost span.now }
-{
-    draw_hues(vram, span, texture, stretch, hues, steps);
+    if is_plain(&span.brush) {
+        shaded_chunks(vram, &plain(span), texture, stretch, shading, steps);
+    } else {
+        let span = *span;
+        shaded_chunks(vram, &span, texture, stretch, shading, steps);
+    }
 }
 
 // A row under its colours.
-#[inline(always)]
+#[inline(never)]
 fn draw_shaded<L: Ledger>(
     vram: &mut Vram,
     span: &Span,
@@ -241,10 +237,33 @@ fn draw_shaded<L: Ledger>(
     ensures long { length vram.new ≡ length vram.old }
     ensures cost { steps.new ≤ steps.old + span_cost span.now }
 {
-    let hues = hues_of(span, tint);
-    match hues {
-        Hues::One { color } => draw_one(vram, span, texture, stretch, color, steps),
-        Hues::Lines { .. } => draw_lines(vram, span, texture, stretch, hues, steps),
+    let stretch = *stretch;
+    let shading = shading_of(span, texture, hues_of(span, tint));
+    match texture.page.depth {
+        0 => shaded_by_brush(
+            vram,
+            span,
+            &known(texture, 0, false),
+            &stretch,
+            &shading,
+            steps,
+        ),
+        1 => shaded_by_brush(
+            vram,
+            span,
+            &known(texture, 1, false),
+            &stretch,
+            &shading,
+            steps,
+        ),
+        depth => shaded_by_brush(
+            vram,
+            span,
+            &known(texture, depth, false),
+            &stretch,
+            &shading,
+            steps,
+        ),
     }
 }
 

@@ -15,6 +15,7 @@ ghost use Rattle.span_lanes.specs.Swatches.{AreColored, IsKept, SuitsPalette};
 
 use crate::beside::sixteen_indexes;
 use crate::nibbles::entries_at;
+use crate::plainly::{is_plain, plain};
 use crate::shading::is_dithered;
 use crate::store::store_chunk;
 use crate::stretch::Stretch;
@@ -116,6 +117,29 @@ fn draw_chunks<L: Ledger>(
     }
 }
 
+// The same, by whether pixels are stored as they are.
+#[inline(always)]
+fn draw_by_brush<L: Ledger>(
+    vram: &mut Vram,
+    span: &Span,
+    texture: &Texture,
+    strip: &Strip,
+    steps: &mut Steps<L>,
+)
+    requires strip { IsStrip span.now texture.now vram.old strip.now }
+    ensures cells { vram.new ≡ drawn_span span.now span.now.n vram.old }
+    ensures long { length vram.new ≡ length vram.old }
+    ensures strip { IsStrip span.now texture.now vram.new strip.now }
+    ensures cost { steps.new + 1 ≤ steps.old + span_cost span.now }
+{
+    if is_plain(&span.brush) {
+        draw_chunks(vram, &plain(span), texture, strip, steps);
+    } else {
+        let span = *span;
+        draw_chunks(vram, &span, texture, strip, steps);
+    }
+}
+
 // The same, by whether the texels are drawn as they are.
 #[inline(always)]
 fn draw_by_raw<L: Ledger>(
@@ -131,19 +155,18 @@ fn draw_by_raw<L: Ledger>(
     ensures strip { IsStrip span.now texture.now vram.new strip.now }
     ensures cost { steps.new + 1 ≤ steps.old + span_cost span.now }
 {
-    let span = *span;
     if texture.raw {
         let texture = Texture {
             raw: true,
             ..*texture
         };
-        draw_chunks(vram, &span, &texture, strip, steps);
+        draw_by_brush(vram, span, &texture, strip, steps);
     } else {
         let texture = Texture {
             raw: false,
             ..*texture
         };
-        draw_chunks(vram, &span, &texture, strip, steps);
+        draw_by_brush(vram, span, &texture, strip, steps);
     }
 }
 

@@ -1,7 +1,4 @@
 // The colours of a paint.
-ghost use Rattle.std.specs.Prelude.{◌≡◌, ◌≤◌};
-ghost use Rattle.edge_walk.specs.Plane.{IsPlane};
-ghost use Rattle.edge_walk.specs.Held.{divisor_for};
 ghost use Rattle.span_lanes.specs.Pen.{IsTint, IsTintOf};
 
 use crate::Paint;
@@ -20,22 +17,14 @@ pub(crate) enum Tint {
     },
 }
 
-// An attribute of a triangle.
-pub(crate) fn plane_of(tri: &Tri, which: u8) -> Plane
-    requires which { which ≤ 4 }
-    ensures { IsPlane tri.now which result }
-{
-    let divisor = tri.area_divisor();
-    tri.plane(which, &divisor)
-}
-
 fn tri_planes(tri: &Tri) -> Tint
     ensures { IsTintOf tri.now result }
 {
+    let divisor = tri.area_divisor();
     Tint::Planes {
-        red: plane_of(tri, 0),
-        green: plane_of(tri, 1),
-        blue: plane_of(tri, 2),
+        red: tri.plane(0, &divisor),
+        green: tri.plane(1, &divisor),
+        blue: tri.plane(2, &divisor),
     }
 }
 

@@ -1,0 +1,30 @@
+// Spans whose pixels are stored as they are.
+ghost use Rattle.std.specs.Prelude.{◌≡◌, IsTrue, false};
+
+use crate::{Brush, Span};
+
+// Whether pixels are neither blended nor tested, and no bit is set.
+#[inline(always)]
+pub(crate) fn is_plain(brush: &Brush) -> bool
+    ensures mask { IsTrue result → brush.now.mask ≡ 0 }
+    ensures semi { IsTrue result → brush.now.semi ≡ false }
+{
+    brush.mask == 0 && !brush.semi
+}
+
+// A span of which that is known: such spans have loops of their own.
+#[inline(always)]
+pub(crate) fn plain(span: &Span) -> Span
+    requires mask { span.now.brush.mask ≡ 0 }
+    requires semi { span.now.brush.semi ≡ false }
+    ensures { result ≡ span.now }
+{
+    Span {
+        brush: Brush {
+            mask: 0,
+            semi: false,
+            ..span.brush
+        },
+        ..*span
+    }
+}
