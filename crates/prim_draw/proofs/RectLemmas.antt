@@ -144,9 +144,12 @@ module _ (tile : Tile) (e : Extent) (b : Block) (columns rows : ℕ) (left : e.l
   pub are_spans : (height : ℕ) → IsTile height tile → IsBlock 1024 b → IsBlock height b
       → AreSpans height (tile_spans tile b columns rows)
   are_spans height is small block = record {
-    short = small.bottom;
-    each = λ j lt. subst (λ (s : Span). IsSpan s) (sym (nth_is j (omega (arith, lt))))
-        (can_span tile e b (b.y + j) height is small);
+    below = record {
+      some = small.rows;
+      short = small.bottom;
+      each = λ j lt. subst (λ (s : Span). IsSpan s) (sym (nth_is j (omega (arith, lt))))
+          (can_span tile e b (b.y + j) height is small);
+    };
     lie = λ j lt. subst (λ (s : Span). LiesIn height s) (sym (nth_is j (omega (arith, lt))))
         (span_lies tile e b (b.y + j) height is (omega (arith, lt, block.bottom)));
   }

@@ -13,6 +13,7 @@ pub mod Shade
 pub mod Spans
 pub mod Stretch
 pub mod Strip
+pub mod Strips
 pub mod Swatches
 pub mod Texels
 pub mod Track

@@ -39,8 +39,13 @@ abbrev pub rows_cost : Spans → ℕ → ℕ
 rows_cost spans zero = 0
 rows_cost spans (suc j) = rows_cost spans j + span_cost (nth_span spans j)
 
--- spans that can be drawn in video memory of a height
-pub record AreSpans (height : ℕ) (spans : Spans) : Type 0 where
+-- at least one span, none below row 1023, each such as there are
+pub record AreBelow (spans : Spans) : Type 0 where
+  pub some : 1 ≤ spans.rows
   pub short : spans.first.y + spans.rows ≤ 1024
   pub each : (j : ℕ) → j < spans.rows → IsSpan (nth_span spans j)
+
+-- spans that can be drawn in video memory of a height
+pub record AreSpans (height : ℕ) (spans : Spans) : Type 0 where
+  pub below : AreBelow spans
   pub lie : (j : ℕ) → j < spans.rows → LiesIn height (nth_span spans j)

@@ -1,8 +1,10 @@
 // Spans that lie apart from their texels and from their palette.
-ghost use Rattle.std.specs.Prelude.{◌≡◌, ◌≢◌, ◌≤◌, ◌<◌, ◌+◌, ◌/◌, ◌%◌, ◌⊎◌, ◌↔◌, Some, IsTrue};
+ghost use Rattle.std.specs.Prelude.{ℕ, ◌≡◌, ◌≢◌, ◌≤◌, ◌<◌, ◌+◌, ◌/◌, ◌%◌, ◌⊎◌, ◌↔◌, Some, IsTrue};
 ghost use Rattle.span_lanes.specs.Shade.{IsSpan, IsTexture, texture_of};
 ghost use Rattle.span_lanes.specs.Guard.{IsApart, page_width};
+ghost use Rattle.span_lanes.specs.Spans.{nth_span, AreBelow};
 
+use crate::spans::Spans;
 use crate::{Span, Texture};
 
 // Whether n cells from x on are none of those of a strip that does not wrap.
@@ -60,4 +62,41 @@ pub(crate) fn is_apart(span: &Span, texture: &Texture) -> bool
     ensures palette { IsTrue result → texture.now.page.depth ≡ 0 → texture.now.clut / 64 % 512 ≢ span.now.y }
 {
     is_beside_page(span, texture) && is_off_palette(span, texture)
+}
+
+// Whether the rows of spans are all above or below the rows of a page, or their columns beside it.
+fn are_beside_page(spans: &Spans, texture: &Texture) -> bool
+    requires spans { AreBelow spans.now }
+    requires texture { IsTexture texture.now }
+    ensures { IsTrue result → (j : ℕ) → j < spans.now.rows
+        → (((spans.now.first.y + j < texture.now.page.y) ⊎ (texture.now.page.y + 255 < spans.now.first.y + j))
+        ⊎ ((texture.now.page.x + page_width texture.now.page.depth ≤ 1024)
+        × ((spans.now.first.x + spans.now.first.n ≤ texture.now.page.x)
+        ⊎ (texture.now.page.x + page_width texture.now.page.depth ≤ spans.now.first.x)))) }
+{
+    let Span { x, y, n, .. } = spans.first;
+    let page = texture.page;
+    y + spans.rows <= page.y || page.y + 255 < y || lies_beside(page.x, width_of(page.depth), x, n)
+}
+
+// Whether the palette, if there is one, has a row that is none of the spans'.
+fn are_off_palette(spans: &Spans, texture: &Texture) -> bool
+    requires spans { AreBelow spans.now }
+    ensures { IsTrue result → (j : ℕ) → j < spans.now.rows
+        → (2 ≤ texture.now.page.depth) ⊎ (texture.now.clut / 64 % 512 ≢ spans.now.first.y + j) }
+{
+    let y = spans.first.y;
+    let palette = texture.clut / 64 % 512;
+    texture.page.depth >= 2 || palette < y || y + spans.rows <= palette
+}
+
+// Whether spans are known to read nothing that they write.
+pub(crate) fn are_apart(spans: &Spans, texture: &Texture) -> bool
+    requires spans { AreBelow spans.now }
+    requires texture { (j : ℕ) → texture_of (nth_span spans.now j).paint ≡ Some texture.now }
+    ensures apart { IsTrue result → (j : ℕ) → j < spans.now.rows → IsApart (nth_span spans.now j) }
+    ensures palette { IsTrue result → texture.now.page.depth ≡ 0
+        → (j : ℕ) → j < spans.now.rows → texture.now.clut / 64 % 512 ≢ spans.now.first.y + j }
+{
+    are_beside_page(spans, texture) && are_off_palette(spans, texture)
 }

@@ -40,6 +40,7 @@ mod store;
 mod stretch;
 mod stretched;
 mod strip;
+mod strips;
 mod swatches;
 mod textured;
 mod tint;

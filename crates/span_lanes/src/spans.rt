@@ -2,11 +2,11 @@
 ghost use Rattle.std.specs.Prelude.{ℕ, ◌≡◌, ◌≤◌, ◌<◌, ◌+◌, length};
 ghost use Rattle.vram_store.specs.Vram.{height_of};
 ghost use Rattle.span_lanes.specs.declared.span.Paint.TheVariants.{TexturedRow};
-ghost use Rattle.span_lanes.specs.Shade.{row_u};
 ghost use Rattle.span_lanes.specs.Spans.{drawn_rows, nth_span, paint_down, rows_cost, AreSpans};
 
 use crate::draw::draw_row;
-use crate::row::TexelRow;
+use crate::row::{TexelRow, row_down};
+use crate::strips::{draw_strips, suit_strips};
 use crate::tint::Tint;
 use crate::{Paint, Pen, Span, Texture};
 use std::sync::ledger::Ledger;
@@ -24,24 +24,9 @@ pub struct Spans {
     pub falls: bool,
 }
 
-// The row of the page so many rows further down.
-#[inline(always)]
-#[tactic(auto, unfolding(crate::specs::Shade::row_u))]
-fn row_down(v: u8, falls: bool, rows: u16) -> u8
-    requires { rows ≤ 1024 }
-    ensures { result ≡ row_u v falls rows }
-{
-    let v = v as u16;
-    if falls {
-        ((v + 1024 - rows) & 0xff) as u8
-    } else {
-        ((v + rows) & 0xff) as u8
-    }
-}
-
-// Rows of texels.
-#[inline(always)]
-fn draw_texel_rows<L: Ledger>(
+// Rows of texels, one after another.
+#[inline(never)]
+fn draw_each_row<L: Ledger>(
     vram: &mut Vram,
     spans: &Spans,
     texture: &Texture,
@@ -116,7 +101,11 @@ pub fn draw_spans<L: Ledger>(vram: &mut Vram, spans: &Spans, steps: &mut Steps<L
                 v: *v,
                 flip: *flip,
             };
-            draw_texel_rows(vram, spans, texture, row, steps)
+            if suit_strips(spans, texture, row) {
+                draw_strips(vram, spans, texture, row, steps)
+            } else {
+                draw_each_row(vram, spans, texture, row, steps)
+            }
         }
         _ => draw_same_rows(vram, spans, steps),
     }

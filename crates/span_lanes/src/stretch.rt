@@ -30,7 +30,7 @@ pub(crate) struct Stretch {
 
 // Whether the cells of n texels from a column of the page on do not wrap.
 #[inline(always)]
-fn has_room(texture: &Texture, u: u16, n: u16) -> bool
+pub(crate) fn has_room(texture: &Texture, u: u16, n: u16) -> bool
     requires texture { IsTexture texture.now }
     requires in_page { u + n ≤ 256 }
     ensures wholes { IsTrue result → 2 ≤ texture.now.page.depth → texture.now.page.x + (u + n) ≤ 1024 }
@@ -46,7 +46,7 @@ fn has_room(texture: &Texture, u: u16, n: u16) -> bool
 
 // Whether a window leaves the columns of n texels as they are, and they do not wrap.
 #[inline(always)]
-fn is_open(texture: &Texture, u: u8, n: u16) -> bool
+pub(crate) fn is_open(texture: &Texture, u: u8, n: u16) -> bool
     requires row { n ≤ 1024 }
     ensures open { IsTrue result → texture.now.window.mask_x ≡ 0 }
     ensures in_page { IsTrue result → u + n ≤ 256 }

@@ -23,7 +23,7 @@ use vram_store::{Steps, Vram};
 
 // A texture, of which it is known how many bits a texel has and whether it is drawn as it is: each has loops of its own.
 #[inline(always)]
-fn known(texture: &Texture, depth: u8, raw: bool) -> Texture
+pub(crate) fn known(texture: &Texture, depth: u8, raw: bool) -> Texture
     requires depth { texture.now.page.depth ≡ depth }
     requires raw { texture.now.raw ≡ raw }
     ensures { result ≡ texture.now }

@@ -94,7 +94,7 @@ fn strip_chunk<L: Ledger>(
 
 // All chunks of a row; each spares a step.
 #[inline(always)]
-fn draw_chunks<L: Ledger>(
+pub(crate) fn draw_chunks<L: Ledger>(
     vram: &mut Vram,
     span: &Span,
     texture: &Texture,

@@ -97,7 +97,7 @@ pub(crate) fn refresh<L: Ledger>(
 
 // The palette of a texture under a colour, which is kept from then on.
 #[inline(always)]
-fn swatches_of<L: Ledger>(
+pub(crate) fn swatches_of<L: Ledger>(
     vram: &Vram,
     texture: &Texture,
     color: u32,

@@ -1,6 +1,6 @@
 use Rattle.std.proofs.Common.{◌≡◌, ◌∙◌}
 use Rattle.span_lanes.proofs.SpansLemmas.{one_more, one_more_cost, other_row, texel_span}
-use Rattle.span_lanes.proofs.spans.draw_texel_rows.Goals as goal
+use Rattle.span_lanes.proofs.spans.draw_each_row.Goals as goal
 
 pub loop-j-preserved : goal.loop-j-preserved
 loop-j-preserved g c =

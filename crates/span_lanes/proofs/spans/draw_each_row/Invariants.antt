@@ -2,7 +2,7 @@ use Rattle.std.proofs.Common.{length, ◌≡◌, ◌≤◌, ◌+◌}
 use Rattle.span_lanes.specs.Spans.{drawn_rows, rows_cost}
 use Rattle.span_lanes.specs.Swatches.{IsKept}
 use Rattle.span_lanes.specs.declared.span.Paint.TheVariants.{TexturedRow}
-use Rattle.span_lanes.proofs.spans.draw_texel_rows.Given as goal
+use Rattle.span_lanes.proofs.spans.draw_each_row.Given as goal
 
 abbrev pub invariant-loop-j : goal.invariant-loop-j
 invariant-loop-j g l = record {
