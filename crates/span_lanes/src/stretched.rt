@@ -90,29 +90,6 @@ fn raw_chunks<L: Ledger>(
     }
 }
 
-// The same, by whether pixels are stored as they are.
-#[inline(always)]
-fn raw_by_brush<L: Ledger>(
-    vram: &mut Vram,
-    span: &Span,
-    texture: &Texture,
-    stretch: &Stretch,
-    steps: &mut Steps<L>,
-)
-    requires stretched { IsStretched (height_of vram.old) span.now texture.now stretch.now }
-    requires raw { texture.now.raw ≡ true }
-    ensures cells { vram.new ≡ drawn_span span.now span.now.n vram.old }
-    ensures long { length vram.new ≡ length vram.old }
-    ensures cost { steps.new ≤ steps.old + span_cost span.now }
-{
-    if is_plain(&span.brush) {
-        raw_chunks(vram, &plain(span), texture, stretch, steps);
-    } else {
-        let span = *span;
-        raw_chunks(vram, &span, texture, stretch, steps);
-    }
-}
-
 // A row of texels that are drawn as they are.
 #[inline(never)]
 fn draw_raw<L: Ledger>(
@@ -128,11 +105,38 @@ fn draw_raw<L: Ledger>(
     ensures long { length vram.new ≡ length vram.old }
     ensures cost { steps.new ≤ steps.old + span_cost span.now }
 {
+    let span = *span;
     let stretch = *stretch;
     match texture.page.depth {
-        0 => raw_by_brush(vram, span, &known(texture, 0, true), &stretch, steps),
-        1 => raw_by_brush(vram, span, &known(texture, 1, true), &stretch, steps),
-        depth => raw_by_brush(vram, span, &known(texture, depth, true), &stretch, steps),
+        0 => raw_chunks(vram, &span, &known(texture, 0, true), &stretch, steps),
+        1 => raw_chunks(vram, &span, &known(texture, 1, true), &stretch, steps),
+        depth => raw_chunks(vram, &span, &known(texture, depth, true), &stretch, steps),
+    }
+}
+
+// A row of texels that are drawn and stored as they are.
+#[inline(never)]
+fn draw_raw_plainly<L: Ledger>(
+    vram: &mut Vram,
+    span: &Span,
+    texture: &Texture,
+    stretch: &Stretch,
+    steps: &mut Steps<L>,
+)
+    requires stretched { IsStretched (height_of vram.old) span.now texture.now stretch.now }
+    requires mask { span.now.brush.mask ≡ 0 }
+    requires semi { span.now.brush.semi ≡ false }
+    requires raw { texture.now.raw ≡ true }
+    ensures cells { vram.new ≡ drawn_span span.now span.now.n vram.old }
+    ensures long { length vram.new ≡ length vram.old }
+    ensures cost { steps.new ≤ steps.old + span_cost span.now }
+{
+    let span = plain(span);
+    let stretch = *stretch;
+    match texture.page.depth {
+        0 => raw_chunks(vram, &span, &known(texture, 0, true), &stretch, steps),
+        1 => raw_chunks(vram, &span, &known(texture, 1, true), &stretch, steps),
+        depth => raw_chunks(vram, &span, &known(texture, depth, true), &stretch, steps),
     }
 }
 
@@ -196,30 +200,6 @@ fn shaded_chunks<L: Ledger>(
     }
 }
 
-// The same, by whether pixels are stored as they are.
-#[inline(always)]
-fn shaded_by_brush<L: Ledger>(
-    vram: &mut Vram,
-    span: &Span,
-    texture: &Texture,
-    stretch: &Stretch,
-    shading: &Shading,
-    steps: &mut Steps<L>,
-)
-    requires stretched { IsStretched (height_of vram.old) span.now texture.now stretch.now }
-    requires shading { IsShading span.now texture.now shading.now }
-    ensures cells { vram.new ≡ drawn_span span.now span.now.n vram.old }
-    ensures long { length vram.new ≡ length vram.old }
-    ensures cost { steps.new ≤ steps.old + span_cost span.now }
-{
-    if is_plain(&span.brush) {
-        shaded_chunks(vram, &plain(span), texture, stretch, shading, steps);
-    } else {
-        let span = *span;
-        shaded_chunks(vram, &span, texture, stretch, shading, steps);
-    }
-}
-
 // A row under its colours.
 #[inline(never)]
 fn draw_shaded<L: Ledger>(
@@ -237,28 +217,29 @@ fn draw_shaded<L: Ledger>(
     ensures long { length vram.new ≡ length vram.old }
     ensures cost { steps.new ≤ steps.old + span_cost span.now }
 {
+    let span = *span;
     let stretch = *stretch;
-    let shading = shading_of(span, texture, hues_of(span, tint));
+    let shading = shading_of(&span, texture, hues_of(&span, tint));
     match texture.page.depth {
-        0 => shaded_by_brush(
+        0 => shaded_chunks(
             vram,
-            span,
+            &span,
             &known(texture, 0, false),
             &stretch,
             &shading,
             steps,
         ),
-        1 => shaded_by_brush(
+        1 => shaded_chunks(
             vram,
-            span,
+            &span,
             &known(texture, 1, false),
             &stretch,
             &shading,
             steps,
         ),
-        depth => shaded_by_brush(
+        depth => shaded_chunks(
             vram,
-            span,
+            &span,
             &known(texture, depth, false),
             &stretch,
             &shading,
@@ -267,7 +248,57 @@ fn draw_shaded<L: Ledger>(
     }
 }
 
-// A row, by whether its texels are drawn as they are.
+// A row under its colours, whose pixels are stored as they are.
+#[inline(never)]
+fn draw_shaded_plainly<L: Ledger>(
+    vram: &mut Vram,
+    span: &Span,
+    texture: &Texture,
+    stretch: &Stretch,
+    tint: &Tint,
+    steps: &mut Steps<L>,
+)
+    requires stretched { IsStretched (height_of vram.old) span.now texture.now stretch.now }
+    requires mask { span.now.brush.mask ≡ 0 }
+    requires semi { span.now.brush.semi ≡ false }
+    requires raw { texture.now.raw ≡ false }
+    requires tint { IsTint span.now.paint tint.now }
+    ensures cells { vram.new ≡ drawn_span span.now span.now.n vram.old }
+    ensures long { length vram.new ≡ length vram.old }
+    ensures cost { steps.new ≤ steps.old + span_cost span.now }
+{
+    let span = plain(span);
+    let stretch = *stretch;
+    let shading = shading_of(&span, texture, hues_of(&span, tint));
+    match texture.page.depth {
+        0 => shaded_chunks(
+            vram,
+            &span,
+            &known(texture, 0, false),
+            &stretch,
+            &shading,
+            steps,
+        ),
+        1 => shaded_chunks(
+            vram,
+            &span,
+            &known(texture, 1, false),
+            &stretch,
+            &shading,
+            steps,
+        ),
+        depth => shaded_chunks(
+            vram,
+            &span,
+            &known(texture, depth, false),
+            &stretch,
+            &shading,
+            steps,
+        ),
+    }
+}
+
+// A row, by whether its texels are drawn as they are, and whether its pixels are stored as they are.
 #[inline(always)]
 pub(crate) fn draw_stretched<L: Ledger>(
     vram: &mut Vram,
@@ -283,9 +314,10 @@ pub(crate) fn draw_stretched<L: Ledger>(
     ensures long { length vram.new ≡ length vram.old }
     ensures cost { steps.new ≤ steps.old + span_cost span.now }
 {
-    if texture.raw {
-        draw_raw(vram, span, texture, stretch, steps);
-    } else {
-        draw_shaded(vram, span, texture, stretch, tint, steps);
+    match (texture.raw, is_plain(&span.brush)) {
+        (true, true) => draw_raw_plainly(vram, span, texture, stretch, steps),
+        (true, false) => draw_raw(vram, span, texture, stretch, steps),
+        (false, true) => draw_shaded_plainly(vram, span, texture, stretch, tint, steps),
+        (false, false) => draw_shaded(vram, span, texture, stretch, tint, steps),
     }
 }
