@@ -10,6 +10,7 @@ use px_num::Cell;
 ///
 /// The window comes first. A cell holds four texels at depth 0 and two at depth 1. The column wraps at 1024
 /// (our own rule); the row does not wrap, and is at most 255 below the page's own.
+#[inline(always)]
 pub fn texel_cell(page: &Page, window: &Window, u: u8, v: u8) -> Cell
     requires page { IsPage page.now }
     requires window { IsWindow window.now }
@@ -50,6 +51,7 @@ pub fn clut_cell(clut: u16, index: u8) -> Cell
 }
 
 #[tactic(auto, unfolding(crate::specs::Page::windowed))]
+#[inline(always)]
 fn under_window(mask: u8, off: u8, u: u8) -> u8
     requires mask { mask ≤ 31 }
     requires off { off ≤ 31 }
