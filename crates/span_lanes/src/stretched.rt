@@ -21,10 +21,11 @@ use std::sync::ledger::Ledger;
 use texture_page::Page;
 use vram_store::{Steps, Vram};
 
-// A texture, of which it is known how many bits a texel has: each depth has loops of its own.
+// A texture, of which it is known how many bits a texel has and whether it is drawn as it is: each has loops of its own.
 #[inline(always)]
-fn known(texture: &Texture, depth: u8) -> Texture
-    requires { texture.now.page.depth ≡ depth }
+fn known(texture: &Texture, depth: u8, raw: bool) -> Texture
+    requires depth { texture.now.page.depth ≡ depth }
+    requires raw { texture.now.raw ≡ raw }
     ensures { result ≡ texture.now }
 {
     Texture {
@@ -32,6 +33,7 @@ fn known(texture: &Texture, depth: u8) -> Texture
             depth,
             ..texture.page
         },
+        raw,
         ..*texture
     }
 }
@@ -105,14 +107,10 @@ fn draw_raw<L: Ledger>(
 {
     let span = *span;
     let stretch = *stretch;
-    let texture = Texture {
-        raw: true,
-        ..*texture
-    };
     match texture.page.depth {
-        0 => raw_chunks(vram, &span, &known(&texture, 0), &stretch, steps),
-        1 => raw_chunks(vram, &span, &known(&texture, 1), &stretch, steps),
-        _ => raw_chunks(vram, &span, &texture, &stretch, steps),
+        0 => raw_chunks(vram, &span, &known(texture, 0, true), &stretch, steps),
+        1 => raw_chunks(vram, &span, &known(texture, 1, true), &stretch, steps),
+        depth => raw_chunks(vram, &span, &known(texture, depth, true), &stretch, steps),
     }
 }
 
@@ -135,14 +133,10 @@ fn draw_raw_plainly<L: Ledger>(
 {
     let span = plain(span);
     let stretch = *stretch;
-    let texture = Texture {
-        raw: true,
-        ..*texture
-    };
     match texture.page.depth {
-        0 => raw_chunks(vram, &span, &known(&texture, 0), &stretch, steps),
-        1 => raw_chunks(vram, &span, &known(&texture, 1), &stretch, steps),
-        _ => raw_chunks(vram, &span, &texture, &stretch, steps),
+        0 => raw_chunks(vram, &span, &known(texture, 0, true), &stretch, steps),
+        1 => raw_chunks(vram, &span, &known(texture, 1, true), &stretch, steps),
+        depth => raw_chunks(vram, &span, &known(texture, depth, true), &stretch, steps),
     }
 }
 
@@ -226,14 +220,31 @@ fn draw_shaded<L: Ledger>(
     let span = *span;
     let stretch = *stretch;
     let shading = shading_of(&span, texture, hues_of(&span, tint));
-    let texture = Texture {
-        raw: false,
-        ..*texture
-    };
     match texture.page.depth {
-        0 => shaded_chunks(vram, &span, &known(&texture, 0), &stretch, &shading, steps),
-        1 => shaded_chunks(vram, &span, &known(&texture, 1), &stretch, &shading, steps),
-        _ => shaded_chunks(vram, &span, &texture, &stretch, &shading, steps),
+        0 => shaded_chunks(
+            vram,
+            &span,
+            &known(texture, 0, false),
+            &stretch,
+            &shading,
+            steps,
+        ),
+        1 => shaded_chunks(
+            vram,
+            &span,
+            &known(texture, 1, false),
+            &stretch,
+            &shading,
+            steps,
+        ),
+        depth => shaded_chunks(
+            vram,
+            &span,
+            &known(texture, depth, false),
+            &stretch,
+            &shading,
+            steps,
+        ),
     }
 }
 
@@ -259,14 +270,31 @@ fn draw_shaded_plainly<L: Ledger>(
     let span = plain(span);
     let stretch = *stretch;
     let shading = shading_of(&span, texture, hues_of(&span, tint));
-    let texture = Texture {
-        raw: false,
-        ..*texture
-    };
     match texture.page.depth {
-        0 => shaded_chunks(vram, &span, &known(&texture, 0), &stretch, &shading, steps),
-        1 => shaded_chunks(vram, &span, &known(&texture, 1), &stretch, &shading, steps),
-        _ => shaded_chunks(vram, &span, &texture, &stretch, &shading, steps),
+        0 => shaded_chunks(
+            vram,
+            &span,
+            &known(texture, 0, false),
+            &stretch,
+            &shading,
+            steps,
+        ),
+        1 => shaded_chunks(
+            vram,
+            &span,
+            &known(texture, 1, false),
+            &stretch,
+            &shading,
+            steps,
+        ),
+        depth => shaded_chunks(
+            vram,
+            &span,
+            &known(texture, depth, false),
+            &stretch,
+            &shading,
+            steps,
+        ),
     }
 }
 
