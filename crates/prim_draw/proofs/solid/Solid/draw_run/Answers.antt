@@ -1,4 +1,4 @@
-use Rattle.std.proofs.Common.{◌∙◌, refl}
+use Rattle.std.proofs.Common.{◌∙◌}
 use Rattle.span_lanes.proofs.CellsLemmas.{span_law}
 use Rattle.prim_draw.specs.Solids.{solid_coat}
 use Rattle.prim_draw.proofs.RowLemmas.{span_of_row, span_pixels}
