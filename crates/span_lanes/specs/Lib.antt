@@ -9,6 +9,7 @@ pub mod Nibbles
 pub mod Paints
 pub mod Pen
 pub mod Plan
+pub mod Quick
 pub mod Shade
 pub mod Spans
 pub mod Stretch

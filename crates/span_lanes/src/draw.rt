@@ -277,7 +277,7 @@ fn draw_varied<L: Ledger>(
 }
 
 // A span: without a look at its cells where that is enough, and else chunk by chunk.
-#[inline(always)]
+#[inline(never)]
 pub(crate) fn draw_ready<L: Ledger>(
     vram: &mut Vram,
     span: &Span,

@@ -29,6 +29,7 @@ mod places;
 mod plain;
 mod plainly;
 mod plan;
+mod quick;
 mod row;
 mod shading;
 mod sheet;

@@ -6,8 +6,10 @@ ghost use Rattle.span_lanes.specs.Cost.{span_cost};
 ghost use Rattle.span_lanes.specs.Shade.{IsSpan, LiesIn, shade_at};
 
 use crate::draw::draw_ready;
+use crate::quick::quick_of;
 use crate::slopes::{Slopes, slopes_of};
 use crate::solid::solid_of;
+use crate::strip::draw_strip;
 use crate::swatches::Swatches;
 use crate::tint::{Tint, tint_of};
 use crate::{Brush, Paint, Span};
@@ -76,6 +78,7 @@ impl Pen {
     }
 
     /// Draws n cells from (x, y) to the right, as [`draw_span`] does.
+    #[inline(always)]
     pub fn draw<L: Ledger>(&mut self, vram: &mut Vram, x: u16, y: u16, n: u16, steps: &mut Steps<L>)
         requires span { IsSpan (ink_span self.old.ink x y n) }
         requires height { LiesIn (height_of vram.old) (ink_span self.old.ink x y n) }
@@ -90,15 +93,26 @@ impl Pen {
         self.span.x = x;
         self.span.y = y;
         self.span.n = n;
-        draw_ready(
-            vram,
-            &self.span,
-            self.solid,
-            &self.tint,
-            &self.slopes,
-            &mut self.last,
-            steps,
-        );
+        match quick_of(&self.span, &self.tint, &self.slopes) {
+            Some(quick) => draw_strip(
+                vram,
+                &self.span,
+                &quick.texture,
+                &quick.stretch,
+                quick.color,
+                &mut self.last,
+                steps,
+            ),
+            None => draw_ready(
+                vram,
+                &self.span,
+                self.solid,
+                &self.tint,
+                &self.slopes,
+                &mut self.last,
+                steps,
+            ),
+        }
     }
 }
 

@@ -171,7 +171,7 @@ fn draw_by_raw<L: Ledger>(
 }
 
 // A row of texels under a colour.
-#[inline(never)]
+#[inline(always)]
 pub(crate) fn draw_strip<L: Ledger>(
     vram: &mut Vram,
     span: &Span,
