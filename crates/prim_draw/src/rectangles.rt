@@ -2,11 +2,9 @@
 ghost use Rattle.std.specs.Prelude.{◌≡◌, ◌≤◌, ◌<◌, ◌+◌, ◌*◌, IfSome, length, pos, ◌-ℤ◌, unsigned_abs};
 ghost use Rattle.gp0_packets.specs.Ranges.{IsPlace};
 ghost use Rattle.vram_store.specs.Vram.{height_of};
-ghost use Rattle.span_lanes.specs.Cells.{row_cells};
-ghost use Rattle.span_lanes.specs.Cost.{span_cost};
 ghost use Rattle.span_lanes.specs.Shade.{texture_of, row_u, IsTexture};
 ghost use Rattle.prim_draw.specs.Boxes.{IsBlock, IsOnScreen, block_of, cells_of};
-ghost use Rattle.prim_draw.specs.Costs.{rectangle_cost, tile_rows_cost, tile_span};
+ghost use Rattle.prim_draw.specs.Costs.{rectangle_cost, tile_rows_cost};
 ghost use Rattle.prim_draw.specs.Rectangles.{cells_box, drawn_rectangle, extent_at, optional_texture, rectangle_box};
 ghost use Rattle.prim_draw.specs.Rectangles.{tile_in, tile_paint, tiled_cells, IsExtent, IsTile, IsFree, IsPartOf};
 

@@ -1,16 +1,14 @@
 // Triangles by rows.
 ghost use Rattle.std.specs.Prelude.{◌≡◌, ◌≤◌, ◌<◌, ◌+◌, ◌*◌, IfSome, length, true, ◌||◌};
-ghost use Rattle.std.specs.List.{filter};
 ghost use Rattle.vram_store.specs.Vram.{height_of};
 ghost use Rattle.gp0_packets.specs.Ranges.{IsPlace};
 ghost use Rattle.edge_walk.specs.Extent.{bounding_box};
 ghost use Rattle.edge_walk.specs.Triangle.{is_drawn};
 ghost use Rattle.span_lanes.specs.Pen.{IsFresh};
 ghost use Rattle.span_lanes.specs.Shade.{texture_of, IsTexture};
-ghost use Rattle.prim_draw.specs.Boxes.{IsOnScreen, LiesIn, block_of, cells_of};
-ghost use Rattle.prim_draw.specs.Costs.{side_by_side, triangle_rows_cost, triangle_cost};
-ghost use Rattle.prim_draw.specs.Triangles.{draws, drawn_triangle, painted_cells, placed_corners};
-ghost use Rattle.prim_draw.specs.Triangles.{run_cells};
+ghost use Rattle.prim_draw.specs.Boxes.{IsOnScreen, LiesIn, block_of};
+ghost use Rattle.prim_draw.specs.Costs.{triangle_cost};
+ghost use Rattle.prim_draw.specs.Triangles.{draws, drawn_triangle, placed_corners};
 ghost use Rattle.prim_draw.specs.Triangles.{triangle_box, triangle_coat, triangle_paint, FitsTriangle, IsAlike};
 ghost use Rattle.prim_draw.specs.Triangles.{IsCoat};
 ghost use Rattle.prim_draw.specs.Walks.{CanDraw, DrawsRows, DrawsRun, IsOnRow, TakesRow, coat_of_ink};

@@ -6,7 +6,6 @@ pub mod ChunkLemmas
 pub mod ColorLemmas
 pub mod CostLemmas
 pub mod DrawnBits
-pub mod KeptLemmas
 pub mod NibbleLemmas
 pub mod PlainLemmas
 pub mod PlanLemmas

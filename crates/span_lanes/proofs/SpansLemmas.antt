@@ -1,5 +1,5 @@
 -- Spans of the same columns, one below another.
-use Rattle.std.proofs.Common.{ℕ, suc, ◌+◌, ◌≤◌, ◌≡◌, Bool, List, Option, refl, sym, ap, ◌∙◌, add-one, arith}
+use Rattle.std.proofs.Common.{ℕ, ◌+◌, ◌≤◌, ◌≡◌, Bool, List, Option, sym, ap, ◌∙◌, add-one, arith}
 use Rattle.span_lanes.specs.declared.span.Paint.{Paint}
 use Rattle.span_lanes.specs.declared.span.Paint.TheVariants.{TexturedRow}
 use Rattle.span_lanes.specs.declared.span.Span.{Span}

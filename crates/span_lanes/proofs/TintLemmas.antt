@@ -1,11 +1,10 @@
 -- The colours of a span by those of its paint.
-use Rattle.std.proofs.Common.{◌≡◌, ◌≤◌, ℕ, ◌+◌, IsTrue, pos, Bool, arith}
+use Rattle.std.proofs.Common.{◌≡◌, ◌≤◌, ℕ, ◌+◌, IsTrue, pos, arith}
 use Rattle.edge_walk.specs.Triangle.{Corners, is_inside}
 use Rattle.edge_walk.specs.declared.plane.Plane.{Plane}
 use Rattle.span_lanes.specs.declared.hues.Hues.{Hues}
 use Rattle.span_lanes.specs.declared.hues.Hues.TheVariants.{One}
 use Rattle.span_lanes.specs.declared.tint.Tint.TheVariants.{Plain, Planes}
-use Rattle.span_lanes.specs.declared.tint.Tint.{Tint}
 use Rattle.span_lanes.specs.declared.span.Paint.{Paint}
 use Rattle.span_lanes.specs.declared.span.Paint.TheVariants.{Flat, Shaded, TexturedTri, TexturedRow}
 use Rattle.span_lanes.specs.Shade.{HasInside, AreInside}
@@ -13,9 +12,7 @@ use Rattle.span_lanes.specs.Hues.{AreHues, AreHuesOf}
 use Rattle.std.specs.Prelude.{Option, Some}
 use Rattle.span_lanes.specs.declared.span.Brush.{Brush}
 use Rattle.span_lanes.specs.Lanes.{IsSolid}
-use Rattle.span_lanes.specs.Pen.{IsTint, IsTintOf, HasHalfword, IsReady}
-use Rattle.span_lanes.specs.declared.span.Texture.{Texture}
-use Rattle.span_lanes.specs.declared.slopes.Slopes.{Slopes}
+use Rattle.span_lanes.specs.Pen.{IsTint, IsTintOf, HasHalfword}
 
 -- one colour
 pub plain_hues : (paint : Paint) (color x y n : ℕ) → IsTint paint (Plain color) → HasInside paint x y n
@@ -50,14 +47,3 @@ solid_here (Flat color) brush x y n solid h has is = rw is at has x y n
 solid_here (Shaded tri) brush x y n solid h has is = absurd (cc (has, is))
 solid_here (TexturedTri tri texture) brush x y n solid h has is = absurd (cc (has, is))
 solid_here (TexturedRow color texture u v flip) brush x y n solid h has is = absurd (cc (has, is))
-
--- what is ready for a row of texels is ready for another
-pub row_ready : (paint : Paint) (brush : Brush) (color : ℕ) (texture : Texture) (u old v : ℕ) (flip : Bool)
-    (solid : Option ℕ) (tint : Tint) (slopes : Option Slopes)
-    → IsReady (record { paint = paint; brush = brush }) solid tint slopes → paint ≡ TexturedRow color texture u old flip
-    → IsReady (record { paint = TexturedRow color texture u v flip; brush = brush }) solid tint slopes
-row_ready paint brush color texture u old v flip solid tint slopes ready is = record {
-  halfword = rw is at ready.halfword;
-  colors = rw is at ready.colors;
-  coordinates = tt;
-}

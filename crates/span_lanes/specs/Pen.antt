@@ -26,16 +26,6 @@ ink_span ink x y n = record { x = x; y = y; n = n; paint = ink.paint; brush = in
 abbrev pub ink_of : Span → Ink
 ink_of span = record { paint = span.paint; brush = span.brush }
 
--- a row of texels that is another row of the page
-abbrev pub paint_row : ℕ → Paint → Paint
-paint_row v (Flat color) = Flat color
-paint_row v (Shaded tri) = Shaded tri
-paint_row v (TexturedTri tri texture) = TexturedTri tri texture
-paint_row v (TexturedRow color texture u old flip) = TexturedRow color texture u v flip
-
-abbrev pub ink_row : ℕ → Ink → Ink
-ink_row v ink = record { paint = paint_row v ink.paint; brush = ink.brush }
-
 -- what a pen draws with, and the sixteen entries of the palette that it saw, if it keeps them
 pub record Loaded : Type 0 where
   pub ink : Ink
@@ -44,9 +34,6 @@ pub record Loaded : Type 0 where
 -- one that has seen no palette
 abbrev pub new_pen : Paint → Brush → Loaded
 new_pen paint brush = record { ink = record { paint = paint; brush = brush }; palette = None }
-
-abbrev pub with_row : ℕ → Loaded → Loaded
-with_row v pen = record { ink = ink_row v pen.ink; palette = pen.palette }
 
 -- the palette that a pen keeps, if any, is the one in video memory
 abbrev pub IsFresh : Loaded → List ℕ → Type 0

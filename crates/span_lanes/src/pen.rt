@@ -45,10 +45,11 @@ impl Pen {
     ghost use Rattle.vram_store.specs.Vram.{height_of};
     ghost use Rattle.span_lanes.specs.Cells.{drawn_cells, row_cells};
     ghost use Rattle.span_lanes.specs.Cost.{span_cost};
-    ghost use Rattle.span_lanes.specs.Pen.{ink_span, new_pen, with_row, IsFresh};
+    ghost use Rattle.span_lanes.specs.Pen.{ink_span, new_pen, IsFresh};
     ghost use Rattle.span_lanes.specs.Shade.{IsSpan, LiesIn, shade_at};
 
     /// A paint and a brush made ready.
+    #[inline(always)]
     pub fn new(paint: &Paint, brush: &Brush) -> Pen
         ensures { result ≡ new_pen paint.now brush.now }
     {
@@ -64,16 +65,6 @@ impl Pen {
             tint: tint_of(paint),
             slopes: slopes_of(paint),
             last: None,
-        }
-    }
-
-    /// Takes another row of the page, where the paint is a row of texels.
-    pub fn set_row(&mut self, row: u8)
-        ensures { self.new ≡ with_row row self.old }
-    {
-        match &mut self.span.paint {
-            Paint::TexturedRow { v, .. } => *v = row,
-            _ => {}
         }
     }
 

@@ -1,5 +1,5 @@
 // Rows of triangles that are drawn as strips of four bits.
-ghost use Rattle.std.specs.Prelude.{◌≡◌, IfSome};
+ghost use Rattle.std.specs.Prelude.{IfSome};
 ghost use Rattle.span_lanes.specs.Pen.{HasSlopes, IsTint};
 ghost use Rattle.span_lanes.specs.Quick.{IsQuick};
 ghost use Rattle.span_lanes.specs.Shade.{IsSpan};

@@ -2,7 +2,7 @@
 ghost use Rattle.std.specs.Prelude.{ℕ, ◌≡◌, ◌≤◌, ◌<◌, ◌+◌, length};
 ghost use Rattle.vram_store.specs.Vram.{height_of};
 ghost use Rattle.span_lanes.specs.declared.span.Paint.TheVariants.{TexturedRow};
-ghost use Rattle.span_lanes.specs.Spans.{drawn_rows, nth_span, paint_down, rows_cost, AreSpans};
+ghost use Rattle.span_lanes.specs.Spans.{drawn_rows, paint_down, rows_cost, AreSpans};
 
 use crate::draw::draw_row;
 use crate::row::{TexelRow, row_down};

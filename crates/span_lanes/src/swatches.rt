@@ -1,21 +1,17 @@
 // Textures of four bits under one colour, whose palette is read and coloured once a primitive.
 ghost use Rattle.std.specs.Prelude.{◌≡◌, ◌≤◌, ◌<◌, ◌+◌, ◌%◌, IfSome, IsTrue, MatchOption, Some};
-ghost use Rattle.std.specs.Prelude.{length, slice_index};
+ghost use Rattle.std.specs.Prelude.{length};
 ghost use Rattle.vram_store.specs.Vram.{height_of};
 ghost use Rattle.span_lanes.specs.declared.hues.Hues.TheVariants.{One};
 ghost use Rattle.span_lanes.specs.Chunk.{IsChunk, drawn_chunk};
 ghost use Rattle.span_lanes.specs.Cost.{chunk_cost, span_cost};
-ghost use Rattle.span_lanes.specs.Lanes.{AreCoordinates};
 ghost use Rattle.span_lanes.specs.Plan.{HasTexels, IsPlan, IsPlanned};
-ghost use Rattle.span_lanes.specs.Shade.{IsTexture, drawn_span};
+ghost use Rattle.span_lanes.specs.Shade.{drawn_span};
 ghost use Rattle.span_lanes.specs.Swatches.{AreColored, AreEntries, AreFronts, AreSwatches};
 ghost use Rattle.span_lanes.specs.Swatches.{IsKept, IsPalette, SuitsPalette};
-ghost use Rattle.px_num.specs.Lanes.{EachLane};
-ghost use Rattle.span_lanes.specs.Texels.{AreTexels};
 
 use crate::beside::indexes_of;
 use crate::colors::no_shifts;
-use crate::coordinates::Coordinates;
 use crate::fetch::sixteen_entries;
 use crate::hues::Hues;
 use crate::nibbles::entries_at;

@@ -2,13 +2,12 @@
 ghost use Rattle.std.specs.Prelude.{◌≡◌, ◌≤◌, ◌<◌, ◌+◌, ◌*◌, ◌%◌, ◌^◌, ◌==◌, ◌&&◌, if◌then◌else◌};
 ghost use Rattle.std.specs.Prelude.{false, pos, IsTrue, Some, ℕ};
 ghost use Rattle.std.specs.Prelude.{take, length, slice_index, slice_index_or};
-ghost use Rattle.blend_dither.specs.Color.{modulated_of, packed_pixel, blended_of, red_of, green_of, blue_of};
+ghost use Rattle.blend_dither.specs.Color.{modulated_of, packed_pixel, red_of, green_of, blue_of};
 ghost use Rattle.px_num.specs.Height.{short_height};
 ghost use Rattle.px_num.specs.Lanes.{EachLane};
 ghost use Rattle.vram_store.specs.Vram.{bit, height_of};
 ghost use Rattle.span_lanes.specs.Chunk.{IsChunk, HasChunk};
 ghost use Rattle.span_lanes.specs.Shade.{IsTexture, IsSpan, LiesIn, texture_of, is_high, blended_if, front_of, at_cell};
-ghost use Rattle.span_lanes.specs.Shade.{shade};
 ghost use Rattle.span_lanes.specs.Hues.{hue_at};
 ghost use Rattle.span_lanes.specs.Plan.{IsShading, HasTexels, HasFronts};
 ghost use Rattle.span_lanes.specs.Lanes.{AreShifts, AreCoordinates};

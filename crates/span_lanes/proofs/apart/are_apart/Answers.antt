@@ -1,4 +1,4 @@
-use Rattle.std.proofs.Common.{◌≡◌, inl, inr, arith}
+use Rattle.std.proofs.Common.{inl, inr, arith}
 use Rattle.span_lanes.specs.Spans.{nth_span}
 use Rattle.span_lanes.proofs.ApartLemmas.{span_apart}
 use Rattle.span_lanes.proofs.apart.are_apart.Goals as goal

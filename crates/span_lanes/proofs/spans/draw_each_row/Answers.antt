@@ -1,4 +1,4 @@
-use Rattle.std.proofs.Common.{◌≡◌, ◌∙◌}
+use Rattle.std.proofs.Common.{◌∙◌}
 use Rattle.span_lanes.proofs.SpansLemmas.{one_more, one_more_cost, other_row, texel_span}
 use Rattle.span_lanes.proofs.spans.draw_each_row.Goals as goal
 

@@ -1,5 +1,5 @@
-use Rattle.std.proofs.Common.{◌≡◌, ◌+◌, ◌∙◌, sym, ap, subst}
-use Rattle.span_lanes.specs.Pen.{Ink, ink_of, ink_span}
+use Rattle.std.proofs.Common.{◌+◌, ◌∙◌, sym, ap, subst}
+use Rattle.span_lanes.specs.Pen.{Ink, ink_span}
 use Rattle.span_lanes.specs.Shade.{IsSpan}
 use Rattle.span_lanes.specs.Spans.{nth_span}
 use Rattle.span_lanes.specs.declared.span.Span.{Span}

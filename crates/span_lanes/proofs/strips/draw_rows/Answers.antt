@@ -1,4 +1,4 @@
-use Rattle.std.proofs.Common.{◌≡◌, ◌≤◌, ◌<◌, ◌+◌, ◌/◌, ◌∙◌, sym, ap, refl, subst, arith}
+use Rattle.std.proofs.Common.{◌≡◌, ◌/◌, ◌∙◌, sym, ap, refl, subst, arith}
 use Rattle.px_num.specs.declared.shape.Cell.{Cell}
 use Rattle.vram_store.specs.Vram.{height_of}
 use Rattle.span_lanes.specs.Shade.{IsSpan, LiesIn}

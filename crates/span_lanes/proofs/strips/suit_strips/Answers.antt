@@ -1,4 +1,4 @@
-use Rattle.std.proofs.Common.{◌≡◌, ◌∙◌, ℕ, refl, sym, arith}
+use Rattle.std.proofs.Common.{◌≡◌, ◌∙◌, refl, sym, arith}
 use Rattle.span_lanes.proofs.strips.suit_strips.Goals as goal
 
 pub returns-then-has_room : goal.returns-then-has_room
