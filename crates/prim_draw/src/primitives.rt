@@ -20,6 +20,7 @@ use vram_store::{Steps, Vram};
 
 // Draws a triangle, or a quad as two, and answers its area.
 #[tactic(auto, unfolding(crate::specs::Triangles::drawn_polygon, crate::specs::Costs::polygon_cost, crate::specs::Areas::polygon_area))]
+#[inline(always)]
 fn draw_polygon<L: Ledger>(
     vram: &mut Vram,
     regs: &Regs,
@@ -53,6 +54,7 @@ fn draw_polygon<L: Ledger>(
 /// before.
 ///
 /// Video memory and the registers must have the same height, and the packet be in the ranges of `decode`.
+#[inline(always)]
 #[tactic(auto, unfolding(crate::specs::Draw::drawn_packet, crate::specs::Costs::draw_cost, crate::specs::Areas::area_of))]
 pub fn draw<L: Ledger>(
     vram: &mut Vram,
