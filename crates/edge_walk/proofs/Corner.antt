@@ -1,5 +1,6 @@
 -- The three corners of a triangle in their two orders.
-use Rattle.std.proofs.Common.{◌≡◌, ℤ, pos, ◌+ℤ◌, ◌-ℤ◌, ◌<ℤ◌, arith, Bool, true, false, ◌&&◌, refl, sym, ap, ◌∙◌, int_lt}
+use Rattle.std.proofs.Common.{◌≡◌, ℤ, pos, ◌+ℤ◌, ◌-ℤ◌, ◌*ℤ◌, ◌<ℤ◌, arith, Bool, true, false, ◌&&◌}
+use Rattle.std.proofs.Common.{refl, sym, ap, ◌∙◌, int_lt}
 use Rattle.std.proofs.lemmas.Int.{ints}
 use Rattle.px_num.specs.declared.shape.Vertex.{Vertex}
 use Rattle.px_num.proofs.Ring.{Poly, at, sub, mul, add, same}
@@ -38,6 +39,19 @@ IsUpright-turned a b c h less = record {
   area = let e = area_turned a b c in
       omega (arith, ints);
 }
+
+-- the three vertices are not in one row
+pub not_level : (a b c : Vertex) → IsUpright (corners a b c) → a.y ≡ b.y → b.y ≡ c.y → ⊥
+unfolding edge
+not_level a b c h e f =
+    let third : (c.y -ℤ a.y) ≡ pos 0 = omega (arith, ints, e, f) in
+    let second : (b.y -ℤ a.y) ≡ pos 0 = omega (arith, ints, e) in
+    let none : doubled_area (corners a b c)
+    ≡ pos 0 = ap (λ d. (b.x -ℤ a.x) *ℤ d -ℤ (b.y -ℤ a.y) *ℤ (c.x -ℤ a.x)) third
+    ∙ ap (λ d. (b.x -ℤ a.x) *ℤ pos 0 -ℤ d *ℤ (c.x -ℤ a.x)) second
+    ∙ same (sub (mul (sub (at b.x) (at a.x)) (at (pos 0))) (mul (at (pos 0)) (sub (at c.x) (at a.x)))) (at (pos 0))
+    (omega arith) in
+    omega (arith, ints, none, h.area)
 
 module _ (t : Corners) where
   pub oriented_turned : true ≡ int_lt (doubled_area t) (pos 0) → corners t.first t.third t.second ≡ oriented t

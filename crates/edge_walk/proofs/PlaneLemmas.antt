@@ -9,10 +9,10 @@ use Rattle.px_num.proofs.Ring.{at, sub, mul, same}
 use Rattle.edge_walk.specs.Line.{wrapped, scaled, line_value}
 use Rattle.edge_walk.specs.Triangle.{corners, doubled_area, edge, is_within, IsUpright}
 use Rattle.edge_walk.specs.Attribute.{attribute, step_of, row_step_of, weight, mixed_of, AreBytes}
-use Rattle.edge_walk.specs.Plane.{from_least, line_at}
+use Rattle.edge_walk.specs.Plane.{from_least, line_at, number_at}
 use Rattle.edge_walk.specs.declared.plane.Plane.{Plane}
 use Rattle.edge_walk.proofs.Corner.{sum_of_edges}
-use Rattle.edge_walk.proofs.DivisorLemmas.{reciprocal_bound}
+use Rattle.edge_walk.proofs.DivisorLemmas.{reciprocal_bound, reciprocal_exact, square_bound}
 use Rattle.edge_walk.proofs.LineLemmas.{line_is}
 use Rattle.edge_walk.proofs.MixLemmas.{edges_of, lane_is, sum_is, weight_is}
 
@@ -143,6 +143,12 @@ pub record IsPlaneOf (a b c : Vertex) (which area r : ℕ) (plane : Plane) : Typ
   pub base : (plane.base + plane.across * from_least a.x + plane.down * from_least a.y) % 2 ^ 64
       ≡ area * attribute which a * r
 
+-- a plane is that of an attribute at (x, y)
+pub record PlaneAt (a b c : Vertex) (which : ℕ) (plane : Plane) (x y : ℤ) : Type 0 where
+  pub own : number_at plane x y / 2 ^ 56 ≡ mixed_of (corners a b c) which x y
+  pub line : (k j : ℕ) → j < 16 → IsTrue (is_within (corners a b c) (x +ℤ pos (k + j)) y)
+      → line_value (line_at plane x y) k j ≡ mixed_of (corners a b c) which (x +ℤ pos (k + j)) y
+
 module _ (a b c : Vertex) (which area r : ℕ) (plane : Plane) (upright : IsUpright (corners a b c))
     (bytes : AreBytes which (corners a b c))
     (area_is : pos area ≡ doubled_area (corners a b c)) (some : 0 < area) (most : area ≤ 1045506)
@@ -194,8 +200,8 @@ module _ (a b c : Vertex) (which area r : ℕ) (plane : Plane) (upright : IsUpri
       let three = mul-le-mul_left (weight a b x y) bytes.third in
       omega (arith, ints, one, two, three, sum, area_is)
 
-  first_is : (line_at plane x y).first ≡ start * r
-  unfolding line_at
+  first_is : number_at plane x y ≡ start * r
+  unfolding number_at
   first_is =
       let low = rw (← r_is) at (reciprocal_bound start area (2 ^ 56) some start_small) in
       let share = mul-le-mul_left area bytes.first in
@@ -207,9 +213,15 @@ module _ (a b c : Vertex) (which area r : ℕ) (plane : Plane) (upright : IsUpri
       (rw of.across (scaled_is (step_of (corners a b c) which) r))
       (rw of.down_is (scaled_is (row_step_of (corners a b c) which) r)) sum_here
 
-  pub plane_line : (k j : ℕ) → j < 16 → IsTrue (is_within (corners a b c) (x +ℤ pos (k + j)) y)
+  plane_own : number_at plane x y / 2 ^ 56 ≡ mixed_of (corners a b c) which x y
+  unfolding start mixed_of
+  plane_own =
+      let size : unsigned_abs (doubled_area (corners a b c)) ≡ area = omega (arith, ints, area_is) in
+      rw (first_is, r_is, size) (reciprocal_exact start area (2 ^ 56) some start_small (square_bound area most))
+
+  plane_line : (k j : ℕ) → j < 16 → IsTrue (is_within (corners a b c) (x +ℤ pos (k + j)) y)
       → line_value (line_at plane x y) k j ≡ mixed_of (corners a b c) which (x +ℤ pos (k + j)) y
-  unfolding start line_at line_value
+  unfolding start line_value
   plane_line k j lt there =
       let edges = edges_of a b c x y upright inside in
       let m_is = weight_is b c x y edges.bc_low in
@@ -221,3 +233,6 @@ module _ (a b c : Vertex) (which area r : ℕ) (plane : Plane) (upright : IsUpri
       (omega (arith, ints, area_is, sum)) refl in
       rw (first_is, of.across)
       (line_is start k j area r (step_of (corners a b c) which) lt some most r_is lane.low lane.high) ∙ lane.value
+
+  pub plane_at : PlaneAt a b c which plane x y
+  plane_at = record { own = plane_own; line = plane_line }

@@ -1,11 +1,11 @@
 -- Triangles along whose rows texels stand side by side.
-use Rattle.std.proofs.Common.{ℕ, ◌+◌, ◌*◌, ◌/◌, ◌≤◌, ◌<◌, ◌≡◌, ℤ, pos, ◌+ℤ◌, ◌*ℤ◌, IsTrue, unsigned_abs, refl, sym, ap}
+use Rattle.std.proofs.Common.{ℕ, ◌+◌, ◌*◌, ◌/◌, ◌<◌, ◌≡◌, ℤ, pos, ◌+ℤ◌, ◌*ℤ◌, IsTrue, unsigned_abs, refl, sym, ap}
 use Rattle.std.proofs.Common.{◌∙◌, arith}
 use Rattle.std.proofs.lemmas.Int.{ints}
 use Rattle.std.proofs.Math.Nat.{add-mul-div_left}
 use Rattle.px_num.specs.declared.shape.Vertex.{Vertex}
-use Rattle.edge_walk.specs.Triangle.{Corners, corners, oriented, doubled_area, is_inside, is_within, IsUpright}
-use Rattle.edge_walk.specs.Attribute.{attribute, attribute_at, mixed_of, step_of, weight, AreBytes, IsUnscaled}
+use Rattle.edge_walk.specs.Triangle.{Corners, corners, oriented, doubled_area, is_within, IsUpright}
+use Rattle.edge_walk.specs.Attribute.{attribute, mixed_of, step_of, weight, AreBytes, IsUnscaled}
 use Rattle.edge_walk.proofs.Corner.{inside_is}
 use Rattle.edge_walk.proofs.MixLemmas.{edges_of, lane_is, sum_is, weight_is, IsLane}
 

@@ -5,19 +5,23 @@ use Rattle.std.proofs.Math.Nat.{mul-le-mul_left}
 use Rattle.std.proofs.lemmas.Int.{ints, by_lt_z, unsigned_abs-mul}
 use Rattle.std.proofs.lemmas.Nat.{mul-le}
 use Rattle.px_num.proofs.Ring.{at, add, sub, mul, same}
-use Rattle.edge_walk.specs.declared.slope.Bound.TheVariants.{AtMost, AtLeast}
+use Rattle.edge_walk.specs.declared.slope.Bound.TheVariants.{AtMost, Above}
 use Rattle.px_num.specs.declared.shape.Vertex.{Vertex}
 use Rattle.edge_walk.specs.Row.{least_value}
 use Rattle.edge_walk.specs.Walk.{IsSlope}
 use Rattle.edge_walk.proofs.RowLemmas.{mul_mono}
 
--- a product p with k that a scale s makes k columns and a bit more, against w
-within : (p k w s bit : ℤ) → p ≡ (k +ℤ bit) → p ≤ℤ w → unsigned_abs bit ≤ 522753 → k ≤ℤ (w +ℤ pos (2 ^ 19))
-within p k w s bit is h small = omega (arith, ints, is, h, small)
+-- what is added to the column of an edge that is not level
+abbrev slack : ℤ
+slack = negsuc (2 ^ 20 - 1)
 
-beyond : (p k w s bit : ℤ) → p ≡ (k +ℤ bit) → (w +ℤ s) ≤ℤ p → pos 2101256 ≤ℤ s → unsigned_abs bit ≤ 522753
-    → (w +ℤ pos (2 ^ 19)) <ℤ k
-beyond p k w s bit is h steep small = omega (arith, ints, is, h, steep, small)
+-- a product p with k that a scale s makes k columns and a bit more, against w
+within : (p k w s bit : ℤ) → p ≡ (k +ℤ bit) → (p +ℤ s) ≤ℤ w → pos 2101256 ≤ℤ s → unsigned_abs bit ≤ 522753
+    → k ≤ℤ (w +ℤ slack)
+within p k w s bit is h steep small = omega (arith, ints, is, h, steep, small)
+
+beyond : (p k w bit : ℤ) → p ≡ (k +ℤ bit) → w ≤ℤ p → unsigned_abs bit ≤ 522753 → (w +ℤ slack) <ℤ k
+beyond p k w bit is h small = omega (arith, ints, is, h, small)
 
 -- ---- the least value of an edge
 
@@ -36,10 +40,10 @@ least_rising p q h = rw (under_is q.y p.y h) refl
 least_level : (p q : Vertex) → q.y ≡ p.y → least_value p q ≡ cond (int_lt p.x q.x) (pos 0) (pos 1)
 least_level p q e = rw (e, not_under p.y p.y (omega (arith, ints))) refl
 
-under : (v product : ℤ) → pos 1 ≤ℤ (v -ℤ product) → product ≤ℤ (v -ℤ pos 1)
+under : (v product : ℤ) → pos 1 ≤ℤ (v -ℤ product) → product <ℤ v
 under v product h = omega (arith, ints, h)
 
-above_one : (v product : ℤ) → product ≤ℤ (v -ℤ pos 1) → pos 1 ≤ℤ (v -ℤ product)
+above_one : (v product : ℤ) → product <ℤ v → pos 1 ≤ℤ (v -ℤ product)
 above_one v product h = omega (arith, ints, h)
 
 under_none : (v product : ℤ) → pos 0 ≤ℤ (v -ℤ product) → product ≤ℤ v
@@ -47,12 +51,6 @@ under_none v product h = omega (arith, ints, h)
 
 above_none : (v product : ℤ) → product ≤ℤ v → pos 0 ≤ℤ (v -ℤ product)
 above_none v product h = omega (arith, ints, h)
-
-lowered : (k less w s : ℤ) → less ≡ (w -ℤ s) → k ≤ℤ (less +ℤ pos (2 ^ 19)) → k ≤ℤ (w +ℤ (pos (2 ^ 19) -ℤ s))
-lowered k less w s is h = omega (arith, ints, is, h)
-
-raised_ : (k less w s : ℤ) → less ≡ (w -ℤ s) → k ≤ℤ (w +ℤ (pos (2 ^ 19) -ℤ s)) → k ≤ℤ (less +ℤ pos (2 ^ 19))
-raised_ k less w s is h = omega (arith, ints, is, h)
 
 -- ---- slopes
 
@@ -88,77 +86,69 @@ module _ (rows scale : ℕ) (some : 1 ≤ rows) (most : rows ≤ 511) (enough : 
   above : pos 0 <ℤ pos scale
   above = let least = steep in omega (arith, ints, least)
 
-  falls : (k w : ℤ) → unsigned_abs k ≤ 1023 → ((pos rows *ℤ k) ≤ℤ w)
-      ↔ ((k *ℤ pos (2 ^ 30)) ≤ℤ (w *ℤ pos scale +ℤ pos (2 ^ 19)))
-  falls k w near = (to, from)
+  -- the columns left of the one where an edge that falls has the value v at its first vertex
+  falls : (k v : ℤ) → unsigned_abs k ≤ 1023 → ((pos rows *ℤ k) <ℤ v)
+      ↔ ((k *ℤ pos (2 ^ 30)) ≤ℤ (v *ℤ pos scale +ℤ slack))
+  falls k v near = (to, from)
     where
-      to : (pos rows *ℤ k) ≤ℤ w → (k *ℤ pos (2 ^ 30)) ≤ℤ (w *ℤ pos scale +ℤ pos (2 ^ 19))
-      to h = within ((pos rows *ℤ k) *ℤ pos scale) (k *ℤ pos (2 ^ 30)) (w *ℤ pos scale) (pos scale) (pos over *ℤ k)
-          (product_is k) (mul_mono (pos scale) (pos rows *ℤ k) w above h) (bit_small k near)
-
-      out : w <ℤ (pos rows *ℤ k) → (w *ℤ pos scale +ℤ pos (2 ^ 19)) <ℤ (k *ℤ pos (2 ^ 30))
-      out less =
-          let m = mul_mono (pos scale) (w +ℤ pos 1) (pos rows *ℤ k) above (omega (arith, ints, less)) in
+      to : (pos rows *ℤ k) <ℤ v → (k *ℤ pos (2 ^ 30)) ≤ℤ (v *ℤ pos scale +ℤ slack)
+      to less =
+          let m = mul_mono (pos scale) (pos rows *ℤ k +ℤ pos 1) v above (omega (arith, ints, less)) in
           let least = steep in
-          beyond ((pos rows *ℤ k) *ℤ pos scale) (k *ℤ pos (2 ^ 30)) (w *ℤ pos scale) (pos scale) (pos over *ℤ k)
+          within ((pos rows *ℤ k) *ℤ pos scale) (k *ℤ pos (2 ^ 30)) (v *ℤ pos scale) (pos scale) (pos over *ℤ k)
           (product_is k) (rw one_more at m) (omega (arith, ints, least)) (bit_small k near)
 
-      from : (k *ℤ pos (2 ^ 30)) ≤ℤ (w *ℤ pos scale +ℤ pos (2 ^ 19)) → (pos rows *ℤ k) ≤ℤ w
-      from h = by_lt_z w (pos rows *ℤ k) (λ less. let far = out less in absurd (omega (arith, ints, far, h))) (λ le. le)
+      out : v ≤ℤ (pos rows *ℤ k) → (v *ℤ pos scale +ℤ slack) <ℤ (k *ℤ pos (2 ^ 30))
+      out h = beyond ((pos rows *ℤ k) *ℤ pos scale) (k *ℤ pos (2 ^ 30)) (v *ℤ pos scale) (pos over *ℤ k)
+          (product_is k) (mul_mono (pos scale) v (pos rows *ℤ k) above h) (bit_small k near)
 
-  rises : (k w : ℤ) → unsigned_abs k ≤ 1023 → (((pos 0 -ℤ pos rows) *ℤ k) ≤ℤ w)
-      ↔ ((w *ℤ (pos 0 -ℤ pos scale) +ℤ pos (2 ^ 30 - 2 ^ 19 - 1)) <ℤ (k *ℤ pos (2 ^ 30) +ℤ pos (2 ^ 30)))
-  rises k w near =
-      let turned = falls (pos 0 -ℤ k) w (omega (arith, ints, near)) in
-      let product : (pos 0 -ℤ pos rows) *ℤ k
-      ≡ pos rows *ℤ (pos 0 -ℤ k) = same (mul (sub (at (pos 0)) (at (pos rows))) (at k))
-      (mul (at (pos rows)) (sub (at (pos 0)) (at k))) (omega arith) in
-      let far : w *ℤ (pos 0 -ℤ pos scale) ≡ (pos 0 -ℤ w *ℤ pos scale) = same
-      (mul (at w) (sub (at (pos 0)) (at (pos scale)))) (sub (at (pos 0)) (mul (at w) (at (pos scale))))
-      (omega arith) in
-      let parts : (pos 0 -ℤ k) *ℤ pos (2 ^ 30) ≡ (pos 0 -ℤ k *ℤ pos (2 ^ 30)) = same
-      (mul (sub (at (pos 0)) (at k)) (at (pos (2 ^ 30)))) (sub (at (pos 0)) (mul (at k) (at (pos (2 ^ 30)))))
-      (omega arith) in (
-        λ h. let t = turned.0 (rw (← product) h) in opened (w *ℤ pos scale) (k *ℤ pos (2 ^ 30)) _ _ far parts t,
-        λ h. rw product (turned.1 (closed (w *ℤ pos scale) (k *ℤ pos (2 ^ 30)) _ _ far parts h)),
-      )
+      from : (k *ℤ pos (2 ^ 30)) ≤ℤ (v *ℤ pos scale +ℤ slack) → (pos rows *ℤ k) <ℤ v
+      from h = by_lt_z (pos rows *ℤ k) v (λ less. less) (λ le. let far = out le in absurd (omega (arith, ints, far, h)))
+
+  rises : (k v : ℤ) → unsigned_abs k ≤ 1023 → (((pos 0 -ℤ pos rows) *ℤ k) ≤ℤ v)
+      ↔ ((v *ℤ (pos 0 -ℤ pos scale) +ℤ slack) <ℤ (k *ℤ pos (2 ^ 30)))
+  rises k v near = (to, from)
     where
-      opened : (a b n m : ℤ) → n ≡ (pos 0 -ℤ a) → m ≡ (pos 0 -ℤ b) → m ≤ℤ (a +ℤ pos (2 ^ 19))
-          → (n +ℤ pos (2 ^ 30 - 2 ^ 19 - 1)) <ℤ (b +ℤ pos (2 ^ 30))
-      opened a b n m is_n is_m h = omega (arith, ints, is_n, is_m, h)
+      turned : ((pos rows *ℤ k) <ℤ (pos 0 -ℤ v)) ↔ ((k *ℤ pos (2 ^ 30)) ≤ℤ ((pos 0 -ℤ v) *ℤ pos scale +ℤ slack))
+      turned = falls k (pos 0 -ℤ v) near
 
-      closed : (a b n m : ℤ) → n ≡ (pos 0 -ℤ a) → m ≡ (pos 0 -ℤ b)
-          → (n +ℤ pos (2 ^ 30 - 2 ^ 19 - 1)) <ℤ (b +ℤ pos (2 ^ 30)) → m ≤ℤ (a +ℤ pos (2 ^ 19))
-      closed a b n m is_n is_m h = omega (arith, ints, is_n, is_m, h)
+      product : (pos 0 -ℤ pos rows) *ℤ k ≡ (pos 0 -ℤ pos rows *ℤ k)
+      product = same (mul (sub (at (pos 0)) (at (pos rows))) (at k)) (sub (at (pos 0)) (mul (at (pos rows)) (at k)))
+          (omega arith)
 
-  pub falling_is : (p q : Vertex) (by : ℤ) (slack : ℤ) → by ≡ pos scale → slack ≡ (pos (2 ^ 19) -ℤ pos scale)
-      → scale ≤ 2 ^ 30 → (q.y -ℤ p.y) ≡ pos rows
+      far : (pos 0 -ℤ v) *ℤ pos scale ≡ v *ℤ (pos 0 -ℤ pos scale)
+      far = same (mul (sub (at (pos 0)) (at v)) (at (pos scale))) (mul (at v) (sub (at (pos 0)) (at (pos scale))))
+          (omega arith)
+
+      to : ((pos 0 -ℤ pos rows) *ℤ k) ≤ℤ v → (v *ℤ (pos 0 -ℤ pos scale) +ℤ slack) <ℤ (k *ℤ pos (2 ^ 30))
+      to h = by_lt_z (v *ℤ (pos 0 -ℤ pos scale) +ℤ slack) (k *ℤ pos (2 ^ 30)) (λ less. less)
+          (λ le. let below = turned.1 (rw far le) in absurd (omega (arith, ints, below, product, h)))
+
+      from : (v *ℤ (pos 0 -ℤ pos scale) +ℤ slack) <ℤ (k *ℤ pos (2 ^ 30)) → ((pos 0 -ℤ pos rows) *ℤ k) ≤ℤ v
+      from h = by_lt_z v ((pos 0 -ℤ pos rows) *ℤ k)
+          (λ less. let left = rw far at (turned.0 (omega (arith, ints, product, less))) in
+          absurd (omega (arith, ints, left, h))) (λ le. le)
+
+  pub falling_is : (p q : Vertex) (by : ℤ) → by ≡ pos scale → scale ≤ 2 ^ 30 → (q.y -ℤ p.y) ≡ pos rows
       → IsSlope p q (record { bound = AtMost; scale = by; slack = slack })
-  falling_is p q by slack is slack_is small fall = rw (is, slack_is)
-      (record { solves = solves; scale = omega (arith, ints, small); slack = omega (arith, ints, small) })
+  falling_is p q by is small fall = rw is
+      (record { solves = solves; scale = omega (arith, ints, small); slack = omega (arith, ints) })
     where
       least : least_value p q ≡ pos 1
       least = least_falling p q (omega (arith, ints, fall, some))
 
-      less : (v : ℤ) → (v -ℤ pos 1) *ℤ pos scale ≡ (v *ℤ pos scale -ℤ pos scale)
-      less v = same (mul (sub (at v) (at (pos 1))) (at (pos scale)))
-          (sub (mul (at v) (at (pos scale))) (at (pos scale))) (omega arith)
-
       solves : (k v : ℤ) → unsigned_abs k ≤ 1023 → (least_value p q ≤ℤ (v -ℤ (q.y -ℤ p.y) *ℤ k))
-          ↔ ((k *ℤ pos (2 ^ 30)) ≤ℤ (v *ℤ pos scale +ℤ (pos (2 ^ 19) -ℤ pos scale)))
+          ↔ ((k *ℤ pos (2 ^ 30)) ≤ℤ (v *ℤ pos scale +ℤ slack))
       solves k v near =
-          let f = falls k (v -ℤ pos 1) near in
-          let e = less v in
+          let f = falls k v near in
           rw (least, fall) (
-            λ h. lowered (k *ℤ pos (2 ^ 30)) ((v -ℤ pos 1) *ℤ pos scale) (v *ℤ pos scale) (pos scale) e
-                (f.0 (under v (pos rows *ℤ k) h)),
-            λ h. above_one v (pos rows *ℤ k)
-                (f.1 (raised_ (k *ℤ pos (2 ^ 30)) ((v -ℤ pos 1) *ℤ pos scale) (v *ℤ pos scale) (pos scale) e h)),
+            λ h. f.0 (under v (pos rows *ℤ k) h),
+            λ h. above_one v (pos rows *ℤ k) (f.1 h),
           )
 
   pub rising_is : (p q : Vertex) (by : ℤ) → by ≡ (pos 0 -ℤ pos scale) → scale ≤ 2 ^ 30
       → (q.y -ℤ p.y) ≡ (pos 0 -ℤ pos rows)
-      → IsSlope p q (record { bound = AtLeast; scale = by; slack = pos (2 ^ 30 - 2 ^ 19 - 1) })
+      → IsSlope p q (record { bound = Above; scale = by; slack = slack })
   rising_is p q by is small fall = rw is
       (record { solves = solves; scale = omega (arith, ints, small); slack = omega (arith, ints) })
     where
@@ -166,13 +156,12 @@ module _ (rows scale : ℕ) (some : 1 ≤ rows) (most : rows ≤ 511) (enough : 
       least = least_rising p q (omega (arith, ints, fall, some))
 
       solves : (k v : ℤ) → unsigned_abs k ≤ 1023 → (least_value p q ≤ℤ (v -ℤ (q.y -ℤ p.y) *ℤ k))
-          ↔ ((v *ℤ (pos 0 -ℤ pos scale) +ℤ pos (2 ^ 30 - 2 ^ 19 - 1)) <ℤ (k *ℤ pos (2 ^ 30) +ℤ pos (2 ^ 30)))
+          ↔ ((v *ℤ (pos 0 -ℤ pos scale) +ℤ slack) <ℤ (k *ℤ pos (2 ^ 30)))
       solves k v near =
           let f = rises k v near in
           rw (least, fall) (
             λ h. f.0 (under_none v ((pos 0 -ℤ pos rows) *ℤ k) h),
-            λ h. above_none v ((pos 0 -ℤ pos rows) *ℤ k)
-                (f.1 h),
+            λ h. above_none v ((pos 0 -ℤ pos rows) *ℤ k) (f.1 h),
           )
 
 no_fall : (k : ℤ) → pos 0 *ℤ k ≡ pos 0

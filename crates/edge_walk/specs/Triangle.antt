@@ -1,6 +1,7 @@
 -- Triangles: the edge rule, the size rule and the cells inside (psx-spx, "GPU Render Polygon Commands"; the edge rule
 -- is our own).
-use Rattle.std.specs.Prelude.{◌≤◌, ◌≢◌, ◌==◌, Bool, not, ◌||◌, ◌&&◌, nat_le, if◌then◌else◌, int_lt, unsigned_abs, ℤ}
+use Rattle.std.specs.Prelude.{◌≤◌, ◌≡◌, ◌≢◌, ◌⊎◌, ◌==◌, Bool, not, ◌||◌, ◌&&◌, nat_le, if◌then◌else◌, int_lt}
+use Rattle.std.specs.Prelude.{unsigned_abs, ℤ}
 use Rattle.std.specs.Prelude.{pos, ◌-ℤ◌, ◌*ℤ◌, ◌<ℤ◌}
 use Rattle.std.specs.Ordering.{int_eq}
 use Rattle.px_num.specs.declared.shape.Vertex.{Vertex}
@@ -24,6 +25,14 @@ doubled_area t = edge t.first t.second t.third.x t.third.y
 -- the same triangle, its second and third vertex exchanged where the doubled area is below 0
 unfoldable pub oriented : Corners → Corners
 oriented t = if int_lt (doubled_area t) (pos 0) then corners t.first t.third t.second else t
+
+-- the same triangle from its second vertex on
+abbrev pub turned : Corners → Corners
+turned t = corners t.second t.third t.first
+
+-- the same triangle from any of its vertices on
+abbrev pub IsTurn : Corners → Corners → Type 0
+IsTurn t u = (u ≡ t) ⊎ ((u ≡ turned t) ⊎ (u ≡ turned (turned t)))
 
 -- an edge whose own cells belong to the triangle: it goes up, or level to the right
 abbrev pub is_kept_edge : Vertex → Vertex → Bool

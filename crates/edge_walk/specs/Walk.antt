@@ -8,29 +8,28 @@ use Rattle.edge_walk.specs.declared.side.Ends.{Ends}
 use Rattle.edge_walk.specs.declared.side.Side.{Side}
 use Rattle.edge_walk.specs.declared.slope.Slope.{Slope}
 use Rattle.edge_walk.specs.declared.slope.Bound.{Bound}
-use Rattle.edge_walk.specs.declared.slope.Bound.TheVariants.{AtMost, AtLeast}
+use Rattle.edge_walk.specs.declared.slope.Bound.TheVariants.{AtMost, Above}
 use Rattle.edge_walk.specs.declared.walk.RowWalk.{RowWalk}
 use Rattle.edge_walk.specs.Extent.{bounding_box}
 use Rattle.edge_walk.specs.Row.{least_value}
-use Rattle.edge_walk.specs.Triangle.{Corners, IsDrawn, IsSmall, oriented}
+use Rattle.edge_walk.specs.Triangle.{Corners, IsDrawn, IsSmall, IsTurn, oriented}
 
--- a column in parts of 2^30, counted from an origin and raised, so that none lies below 0
-abbrev pub in_parts : ℤ → ℤ → ℤ
-in_parts origin x = (x -ℤ origin) *ℤ pos (2 ^ 30) +ℤ pos (2 ^ 62)
+-- a column in parts of 2^30, raised, so that none lies below 0
+abbrev pub in_parts : ℤ → ℤ
+in_parts x = x *ℤ pos (2 ^ 30) +ℤ pos (2 ^ 62)
 
--- a column counted from an origin, whole and raised
-abbrev pub raised_column : ℤ → ℤ → ℤ
-raised_column origin x = (x -ℤ origin) +ℤ pos (2 ^ 32)
+-- a whole column, raised alike
+abbrev pub raised_column : ℤ → ℤ
+raised_column x = x +ℤ pos (2 ^ 32)
 
--- a column is one that an edge leaves which stands at `at`, all in parts: one at least as great begins less than a
--- column before it
+-- a column is one that an edge leaves which stands at `at`, all in parts
 abbrev pub IsBounded : Bound → ℤ → ℤ → Type 0
 IsBounded AtMost at x = x ≤ℤ at
-IsBounded AtLeast at x = at <ℤ (x +ℤ pos (2 ^ 30))
+IsBounded Above at x = at <ℤ x
 
 -- a column lies between two ends, all in parts
 abbrev pub IsWithin : Ends → ℤ → Type 0
-IsWithin ends x = IsBounded AtLeast (pos ends.low) x × IsBounded AtMost (pos ends.high) x
+IsWithin ends x = IsBounded Above (pos ends.low) x × IsBounded AtMost (pos ends.high) x
 
 -- an edge leaves the columns that its slope says: of those up to 1023 away from its first vertex, at whose column its
 -- value is v, the ones where its value is the least one or more
@@ -45,13 +44,13 @@ pub record IsSlope (p q : Vertex) (slope : Slope) : Type 0 where
 abbrev pub start_value : Vertex → Vertex → ℤ → ℤ
 start_value p q y = (q.x -ℤ p.x) *ℤ (y -ℤ p.y)
 
--- the edge from p to q in row y, its columns counted from an origin
-pub record IsSide (p q : Vertex) (origin y : ℤ) (s : Side) : Type 0 where
+-- the edge from p to q in row y
+pub record IsSide (p q : Vertex) (y : ℤ) (s : Side) : Type 0 where
   pub slope : Slope
   pub is_slope : IsSlope p q slope
   pub bound : s.bound ≡ slope.bound
-  pub start : unsigned_abs (origin -ℤ p.x) ≤ 1023
-  pub at : pos s.at ≡ (in_parts origin p.x +ℤ (start_value p q y *ℤ slope.scale +ℤ slope.slack))
+  pub start : FitsSigned w32 p.x
+  pub at : pos s.at ≡ (in_parts p.x +ℤ (start_value p q y *ℤ slope.scale +ℤ slope.slack))
   pub raised : ℕ
   pub by : s.by ≡ (raised + (2 ^ 64 - 2 ^ 62)) % 2 ^ 64
   pub step : pos raised ≡ ((q.x -ℤ p.x) *ℤ slope.scale +ℤ pos (2 ^ 62))
@@ -65,15 +64,16 @@ pub record HasRows (t : Corners) (clip : Box2) : Type 0 where
 -- a walk over the rows of a triangle in a box stands at row y, or below the box
 pub record AreRows (t : Corners) (clip : Box2) (y : ℤ) (rows : RowWalk) : Type 0 where
   pub small : IsSmall (oriented t)
+  pub around : Corners
+  pub turn : IsTurn (oriented t) around
   pub box : HasRows t clip
   pub above : clip.y1 ≤ℤ y
   pub below : y ≤ℤ (clip.y2 +ℤ pos 1)
   pub drawn : IsDrawn t
-  pub origin : rows.origin ≡ (bounding_box t).x1
   pub left_fits : FitsSigned w32 (bounding_box t).x1
   pub right_fits : FitsSigned w32 (bounding_box t).x2
-  pub low : pos rows.ends.low ≡ in_parts rows.origin (int_max clip.x1 (bounding_box t).x1)
-  pub high : pos rows.ends.high ≡ in_parts rows.origin (int_min clip.x2 (bounding_box t).x2)
-  pub first : IsSide (oriented t).first (oriented t).second rows.origin y rows.first
-  pub second : IsSide (oriented t).second (oriented t).third rows.origin y rows.second
-  pub third : IsSide (oriented t).third (oriented t).first rows.origin y rows.third
+  pub low : pos rows.ends.low ≡ (in_parts (int_max clip.x1 (bounding_box t).x1) -ℤ pos 1)
+  pub high : pos rows.ends.high ≡ in_parts (int_min clip.x2 (bounding_box t).x2)
+  pub first : IsSide around.first around.second y rows.first
+  pub second : IsSide around.second around.third y rows.second
+  pub third : IsSide around.third around.first y rows.third

@@ -64,17 +64,6 @@ impl RowLine {
         (self.step.wrapping_add(0x8000_0000) >> 32) as u32
     }
 
-    /// The attribute at the line's own cell.
-    #[inline(always)]
-    #[tactic(auto, unfolding(crate::specs::Line::line_value))]
-    pub fn value(&self) -> u8
-        ensures { result ≡ line_value self.now 0 0 }
-    {
-        let middle = (self.sum(8) >> 32) as u32;
-        let back = 0xffff_fff8u32.wrapping_mul(self.short_step());
-        (back.wrapping_add(middle.wrapping_add(8)) >> 24) as u8
-    }
-
     /// The attribute at sixteen cells, the first of them `at` cells from the line's own.
     ///
     /// They are reckoned in 32 bits from the one in the middle.

@@ -1,6 +1,6 @@
 // Attributes of a triangle, mixed by the weights of a cell.
-ghost use Rattle.std.specs.Prelude.{◌≡◌, ◌+◌, ◌*◌, ◌/◌, ◌^◌, ◌≤◌, ◌<◌, ℕ, ℤ, pos, ◌-ℤ◌, ◌+ℤ◌, ◌*ℤ◌, ◌≤ℤ◌, IsTrue};
-ghost use Rattle.std.specs.Prelude.{unsigned_abs, length, slice_index};
+ghost use Rattle.std.specs.Prelude.{◌≡◌, ◌+◌, ◌*◌, ◌/◌, ◌≤◌, ℤ, pos, ◌-ℤ◌, ◌*ℤ◌, ◌≤ℤ◌, IsTrue};
+ghost use Rattle.std.specs.Prelude.{unsigned_abs};
 ghost use Rattle.edge_walk.specs.Triangle.{IsNear, IsSmall, IsUpright, corners, edge, doubled_area, is_within};
 ghost use Rattle.edge_walk.specs.Attribute.{AreBytes, attribute, step_of, row_step_of};
 ghost use Rattle.edge_walk.specs.Divisor.{IsDivisor};

@@ -1,9 +1,9 @@
 // An attribute over a whole triangle.
 ghost use Rattle.std.specs.Prelude.{◌≡◌, ◌+◌, ◌*◌, ◌%◌, ◌^◌, ◌≤◌, ℕ, IsTrue};
-ghost use Rattle.edge_walk.specs.Attribute.{AreBytes, attribute, row_step_of, step_of};
+ghost use Rattle.edge_walk.specs.Attribute.{AreBytes, attribute, attribute_at, row_step_of, step_of};
 ghost use Rattle.edge_walk.specs.Divisor.{IsDivisor};
 ghost use Rattle.edge_walk.specs.Line.{IsRowLine, scaled};
-ghost use Rattle.edge_walk.specs.Plane.{IsPlane, from_least, line_at};
+ghost use Rattle.edge_walk.specs.Plane.{IsPlane, from_least, line_at, number_at};
 ghost use Rattle.edge_walk.specs.Triangle.{Corners, IsSmall, corners, is_inside};
 
 use crate::divisor::Divisor;
@@ -78,15 +78,31 @@ impl Plane {
         self.line_at(x, y)
     }
 
+    /// The attribute at a cell inside.
     #[inline(always)]
-    #[tactic(auto, unfolding(crate::specs::Plane::line_at))]
+    pub fn value_at(&self, x: i32, y: i32) -> u8
+        ensures { (t : Corners) (which : ℕ)
+            → IsPlane t which self.now → IsTrue (is_inside t x y) → result ≡ attribute_at t which x y }
+    {
+        (self.number_at(x, y) >> 56) as u8
+    }
+
+    #[inline(always)]
     fn line_at(&self, x: i32, y: i32) -> RowLine
         ensures { result ≡ line_at self.now x y }
     {
-        let row = after_steps(self.base, self.down, from_least(y));
         RowLine {
-            first: after_steps(row, self.across, from_least(x)),
+            first: self.number_at(x, y),
             step: self.across,
         }
+    }
+
+    #[inline(always)]
+    #[tactic(auto, unfolding(crate::specs::Plane::number_at))]
+    fn number_at(&self, x: i32, y: i32) -> u64
+        ensures { result ≡ number_at self.now x y }
+    {
+        let row = after_steps(self.base, self.down, from_least(y));
+        after_steps(row, self.across, from_least(x))
     }
 }

@@ -1,6 +1,6 @@
 // How the columns that an edge bounds go from row to row.
-ghost use Rattle.std.specs.Prelude.{◌≡◌, ◌+◌, ◌-◌, ◌*◌, ◌^◌, ◌≤◌, ◌<◌, Bool, ℤ, pos, ◌-ℤ◌, ◌≤ℤ◌, ◌<ℤ◌, int_lt};
-ghost use Rattle.std.specs.Prelude.{unsigned_abs, if◌then◌else◌};
+ghost use Rattle.std.specs.Prelude.{◌≡◌, ◌+◌, ◌*◌, ◌^◌, ◌≤◌, ◌<◌, ℤ, pos, ◌-ℤ◌, int_lt, ◌≤ℤ◌, ◌<ℤ◌};
+ghost use Rattle.std.specs.Prelude.{if◌then◌else◌};
 ghost use Rattle.px_num.specs.declared.shape.Vertex.{Vertex};
 ghost use Rattle.edge_walk.specs.Triangle.{IsNear};
 ghost use Rattle.edge_walk.specs.Walk.{IsSlope};
@@ -13,8 +13,8 @@ use px_num::Vertex;
 pub(crate) enum Bound {
     /// They are at most its own.
     AtMost,
-    /// They are at least its own.
-    AtLeast,
+    /// They are above its own.
+    Above,
 }
 
 /// How an edge bounds the columns of a row, and where: its own column is as far from that of its first vertex as the
@@ -25,6 +25,10 @@ pub(crate) struct Slope {
     pub(crate) scale: i64,
     pub(crate) slack: i64,
 }
+
+// A cell on an edge stands less than half of this beside the edge's own column, and the next one whose edge value
+// differs more than twice as far.
+const SLACK: i64 = -0x10_0000;
 
 // The parts of a column over so many rows, rounded up.
 #[inline(always)]
@@ -48,15 +52,15 @@ fn steep(rises: bool, rows: u32) -> Slope
     let parts = parts_over(rows) as i64;
     if rises {
         Slope {
-            bound: Bound::AtLeast,
+            bound: Bound::Above,
             scale: -parts,
-            slack: 0x3ff7_ffff,
+            slack: SLACK,
         }
     } else {
         Slope {
             bound: Bound::AtMost,
             scale: parts,
-            slack: 0x8_0000 - parts,
+            slack: SLACK,
         }
     }
 }
@@ -77,16 +81,40 @@ fn level(right: bool) -> Slope
     }
 }
 
-/// The slope of the edge from p to q.
+/// The slope of an edge that rises from p to q.
 #[inline(always)]
-pub(crate) fn slope_of(p: &Vertex, q: &Vertex) -> Slope
-    requires { IsNear p.now q.now }
+pub(crate) fn rising(p: &Vertex, q: &Vertex) -> Slope
+    requires near { IsNear p.now q.now }
+    requires rises { q.now.y <ℤ p.now.y }
+    ensures { IsSlope p.now q.now result }
+{
+    steep(true, difference(p.y, q.y) as u32)
+}
+
+/// The slope of an edge that falls from p to q, or is level.
+#[inline(always)]
+pub(crate) fn falling(p: &Vertex, q: &Vertex) -> Slope
+    requires near { IsNear p.now q.now }
+    requires falls { p.now.y ≤ℤ q.now.y }
     ensures { IsSlope p.now q.now result }
 {
     let fall = difference(q.y, p.y);
     if fall == 0 {
         level(p.x < q.x)
     } else {
-        steep(fall < 0, fall.unsigned_abs() as u32)
+        steep(false, fall as u32)
+    }
+}
+
+/// The slope of the edge from p to q.
+#[inline(always)]
+pub(crate) fn slope_of(p: &Vertex, q: &Vertex) -> Slope
+    requires { IsNear p.now q.now }
+    ensures { IsSlope p.now q.now result }
+{
+    if q.y < p.y {
+        rising(p, q)
+    } else {
+        falling(p, q)
     }
 }

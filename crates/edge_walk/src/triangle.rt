@@ -7,6 +7,7 @@ use crate::mix::{attribute, mixed, row_mix, step_across, weights_at};
 use crate::plane::Plane;
 use crate::rows::{Limits, row_limits};
 use crate::side::{Ends, Side};
+use crate::slope::{falling, rising, slope_of};
 use crate::walk::RowWalk;
 use px_num::{Box2, Vertex};
 use std::marker::Model;
@@ -26,9 +27,9 @@ pub struct Tri {
 }
 
 impl Model for Tri {
-    ghost use Rattle.std.specs.Prelude.{◌≡◌, int_lt, pos, unsigned_abs};
+    ghost use Rattle.std.specs.Prelude.{◌≡◌, pos};
     ghost use Rattle.std.proofs.Common.{ap, sym, ◌∙◌};
-    ghost use Rattle.edge_walk.specs.Triangle.{Corners, corners, doubled_area, IsDrawn};
+    ghost use Rattle.edge_walk.specs.Triangle.{Corners, corners, IsDrawn};
     ghost use Rattle.edge_walk.specs.Held.{IsHeld, is_turned, size_of};
 
     ghost Value = { Corners };
@@ -58,9 +59,41 @@ struct Upright {
     c: Vertex,
 }
 
+impl Upright {
+    ghost use Rattle.std.specs.Prelude.{◌<ℤ◌, ◌≤ℤ◌};
+    ghost use Rattle.edge_walk.specs.Triangle.{corners, IsSmall, IsTurn, IsUpright};
+
+    // The same triangle, its second vertex the first of the highest ones: the edge to it rises, and that from it does
+    // not. So a row chooses between the two ways to bound columns at one edge alone.
+    #[inline(always)]
+    fn around_top(&self) -> Upright
+        requires { IsUpright (corners self.now.a self.now.b self.now.c) }
+        ensures turn { IsTurn (corners self.now.a self.now.b self.now.c) (corners result.a result.b result.c) }
+        ensures small { IsSmall (corners result.a result.b result.c) }
+        ensures rises { result.b.y <ℤ result.a.y }
+        ensures falls { result.b.y ≤ℤ result.c.y }
+    {
+        if self.b.y < self.a.y && self.b.y <= self.c.y {
+            *self
+        } else if self.c.y < self.b.y && self.c.y <= self.a.y {
+            Upright {
+                a: self.b,
+                b: self.c,
+                c: self.a,
+            }
+        } else {
+            Upright {
+                a: self.c,
+                b: self.a,
+                c: self.b,
+            }
+        }
+    }
+}
+
 impl Tri {
     ghost use Rattle.std.specs.Option.{is_some};
-    ghost use Rattle.std.specs.Prelude.{◌≡◌, ◌^◌, IfSome, SomeIff, MatchOption, IsTrue, ◌↔◌, pos, ℤ, false, ◌≤◌, ◌<◌};
+    ghost use Rattle.std.specs.Prelude.{◌≡◌, ◌^◌, IfSome, SomeIff, MatchOption, IsTrue, pos, ℤ, false, ◌≤◌, ◌<◌};
     ghost use Rattle.std.specs.Prelude.{◌+ℤ◌, ℕ, length, slice_index};
     ghost use Rattle.px_num.specs.Lanes.{EachLane};
     ghost use Rattle.edge_walk.specs.Attribute.{attribute_at, HasColor, IsUnscaled};
@@ -159,14 +192,13 @@ impl Tri {
         requires { HasRows self.now clip.now }
         ensures { AreRows self.now clip.now clip.now.y1 result }
     {
-        let t = self.upright();
+        let t = self.upright().around_top();
         let own = self.bounds();
         RowWalk {
-            origin: own.x1,
             ends: Ends::of(clip, &own),
-            first: Side::at(&t.a, &t.b, own.x1, clip.y1),
-            second: Side::at(&t.b, &t.c, own.x1, clip.y1),
-            third: Side::at(&t.c, &t.a, own.x1, clip.y1),
+            first: Side::at(&rising(&t.a, &t.b), &t.a, &t.b, clip.y1),
+            second: Side::at(&falling(&t.b, &t.c), &t.b, &t.c, clip.y1),
+            third: Side::at(&slope_of(&t.c, &t.a), &t.c, &t.a, clip.y1),
         }
     }
 

@@ -1,4 +1,5 @@
 pub mod Corners
+pub mod Drawn
 pub mod Fields
 pub mod Loads
 pub mod Notes

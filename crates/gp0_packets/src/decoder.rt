@@ -1,15 +1,18 @@
 // The packet that an item is.
 ghost use Rattle.std.specs.Prelude.{◌≡◌, ◌<◌, ◌≤◌, ℕ, length, slice_index};
-ghost use Rattle.gp0_words.specs.Kinds.{class_of, opcode_of, first_len_of};
+ghost use Rattle.gp0_words.specs.Kinds.{opcode_of, first_len_of};
 ghost use Rattle.gp0_words.specs.declared.item.Item.TheVariants.{Whole};
 ghost use Rattle.px_num.specs.Height.{height_of_profile};
+ghost use Rattle.gp0_packets.specs.Corners.{Carries};
+ghost use Rattle.gp0_packets.specs.Drawn.{IsDrawnBy, IsOfClass};
 ghost use Rattle.gp0_packets.specs.Packets.{environment_of, other_of, whole_of, packet_of};
 ghost use Rattle.gp0_packets.specs.Ranges.{IsInRange};
 
 use crate::field::low24;
 use crate::line::{line, segment};
+use crate::note::class_of_word;
 use crate::packet::Packet;
-use crate::polygon::polygon;
+use crate::polygon::{Carried, carried_by, polygon};
 use crate::rectangle::rectangle;
 use crate::transfer::{copy, fill, load, store};
 use gp0_words::{Item, first_len};
@@ -50,6 +53,35 @@ fn other(words: &[u32], height: u16) -> Packet
     }
 }
 
+/// A polygon by its words, whose vertices carry this. What they carry is passed beside the words, so that a caller can
+/// have the polygon read by a constant of it.
+#[inline(always)]
+pub fn decode_polygon(words: &[u32], carried: Carried) -> Packet
+    requires words { IsOfClass 1 words.now }
+    requires carried { Carries carried (slice_index words.now 0) }
+    ensures { IsDrawnBy words.now result }
+{
+    polygon(words, carried)
+}
+
+/// A line by its words, or the first segment of a polyline by those that make it.
+#[inline(always)]
+pub fn decode_line(words: &[u32]) -> Packet
+    requires { IsOfClass 2 words.now }
+    ensures { IsDrawnBy words.now result }
+{
+    line(words)
+}
+
+/// A rectangle by its words.
+#[inline(always)]
+pub fn decode_rectangle(words: &[u32]) -> Packet
+    requires { IsOfClass 3 words.now }
+    ensures { IsDrawnBy words.now result }
+{
+    rectangle(words)
+}
+
 /// The packet of these words, as many as their first asks for, at a height of video memory.
 #[inline(never)]
 #[tactic(auto, unfolding(crate::specs::Packets::whole_of))]
@@ -61,8 +93,8 @@ pub fn decode_whole(words: &[u32], height: u16) -> Packet
     ensures ranges { IsInRange height result }
 {
     let command = words[0];
-    match command >> 29 {
-        1 => polygon(words),
+    match class_of_word(command) {
+        1 => polygon(words, carried_by(command)),
         2 => line(words),
         3 => rectangle(words),
         4 => copy(words, height),

@@ -9,7 +9,7 @@ use crate::packet::Packet;
 use px_num::bit;
 
 /// The segment from a vertex to another, each with its colour word.
-#[inline(never)]
+#[inline(always)]
 pub fn segment(
     command: u32,
     from_color: u32,
@@ -28,7 +28,7 @@ pub fn segment(
 }
 
 /// A line, or the first segment of a polyline, by its words.
-#[inline(never)]
+#[inline(always)]
 #[tactic(auto, unfolding(crate::specs::Packets::line_of))]
 pub fn line(words: &[u32]) -> Packet
     requires { length words.now ≡ 3 + bit_at (slice_index words.now 0) 28 }

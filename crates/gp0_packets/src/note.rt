@@ -1,5 +1,6 @@
 // What is told of an item.
 ghost use Rattle.std.specs.Prelude.{◌≡◌, ◌≤◌};
+ghost use Rattle.gp0_words.specs.Kinds.{class_of};
 ghost use Rattle.gp0_packets.specs.Notes.{class_of_item, head_of_item};
 
 use gp0_words::Item;
@@ -24,11 +25,19 @@ pub fn class_of(item: &Item) -> u8
     ensures at_most_nine { result ≤ 9 }
 {
     match item {
-        Item::Whole { .. } => (head_of(item) >> 29) as u8,
+        Item::Whole { .. } => class_of_word(head_of(item)),
         Item::Joint { .. } => 2,
         Item::Finish { .. } => 8,
         Item::Pixels { .. } => 9,
     }
+}
+
+/// The class of a packet that begins with this word, 0 to 7.
+pub fn class_of_word(word: u32) -> u8
+    ensures value { result ≡ class_of word }
+    ensures at_most_seven { result ≤ 7 }
+{
+    (word >> 29) as u8
 }
 
 /// The head of an item's note.

@@ -11,11 +11,21 @@ use px_num::{Vertex, bit};
 
 /// What a polygon's vertices carry.
 #[derive(Clone, Copy)]
-struct Carried {
-    // a colour each
-    shaded: bool,
-    // a texcoord each
-    textured: bool,
+pub struct Carried {
+    /// A colour each.
+    pub shaded: bool,
+    /// A texcoord each.
+    pub textured: bool,
+}
+
+/// What the vertices of a polygon with this command carry.
+pub fn carried_by(command: u32) -> Carried
+    ensures { Carries result command }
+{
+    Carried {
+        shaded: bit(command, 28),
+        textured: bit(command, 26),
+    }
 }
 
 /// How many words a vertex has: a colour where shaded, the vertex, and a texcoord where textured.
@@ -82,7 +92,7 @@ fn attribute_at(words: &[u32], carried: Carried, i: usize) -> u16
 /// A polygon by its words, whose vertices carry this.
 #[inline(always)]
 #[tactic(auto, unfolding(crate::specs::Packets::polygon_of))]
-fn polygon_with(words: &[u32], carried: Carried) -> Packet
+pub fn polygon(words: &[u32], carried: Carried) -> Packet
     requires words { length words.now ≡ polygon_len_of (slice_index words.now 0) }
     requires carried { Carries carried (slice_index words.now 0) }
     ensures value { result ≡ polygon_of words.now }
@@ -103,50 +113,5 @@ fn polygon_with(words: &[u32], carried: Carried) -> Packet
         raw: bit(command, 24) && carried.textured,
         clut: attribute_at(words, carried, 0),
         page: attribute_at(words, carried, 1),
-    }
-}
-
-/// A polygon by its words. It is compiled for each of what its vertices may carry.
-#[inline(never)]
-pub fn polygon(words: &[u32]) -> Packet
-    requires { length words.now ≡ polygon_len_of (slice_index words.now 0) }
-    ensures value { result ≡ polygon_of words.now }
-    ensures ranges { (height : ℕ) → IsInRange height result }
-{
-    let command = words[0];
-    if bit(command, 28) {
-        if bit(command, 26) {
-            polygon_with(
-                words,
-                Carried {
-                    shaded: true,
-                    textured: true,
-                },
-            )
-        } else {
-            polygon_with(
-                words,
-                Carried {
-                    shaded: true,
-                    textured: false,
-                },
-            )
-        }
-    } else if bit(command, 26) {
-        polygon_with(
-            words,
-            Carried {
-                shaded: false,
-                textured: true,
-            },
-        )
-    } else {
-        polygon_with(
-            words,
-            Carried {
-                shaded: false,
-                textured: false,
-            },
-        )
     }
 }

@@ -39,7 +39,7 @@ fn rectangle_sides(words: &[u32]) -> (u16, u16)
 }
 
 /// A rectangle by its words.
-#[inline(never)]
+#[inline(always)]
 #[tactic(auto, unfolding(crate::specs::Packets::rectangle_of))]
 pub fn rectangle(words: &[u32]) -> Packet
     requires { length words.now ≡ rectangle_len_of (slice_index words.now 0) }

@@ -1,17 +1,15 @@
 -- The words of a plain packet.
-use Rattle.std.proofs.Common.{◌≡◌, ◌≤◌, ◌<◌, ℕ, ◌+◌, ◌-◌, ◌/◌, ◌^◌, ◌==◌, Bool, true, false, cond}
-use Rattle.std.proofs.Common.{if◌then◌else◌, nat_lt, List, [], ◌∷◌, ◌++◌, Some, None, fold}
+use Rattle.std.proofs.Common.{◌≡◌, ◌≤◌, ◌<◌, ℕ, ◌+◌, ◌-◌, true, false}
+use Rattle.std.proofs.Common.{nat_lt, List, [], ◌∷◌, ◌++◌, Some, None, fold}
 use Rattle.std.proofs.Common.{length, slice_index, map, refl, ap, sym, subst, ◌∙◌, arith}
 use Rattle.std.proofs.Common.{append_assoc, length-append}
 use Rattle.std.proofs.lemmas.Bool.Decides.{nat_tests}
 use Rattle.gp0_packets.specs.declared.note.Note.{Note}
 use Rattle.gp0_packets.specs.Packets.{packet_of}
-use Rattle.std.specs.Int.{bit_at}
-use Rattle.gp0_words.specs.Kinds.{is_set, class_of, opcode_of, kind_of, start_len, first_len_of, polygon_len_of}
-use Rattle.gp0_words.specs.Kinds.{rectangle_len_of}
-use Rattle.gp0_words.specs.Next.{next_pending, next_item, collected_pending, collected_item, IsPending, IsPolyline}
+use Rattle.gp0_words.specs.Kinds.{kind_of, first_len_of}
+use Rattle.gp0_words.specs.Next.{next_pending, next_item, collected_pending, collected_item, IsPending}
 use Rattle.gp0_words.specs.declared.item.Item.TheVariants as item
-use Rattle.gp0_words.specs.declared.kind.Kind.TheVariants.{Plain, Polyline}
+use Rattle.gp0_words.specs.declared.kind.Kind.TheVariants.{Plain}
 use Rattle.gp0_words.specs.declared.pending.Pending.{Pending}
 use Rattle.gp0_words.specs.declared.pending.Pending.TheVariants as pending
 use Rattle.gp0_words.proofs.Pushes.{pushed}
@@ -24,27 +22,6 @@ use Rattle.gpu_core.specs.Kept.{Kept, kept_of, IsLinked}
 use Rattle.gpu_core.specs.Machine.{Parts, State, after_gp0, effect_of, after_item}
 use Rattle.gpu_core.proofs.Fed.{fed}
 use Rattle.gpu_core.proofs.Link.{collected-linked}
-
--- ---- its kind
-
-tests_plain : (a q p b c d : Bool) (k l m n : ℕ) (shaded : Bool) →
-    let kind = cond a (Plain k) (cond q (cond p (Polyline shaded) (Plain l)) (cond b (Plain m) (cond c (Plain 4)
-    (cond d (Plain 3) (Plain n))))) in (kind ≡ Polyline shaded → ⊥) → kind ≡ Plain (start_len kind)
-tests_plain true q p b c d k l m n shaded line = refl
-tests_plain false true true b c d k l m n shaded line = absurd (line refl)
-tests_plain false true false b c d k l m n shaded line = refl
-tests_plain false false p true c d k l m n shaded line = refl
-tests_plain false false p false true d k l m n shaded line = refl
-tests_plain false false p false false true k l m n shaded line = refl
-tests_plain false false p false false false k l m n shaded line = refl
-
-pub plain_kind : (word : ℕ) → (IsPolyline word → ⊥) → (word / 2 ^ 29 ≡ 5 → ⊥) → kind_of word ≡ Plain (first_len_of word)
-plain_kind word line load =
-    let no_load : (word / 2 ^ 29 == 5) ≡ false = grind (arith, nat_tests) in
-    rw no_load
-    (tests_plain (class_of word == 1) (class_of word == 2) (is_set word 27) (class_of word == 3) (class_of word == 4)
-    (class_of word == 6) (polygon_len_of word) (3 + bit_at word 28) (rectangle_len_of word)
-    (if opcode_of word == 2 then 3 else 1) (is_set word 28) (rw no_load at line))
 
 -- ---- its words, one after another
 

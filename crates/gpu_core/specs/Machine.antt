@@ -59,6 +59,11 @@ with_pixels p (Some job) word = record p { m = loaded_word p.m p.regs.mask job w
 abbrev pub with_page : Registers → Bool → ℕ → Registers
 with_page r textured page = if textured then record r { e1 = page_of r.height page r.e1 } else r
 
+-- the registers with which a packet is drawn
+abbrev pub drawing_registers : Registers → Packet → Registers
+drawing_registers r (packet.Poly four a b c d shaded textured semi raw clut page) = with_page r textured page
+drawing_registers r other = r
+
 -- a packet is drawn with these registers, which stay
 abbrev pub drawn : Parts → Registers → Packet → Parts
 drawn p r what = record p { m = drawn_packet r what p.m; regs = r }

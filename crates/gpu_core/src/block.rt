@@ -1,6 +1,6 @@
 // Words that are taken at once.
 ghost use Rattle.std.specs.Prelude.{◌≡◌, ◌≤◌, ◌<◌, ◌+◌, length, map, slice_index, take, ℕ};
-ghost use Rattle.gp0_words.specs.Kinds.{kind_of};
+ghost use Rattle.gp0_words.specs.Kinds.{class_of, kind_of};
 ghost use Rattle.gp0_words.specs.Next.{wanted};
 ghost use Rattle.gp0_words.specs.declared.kind.Kind.TheVariants.{Plain};
 ghost use Rattle.gp0_words.specs.declared.pending.Pending.TheVariants.{Idle};
@@ -10,6 +10,7 @@ ghost use Rattle.gpu_core.specs.Machine.{State};
 
 use crate::gpu::Gpu;
 use crate::parts::Parts;
+use gp0_packets::{Note, class_of_word};
 use gp0_words::{Splitter, first_len, is_polyline};
 use gpu_taps::{Listener, tell_all, tell_all_bare};
 use std::sync::ledger::Ledger;
@@ -72,11 +73,16 @@ impl Gpu {
 
     // Sets the registers of the first words, as many as are registers' where nothing is pending, and says how many.
     fn set_registers(&mut self, words: &[u32]) -> usize
+        requires { 0 < length words.now }
         ensures within { result ≤ length words.now }
         ensures sets { (s : State) (first : ℕ) → kept_of s ≡ self.old
             → SetsRegisters s first (take result words.now) self.new }
     {
-        set_all(&mut self.parts, &self.splitter, words)
+        if self.splitter.passes(words[0]) {
+            set_all(&mut self.parts, &self.splitter, words)
+        } else {
+            0
+        }
     }
 
     // How many of the words that come next are a packet that is plain and all there, where nothing is pending; else 0.
@@ -110,7 +116,14 @@ impl Gpu {
             (map T.heard taps.old.items) (map T.heard taps.new.items) steps.old steps.new }
     {
         let event = played.saturating_add(words.len() as u64);
-        let note = self.parts.take_words(event, words, steps);
+        let head = words[0];
+        let area = self.parts.carry_out_words(words, steps);
+        let note = Note {
+            event,
+            class: class_of_word(head),
+            head,
+            area,
+        };
         tell_all(taps, &note);
     }
 }
@@ -137,9 +150,19 @@ fn plain_count(word: u32) -> usize
     ensures kind { 0 < result → kind_of word ≡ Plain result }
     ensures most { result ≤ 12 }
 {
-    if word >> 29 == 5 {
-        return 0;
+    match class_of_word(word) {
+        2 => line_count(word),
+        5 => 0,
+        _ => first_len(word),
     }
+}
+
+// The same of a line or polyline.
+fn line_count(word: u32) -> usize
+    requires { class_of word ≡ 2 }
+    ensures kind { 0 < result → kind_of word ≡ Plain result }
+    ensures most { result ≤ 12 }
+{
     if is_polyline(word) {
         return 0;
     }

@@ -73,7 +73,7 @@ copy_iff source target n =
     (λ j. is_written_before target j (cell_right source j))
     (λ j. before_iff target j (cell_right source j))
 
-texel_iff : (texels : List Cell) (target : Cell) → IsTrue (has_texel_hazard texels target)
+pub texel_iff : (texels : List Cell) (target : Cell) → IsTrue (has_texel_hazard texels target)
     ↔ HasTexelHazard texels target
 unfolding has_texel_hazard
 texel_iff texels target =

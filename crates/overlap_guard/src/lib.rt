@@ -12,7 +12,7 @@ pub mod laws;
 mod texture;
 
 pub use copy::copy_hazard;
-pub use texture::texture_hazard;
+pub use texture::{clut_hazard, texture_hazard};
 
 #[cfg(test)]
 mod tests {

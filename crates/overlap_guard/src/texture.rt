@@ -57,8 +57,8 @@ fn lies_before(cell: Cell, to: Cell, j: usize) -> bool
     cell.y == to.y && to.x <= cell.x && ((cell.x - to.x) as usize) < j
 }
 
-// Whether some lane writes a cell of the palette.
-fn clut_hazard(clut: Option<Strip>, to: Cell, n: u8) -> bool
+/// Whether some lane of a chunk writes a cell of a palette: what `texture_hazard` says of the palette alone.
+pub fn clut_hazard(clut: Option<Strip>, to: Cell, n: u8) -> bool
     requires some { 1 ≤ n }
     requires target { to.x + n ≤ 1024 }
     ensures { IsTrue result ↔ MatchOption clut ⊥ (λ strip. HasStripHazard strip to n) }

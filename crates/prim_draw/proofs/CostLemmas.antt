@@ -20,7 +20,7 @@ use Rattle.prim_draw.specs.Lines.{placed_ends, segment_box}
 use Rattle.prim_draw.specs.Parts.{polygon, polygon_style, rectangle_style}
 use Rattle.prim_draw.specs.Rectangles.{extent_at, rectangle_box, tile_in}
 use Rattle.prim_draw.specs.Triangles.{draws, lower_half, triangle_box, triangle_coat, upper_half}
-use Rattle.prim_draw.specs.declared.boxes.Block.{Block}
+use Rattle.span_lanes.specs.declared.block.Block.{Block}
 use Rattle.prim_draw.specs.declared.coat.Coat.{Coat}
 use Rattle.prim_draw.specs.declared.polygon.Polygon.{Polygon}
 use Rattle.prim_draw.specs.declared.rectangles.Extent.{Extent}

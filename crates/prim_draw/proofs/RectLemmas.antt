@@ -14,10 +14,11 @@ use Rattle.span_lanes.specs.declared.span.Paint.{Paint}
 use Rattle.span_lanes.specs.declared.span.Brush.{Brush}
 use Rattle.span_lanes.specs.declared.span.Texture.{Texture}
 use Rattle.span_lanes.proofs.CellsLemmas.{cells_append, row_same}
-use Rattle.prim_draw.specs.Boxes.{cells_in_rows, IsBlock}
+use Rattle.prim_draw.specs.Boxes.{cells_in_rows}
+use Rattle.span_lanes.specs.Frame.{IsBlock}
 use Rattle.prim_draw.specs.Costs.{tile_rows_cost, tile_span}
 use Rattle.prim_draw.specs.Rectangles.{paint_from, tile_paint, tile_pixel, IsTile}
-use Rattle.prim_draw.specs.declared.boxes.Block.{Block}
+use Rattle.span_lanes.specs.declared.block.Block.{Block}
 use Rattle.prim_draw.specs.declared.rectangles.Extent.{Extent}
 use Rattle.prim_draw.specs.declared.rectangles.Tile.{Tile}
 

@@ -18,7 +18,7 @@ use Rattle.prim_draw.specs.Costs.{side_by_side}
 use Rattle.prim_draw.specs.declared.coat.Coat.{Coat}
 use Rattle.prim_draw.specs.Boxes.{cells_in_rows, row_box}
 use Rattle.prim_draw.specs.Triangles.{draws, pixel_at, IsAlike}
-use Rattle.prim_draw.specs.declared.boxes.Block.{Block}
+use Rattle.span_lanes.specs.declared.block.Block.{Block}
 
 -- a test holds in a row from one column on, of so many cells, and nowhere else in its first w cells
 pub record HoldsInRun (test : Cell → Bool) (x y w first count : ℕ) : Type 0 where

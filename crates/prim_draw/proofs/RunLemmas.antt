@@ -6,11 +6,12 @@ use Rattle.px_num.specs.declared.shape.Cell.{Cell}
 use Rattle.edge_walk.specs.Triangle.{Corners}
 use Rattle.edge_walk.specs.Walk.{AreRows}
 use Rattle.edge_walk.specs.declared.walk.RowWalk.{RowWalk}
+use Rattle.span_lanes.specs.Cells.{Stage}
 use Rattle.prim_draw.specs.Boxes.{IsOnScreen, block_of}
 use Rattle.prim_draw.specs.Costs.{side_by_side}
 use Rattle.prim_draw.specs.Triangles.{draws, pixel_at, painted_cells, run_cells, row_inside}
 use Rattle.prim_draw.specs.Walks.{DrawsRows, DrawsRun, IsOnRow, StandsBehind, TakesRow}
-use Rattle.prim_draw.specs.declared.boxes.Block.{Block}
+use Rattle.span_lanes.specs.declared.block.Block.{Block}
 use Rattle.prim_draw.specs.declared.coat.Coat.{Coat}
 use Rattle.prim_draw.specs.declared.triangles.Run.{Run}
 use Rattle.prim_draw.proofs.RowLemmas.{row_drawn}
@@ -21,9 +22,9 @@ spent before now next rows row so_far here = omega arith
 
 module _ (coat : Coat) (t : Corners) (clip : Box2) (b : Block) (on : IsOnScreen 1024 clip) (is : b ≡ block_of clip)
   where
-    pub rows_start : (rows : RowWalk) (m : List ℕ) (steps : ℕ) → AreRows t clip clip.y1 rows
-        → StandsBehind coat t clip b 0 rows m m steps steps
-    rows_start rows m steps stands =
+    pub rows_start : (rows : RowWalk) (before : Stage) → AreRows t clip clip.y1 rows
+        → StandsBehind coat t clip b 0 rows before before
+    rows_start rows before stands =
         let box = box_is clip on in
         let y_is : b.y ≡ (block_of clip).y = ap (λ k. k.y) is in
         let first : clip.y1 ≡ pos (b.y + 0) = omega (arith, ints, box.top, y_is) in
@@ -41,12 +42,11 @@ module _ (coat : Coat) (t : Corners) (clip : Box2) (b : Block) (on : IsOnScreen 
       is = row_at t clip b count rows on is lt stands;
     }
 
-    pub rows_next : (count : ℕ) (rows next : RowWalk) (found : Option Run) (m now new : List ℕ)
-        (steps steps_now steps_new : ℕ) → count < b.h
-        → StandsBehind coat t clip b count rows m now steps steps_now → TakesRow rows next found
-        → DrawsRun coat (b.y + count) found now new steps_now steps_new
-        → StandsBehind coat t clip b (count + 1) next m new steps steps_new
-    rows_next count rows next found m now new steps steps_now steps_new lt so_far takes run =
+    pub rows_next : (count : ℕ) (rows next : RowWalk) (found : Option Run) (before now after : Stage) → count < b.h
+        → StandsBehind coat t clip b count rows before now → TakesRow rows next found
+        → DrawsRun coat (b.y + count) found now after
+        → StandsBehind coat t clip b (count + 1) next before after
+    rows_next count rows next found before now after lt so_far takes run =
         let y : ℕ = b.y + count in
         let row = row_at t clip b count rows on is lt so_far.stands in
         let found_is : run_cells found y ≡ row_inside t b y = takes.cells t clip y row
@@ -54,20 +54,19 @@ module _ (coat : Coat) (t : Corners) (clip : Box2) (b : Block) (on : IsOnScreen 
         let below : b.y + count + 1 ≡ b.y + (count + 1) = omega arith in
         record {
           drawn = record {
-            cells = row_drawn (pixel_at coat) coat.brush.mask (draws t) b.x b.y b.w count m now new so_far.drawn.cells
-                (run.cells ∙ ap (λ (cells : List Cell). painted_cells coat cells now) found_is);
+            cells = row_drawn (pixel_at coat) coat.brush.mask (draws t) b.x b.y b.w count before.m now.m after.m
+                so_far.drawn.cells (run.cells ∙ ap (λ (cells : List Cell). painted_cells coat cells now.m) found_is);
             long = run.long ∙ so_far.drawn.long;
             cost = rw (add-one count) (spent _ _ _ _ _ so_far.drawn.cost
-                (subst (λ cost. steps_new ≤ steps_now + cost)
+                (subst (λ cost. after.steps ≤ now.steps + cost)
                 (ap (λ (cells : List Cell). side_by_side coat cells) found_is) run.cost));
           };
           stands = subst (λ (k : ℕ). AreRows t clip (pos k) next) below (takes.next t clip y row);
         }
 
 -- all rows of a block that is that of a box
-pub rows_drawn : (coat : Coat) (t : Corners) (b of_box : Block) (count : ℕ) (m now : List ℕ) (steps steps_now : ℕ)
-    → b ≡ of_box → count ≡ b.h → DrawsRows coat t b count m now steps steps_now
-    → DrawsRows coat t of_box of_box.h m now steps steps_now
-rows_drawn coat t b of_box count m now steps steps_now is all drawn =
-    subst (λ k. DrawsRows coat t k k.h m now steps steps_now) is
-    (subst (λ n. DrawsRows coat t b n m now steps steps_now) all drawn)
+pub rows_drawn : (coat : Coat) (t : Corners) (b of_box : Block) (count : ℕ) (before after : Stage) → b ≡ of_box
+    → count ≡ b.h → DrawsRows coat t b count before after → DrawsRows coat t of_box of_box.h before after
+rows_drawn coat t b of_box count before after is all drawn =
+    subst (λ k. DrawsRows coat t k k.h before after) is
+    (subst (λ n. DrawsRows coat t b n before after) all drawn)

@@ -10,7 +10,7 @@ use Rattle.edge_walk.specs.declared.walk.RowWalk.{RowWalk}
 use Rattle.prim_draw.specs.Boxes.{block_of, row_box, IsOnScreen, LiesIn}
 use Rattle.prim_draw.specs.Triangles.{FitsTriangle, IsRun}
 use Rattle.prim_draw.specs.Walks.{CanDraw, IsRowOf}
-use Rattle.prim_draw.specs.declared.boxes.Block.{Block}
+use Rattle.span_lanes.specs.declared.block.Block.{Block}
 use Rattle.prim_draw.specs.declared.triangles.Run.{Run}
 use Rattle.span_lanes.specs.declared.span.Paint.{Paint}
 

@@ -7,7 +7,7 @@ use Rattle.px_num.specs.declared.shape.Cell.{Cell}
 use Rattle.gp1_status.specs.Registers.{Registers}
 use Rattle.span_lanes.specs.Cells.{row_cells}
 use Rattle.prim_draw.specs.Settings.{drawing_area}
-use Rattle.prim_draw.specs.declared.boxes.Block.{Block}
+use Rattle.span_lanes.specs.declared.block.Block.{Block}
 
 -- a box, or none where it has no cell
 unfoldable pub some_box : Box2 → Option Box2
@@ -50,12 +50,6 @@ block_of b = record {
   w = unsigned_abs (b.x2 -ℤ b.x1) + 1;
   h = unsigned_abs (b.y2 -ℤ b.y1) + 1;
 }
-
-pub record IsBlock (height : ℕ) (b : Block) : Type 0 where
-  pub columns : 1 ≤ b.w
-  pub rows : 1 ≤ b.h
-  pub right : b.x + b.w ≤ 1024
-  pub bottom : b.y + b.h ≤ height
 
 -- h rows of w cells from (x, y) on: rows from the top, and each from left to right
 abbrev pub cells_in_rows : (x y w h : ℕ) → List Cell

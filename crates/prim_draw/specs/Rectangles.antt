@@ -11,7 +11,7 @@ use Rattle.span_lanes.specs.Shade.{HasInside, IsTexture, paint_pixel, row_u}
 use Rattle.span_lanes.specs.Cells.{drawn_cells}
 use Rattle.prim_draw.specs.Boxes.{block_of, cells_of, clipped}
 use Rattle.prim_draw.specs.Settings.{brush_in, offset_x, offset_y, texture_in}
-use Rattle.prim_draw.specs.declared.boxes.Block.{Block}
+use Rattle.span_lanes.specs.declared.block.Block.{Block}
 use Rattle.prim_draw.specs.declared.rectangles.Extent.{Extent}
 use Rattle.prim_draw.specs.declared.rectangles.Tile.{Tile}
 use Rattle.prim_draw.specs.declared.style.Style.{Style}

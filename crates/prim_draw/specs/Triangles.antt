@@ -15,7 +15,7 @@ use Rattle.span_lanes.specs.Shade.{AreInside, HasInside, IsTexture, paint_pixel,
 use Rattle.span_lanes.specs.Cells.{drawn_cells, row_cells}
 use Rattle.prim_draw.specs.Boxes.{block_of, cells_of, clipped}
 use Rattle.prim_draw.specs.Settings.{brush_in, placed, texture_in}
-use Rattle.prim_draw.specs.declared.boxes.Block.{Block}
+use Rattle.span_lanes.specs.declared.block.Block.{Block}
 use Rattle.prim_draw.specs.declared.coat.Coat.{Coat}
 use Rattle.prim_draw.specs.declared.polygon.Polygon.{Polygon}
 use Rattle.prim_draw.specs.declared.style.Style.{Style}

@@ -1,5 +1,5 @@
 // The area of a packet.
-ghost use Rattle.std.specs.Prelude.{◌≡◌, ◌≤◌};
+ghost use Rattle.std.specs.Prelude.{◌≡◌};
 ghost use Rattle.gp0_packets.specs.Ranges.{IsInRange, IsPolyInRange};
 ghost use Rattle.prim_draw.specs.Areas.{area_of, hull, joined, moved_box, polygon_area};
 

@@ -1,6 +1,5 @@
 // Segments by points.
-ghost use Rattle.std.specs.Prelude.{◌≡◌, ◌≤◌, ◌<◌, ◌+◌, ◌*◌, ℕ, IfSome, IsTrue, length, pos, true, if◌then◌else◌};
-ghost use Rattle.px_num.specs.Fold.{each_below};
+ghost use Rattle.std.specs.Prelude.{◌≡◌, ◌≤◌, ◌<◌, ◌+◌, ◌*◌, ℕ, IfSome, length, true, if◌then◌else◌};
 ghost use Rattle.vram_store.specs.Vram.{height_of};
 ghost use Rattle.gp0_packets.specs.Ranges.{IsPlace};
 ghost use Rattle.line_walk.specs.Line.{len_of, point_of};

@@ -3,17 +3,18 @@ ghost use Rattle.std.specs.Prelude.{◌≡◌, ◌≤◌, ◌<◌, ◌+◌, ◌*
 ghost use Rattle.gp0_packets.specs.Ranges.{IsPlace};
 ghost use Rattle.vram_store.specs.Vram.{height_of};
 ghost use Rattle.span_lanes.specs.Shade.{texture_of, row_u, IsTexture};
-ghost use Rattle.prim_draw.specs.Boxes.{IsBlock, IsOnScreen, block_of, cells_of};
+ghost use Rattle.span_lanes.specs.Frame.{IsBlock};
+ghost use Rattle.prim_draw.specs.Boxes.{IsOnScreen, block_of, cells_of};
 ghost use Rattle.prim_draw.specs.Costs.{rectangle_cost, tile_rows_cost};
 ghost use Rattle.prim_draw.specs.Rectangles.{cells_box, drawn_rectangle, extent_at, optional_texture, rectangle_box};
 ghost use Rattle.prim_draw.specs.Rectangles.{tile_in, tile_paint, tiled_cells, IsExtent, IsTile, IsFree, IsPartOf};
 
-use crate::boxes::{Block, block_of, clipped};
+use crate::boxes::{block_of, clipped};
 use crate::settings::{brush_in, texture_in};
 use crate::style::Style;
 use gp1_status::Regs;
 use px_num::{Box2, sign11};
-use span_lanes::{Brush, Paint, Span, Spans, Texture, draw_spans};
+use span_lanes::{Block, Brush, Paint, Span, Spans, Texture, draw_spans};
 use std::sync::ledger::Ledger;
 use vram_store::{Steps, Vram};
 

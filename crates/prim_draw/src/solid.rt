@@ -73,7 +73,8 @@ impl Solid {
         requires coat { IsCoat (height_of vram.old) (solid_coat self.now) }
         requires row { y < height_of vram.old }
         requires run { IfSome found (CanDraw (solid_paint self.now) y) }
-        ensures { DrawsRun (solid_coat self.now) y found vram.old vram.new steps.old steps.new }
+        ensures { DrawsRun (solid_coat self.now) y found
+            (record { m = vram.old; steps = steps.old }) (record { m = vram.new; steps = steps.new }) }
     {
         if let Some(run) = found {
             let span = Span {
@@ -101,7 +102,7 @@ impl Solid {
         requires clip { IsOnScreen (height_of vram.old) clip.now }
         requires inside { LiesIn (bounding_box tri.now) clip.now }
         ensures { DrawsRows (solid_coat self.now) tri.now (block_of clip.now) (block_of clip.now).h
-            vram.old vram.new steps.old steps.new }
+            (record { m = vram.old; steps = steps.old }) (record { m = vram.new; steps = steps.new }) }
     {
         let block = block_of(clip);
         let mut rows = tri.rows(clip);

@@ -4,6 +4,7 @@ ghost use Rattle.vram_store.specs.Vram.{height_of};
 ghost use Rattle.gp0_packets.specs.Ranges.{IsPlace};
 ghost use Rattle.edge_walk.specs.Extent.{bounding_box};
 ghost use Rattle.edge_walk.specs.Triangle.{is_drawn};
+ghost use Rattle.span_lanes.specs.Frame.{framed_in};
 ghost use Rattle.span_lanes.specs.Pen.{IsFresh};
 ghost use Rattle.span_lanes.specs.Shade.{texture_of, IsTexture};
 ghost use Rattle.prim_draw.specs.Boxes.{IsOnScreen, LiesIn, block_of};
@@ -11,7 +12,7 @@ ghost use Rattle.prim_draw.specs.Costs.{triangle_cost};
 ghost use Rattle.prim_draw.specs.Triangles.{draws, drawn_triangle, placed_corners};
 ghost use Rattle.prim_draw.specs.Triangles.{triangle_box, triangle_coat, triangle_paint, FitsTriangle, IsAlike};
 ghost use Rattle.prim_draw.specs.Triangles.{IsCoat};
-ghost use Rattle.prim_draw.specs.Walks.{CanDraw, DrawsRows, DrawsRun, IsOnRow, TakesRow, coat_of_ink};
+ghost use Rattle.prim_draw.specs.Walks.{CanDraw, DrawsRows, DrawsRun, IsOnRow, LiesInBlock, TakesRow, coat_of_ink};
 
 use crate::boxes::{block_of, clipped};
 use crate::coat::Coat;
@@ -21,7 +22,7 @@ use crate::style::Style;
 use edge_walk::{RowWalk, Tri};
 use gp1_status::Regs;
 use px_num::{Box2, Vertex};
-use span_lanes::{Paint, Pen};
+use span_lanes::{Paint, Pen, StretchPen};
 use std::marker::Model;
 use std::sync::ledger::Ledger;
 use vram_store::{Steps, Vram};
@@ -43,6 +44,7 @@ impl Model for Corners {
 }
 
 /// Three vertices of a packet, with the offset added.
+#[inline(always)]
 pub(crate) fn placed_corners(regs: &Regs, a: &Vertex, b: &Vertex, c: &Vertex) -> Corners
     requires a { IsPlace a.now.x a.now.y }
     requires b { IsPlace b.now.x b.now.y }
@@ -93,7 +95,8 @@ fn draw_run<L: Ledger>(
     requires row { y < height_of vram.old }
     requires run { IfSome found (CanDraw pen.old.ink.paint y) }
     requires fresh { IsFresh pen.old vram.old }
-    ensures drawn { DrawsRun (coat_of_ink pen.old.ink) y found vram.old vram.new steps.old steps.new }
+    ensures drawn { DrawsRun (coat_of_ink pen.old.ink) y found
+        (record { m = vram.old; steps = steps.old }) (record { m = vram.new; steps = steps.new }) }
     ensures ink { pen.new.ink ≡ pen.old.ink }
     ensures fresh { IsFresh pen.new vram.new }
 {
@@ -102,16 +105,73 @@ fn draw_run<L: Ledger>(
     }
 }
 
+// The same with a pen for texels that stand side by side.
+#[inline(always)]
+fn draw_stretch<L: Ledger>(
+    vram: &mut Vram,
+    pen: &mut StretchPen,
+    found: Option<Run>,
+    y: u16,
+    steps: &mut Steps<L>,
+)
+    requires coat { IsCoat (height_of vram.old) (coat_of_ink pen.old.loaded.ink) }
+    requires row { y < height_of vram.old }
+    requires run { IfSome found (CanDraw pen.old.loaded.ink.paint y) }
+    requires block { IfSome found (LiesInBlock pen.old.block y) }
+    requires fresh { IsFresh pen.old.loaded vram.old }
+    ensures drawn { DrawsRun (coat_of_ink pen.old.loaded.ink) y found
+        (record { m = vram.old; steps = steps.old }) (record { m = vram.new; steps = steps.new }) }
+    ensures ink { pen.new.loaded.ink ≡ pen.old.loaded.ink }
+    ensures block { pen.new.block ≡ pen.old.block }
+    ensures fresh { IsFresh pen.new.loaded vram.new }
+{
+    if let Some(Run { x, n }) = found {
+        pen.draw(vram, x, y, n, steps);
+    }
+}
+
 impl Coat {
-    // Draws the cells of a box that are inside of a triangle.
-    fn draw_rows<L: Ledger>(&self, vram: &mut Vram, tri: &Tri, clip: &Box2, steps: &mut Steps<L>)
+    // Draws the cells of a box that are inside of a triangle, by a pen for texels that stand side by side.
+    fn draw_stretches<L: Ledger>(
+        &self,
+        vram: &mut Vram,
+        mut pen: StretchPen,
+        tri: &Tri,
+        clip: &Box2,
+        steps: &mut Steps<L>,
+    )
+        requires coat { IsCoat (height_of vram.old) self.now }
+        requires pen { pen ≡ framed_in self.now.paint self.now.brush (block_of clip.now) }
+        requires fits { FitsTriangle tri.now self.now.paint }
+        requires small { IsOnScreen 1024 clip.now }
+        requires clip { IsOnScreen (height_of vram.old) clip.now }
+        requires inside { LiesIn (bounding_box tri.now) clip.now }
+        ensures { DrawsRows self.now tri.now (block_of clip.now) (block_of clip.now).h
+            (record { m = vram.old; steps = steps.old }) (record { m = vram.new; steps = steps.new }) }
+    {
+        let block = block_of(clip);
+        let mut rows = tri.rows(clip);
+        for j in 0..block.h {
+            let run = next_run(&mut rows);
+            draw_stretch(vram, &mut pen, run, block.y + j, steps);
+        }
+    }
+
+    // Draws the cells of a box that are inside of a triangle, by a pen for all that there is.
+    fn draw_each_row<L: Ledger>(
+        &self,
+        vram: &mut Vram,
+        tri: &Tri,
+        clip: &Box2,
+        steps: &mut Steps<L>,
+    )
         requires coat { IsCoat (height_of vram.old) self.now }
         requires fits { FitsTriangle tri.now self.now.paint }
         requires small { IsOnScreen 1024 clip.now }
         requires clip { IsOnScreen (height_of vram.old) clip.now }
         requires inside { LiesIn (bounding_box tri.now) clip.now }
         ensures { DrawsRows self.now tri.now (block_of clip.now) (block_of clip.now).h
-            vram.old vram.new steps.old steps.new }
+            (record { m = vram.old; steps = steps.old }) (record { m = vram.new; steps = steps.new }) }
     {
         let block = block_of(clip);
         let mut rows = tri.rows(clip);
@@ -119,6 +179,23 @@ impl Coat {
         for j in 0..block.h {
             let run = next_run(&mut rows);
             draw_run(vram, &mut pen, run, block.y + j, steps);
+        }
+    }
+
+    // Draws the cells of a box that are inside of a triangle.
+    #[inline(always)]
+    fn draw_rows<L: Ledger>(&self, vram: &mut Vram, tri: &Tri, clip: &Box2, steps: &mut Steps<L>)
+        requires coat { IsCoat (height_of vram.old) self.now }
+        requires fits { FitsTriangle tri.now self.now.paint }
+        requires small { IsOnScreen 1024 clip.now }
+        requires clip { IsOnScreen (height_of vram.old) clip.now }
+        requires inside { LiesIn (bounding_box tri.now) clip.now }
+        ensures { DrawsRows self.now tri.now (block_of clip.now) (block_of clip.now).h
+            (record { m = vram.old; steps = steps.old }) (record { m = vram.new; steps = steps.new }) }
+    {
+        match StretchPen::new(&self.paint, &self.brush, &block_of(clip)) {
+            Some(pen) => self.draw_stretches(vram, pen, tri, clip, steps),
+            None => self.draw_each_row(vram, tri, clip, steps),
         }
     }
 }
@@ -181,7 +258,7 @@ fn draw_inside<L: Ledger>(
     requires clip { IsOnScreen regs.now.height clip.now }
     requires inside { LiesIn (bounding_box tri.now) clip.now }
     ensures { DrawsRows (triangle_coat regs.now style.now tri.now) tri.now (block_of clip.now) (block_of clip.now).h
-        vram.old vram.new steps.old steps.new }
+        (record { m = vram.old; steps = steps.old }) (record { m = vram.new; steps = steps.new }) }
 {
     match solid_in(regs, style) {
         Some(solid) => solid.draw_rows(vram, tri, clip, steps),

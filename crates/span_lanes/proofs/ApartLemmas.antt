@@ -13,7 +13,7 @@ use Rattle.overlap_guard.specs.Hazard.{WrittenBefore, cell_at, HasTexelHazard, H
 use Rattle.span_lanes.specs.declared.span.Texture.{Texture}
 use Rattle.span_lanes.specs.declared.span.Span.{Span}
 use Rattle.span_lanes.specs.Shade.{IsSpan, IsTexture, texture_of}
-use Rattle.span_lanes.specs.Guard.{paint_texel, paint_texels, target, clut_strip, page_width, IsApart}
+use Rattle.span_lanes.specs.Guard.{paint_texel, paint_texels, target, clut_strip, page_width, IsApart, LiesBeside}
 
 -- a coordinate under a window is within the page
 pub windowed_small : (mask off v : ℕ) → mask ≤ 31 → windowed mask off v < 256
@@ -31,12 +31,7 @@ column_small depth u lt = by_depth (eqb depth 0) (eqb depth 1)
     by_depth false true = omega arith
     by_depth false false = lt
 
--- a row of cells and a page
-abbrev Beside : ℕ → ℕ → ℕ → Texture → Type 0
-Beside x y n t = ((y < t.page.y) ⊎ (t.page.y + 255 < y))
-    ⊎ ((t.page.x + page_width t.page.depth ≤ 1024) × ((x + n ≤ t.page.x) ⊎ (t.page.x + page_width t.page.depth ≤ x)))
-
-texel_apart : (t : Texture) (x y n u v cx : ℕ) → IsTexture t → Beside x y n t → x ≤ cx → cx < x + n
+texel_apart : (t : Texture) (x y n u v cx : ℕ) → IsTexture t → LiesBeside t x y n → x ≤ cx → cx < x + n
     → (texel_place t.page t.window u v).x ≡ cx → (texel_place t.page t.window u v).y ≡ y → ⊥
 texel_apart t x y n u v cx is (inl (inl above)) low high across down = omega arith
 texel_apart t x y n u v cx is (inl (inr below)) low high across down =
@@ -74,7 +69,7 @@ strip_apart depth clut y to n (inl deep) row h = no_strip (eqb depth 0) (eqb dep
 strip_apart depth clut y to n (inr off) row h = strip_off (eqb depth 0) (eqb depth 1) clut y to n off row h
 
 pub span_apart : (span : Span) (t : Texture) → IsSpan span → IsTexture t → texture_of span.paint ≡ Some t
-    → Beside span.x span.y span.n t → (2 ≤ t.page.depth) ⊎ (t.clut / 64 % 512 ≢ span.y) → IsApart span
+    → LiesBeside t span.x span.y span.n → (2 ≤ t.page.depth) ⊎ (t.clut / 64 % 512 ≢ span.y) → IsApart span
 unfolding paint_texels
 span_apart span t is texture of_paint beside off = record {
   free = λ first n within h. elim (rw of_paint at h) [

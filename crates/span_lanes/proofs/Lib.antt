@@ -6,6 +6,7 @@ pub mod ChunkLemmas
 pub mod ColorLemmas
 pub mod CostLemmas
 pub mod DrawnBits
+pub mod GuardLemmas
 pub mod NibbleLemmas
 pub mod PlainLemmas
 pub mod PlanLemmas

@@ -1,14 +1,12 @@
 -- What is one for all chunks of a textured span.
-use Rattle.std.proofs.Common.{◌≡◌, ◌<◌, ◌≤◌, ℕ, List, Some, ◌+◌, ◌*◌, get_or, length, IsTrue, pos, refl, ap, ◌∙◌, arith}
+use Rattle.std.proofs.Common.{◌≡◌, ◌<◌, ◌≤◌, ℕ, List, Some, ◌+◌, ◌*◌, get_or, length, refl, ap, ◌∙◌, arith}
 use Rattle.overlap_guard.proofs.TestLemmas.{texture_iff, false_of}
 use Rattle.overlap_guard.specs.Hazard.{has_texture_hazard}
-use Rattle.edge_walk.specs.Triangle.{Corners, is_inside}
-use Rattle.span_lanes.specs.declared.span.Paint.TheVariants.{TexturedTri}
 use Rattle.span_lanes.specs.declared.span.Texture.{Texture}
 use Rattle.span_lanes.specs.declared.span.Paint.{Paint}
 use Rattle.span_lanes.specs.declared.span.Span.{Span}
 use Rattle.span_lanes.specs.declared.track.Track.{Track}
-use Rattle.span_lanes.specs.Shade.{HasInside, AreInside, attribute_in, texture_of, texel}
+use Rattle.span_lanes.specs.Shade.{texture_of, texel}
 use Rattle.span_lanes.specs.Cost.{texel_steps, chunk_cost}
 use Rattle.span_lanes.specs.Guard.{paint_texels, palette_of, target, IsApart}
 use Rattle.span_lanes.specs.Lanes.{AreCoordinates, HasCoordinates}
@@ -16,21 +14,6 @@ use Rattle.span_lanes.specs.Plan.{HasTexels}
 use Rattle.span_lanes.specs.Track.{along_at, IsTrack}
 use Rattle.span_lanes.specs.Paints.{paint_u, paint_v}
 use Rattle.span_lanes.proofs.CostLemmas.{textured_cost}
-
--- the coordinates of a triangle's texels
-pub track_inside : (paint : Paint) (tri : Corners) (t : Texture) (x y n : ℕ) (track : Track)
-    → paint ≡ TexturedTri tri t → HasInside paint x y n
-    → ((at j : ℕ) → j < 16 → IsTrue (is_inside tri (pos (x + (at + j))) (pos y)) → along_at track.u at j
-    ≡ attribute_in tri 3 (x + (at + j)) y)
-    → ((at j : ℕ) → j < 16 → IsTrue (is_inside tri (pos (x + (at + j))) (pos y)) → along_at track.v at j
-    ≡ attribute_in tri 4 (x + (at + j)) y)
-    → IsTrack paint x y n track
-track_inside paint tri t x y n track is inside u v =
-    let cells : AreInside tri x y n = rw is at inside in
-    rw is (record {
-      u = λ at j lane lt. u at j lane (cells (at + j) lt);
-      v = λ at j lane lt. v at j lane (cells (at + j) lt);
-    })
 
 -- the coordinates of a chunk by those of its span
 pub coordinates_here : (paint : Paint) (x y n first k : ℕ) (track : Track) (us vs : List ℕ) → IsTrack paint x y n track

@@ -1,6 +1,6 @@
 -- Vectors that are the same.
 use Rattle.std.proofs.Common.{◌≡◌, ℕ, ◌-◌, ◌/◌, ◌%◌, ◌^◌, List, Bool, cond, not, eqb, length, get_or, map, w16, IsTrue}
-use Rattle.std.proofs.Common.{sym, ap, ◌∙◌, arith}
+use Rattle.std.proofs.Common.{[], ◌∷◌, suc, ◌<◌, false, refl, sym, ap, ◌∙◌, arith}
 use lib.Lanes.{zip2, mask_l, top}
 use mir.Val.{hbits, bits}
 use Rattle.std.proofs.Math.Nat.{zero-div}
@@ -31,3 +31,22 @@ same_lanes a b long_a long_b h i lt =
     equal (get_or a i 0) (get_or b i 0)
     (ap (λ m. cond m 1 0) (sym (at_tested a b long_a long_b t i lt)) ∙ sym (bit_mask_l (zip2 t a b) i)
     ∙ no_bit (mask_l (zip2 t a b)) (2 ^ i) all)
+
+-- no test that is true
+no_mask : (ms : List Bool) → ((i : ℕ) → i < length ms → get_or ms i false ≡ false) → mask_l ms ≡ 0
+no_mask [] none = refl
+no_mask (m ∷ ms) none = rw (none 0 (omega arith), no_mask ms (λ i lt. none (suc i) (omega arith))) refl
+
+not_other : (x y : ℕ) → x ≡ y → not (eqb x y) ≡ false
+not_other x y e = grind (arith, nat_tests)
+
+pub all_lanes : (a b : List ℕ) → length a ≡ 16 → length b ≡ 16 → EachLane (λ i. get_or a i 0 ≡ get_or b i 0)
+    → IsTrue (eqb
+    (mask_l (map (top (hbits w16)) (zip2 (λ x y. cond (not (eqb x y)) (2 ^ bits w16 - 1) 0) a b)) % 2 ^ 64) 0)
+all_lanes a b long_a long_b each =
+    let t : ℕ → ℕ → Bool = (λ x y. not (eqb x y)) in
+    let long = long_tested a b long_a long_b t in
+    let none : mask_l (zip2 t a b) ≡ 0 = no_mask (zip2 t a b) (λ i lt.
+    let lane : i < 16 = omega (arith, long, lt) in
+    at_tested a b long_a long_b t i lane ∙ not_other (get_or a i 0) (get_or b i 0) (each i lane)) in
+    ap (λ n. eqb (n % 2 ^ 64) 0) (ap mask_l (tops_compared w16 t a b) ∙ none)

@@ -1,11 +1,14 @@
 -- Texels that stand side by side.
-use Rattle.std.proofs.Common.{◌≡◌, ◌<◌, ◌≤◌, ℕ, List, Bool, false, ◌+◌, ◌*◌, ◌/◌, ◌%◌, get_or, refl, sym, ap, ◌∙◌, pos, IsTrue}
-use Rattle.std.proofs.Common.{arith}
+use Rattle.std.proofs.Common.{◌≡◌, ◌<◌, ◌≤◌, ℕ, List, Bool, false, ◌+◌, ◌-◌, ◌*◌, ◌/◌, ◌%◌, get_or, refl, sym, ap, ◌∙◌}
+use Rattle.std.proofs.Common.{pos, IsTrue, arith}
 use Rattle.std.specs.Int.Bits.{and_zero_r, or_zero_r}
 use Rattle.std.proofs.lemmas.Bool.Decides.{nat_tests}
 use Rattle.std.proofs.lemmas.Nat.{and_mask}
 use Rattle.texture_page.specs.Page.{texel_place, clut_place, column, windowed, index_in}
 use Rattle.edge_walk.specs.Attribute.{IsUnscaled}
+use Rattle.edge_walk.specs.Line.{line_value}
+use Rattle.edge_walk.specs.Plane.{IsPlane}
+use Rattle.edge_walk.specs.declared.plane.Plane.{Plane}
 use Rattle.edge_walk.specs.Triangle.{Corners, is_inside}
 use Rattle.span_lanes.specs.declared.stretch.Stretch.{Stretch}
 use Rattle.span_lanes.specs.declared.span.Texture.{Texture}
@@ -13,7 +16,6 @@ use Rattle.span_lanes.specs.declared.span.Paint.TheVariants.{TexturedRow, Textur
 use Rattle.span_lanes.specs.declared.span.Span.{Span}
 use Rattle.span_lanes.specs.Paints.{paint_u, paint_v}
 use Rattle.span_lanes.specs.Shade.{row_u, texel, at_cell, attribute_in, AreInside, IsSpan}
-use Rattle.span_lanes.specs.Cost.{texel_steps}
 use Rattle.span_lanes.specs.declared.coordinates.Coordinates.{Coordinates}
 use Rattle.span_lanes.specs.Stretch.{IsRising, IsStretch}
 use Rattle.span_lanes.specs.Texels.{AreBeside, lane_place}
@@ -86,10 +88,6 @@ same_half a b h same = rw same refl
 pub same_part : (a b h : ℕ) → a % 4 ≡ b % 4 → index_in 0 a h ≡ index_in 0 b h
 same_part a b h same = rw same refl
 
--- the reads of a texel of fifteen bits
-pub deep_steps : (depth : ℕ) → 2 ≤ depth → texel_steps depth ≡ 1
-deep_steps depth deep = grind (arith, nat_tests)
-
 -- where the texels of a span stand side by side
 pub rising_stretch : (span : Span) (t : Texture) (u v : ℕ) (s : Stretch) → IsRising span u v → t.window.mask_x ≡ 0
     → s.u ≡ u → s.y ≡ t.page.y + windowed t.window.mask_y t.window.off_y v → s.y ≤ t.page.y + 255 → u + span.n ≤ 256
@@ -131,6 +129,27 @@ tri_rising span tri t u v paint is same across down = record {
 
     first : IsTrue (is_inside tri (pos span.x) (pos span.y))
     first = first_cell tri span.x span.y span.n is.some cells
+
+-- an attribute inside of a triangle is a byte
+plane_small : (tri : Corners) (which x y i : ℕ) (plane : Plane) → IsPlane tri which plane
+    → IsTrue (is_inside tri (pos x) (pos y)) → IsTrue (is_inside tri (pos (x + i)) (pos y))
+    → attribute_in tri which (x + i) y ≤ 255
+unfolding line_value
+plane_small tri which x y i plane is first inside =
+    let here : i + 0 ≡ i = omega arith in
+    let value = rw here at (is.lines (pos x) (pos y) first i 0 (omega arith)) in
+    omega (arith, value inside)
+
+-- those of a triangle whose texels stand side by side in all rows do not wrap
+pub tri_in_page : (span : Span) (tri : Corners) (t : Texture) (plane : Plane) → span.paint ≡ TexturedTri tri t
+    → IsSpan span → IsUnscaled tri → IsPlane tri 3 plane → attribute_in tri 3 span.x span.y + span.n ≤ 256
+tri_in_page span tri t plane paint is same across =
+    let cells : AreInside tri span.x span.y span.n = rw paint at is.inside in
+    let first = first_cell tri span.x span.y span.n is.some cells in
+    let i : ℕ = span.n - 1 in
+    let last = cells i (omega (arith, is.some)) in
+    let low = plane_small tri 3 span.x span.y i plane across first last in
+    omega (arith, is.some, low, same.across (pos span.x) (pos span.y) i first last)
 
 -- sixteen cells of texels of fifteen bits do not wrap
 pub beside_room : (t : Texture) (at : Coordinates) → 2 ≤ t.page.depth → AreBeside t at

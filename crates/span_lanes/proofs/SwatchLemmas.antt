@@ -1,12 +1,17 @@
 -- A palette that is drawn by its entries.
-use Rattle.std.proofs.Common.{◌≡◌, ◌≢◌, ◌≤◌, ℕ, List, ◌+◌, ◌*◌, ◌/◌, ◌%◌, sym, ◌∙◌, arith, Option, None, Some}
-use Rattle.std.specs.Prelude.{IfSome, MatchOption}
+use Rattle.std.proofs.Common.{◌≡◌, ◌≢◌, ◌≤◌, ◌<◌, ℕ, List, ◌+◌, ◌*◌, ◌/◌, ◌%◌, sym, ◌∙◌, arith, Option, None, Some}
+use Rattle.std.proofs.lemmas.List.FromFn.{get_or-map-range_with_len}
+use Rattle.std.specs.Prelude.{IfSome, MatchOption, slice_index}
 use Rattle.texture_page.specs.Page.{clut_place}
 use Rattle.vram_store.specs.Chunk.{AgreesApart}
 use Rattle.span_lanes.specs.declared.span.Texture.{Texture}
 use Rattle.span_lanes.specs.declared.swatches.Swatches.{Swatches}
-use Rattle.span_lanes.specs.Shade.{at_cell}
-use Rattle.span_lanes.specs.Swatches.{AreColored, AreEntries, AreSwatches, IsPalette}
+use Rattle.span_lanes.specs.declared.span.Paint.{Paint}
+use Rattle.span_lanes.specs.declared.table.Table.{Table}
+use Rattle.span_lanes.specs.Shade.{at_cell, texture_of}
+use Rattle.span_lanes.specs.Swatches.{AreColored, AreEntries, AreFresh, AreSwatches, IsKept, IsPalette, IsPaletteOf}
+use Rattle.span_lanes.specs.Swatches.{entries_of}
+use Rattle.span_lanes.specs.Table.{entries_in, entry_at}
 use Rattle.span_lanes.proofs.BlindLemmas.{same_cell}
 
 -- cells of another row leave it as it is
@@ -14,8 +19,8 @@ pub swatches_kept : (t : Texture) (x y k : ℕ) (m now : List ℕ) (swatches : S
     → AgreesApart (1024 * y + x) k m now → x + k ≤ 1024 → t.clut / 64 % 512 ≢ y
     → AreSwatches t m swatches → AreSwatches t now swatches
 swatches_kept t x y k m now swatches agree room other is = record {
-  long = is.long;
-  fronts_long = is.fronts_long;
+  entries = is.entries;
+  fronts = is.fronts;
   entry = λ i lt. is.entry i lt ∙ sym (cell i);
   front = is.front;
 }
@@ -24,13 +29,14 @@ swatches_kept t x y k m now swatches agree room other is = record {
     cell i = same_cell m now x y k (clut_place t.clut i).x (clut_place t.clut i).y agree (omega arith) room
         (λ j less e f. other f)
 
-pub palette_is : (t : Texture) (m : List ℕ) (color : ℕ) (s : Swatches) → AreColored s → AreEntries t m s.entries
+pub palette_is : (t : Texture) (m : List ℕ) (color : ℕ) (s : Swatches) → AreColored s
+    → AreEntries t m s.entries
     → s.raw ≡ t.raw → s.color ≡ color → IsPalette t m color s
 palette_is t m color s colored entries raw color_is = record {
   colored = colored;
   swatches = record {
-    long = colored.long;
-    fronts_long = colored.fronts_long;
+    entries = colored.entries;
+    fronts = colored.fronts;
     entry = entries;
     front = λ i lt. rw raw at (colored.front i lt);
   };
@@ -44,3 +50,29 @@ pub kept_palette : (t : Texture) (m : List ℕ) (color : ℕ) (last : Option Swa
     → IfSome last (λ s. AreEntries t m s.entries) → MatchOption last ⊥ (IsPalette t m color)
 kept_palette t m color None under colored fresh = under
 kept_palette t m color (Some s) under colored fresh = palette_is t m color s colored fresh under.0 under.1
+
+-- ---- a palette that a pen shows, and keeps as a table
+
+entry_in : (table : Table) (i : ℕ) → i < 16 → slice_index (entries_in table) i ≡ entry_at table i
+unfolding entries_in
+entry_in table i lt = get_or-map-range_with_len (entry_at table) 0 16 i i 0 lt (omega arith)
+
+pub kept_of_fresh : (paint : Paint) (m : List ℕ) (last : Option Swatches) → IfSome last AreColored
+    → AreFresh paint m (entries_of last) → IsKept paint m last
+kept_of_fresh paint m None colored fresh = record { colored = colored; fresh = tt }
+kept_of_fresh paint m (Some s) colored fresh = record { colored = colored; fresh = kept (texture_of paint) fresh }
+  where
+    kept : (found : Option Texture) → IfSome found (λ t. IsPaletteOf t m (entries_in s.entries))
+        → IfSome found (λ t. AreEntries t m s.entries)
+    kept None is = tt
+    kept (Some t) is = λ i lt. sym (entry_in s.entries i lt) ∙ is i lt
+
+pub fresh_of_kept : (paint : Paint) (m : List ℕ) (last : Option Swatches) → IsKept paint m last
+    → AreFresh paint m (entries_of last)
+fresh_of_kept paint m None is = tt
+fresh_of_kept paint m (Some s) is = shown (texture_of paint) is.fresh
+  where
+    shown : (found : Option Texture) → IfSome found (λ t. AreEntries t m s.entries)
+        → IfSome found (λ t. IsPaletteOf t m (entries_in s.entries))
+    shown None is = tt
+    shown (Some t) is = λ i lt. entry_in s.entries i lt ∙ is i lt

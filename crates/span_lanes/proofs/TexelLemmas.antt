@@ -1,15 +1,11 @@
 -- Texels of a chunk.
 use Rattle.std.proofs.Common.{◌≡◌, ◌<◌, ◌≤◌, ℕ, ℤ, zero, suc, List, [], ◌∷◌, ◌++◌, Option, None, Some, Bool, true}
-use Rattle.std.proofs.Common.{false, cond, eqb, ◌&&◌, not, ◌+◌, ◌-◌, ◌*◌, take, ltb, min, map, get_or, refl, sym, ap}
+use Rattle.std.proofs.Common.{false, cond, eqb, ◌&&◌, not, ◌+◌, ltb, min, map, get_or, refl, sym, ap}
 use Rattle.std.proofs.Common.{◌∙◌, ◌^◌, IsTrue, arith, add-one}
 use Rattle.std.specs.List.{range_with_len}
-use Rattle.std.proofs.lemmas.List.FromFn.{map-range_with_len_more, get_or-map-range_with_len}
-use Rattle.std.proofs.lemmas.List.{get_or-take}
-use Rattle.std.proofs.lemmas.Nat.{or_of_8, and_le_l, and_le_r}
-use lib.Bits.{bit_and}
+use Rattle.std.proofs.lemmas.List.FromFn.{map-range_with_len_more}
 use Rattle.std.proofs.lemmas.Bool.Decides.{nat_tests}
 use Rattle.px_num.specs.declared.shape.Cell.{Cell}
-use Rattle.overlap_guard.specs.Hazard.{cell_at}
 use Rattle.vram_store.specs.Vram.{at}
 use Rattle.vram_store.specs.Plot.{is_kept, forced, written_over}
 use Rattle.vram_store.specs.Chunk.{IsLane}
@@ -25,26 +21,6 @@ use Rattle.span_lanes.specs.Shade.{paint_pixel, shade}
 use Rattle.span_lanes.specs.Paints.{paint_color, paint_u, paint_v}
 use Rattle.span_lanes.specs.Lanes.{HasCoordinates}
 use Rattle.span_lanes.specs.Guard.{paint_texel, paint_texels, texel_cells}
-
--- a row under a window is within the page
-pub windowed_low : (mask off v : ℕ) → v ≤ 255 → mask ≤ 31 → windowed mask off v < 256
-unfolding windowed
-windowed_low mask off v low few =
-    let rows = and_le_l v (255 - mask * 8) in
-    let offs = and_le_r off mask in
-    or_of_8 (bit_and v (255 - mask * 8)) (bit_and off mask * 8) (omega (arith, rows)) (omega (arith, offs))
-
--- one of the cells of texels
-pub place_of : (t : Texture) (us vs : List ℕ) (k : ℕ) (cells : List Cell) (j : ℕ)
-    → take k cells ≡ texel_cells t us vs k → j < k
-    → cell_at cells j ≡ texel_place t.page t.window (get_or us j 0) (get_or vs j 0)
-unfolding texel_cells
-place_of t us vs k cells j e lt =
-    let none : Cell = record { x = 0; y = 0 } in
-    sym (get_or-take k cells j none lt)
-    ∙ ap (λ (l : List Cell). get_or l j none) e
-    ∙ get_or-map-range_with_len (λ i. texel_place t.page t.window (get_or us i 0) (get_or vs i 0)) 0 k j j none lt
-    (omega arith)
 
 -- a halfword has its own bit 15
 pub as_it_is : (h : ℕ) → h < 2 ^ 16 → h ≡ packed_pixel h (is_high h) false

@@ -17,3 +17,8 @@ cell_in_row x y i = record { x = x + i; y = y }
 -- n cells of a row from (x, y) on, from left to right
 unfoldable pub row_cells : ℕ → ℕ → ℕ → List Cell
 row_cells x y n = map (cell_in_row x y) (range_with_len 0 n)
+
+-- video memory, and how many steps were taken
+pub record Stage : Type 0 where
+  pub m : List ℕ
+  pub steps : ℕ

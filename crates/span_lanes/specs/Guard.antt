@@ -1,6 +1,6 @@
 -- When a chunk of a span reads what it writes itself (our own rule: every pixel reads video memory as it is then).
-use Rattle.std.specs.Prelude.{ℕ, ◌≤◌, ◌+◌, ◌*◌, ◌/◌, ◌%◌, ◌==◌, Bool, false, List, Option, None, Some, if◌then◌else◌}
-use Rattle.std.specs.Prelude.{map, slice_index}
+use Rattle.std.specs.Prelude.{ℕ, ◌<◌, ◌≤◌, ◌⊎◌, ◌+◌, ◌*◌, ◌/◌, ◌%◌, ◌==◌, Bool, false, List, Option, None, Some}
+use Rattle.std.specs.Prelude.{if◌then◌else◌, map, slice_index}
 use Rattle.std.specs.Option.{MatchOption}
 use Rattle.std.specs.List.{range_with_len}
 use Rattle.px_num.specs.declared.shape.Cell.{Cell}
@@ -71,6 +71,13 @@ page_width depth =
     if depth == 0 then 64
     else (if depth == 1 then 128
     else 256)
+
+-- n cells of a row from (x, y) on are above or below the rows of a texture's page, or beside its columns, which do not
+-- wrap
+abbrev pub LiesBeside : Texture → ℕ → ℕ → ℕ → Type 0
+LiesBeside t x y n =
+    ((y < t.page.y) ⊎ (t.page.y + 255 < y))
+    ⊎ ((t.page.x + page_width t.page.depth ≤ 1024) × ((x + n ≤ t.page.x) ⊎ (t.page.x + page_width t.page.depth ≤ x)))
 
 -- no cells of a span read what they write
 pub record IsApart (span : Span) : Type 0 where

@@ -1,6 +1,7 @@
 pub mod Cells
 pub mod Chunk
 pub mod Cost
+pub mod Frame
 pub mod Guard
 pub mod Hues
 pub mod Lanes
@@ -9,12 +10,13 @@ pub mod Nibbles
 pub mod Paints
 pub mod Pen
 pub mod Plan
-pub mod Quick
 pub mod Shade
 pub mod Spans
 pub mod Stretch
+pub mod StretchPen
 pub mod Strip
 pub mod Strips
 pub mod Swatches
+pub mod Table
 pub mod Texels
 pub mod Track

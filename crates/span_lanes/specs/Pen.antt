@@ -1,5 +1,5 @@
 -- A paint and a brush for many spans.
-use Rattle.std.specs.Prelude.{ℕ, List, Option, None, MatchOption, IfSome, ◌≡◌, pos, IsTrue}
+use Rattle.std.specs.Prelude.{ℕ, List, Option, None, MatchOption, IfSome, ◌≡◌, ◌≤◌, ◌+◌, length, pos, IsTrue}
 use Rattle.edge_walk.specs.Attribute.{IsUnscaled}
 use Rattle.edge_walk.specs.Plane.{IsPlane}
 use Rattle.edge_walk.specs.Triangle.{Corners, is_inside}
@@ -11,8 +11,10 @@ use Rattle.span_lanes.specs.declared.span.Span.{Span}
 use Rattle.span_lanes.specs.declared.swatches.Swatches.{Swatches}
 use Rattle.span_lanes.specs.declared.tint.Tint.{Tint}
 use Rattle.span_lanes.specs.declared.tint.Tint.TheVariants.{Plain, Planes}
+use Rattle.span_lanes.specs.Cells.{Stage, drawn_cells, row_cells}
+use Rattle.span_lanes.specs.Cost.{span_cost}
 use Rattle.span_lanes.specs.Lanes.{IsSolid}
-use Rattle.span_lanes.specs.Shade.{color_in}
+use Rattle.span_lanes.specs.Shade.{color_in, shade_at}
 use Rattle.span_lanes.specs.Swatches.{AreColored, AreFresh, entries_of}
 
 pub record Ink : Type 0 where
@@ -30,6 +32,12 @@ ink_of span = record { paint = span.paint; brush = span.brush }
 pub record Loaded : Type 0 where
   pub ink : Ink
   pub palette : Option (List ℕ)
+
+-- n cells from (x, y) on were drawn with it, one after another
+pub record DrawsCells (ink : Ink) (x y n : ℕ) (before after : Stage) : Type 0 where
+  pub cells : after.m ≡ drawn_cells (shade_at (ink_span ink x y n)) ink.brush.mask (row_cells x y n) before.m
+  pub long : length after.m ≡ length before.m
+  pub cost : after.steps ≤ before.steps + span_cost (ink_span ink x y n)
 
 -- one that has seen no palette
 abbrev pub new_pen : Paint → Brush → Loaded

@@ -7,40 +7,46 @@ use Rattle.span_lanes.specs.declared.span.Texture.{Texture}
 use Rattle.span_lanes.specs.declared.span.Paint.{Paint}
 use Rattle.span_lanes.specs.declared.span.Span.{Span}
 use Rattle.span_lanes.specs.declared.swatches.Swatches.{Swatches}
+use Rattle.span_lanes.specs.declared.table.Table.{Table}
 use Rattle.span_lanes.specs.Guard.{IsApart}
 use Rattle.span_lanes.specs.Shade.{at_cell, front_of, texture_of}
+use Rattle.span_lanes.specs.Table.{IsTable, entries_in, entry_at}
 
 -- the entries of a texture's palette, and what a colour makes of each without dither
 pub record AreSwatches (t : Texture) (m : List ℕ) (swatches : Swatches) : Type 0 where
-  pub long : length swatches.entries ≡ 16
-  pub fronts_long : length swatches.fronts ≡ 16
-  pub entry : EachLane (λ i. slice_index swatches.entries i ≡ at_cell m (clut_place t.clut i))
-  pub front : EachLane (λ i. slice_index swatches.fronts i
-      ≡ front_of t.raw swatches.color (pos 0) (slice_index swatches.entries i))
+  pub entries : IsTable swatches.entries
+  pub fronts : IsTable swatches.fronts
+  pub entry : EachLane (λ i. entry_at swatches.entries i ≡ at_cell m (clut_place t.clut i))
+  pub front : EachLane (λ i. entry_at swatches.fronts i
+      ≡ front_of t.raw swatches.color (pos 0) (entry_at swatches.entries i))
 
 -- what a colour makes of any sixteen entries without dither
 pub record AreColored (swatches : Swatches) : Type 0 where
-  pub long : length swatches.entries ≡ 16
-  pub fronts_long : length swatches.fronts ≡ 16
-  pub front : EachLane (λ i. slice_index swatches.fronts i
-      ≡ front_of swatches.raw swatches.color (pos 0) (slice_index swatches.entries i))
+  pub entries : IsTable swatches.entries
+  pub fronts : IsTable swatches.fronts
+  pub front : EachLane (λ i. entry_at swatches.fronts i
+      ≡ front_of swatches.raw swatches.color (pos 0) (entry_at swatches.entries i))
+
+-- the entries of a table are those of a texture's palette in video memory
+abbrev pub AreEntries : Texture → List ℕ → Table → Type 0
+AreEntries t m entries = EachLane (λ i. entry_at entries i ≡ at_cell m (clut_place t.clut i))
 
 -- sixteen entries are those of a texture's palette in video memory
-abbrev pub AreEntries : Texture → (m entries : List ℕ) → Type 0
-AreEntries t m entries = EachLane (λ i. slice_index entries i ≡ at_cell m (clut_place t.clut i))
+abbrev pub IsPaletteOf : Texture → (m entries : List ℕ) → Type 0
+IsPaletteOf t m entries = EachLane (λ i. slice_index entries i ≡ at_cell m (clut_place t.clut i))
 
 -- the entries that are kept, if any, are those of the palette of a paint's texture in video memory
 abbrev pub AreFresh : Paint → List ℕ → Option (List ℕ) → Type 0
-AreFresh paint m palette = IfSome palette (λ entries. IfSome (texture_of paint) (λ t. AreEntries t m entries))
+AreFresh paint m palette = IfSome palette (λ entries. IfSome (texture_of paint) (λ t. IsPaletteOf t m entries))
 
 abbrev pub entries_of : Option Swatches → Option (List ℕ)
 entries_of None = None
-entries_of (Some swatches) = Some swatches.entries
+entries_of (Some swatches) = Some (entries_in swatches.entries)
 
 -- the palette that is kept, if any, is that of a paint's texture in video memory, under its colour
 pub record IsKept (paint : Paint) (m : List ℕ) (last : Option Swatches) : Type 0 where
   pub colored : IfSome last AreColored
-  pub fresh : AreFresh paint m (entries_of last)
+  pub fresh : IfSome last (λ s. IfSome (texture_of paint) (λ t. AreEntries t m s.entries))
 
 -- the palette of a texture in video memory under a colour
 pub record IsPalette (t : Texture) (m : List ℕ) (tint : ℕ) (s : Swatches) : Type 0 where

@@ -1,11 +1,12 @@
 -- The texels of a chunk by their coordinates, lane by lane.
-use Rattle.std.specs.Prelude.{ℕ, ◌≡◌, ◌+◌, ◌<◌, ◌≤◌, List, length, slice_index}
+use Rattle.std.specs.Prelude.{ℕ, ◌≡◌, ◌+◌, ◌<◌, ◌≤◌, List, slice_index}
 use Rattle.px_num.specs.Lanes.{EachLane}
 use Rattle.px_num.specs.declared.shape.Cell.{Cell}
 use Rattle.texture_page.specs.Page.{texel_place, windowed, column, index_in}
 use Rattle.span_lanes.specs.declared.coordinates.Coordinates.{Coordinates}
 use Rattle.span_lanes.specs.declared.span.Texture.{Texture}
 use Rattle.span_lanes.specs.Shade.{at_cell, texel}
+use Rattle.span_lanes.specs.Table.{AreBytes}
 
 -- the cell of the texel of lane j
 abbrev pub lane_place : Texture → Coordinates → ℕ → Cell
@@ -48,7 +49,7 @@ pub record AreBeside (t : Texture) (at : Coordinates) : Type 0 where
 
 -- the first k lanes are the indexes of texels of four bits
 pub record AreIndexes (t : Texture) (at : Coordinates) (k : ℕ) (m lanes : List ℕ) : Type 0 where
-  pub long : length lanes ≡ 16
+  pub bytes : AreBytes lanes
   pub low : EachLane (λ i. slice_index lanes i < 16)
   pub value : (j : ℕ) → j < k → slice_index lanes j
       ≡ index_in 0 (windowed t.window.mask_x t.window.off_x (slice_index at.us j)) (at_cell m (lane_place t at j))

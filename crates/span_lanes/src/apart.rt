@@ -1,11 +1,13 @@
 // Spans that lie apart from their texels and from their palette.
 ghost use Rattle.std.specs.Prelude.{ℕ, ◌≡◌, ◌≢◌, ◌≤◌, ◌<◌, ◌+◌, ◌/◌, ◌%◌, ◌⊎◌, ◌↔◌, Some, IsTrue};
 ghost use Rattle.span_lanes.specs.Shade.{IsSpan, IsTexture, texture_of};
-ghost use Rattle.span_lanes.specs.Guard.{IsApart, page_width};
+ghost use Rattle.span_lanes.specs.Guard.{IsApart, LiesBeside, page_width};
+ghost use Rattle.span_lanes.specs.Frame.{IsBlock, IsInBlock};
 ghost use Rattle.span_lanes.specs.Spans.{nth_span, AreBelow};
+ghost use Rattle.span_lanes.specs.StretchPen.{IsBlockApart};
 
 use crate::spans::Spans;
-use crate::{Span, Texture};
+use crate::{Block, Span, Texture};
 
 // Whether n cells from x on are none of those of a strip that does not wrap.
 fn lies_beside(first: u16, width: u16, x: u16, n: u16) -> bool
@@ -38,10 +40,7 @@ fn width_of(depth: u8) -> u16
 fn is_beside_page(span: &Span, texture: &Texture) -> bool
     requires span { IsSpan span.now }
     requires texture { IsTexture texture.now }
-    ensures { IsTrue result ↔ (((span.now.y < texture.now.page.y) ⊎ (texture.now.page.y + 255 < span.now.y))
-        ⊎ ((texture.now.page.x + page_width texture.now.page.depth ≤ 1024)
-        × ((span.now.x + span.now.n ≤ texture.now.page.x)
-        ⊎ (texture.now.page.x + page_width texture.now.page.depth ≤ span.now.x)))) }
+    ensures { IsTrue result ↔ LiesBeside texture.now span.now.x span.now.y span.now.n }
 {
     lies_outside(texture.page.y, span.y)
         || lies_beside(texture.page.x, width_of(texture.page.depth), span.x, span.n)
@@ -64,30 +63,34 @@ pub(crate) fn is_apart(span: &Span, texture: &Texture) -> bool
     is_beside_page(span, texture) && is_off_palette(span, texture)
 }
 
-// Whether the rows of spans are all above or below the rows of a page, or their columns beside it.
-fn are_beside_page(spans: &Spans, texture: &Texture) -> bool
-    requires spans { AreBelow spans.now }
+// Whether the rows of a block are all above or below the rows of a page, or its columns beside it.
+fn is_block_beside(block: &Block, texture: &Texture) -> bool
+    requires block { IsBlock 1024 block.now }
     requires texture { IsTexture texture.now }
-    ensures { IsTrue result → (j : ℕ) → j < spans.now.rows
-        → (((spans.now.first.y + j < texture.now.page.y) ⊎ (texture.now.page.y + 255 < spans.now.first.y + j))
-        ⊎ ((texture.now.page.x + page_width texture.now.page.depth ≤ 1024)
-        × ((spans.now.first.x + spans.now.first.n ≤ texture.now.page.x)
-        ⊎ (texture.now.page.x + page_width texture.now.page.depth ≤ spans.now.first.x)))) }
+    ensures { IsTrue result → (x y n : ℕ) → IsInBlock block.now x y n → LiesBeside texture.now x y n }
 {
-    let Span { x, y, n, .. } = spans.first;
+    let Block { x, y, w, h } = *block;
     let page = texture.page;
-    y + spans.rows <= page.y || page.y + 255 < y || lies_beside(page.x, width_of(page.depth), x, n)
+    y + h <= page.y || page.y + 255 < y || lies_beside(page.x, width_of(page.depth), x, w)
 }
 
-// Whether the palette, if there is one, has a row that is none of the spans'.
-fn are_off_palette(spans: &Spans, texture: &Texture) -> bool
-    requires spans { AreBelow spans.now }
-    ensures { IsTrue result → (j : ℕ) → j < spans.now.rows
-        → (2 ≤ texture.now.page.depth) ⊎ (texture.now.clut / 64 % 512 ≢ spans.now.first.y + j) }
+// Whether the palette, if there is one, has a row that is none of a block's.
+fn is_block_off_palette(block: &Block, texture: &Texture) -> bool
+    requires block { IsBlock 1024 block.now }
+    ensures { IsTrue result → (x y n : ℕ) → IsInBlock block.now x y n
+        → (2 ≤ texture.now.page.depth) ⊎ (texture.now.clut / 64 % 512 ≢ y) }
 {
-    let y = spans.first.y;
     let palette = texture.clut / 64 % 512;
-    texture.page.depth >= 2 || palette < y || y + spans.rows <= palette
+    texture.page.depth >= 2 || palette < block.y || block.y + block.h <= palette
+}
+
+// Whether a block is known to have no cell of a texture page and of a palette.
+pub(crate) fn is_block_apart(block: &Block, texture: &Texture) -> bool
+    requires block { IsBlock 1024 block.now }
+    requires texture { IsTexture texture.now }
+    ensures { IsTrue result → IsBlockApart block.now texture.now }
+{
+    is_block_beside(block, texture) && is_block_off_palette(block, texture)
 }
 
 // Whether spans are known to read nothing that they write.
@@ -98,5 +101,12 @@ pub(crate) fn are_apart(spans: &Spans, texture: &Texture) -> bool
     ensures palette { IsTrue result → texture.now.page.depth ≡ 0
         → (j : ℕ) → j < spans.now.rows → texture.now.clut / 64 % 512 ≢ spans.now.first.y + j }
 {
-    are_beside_page(spans, texture) && are_off_palette(spans, texture)
+    let Span { x, y, n, .. } = spans.first;
+    let block = Block {
+        x,
+        y,
+        w: n,
+        h: spans.rows,
+    };
+    is_block_apart(&block, texture)
 }

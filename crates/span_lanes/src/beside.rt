@@ -5,14 +5,16 @@ ghost use Rattle.vram_store.specs.Vram.{at, height_of};
 ghost use Rattle.texture_page.specs.Page.{column, index_in};
 ghost use Rattle.span_lanes.specs.Shade.{IsTexture};
 ghost use Rattle.span_lanes.specs.Lanes.{AreCoordinates};
+ghost use Rattle.span_lanes.specs.Table.{AreBytes};
 ghost use Rattle.span_lanes.specs.Texels.{AreBeside, AreIndexes, AreTexels};
 
 use crate::Texture;
 use crate::coordinates::Coordinates;
 use crate::fetch::{halfwords_of, ramp, same};
-use crate::nibbles::{entries_at, indexes};
+use crate::nibbles::{nibbles, nibbles_from};
 use crate::octets::octets;
 use crate::places::places_of;
+use crate::table::halfwords_at;
 use px_num::lanes::{add, shifted_down, splat};
 use std::simd::prelude::*;
 use std::sync::ledger::Ledger;
@@ -80,18 +82,17 @@ pub(crate) fn sixteen_indexes<L: Ledger>(
     u: u16,
     y: u16,
     steps: &mut Steps<L>,
-) -> u16x16
+) -> u8x16
     requires in_page { u ≤ 255 }
     requires in_row { page + u / 4 + 16 ≤ 1024 }
     requires in_height { y < height_of vram.now }
-    ensures long { length result ≡ 16 }
+    ensures bytes { AreBytes result }
     ensures low { EachLane (λ i. slice_index result i < 16) }
     ensures value { EachLane (λ i. slice_index result i ≡ index_in 0 (u + i) (at vram.now (page + (u + i) / 4) y)) }
     ensures cost { steps.new ≤ steps.old + 1 }
 {
-    let across = add(splat(u % 4), ramp());
     let cells = vram.load16(page + u / 4, y, 16, steps);
-    indexes(across, entries_at(cells, shifted_down(across, 2)))
+    nibbles_from((u % 4) as u8, cells)
 }
 
 // The indexes of sixteen texels of eight bits from a column of a page on, in a row of video memory.
@@ -113,7 +114,7 @@ pub(crate) fn sixteen_octets<L: Ledger>(
 {
     let across = add(splat(u % 2), ramp());
     let cells = vram.load16(page + u / 2, y, 16, steps);
-    octets(across, entries_at(cells, shifted_down(across, 1)))
+    octets(across, halfwords_at(cells, shifted_down(across, 1)))
 }
 
 // The indexes of sixteen texels of four bits that stand side by side.
@@ -123,7 +124,7 @@ fn beside_indexes<L: Ledger>(
     texture: &Texture,
     at: &Coordinates,
     steps: &mut Steps<L>,
-) -> u16x16
+) -> u8x16
     requires texture { IsTexture texture.now }
     requires page { texture.now.page.y + 255 < height_of vram.now }
     requires at { AreCoordinates at.now.us × AreCoordinates at.now.vs }
@@ -145,7 +146,7 @@ fn scattered_indexes<L: Ledger>(
     at: &Coordinates,
     k: u8,
     steps: &mut Steps<L>,
-) -> u16x16
+) -> u8x16
     requires texture { IsTexture texture.now }
     requires page { texture.now.page.y + 255 < height_of vram.now }
     requires at { AreCoordinates at.now.us × AreCoordinates at.now.vs }
@@ -155,7 +156,7 @@ fn scattered_indexes<L: Ledger>(
 {
     let places = places_of(texture, at);
     let halfwords = halfwords_of(vram, places.xs, places.ys, k, steps);
-    indexes(places.across, halfwords)
+    nibbles(places.across, halfwords)
 }
 
 // The indexes of k texels of four bits by their coordinates.
@@ -166,7 +167,7 @@ pub(crate) fn indexes_of<L: Ledger>(
     at: &Coordinates,
     k: u8,
     steps: &mut Steps<L>,
-) -> u16x16
+) -> u8x16
     requires texture { IsTexture texture.now }
     requires page { texture.now.page.y + 255 < height_of vram.now }
     requires at { AreCoordinates at.now.us × AreCoordinates at.now.vs }

@@ -2,7 +2,6 @@
 ghost use Rattle.std.specs.Prelude.{◌≡◌, ◌≤◌, ◌<◌, ◌+◌, ◌%◌, ◌^◌, ℕ, length, slice_index, slice_index_or, pos};
 ghost use Rattle.blend_dither.specs.Color.{dither_offset, tone_of, modulated_of};
 ghost use Rattle.px_num.specs.Lanes.{EachLane};
-ghost use Rattle.span_lanes.specs.Shade.{shift_of};
 ghost use Rattle.span_lanes.specs.Lanes.{AreChannels, HasColors, AreShifts, AreShiftsAt};
 
 use blend_dither::{modulate_lanes, shift_at, tone_lanes};

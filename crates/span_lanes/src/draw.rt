@@ -1,5 +1,5 @@
 // Spans, each by what suits it.
-ghost use Rattle.std.specs.Prelude.{◌≡◌, ◌≢◌, ◌≤◌, ◌+◌, ◌*◌, ◌/◌, ◌%◌, length};
+ghost use Rattle.std.specs.Prelude.{◌≡◌, ◌≢◌, ◌≤◌, ◌+◌, ◌/◌, ◌%◌, length};
 ghost use Rattle.vram_store.specs.Vram.{height_of};
 ghost use Rattle.span_lanes.specs.Shade.{IsSpan, LiesIn, drawn_span};
 ghost use Rattle.span_lanes.specs.declared.hues.Hues.TheVariants.{One};
@@ -16,7 +16,7 @@ use crate::plan::{row_plan, tri_plan};
 use crate::row::TexelRow;
 use crate::sheet::draw_planned;
 use crate::slopes::Slopes;
-use crate::solid::draw_solid;
+use crate::solid::store_solid;
 use crate::stretch::{Stretch, row_stretch, tri_stretch};
 use crate::stretched::draw_stretched;
 use crate::strip::{draw_strip, suits_strip};
@@ -57,6 +57,29 @@ fn draw_beside<L: Ledger>(
             draw_stretched(vram, span, texture, stretch, tint, steps)
         }
     }
+}
+
+// The same for a caller that draws few rows so.
+#[inline(never)]
+pub(crate) fn draw_beside_row<L: Ledger>(
+    vram: &mut Vram,
+    span: &Span,
+    texture: &Texture,
+    stretch: &Stretch,
+    tint: &Tint,
+    last: &mut Option<Swatches>,
+    steps: &mut Steps<L>,
+)
+    requires stretched { IsStretched (height_of vram.old) span.now texture.now stretch.now }
+    requires tint { IsTint span.now.paint tint.now }
+    requires palette { texture.now.page.depth ≡ 0 → texture.now.clut / 64 % 512 ≢ span.now.y }
+    requires last { IsKept span.now.paint vram.old last.old }
+    ensures cells { vram.new ≡ drawn_span span.now span.now.n vram.old }
+    ensures long { length vram.new ≡ length vram.old }
+    ensures last { IsKept span.now.paint vram.new last.new }
+    ensures cost { steps.new ≤ steps.old + span_cost span.now }
+{
+    draw_beside(vram, span, texture, stretch, tint, last, steps);
 }
 
 // A row of texels whose chunks are planned.
@@ -297,7 +320,7 @@ pub(crate) fn draw_ready<L: Ledger>(
     ensures cost { steps.new ≤ steps.old + span_cost span.now }
 {
     match solid {
-        Some(h) => draw_solid(vram, span, h, steps),
+        Some(h) => store_solid(vram, span, h, steps),
         None => draw_varied(vram, span, tint, slopes, last, steps),
     }
 }

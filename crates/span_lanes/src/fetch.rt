@@ -1,4 +1,4 @@
-// Texels of a chunk that lies apart from them.
+// Texels of a chunk, all their lanes at once.
 ghost use Rattle.std.specs.Prelude.{◌≡◌, IsTrue, ◌≤◌, ◌<◌, ◌+◌, ◌*◌, ℕ, length, slice_index};
 ghost use Rattle.px_num.specs.Lanes.{EachLane};
 ghost use Rattle.vram_store.specs.Vram.{at, height_of};
@@ -11,9 +11,9 @@ ghost use Rattle.span_lanes.specs.Texels.{AreTexels, StandInRow, StandNear};
 use crate::Texture;
 use crate::beside::{are_beside, indexes_of, read_beside};
 use crate::coordinates::Coordinates;
-use crate::nibbles::entries_at;
 use crate::octets::{entry_columns, octets};
 use crate::places::places_of;
+use crate::table::{entries_at, halfwords_at, table_of};
 use px_num::lanes::{add, shifted_down, splat, sub_or_zero};
 use std::simd::prelude::*;
 use std::sync::ledger::Ledger;
@@ -101,7 +101,7 @@ fn near_halfwords<L: Ledger>(
     ensures cost { steps.new ≤ steps.old + 1 }
 {
     let cells = vram.load16(x, y, 16, steps);
-    entries_at(cells, sub_or_zero(xs, splat(x)))
+    halfwords_at(cells, sub_or_zero(xs, splat(x)))
 }
 
 // The halfwords of k cells: at once where they stand close by.
@@ -211,7 +211,7 @@ fn read_fours<L: Ledger>(
 {
     let index = indexes_of(vram, texture, at, k, steps);
     let entries = sixteen_entries(vram, texture.clut, steps);
-    entries_at(entries, index)
+    entries_at(&table_of(entries), index)
 }
 
 // k texels of eight bits.
@@ -287,7 +287,7 @@ fn read_wholes<L: Ledger>(
 
 // k texels by their coordinates.
 #[inline(always)]
-pub(crate) fn read_apart<L: Ledger>(
+pub(crate) fn read_texels<L: Ledger>(
     vram: &Vram,
     texture: &Texture,
     at: &Coordinates,

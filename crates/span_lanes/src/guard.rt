@@ -1,16 +1,20 @@
 // Whether a textured chunk reads what it writes.
-ghost use Rattle.std.specs.Prelude.{◌≡◌, ◌≤◌, ◌<◌, ◌+◌, ◌↔◌, IsTrue, take, slice_index};
-ghost use Rattle.texture_page.specs.Page.{texel_place};
-ghost use Rattle.overlap_guard.specs.Hazard.{HasTextureHazard, has_texture_hazard};
+ghost use Rattle.std.specs.Prelude.{◌≡◌, ◌≤◌, ◌<◌, ◌+◌, ◌-◌, ◌%◌, ◌^◌, ◌==◌, ◌↔◌, IsTrue, if◌then◌else◌, nat_lt};
+ghost use Rattle.std.specs.Prelude.{length, slice_index};
+ghost use Rattle.px_num.specs.Lanes.{EachLane};
+ghost use Rattle.overlap_guard.specs.Hazard.{HasTexelHazard, HasTextureHazard, has_texture_hazard};
 ghost use Rattle.span_lanes.specs.Shade.{IsTexture, texture_of};
 ghost use Rattle.span_lanes.specs.Lanes.{AreCoordinates};
 ghost use Rattle.span_lanes.specs.Guard.{texel_cells, palette_of, clut_strip};
 
 use crate::coordinates::Coordinates;
+use crate::fetch::ramp;
+use crate::places::{Places, places_of};
 use crate::{Paint, Texture};
-use overlap_guard::texture_hazard;
+use overlap_guard::clut_hazard;
+use px_num::lanes::{splat, sub_or_zero};
 use px_num::{Cell, Strip};
-use texture_page::texel_cell;
+use std::simd::prelude::*;
 
 pub(crate) fn texture_of(paint: &Paint) -> Option<Texture>
     ensures { result ≡ texture_of paint.now }
@@ -21,35 +25,6 @@ pub(crate) fn texture_of(paint: &Paint) -> Option<Texture>
         Paint::TexturedTri { texture, .. } => Some(*texture),
         Paint::TexturedRow { texture, .. } => Some(*texture),
     }
-}
-
-// The cells of k texels by their coordinates.
-pub(crate) fn texels_at(texture: &Texture, at: &Coordinates, k: u8) -> [Cell; 16]
-    requires texture { IsTexture texture.now }
-    requires across { AreCoordinates at.now.us }
-    requires down { AreCoordinates at.now.vs }
-    requires few { k ≤ 16 }
-    ensures { take k result ≡ texel_cells texture.now at.now.us at.now.vs k }
-{
-    let us = at.us.to_array();
-    let vs = at.vs.to_array();
-    let mut cells = [Cell { x: 0, y: 0 }; 16];
-    for j in 0..k {
-        cells[j as usize] = texel_at(texture, &us, &vs, j);
-    }
-    cells
-}
-
-fn texel_at(texture: &Texture, us: &[u16; 16], vs: &[u16; 16], j: u8) -> Cell
-    requires texture { IsTexture texture.now }
-    requires across { AreCoordinates us.now }
-    requires down { AreCoordinates vs.now }
-    requires lane { j < 16 }
-    ensures { result ≡ texel_place texture.now.page texture.now.window (slice_index us.now j) (slice_index vs.now j) }
-{
-    let u = us[j as usize] as u8;
-    let v = vs[j as usize] as u8;
-    texel_cell(&texture.page, &texture.window, u, v)
 }
 
 fn palette(texture: &Texture) -> Option<Strip>
@@ -72,13 +47,90 @@ fn strip_of(clut: u16, n: u16) -> Strip
     }
 }
 
-// Whether k cells from `to` on, whose texels are in these cells, read what they write.
-pub(crate) fn reads_itself(texture: &Texture, texels: &[Cell; 16], to: Cell, k: u8) -> bool
+// The lanes of a vector where two numbers are the same, and else 0.
+#[inline(always)]
+fn where_equal(a: u16x16, b: u16x16, lanes: u16x16) -> u16x16
+    requires { (length a ≡ 16) × (length b ≡ 16) × (length lanes ≡ 16) }
+    ensures long { length result ≡ 16 }
+    ensures value { EachLane (λ i. slice_index result i
+        ≡ (if slice_index a i == slice_index b i then slice_index lanes i else 0)) }
+{
+    a.simd_eq(b).select(lanes, u16x16::splat(0))
+}
+
+// The lanes of a vector where one number is below another one, and else 0.
+#[inline(always)]
+fn where_below(a: u16x16, b: u16x16, lanes: u16x16) -> u16x16
+    requires { (length a ≡ 16) × (length b ≡ 16) × (length lanes ≡ 16) }
+    ensures long { length result ≡ 16 }
+    ensures value { EachLane (λ i. slice_index result i
+        ≡ (if nat_lt (slice_index a i) (slice_index b i) then slice_index lanes i else 0)) }
+{
+    a.simd_lt(b).select(lanes, u16x16::splat(0))
+}
+
+// How far each number is above another one, modulo 2^16.
+#[inline(always)]
+fn above(a: u16x16, b: u16x16) -> u16x16
+    requires { (length a ≡ 16) × (length b ≡ 16) }
+    ensures long { length result ≡ 16 }
+    ensures value { EachLane (λ i. slice_index result i
+        ≡ (slice_index a i + (2 ^ 16 - slice_index b i)) % 2 ^ 16) }
+{
+    a - b
+}
+
+#[inline(always)]
+fn are_zero(a: u16x16) -> bool
+    requires { length a ≡ 16 }
+    ensures { IsTrue result ↔ EachLane (λ i. slice_index a i ≡ 0) }
+{
+    a == u16x16::splat(0)
+}
+
+// Of k cells from `to` on, whose texels are at these places, those that read what an earlier one writes: their lanes
+// are above 0, and all others 0.
+#[inline(always)]
+fn late_lanes(places: &Places, to: Cell, k: u8) -> u16x16
+    requires long { (length places.now.xs ≡ 16) × (length places.now.ys ≡ 16) }
+    requires in_row { EachLane (λ i. slice_index places.now.xs i < 1024) }
+    requires target { to.x < 1024 }
+    ensures long { length result ≡ 16 }
+    ensures late { EachLane (λ j. (0 < slice_index result j) ↔ ((j < k) × (slice_index places.now.ys j ≡ to.y)
+        × (to.x ≤ slice_index places.now.xs j) × (slice_index places.now.xs j < to.x + j))) }
+{
+    let lanes = ramp();
+    let before = where_below(lanes, splat(k as u16), lanes);
+    let row = where_equal(places.ys, splat(to.y), before);
+    sub_or_zero(row, above(places.xs, splat(to.x)))
+}
+
+// Whether one of k cells from `to` on reads as its texel what an earlier one writes.
+#[inline(always)]
+fn reads_texels(texture: &Texture, at: &Coordinates, to: Cell, k: u8) -> bool
+    requires texture { IsTexture texture.now }
+    requires at { AreCoordinates at.now.us × AreCoordinates at.now.vs }
+    requires few { k ≤ 16 }
+    requires target { to.x < 1024 }
+    ensures { IsTrue result ↔ HasTexelHazard (texel_cells texture.now at.now.us at.now.vs k) to }
+{
+    !are_zero(late_lanes(&places_of(texture, at), to, k))
+}
+
+// Whether k cells from `to` on, whose texels have these coordinates, read what they write.
+#[inline(always)]
+pub(crate) fn reads_itself(texture: &Texture, at: &Coordinates, to: Cell, k: u8) -> bool
+    requires texture { IsTexture texture.now }
+    requires at { AreCoordinates at.now.us × AreCoordinates at.now.vs }
     requires some { 1 ≤ k }
     requires few { k ≤ 16 }
     requires target { to.x + k ≤ 1024 }
-    ensures pairs { IsTrue result ↔ HasTextureHazard (take k texels.now) (palette_of texture.now) to k }
-    ensures value { result ≡ has_texture_hazard (take k texels.now) (palette_of texture.now) to k }
+    ensures pairs { IsTrue result
+        ↔ HasTextureHazard (texel_cells texture.now at.now.us at.now.vs k) (palette_of texture.now) to k }
+    ensures value { result
+        ≡ has_texture_hazard (texel_cells texture.now at.now.us at.now.vs k) (palette_of texture.now) to k }
 {
-    texture_hazard(&texels[..k as usize], palette(texture), to, k)
+    let texel = reads_texels(texture, at, to, k);
+    let entry = clut_hazard(palette(texture), to, k);
+    texel || entry
 }

@@ -1,5 +1,5 @@
 // The colours of a span.
-ghost use Rattle.std.specs.Prelude.{◌≡◌, ◌+◌, ◌*◌, ◌≤◌, ◌<◌, ℕ, pos, IsTrue};
+ghost use Rattle.std.specs.Prelude.{◌+◌, ◌*◌, ℕ, pos, IsTrue};
 ghost use Rattle.edge_walk.specs.Line.{line_value};
 ghost use Rattle.edge_walk.specs.Plane.{IsPlane};
 ghost use Rattle.edge_walk.specs.Triangle.{Corners, is_inside};

@@ -12,6 +12,8 @@ ghost use Rattle.edge_walk.specs.Triangle.{is_inside};
 mod apart;
 mod back;
 mod beside;
+mod block;
+mod bytes;
 mod cells;
 mod colors;
 mod coordinates;
@@ -29,7 +31,6 @@ mod places;
 mod plain;
 mod plainly;
 mod plan;
-mod quick;
 mod row;
 mod shading;
 mod sheet;
@@ -39,19 +40,23 @@ mod span;
 mod spans;
 mod store;
 mod stretch;
+mod stretch_pen;
 mod stretched;
 mod strip;
 mod strips;
 mod swatches;
+mod table;
 mod textured;
 mod tint;
 mod track;
 mod untextured;
 
+pub use block::Block;
 pub use pen::{Pen, draw_span};
 pub use solid::{draw_solid, solid_of};
 pub use span::{Brush, Paint, Span, Texture};
 pub use spans::{Spans, draw_spans};
+pub use stretch_pen::StretchPen;
 
 #[cfg(test)]
 mod tests {

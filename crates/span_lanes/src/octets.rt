@@ -1,11 +1,12 @@
 // Texels of eight bits: their indexes, and the columns of a palette's entries.
-ghost use Rattle.std.specs.Prelude.{◌≡◌, ◌≤◌, ◌<◌, ◌+◌, ◌*◌, ◌/◌, ◌%◌, ◌^◌, ℕ, length, slice_index};
+ghost use Rattle.std.specs.Prelude.{◌≡◌, ◌<◌, ◌%◌, ℕ, length, slice_index};
 ghost use Rattle.px_num.specs.Lanes.{EachLane};
 ghost use Rattle.texture_page.specs.Page.{clut_place, index_in};
 ghost use Rattle.span_lanes.specs.Nibbles.{raise_byte};
 
-use crate::nibbles::{entries_at, product};
+use crate::nibbles::product;
 use crate::places::low10;
+use crate::table::halfwords_at;
 use px_num::lanes::{add, shifted_down, splat};
 use std::simd::prelude::*;
 
@@ -36,7 +37,7 @@ fn byte_raises(across: u16x16) -> u16x16
     ensures long { length result ≡ 16 }
     ensures value { EachLane (λ i. slice_index result i ≡ raise_byte (slice_index across i)) }
 {
-    entries_at(byte_table(), low1(across))
+    halfwords_at(byte_table(), low1(across))
 }
 
 // The indexes of sixteen texels, by their columns under the window and the halfwords of their cells.

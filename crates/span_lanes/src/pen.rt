@@ -1,15 +1,11 @@
 // A paint made ready.
-ghost use Rattle.std.specs.Prelude.{◌≡◌, ◌≤◌, ◌+◌, length};
 ghost use Rattle.vram_store.specs.Vram.{height_of};
-ghost use Rattle.span_lanes.specs.Cells.{drawn_cells, row_cells};
-ghost use Rattle.span_lanes.specs.Cost.{span_cost};
-ghost use Rattle.span_lanes.specs.Shade.{IsSpan, LiesIn, shade_at};
+ghost use Rattle.span_lanes.specs.Pen.{DrawsCells, ink_of};
+ghost use Rattle.span_lanes.specs.Shade.{IsSpan, LiesIn};
 
 use crate::draw::draw_ready;
-use crate::quick::quick_of;
 use crate::slopes::{Slopes, slopes_of};
 use crate::solid::solid_of;
-use crate::strip::draw_strip;
 use crate::swatches::Swatches;
 use crate::tint::{Tint, tint_of};
 use crate::{Brush, Paint, Span};
@@ -41,12 +37,10 @@ impl Model for Pen {
 }
 
 impl Pen {
-    ghost use Rattle.std.specs.Prelude.{◌≡◌, ◌≤◌, ◌+◌, length};
+    ghost use Rattle.std.specs.Prelude.{◌≡◌};
     ghost use Rattle.vram_store.specs.Vram.{height_of};
-    ghost use Rattle.span_lanes.specs.Cells.{drawn_cells, row_cells};
-    ghost use Rattle.span_lanes.specs.Cost.{span_cost};
-    ghost use Rattle.span_lanes.specs.Pen.{ink_span, new_pen, IsFresh};
-    ghost use Rattle.span_lanes.specs.Shade.{IsSpan, LiesIn, shade_at};
+    ghost use Rattle.span_lanes.specs.Pen.{ink_span, new_pen, DrawsCells, IsFresh};
+    ghost use Rattle.span_lanes.specs.Shade.{IsSpan, LiesIn};
 
     /// A paint and a brush made ready.
     #[inline(always)]
@@ -76,34 +70,21 @@ impl Pen {
         requires fresh { IsFresh self.old vram.old }
         ensures ink { self.new.ink ≡ self.old.ink }
         ensures fresh { IsFresh self.new vram.new }
-        ensures cells { vram.new
-            ≡ drawn_cells (shade_at (ink_span self.old.ink x y n)) self.old.ink.brush.mask (row_cells x y n) vram.old }
-        ensures long { length vram.new ≡ length vram.old }
-        ensures cost { steps.new ≤ steps.old + span_cost (ink_span self.old.ink x y n) }
+        ensures drawn { DrawsCells self.old.ink x y n
+            (record { m = vram.old; steps = steps.old }) (record { m = vram.new; steps = steps.new }) }
     {
         self.span.x = x;
         self.span.y = y;
         self.span.n = n;
-        match quick_of(&self.span, &self.tint, &self.slopes) {
-            Some(quick) => draw_strip(
-                vram,
-                &self.span,
-                &quick.texture,
-                &quick.stretch,
-                quick.color,
-                &mut self.last,
-                steps,
-            ),
-            None => draw_ready(
-                vram,
-                &self.span,
-                self.solid,
-                &self.tint,
-                &self.slopes,
-                &mut self.last,
-                steps,
-            ),
-        }
+        draw_ready(
+            vram,
+            &self.span,
+            self.solid,
+            &self.tint,
+            &self.slopes,
+            &mut self.last,
+            steps,
+        );
     }
 }
 
@@ -123,10 +104,8 @@ impl Pen {
 pub fn draw_span<L: Ledger>(vram: &mut Vram, span: &Span, steps: &mut Steps<L>)
     requires span { IsSpan span.now }
     requires height { LiesIn (height_of vram.old) span.now }
-    ensures cells { vram.new
-        ≡ drawn_cells (shade_at span.now) span.now.brush.mask (row_cells span.now.x span.now.y span.now.n) vram.old }
-    ensures long { length vram.new ≡ length vram.old }
-    ensures cost { steps.new ≤ steps.old + span_cost span.now }
+    ensures drawn { DrawsCells (ink_of span.now) span.now.x span.now.y span.now.n
+        (record { m = vram.old; steps = steps.old }) (record { m = vram.new; steps = steps.new }) }
 {
     let mut pen = Pen::new(&span.paint, &span.brush);
     pen.draw(vram, span.x, span.y, span.n, steps);

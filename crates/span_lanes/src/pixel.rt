@@ -1,5 +1,5 @@
 // One pixel of a span.
-ghost use Rattle.std.specs.Prelude.{◌≡◌, ◌≤◌, ◌<◌, ◌+◌, ◌&&◌, ◌*◌, not, pos, IsTrue};
+ghost use Rattle.std.specs.Prelude.{◌≡◌, ◌≤◌, ◌<◌, ◌+◌, pos, IsTrue};
 ghost use Rattle.blend_dither.specs.Color.{IsShift};
 ghost use Rattle.edge_walk.specs.Triangle.{is_inside};
 ghost use Rattle.px_num.specs.Height.{short_height};
@@ -29,7 +29,7 @@ pub(crate) fn u_of(u: u8, flip: bool, i: u16) -> u8
 }
 
 // A cell of a palette, whose row is one of the first 512.
-pub(crate) fn palette_entry<L: Ledger>(vram: &Vram, cell: Cell, steps: &mut Steps<L>) -> u16
+fn palette_entry<L: Ledger>(vram: &Vram, cell: Cell, steps: &mut Steps<L>) -> u16
     requires in_row { cell.x < 1024 }
     requires in_height { cell.y < short_height }
     ensures value { result ≡ at vram.now cell.x cell.y }

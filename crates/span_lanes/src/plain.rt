@@ -1,10 +1,10 @@
 // Chunks without a texture, all their lanes at once.
-ghost use Rattle.std.specs.Prelude.{◌≡◌, ◌≤◌, ◌<◌, ◌+◌, ◌*◌, ◌%◌, ◌^◌, None, false, pos, length, slice_index};
+ghost use Rattle.std.specs.Prelude.{◌≡◌, ◌≤◌, ◌<◌, ◌+◌, ◌%◌, ◌^◌, None, false, pos, length, slice_index};
 ghost use Rattle.std.specs.Prelude.{slice_index_or};
 ghost use Rattle.px_num.specs.Lanes.{EachLane};
 ghost use Rattle.vram_store.specs.Vram.{height_of};
 ghost use Rattle.span_lanes.specs.Chunk.{IsChunk, HasChunk};
-ghost use Rattle.span_lanes.specs.Shade.{IsSpan, LiesIn, texture_of, blended_if, shade};
+ghost use Rattle.span_lanes.specs.Shade.{IsSpan, LiesIn, texture_of, blended_if};
 ghost use Rattle.span_lanes.specs.Hues.{hue_at, AreHues};
 ghost use Rattle.span_lanes.specs.Lanes.{AreShifts, AreShiftsAt, tone_with};
 

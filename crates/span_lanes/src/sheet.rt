@@ -1,5 +1,5 @@
 // Textured spans, chunk by chunk.
-ghost use Rattle.std.specs.Prelude.{◌≡◌, ◌≤◌, ◌+◌, ◌*◌, ◌%◌, length};
+ghost use Rattle.std.specs.Prelude.{◌≡◌, ◌≤◌, ◌+◌, ◌%◌, length};
 ghost use Rattle.vram_store.specs.Vram.{height_of};
 ghost use Rattle.span_lanes.specs.Chunk.{IsChunk, drawn_chunk};
 ghost use Rattle.span_lanes.specs.Shade.{drawn_span};
@@ -10,13 +10,13 @@ ghost use Rattle.span_lanes.specs.Swatches.{IsKept};
 ghost use Rattle.span_lanes.specs.Cost.{chunk_cost, span_cost};
 
 use crate::coordinates::Coordinates;
-use crate::fetch::read_apart;
-use crate::guard::{reads_itself, texels_at};
+use crate::fetch::read_texels;
+use crate::guard::reads_itself;
 use crate::hues::Hues;
 use crate::plan::Plan;
 use crate::store::{draw_cells, store_chunk};
 use crate::swatches::{Swatches, draw_swatches, suits};
-use crate::textured::{collect_textured, read_texels};
+use crate::textured::collect_textured;
 use crate::track::track_lanes;
 use crate::{Span, Texture};
 use px_num::Cell;
@@ -69,7 +69,7 @@ fn draw_apart<L: Ledger>(
     ensures cost { steps.new ≤ steps.old + chunk_cost span.now first k }
 {
     let at = track_lanes(&plan.track, first);
-    let texels = read_apart(vram, texture, &at, k, steps);
+    let texels = read_texels(vram, texture, &at, k, steps);
     draw_texels(vram, span, texture, plan, texels, first, k, steps);
 }
 
@@ -93,16 +93,14 @@ fn draw_guarded<L: Ledger>(
     ensures long { length vram.new ≡ length vram.old }
     ensures cost { steps.new ≤ steps.old + chunk_cost span.now first k }
 {
-    let cells = texels_at(texture, &at, k);
     let to = Cell {
         x: span.x + first,
         y: span.y,
     };
-    if reads_itself(texture, &cells, to, k) {
+    if reads_itself(texture, &at, to, k) {
         draw_cells(vram, span, first, k, steps);
     } else {
-        let read = read_texels(vram, texture, &at, &cells, k, steps);
-        let texels = u16x16::from_array(read);
+        let texels = read_texels(vram, texture, &at, k, steps);
         draw_texels(vram, span, texture, &plan, texels, first, k, steps);
     }
 }

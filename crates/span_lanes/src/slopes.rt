@@ -6,7 +6,6 @@ ghost use Rattle.span_lanes.specs.Pen.{AreSlopes, HasSlopes};
 ghost use Rattle.span_lanes.specs.Shade.{attribute_in};
 
 use crate::Paint;
-use crate::hues::line_of;
 use edge_walk::{Plane, Tri};
 
 // Both coordinates over a triangle.
@@ -44,5 +43,5 @@ pub(crate) fn value_of(plane: &Plane, x: u16, y: u16) -> u8
     ensures { (tri : Corners) (which : ℕ)
         → IsPlane tri which plane.now → IsTrue (is_inside tri (pos x) (pos y)) → result ≡ attribute_in tri which x y }
 {
-    line_of(plane, x, y).value()
+    plane.value_at(x as i32, y as i32)
 }

@@ -1,11 +1,11 @@
 // Spans whose cells all become the same halfword.
-ghost use Rattle.std.specs.Prelude.{ℕ, ◌≡◌, ◌≤◌, ◌<◌, ◌+◌, ◌*◌, ◌&&◌, ◌||◌, not, IfSome, length};
+ghost use Rattle.std.specs.Prelude.{ℕ, ◌≡◌, ◌≤◌, ◌+◌, ◌&&◌, ◌||◌, not, IfSome, length};
 ghost use Rattle.vram_store.specs.Vram.{height_of};
 ghost use Rattle.vram_store.specs.Plot.{is_testing};
 ghost use Rattle.span_lanes.specs.declared.span.Paint.TheVariants.{Flat};
-ghost use Rattle.span_lanes.specs.Pen.{HasHalfword};
+ghost use Rattle.span_lanes.specs.Pen.{DrawsCells, HasHalfword, ink_of};
 ghost use Rattle.span_lanes.specs.Chunk.{IsChunk, drawn_chunk};
-ghost use Rattle.span_lanes.specs.Shade.{IsSpan, LiesIn, shade, drawn_span};
+ghost use Rattle.span_lanes.specs.Shade.{IsSpan, LiesIn, drawn_span};
 ghost use Rattle.span_lanes.specs.Lanes.{IsSolid};
 ghost use Rattle.span_lanes.specs.Cost.{chunk_cost, span_cost};
 
@@ -65,9 +65,9 @@ fn solid_chunk<L: Ledger>(
     vram.store16(span.x + first, span.y, k, splat(h), 0xffff, steps);
 }
 
-/// Draws the cells of a span that all become one halfword, as [`draw_span`](crate::draw_span) does.
+// The cells of a span that all become one halfword.
 #[inline(always)]
-pub fn draw_solid<L: Ledger>(vram: &mut Vram, span: &Span, h: u16, steps: &mut Steps<L>)
+pub(crate) fn store_solid<L: Ledger>(vram: &mut Vram, span: &Span, h: u16, steps: &mut Steps<L>)
     requires span { IsSpan span.now }
     requires height { LiesIn (height_of vram.old) span.now }
     requires solid { IsSolid span.now h }
@@ -83,4 +83,16 @@ pub fn draw_solid<L: Ledger>(vram: &mut Vram, span: &Span, h: u16, steps: &mut S
     if rest > 0 {
         solid_chunk(vram, span, h, span.n - rest, rest as u8, steps);
     }
+}
+
+/// Draws the cells of a span that all become one halfword, as [`draw_span`](crate::draw_span) does.
+#[inline(always)]
+pub fn draw_solid<L: Ledger>(vram: &mut Vram, span: &Span, h: u16, steps: &mut Steps<L>)
+    requires span { IsSpan span.now }
+    requires height { LiesIn (height_of vram.old) span.now }
+    requires solid { IsSolid span.now h }
+    ensures drawn { DrawsCells (ink_of span.now) span.now.x span.now.y span.now.n
+        (record { m = vram.old; steps = steps.old }) (record { m = vram.new; steps = steps.new }) }
+{
+    store_solid(vram, span, h, steps);
 }

@@ -1,5 +1,5 @@
 // Spans of the same columns, one below another.
-ghost use Rattle.std.specs.Prelude.{ℕ, ◌≡◌, ◌≤◌, ◌<◌, ◌+◌, length};
+ghost use Rattle.std.specs.Prelude.{ℕ, ◌≡◌, ◌≤◌, ◌+◌, length};
 ghost use Rattle.vram_store.specs.Vram.{height_of};
 ghost use Rattle.span_lanes.specs.declared.span.Paint.TheVariants.{TexturedRow};
 ghost use Rattle.span_lanes.specs.Spans.{drawn_rows, paint_down, rows_cost, AreSpans};
@@ -17,7 +17,7 @@ use vram_store::{Steps, Vram};
 pub struct Spans {
     /// The first of them.
     pub first: Span,
-    /// How many there are.
+    /// How many there are, at least 1.
     pub rows: u16,
     /// Whether a row of texels is from span to span one less, instead of one more; it wraps at 256. Other paints are
     /// the same for all spans.
@@ -80,7 +80,7 @@ fn draw_same_rows<L: Ledger>(vram: &mut Vram, spans: &Spans, steps: &mut Steps<L
 
 /// Draws spans from the first to the last, each as [`draw_span`](crate::draw_span) does and in as many steps.
 ///
-/// Each must be such as `draw_span` takes, and the last one's row be at most 1023.
+/// There must be at least one. Each must be such as `draw_span` takes, and the last one's row be at most 1023.
 pub fn draw_spans<L: Ledger>(vram: &mut Vram, spans: &Spans, steps: &mut Steps<L>)
     requires spans { AreSpans (height_of vram.old) spans.now }
     ensures cells { vram.new ≡ drawn_rows spans.now spans.now.rows vram.old }

@@ -1,5 +1,6 @@
 // Texels that stand side by side in a row of video memory.
 ghost use Rattle.std.specs.Prelude.{◌≡◌, ◌≤◌, ◌<◌, ◌+◌, ◌*◌, ◌/◌, IfSome, IsTrue};
+ghost use Rattle.texture_page.specs.Page.{windowed};
 ghost use Rattle.vram_store.specs.Vram.{height_of};
 ghost use Rattle.span_lanes.specs.declared.span.Paint.TheVariants.{TexturedRow, TexturedTri};
 ghost use Rattle.span_lanes.specs.Chunk.{IsChunk};
@@ -8,14 +9,15 @@ ghost use Rattle.span_lanes.specs.Pen.{AreSlopes};
 ghost use Rattle.span_lanes.specs.Plan.{HasTexels};
 ghost use Rattle.span_lanes.specs.Shade.{IsSpan, IsTexture};
 ghost use Rattle.span_lanes.specs.Stretch.{IsRising, IsStretch};
+ghost use Rattle.span_lanes.specs.StretchPen.{AreSideBySide};
 
 use crate::beside::{sixteen_indexes, sixteen_octets};
 use crate::fetch::{gather_entries, sixteen_entries};
-use crate::nibbles::entries_at;
 use crate::row::TexelRow;
 use crate::slopes::{Slopes, value_of};
+use crate::table::{entries_at, table_of};
 use crate::{Span, Texture};
-use edge_walk::Tri;
+use edge_walk::{Plane, Tri};
 use std::simd::prelude::*;
 use std::sync::ledger::Ledger;
 use texture_page::texel_cell;
@@ -54,6 +56,20 @@ pub(crate) fn is_open(texture: &Texture, u: u8, n: u16) -> bool
     texture.window.mask_x == 0 && u as u16 + n <= 256
 }
 
+// The place of a texel by its coordinates, where a window leaves the columns as they are.
+#[inline(always)]
+pub(crate) fn stretch_at(texture: &Texture, u: u8, v: u8) -> Stretch
+    requires texture { IsTexture texture.now }
+    ensures column { result.u ≡ u }
+    ensures row { result.y ≡ texture.now.page.y + windowed texture.now.window.mask_y texture.now.window.off_y v }
+    ensures low { result.y ≤ texture.now.page.y + 255 }
+{
+    Stretch {
+        u: u as u16,
+        y: texel_cell(&texture.page, &texture.window, u, v).y,
+    }
+}
+
 // Where the texels of a span stand side by side, if they do, by the coordinates of the first.
 #[inline(always)]
 fn stretch_from(span: &Span, texture: &Texture, u: u8, v: u8) -> Option<Stretch>
@@ -62,10 +78,8 @@ fn stretch_from(span: &Span, texture: &Texture, u: u8, v: u8) -> Option<Stretch>
     requires rising { IsRising span.now u v }
     ensures { IfSome result (IsStretch span.now texture.now) }
 {
-    let column = u as u16;
-    if is_open(texture, u, span.n) && has_room(texture, column, span.n) {
-        let y = texel_cell(&texture.page, &texture.window, u, v).y;
-        Some(Stretch { u: column, y })
+    if is_open(texture, u, span.n) && has_room(texture, u as u16, span.n) {
+        Some(stretch_at(texture, u, v))
     } else {
         None
     }
@@ -106,6 +120,20 @@ pub(crate) fn tri_stretch(
     } else {
         None
     }
+}
+
+// Where the texels of a row of a triangle stand, whose texels stand side by side in all rows.
+#[inline(always)]
+pub(crate) fn place_row(span: &Span, tri: &Tri, texture: &Texture, u: &Plane, v: &Plane) -> Stretch
+    requires span { IsSpan span.now }
+    requires paint { span.now.paint ≡ TexturedTri tri.now texture.now }
+    requires texels { AreSideBySide tri.now texture.now u.now v.now }
+    ensures { IsStretch span.now texture.now result }
+{
+    let _ = tri;
+    let u = value_of(u, span.x, span.y);
+    let v = value_of(v, span.x, span.y);
+    stretch_at(texture, u, v)
 }
 
 // k texels of fifteen bits that stand side by side.
@@ -177,7 +205,7 @@ fn read_fours<L: Ledger>(
     let u = stretch.u + first;
     let index = sixteen_indexes(vram, texture.page.x, u, stretch.y, steps);
     let entries = sixteen_entries(vram, texture.clut, steps);
-    entries_at(entries, index)
+    entries_at(&table_of(entries), index)
 }
 
 // k texels that stand side by side.

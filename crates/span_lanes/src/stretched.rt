@@ -1,5 +1,5 @@
 // Textured rows that read nothing that they write, whose texels stand side by side.
-ghost use Rattle.std.specs.Prelude.{◌≡◌, ◌≤◌, ◌+◌, ◌*◌, ◌%◌, true, false, length};
+ghost use Rattle.std.specs.Prelude.{◌≡◌, ◌≤◌, ◌+◌, ◌%◌, true, false, length};
 ghost use Rattle.vram_store.specs.Vram.{height_of};
 ghost use Rattle.span_lanes.specs.Chunk.{IsChunk, drawn_chunk};
 ghost use Rattle.span_lanes.specs.Cost.{chunk_cost, span_cost};
@@ -21,7 +21,8 @@ use std::sync::ledger::Ledger;
 use texture_page::Page;
 use vram_store::{Steps, Vram};
 
-// A texture, of which it is known how many bits a texel has and whether it is drawn as it is: each has loops of its own.
+// A texture, of which it is known how many bits a texel has and whether it is drawn as it is: each has loops of its
+// own.
 #[inline(always)]
 pub(crate) fn known(texture: &Texture, depth: u8, raw: bool) -> Texture
     requires depth { texture.now.page.depth ≡ depth }
@@ -114,7 +115,8 @@ fn draw_raw<L: Ledger>(
     }
 }
 
-// A row of texels that are drawn and stored as they are.
+// A row of texels that are drawn and stored as they are. The depths stand in both: a function for the two would stay a
+// call, and its loops would not know the brush.
 #[inline(never)]
 fn draw_raw_plainly<L: Ledger>(
     vram: &mut Vram,

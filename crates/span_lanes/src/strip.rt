@@ -1,5 +1,5 @@
 // Rows of texels of four bits that stand side by side, whose palette is coloured once.
-ghost use Rattle.std.specs.Prelude.{◌≡◌, ◌≤◌, ◌<◌, ◌+◌, ◌/◌, ◌%◌, ◌≢◌, IsTrue, Some, pos};
+ghost use Rattle.std.specs.Prelude.{◌≡◌, ◌≤◌, ◌<◌, ◌+◌, ◌/◌, ◌%◌, ◌≢◌, IsTrue, Some, false, pos};
 ghost use Rattle.std.specs.Prelude.{length, slice_index};
 ghost use Rattle.px_num.specs.Lanes.{EachLane};
 ghost use Rattle.vram_store.specs.Vram.{height_of};
@@ -12,14 +12,15 @@ ghost use Rattle.span_lanes.specs.Shade.{IsSpan, LiesIn, drawn_span, front_of, t
 ghost use Rattle.span_lanes.specs.Stretch.{IsStretch};
 ghost use Rattle.span_lanes.specs.Strip.{IsStrip};
 ghost use Rattle.span_lanes.specs.Swatches.{AreColored, IsKept, SuitsPalette};
+ghost use Rattle.span_lanes.specs.Table.{AreBytes, entry_at};
 
 use crate::beside::sixteen_indexes;
-use crate::nibbles::entries_at;
 use crate::plainly::{is_plain, plain};
 use crate::shading::is_dithered;
 use crate::store::store_chunk;
 use crate::stretch::Stretch;
-use crate::swatches::{Drawn, Swatches, refresh};
+use crate::swatches::{Drawn, Swatches, swatches_of};
+use crate::table::entries_at;
 use crate::textured::collect_fronts;
 use crate::{Span, Texture};
 use std::simd::prelude::*;
@@ -47,22 +48,22 @@ pub(crate) fn suits_strip(span: &Span, texture: &Texture) -> bool
 // Sixteen texels by their indexes, and what the colour makes of them.
 #[inline(always)]
 #[tactic(auto, unfolding(crate::specs::Shade::front_of))]
-fn drawn_at(swatches: &Swatches, raw: bool, index: u16x16) -> Drawn
+fn drawn_at(swatches: &Swatches, raw: bool, index: u8x16) -> Drawn
     requires colored { AreColored swatches.now }
     requires raw { swatches.now.raw ≡ raw }
-    requires long { length index ≡ 16 }
+    requires bytes { AreBytes index }
     requires low { EachLane (λ i. slice_index index i < 16) }
     ensures long { (length result.texels ≡ 16) × (length result.fronts ≡ 16) }
     ensures texels { EachLane (λ i. slice_index result.texels i
-        ≡ slice_index swatches.now.entries (slice_index index i)) }
+        ≡ entry_at swatches.now.entries (slice_index index i)) }
     ensures fronts { EachLane (λ i. slice_index result.fronts i
         ≡ front_of raw swatches.now.color (pos 0) (slice_index result.texels i)) }
 {
-    let texels = entries_at(swatches.entries, index);
+    let texels = entries_at(&swatches.entries, index);
     let fronts = if raw {
         texels
     } else {
-        entries_at(swatches.fronts, index)
+        entries_at(&swatches.fronts, index)
     };
     Drawn { texels, fronts }
 }
@@ -170,6 +171,35 @@ fn draw_by_raw<L: Ledger>(
     }
 }
 
+// Where the texels of a row stand, and their palette under a colour, which is kept from then on.
+#[inline(always)]
+fn strip_at<L: Ledger>(
+    vram: &Vram,
+    span: &Span,
+    texture: &Texture,
+    stretch: &Stretch,
+    color: u32,
+    last: &mut Option<Swatches>,
+    steps: &mut Steps<L>,
+) -> Strip
+    requires span { IsSpan span.now }
+    requires height { LiesIn (height_of vram.now) span.now }
+    requires hue { AreHues span.now.paint span.now.x span.now.y span.now.n (One color) }
+    requires texture { texture_of span.now.paint ≡ Some texture.now }
+    requires stretch { IsStretch span.now texture.now stretch.now }
+    requires suits { SuitsPalette span.now texture.now }
+    requires last { IsKept span.now.paint vram.now last.old }
+    ensures strip { IsStrip span.now texture.now vram.now result }
+    ensures kept { last.new ≡ Some result.swatches }
+    ensures cost { steps.new ≤ steps.old + 1 }
+{
+    let _ = span;
+    Strip {
+        stretch: *stretch,
+        swatches: swatches_of(vram, texture, color, last, steps),
+    }
+}
+
 // A row of texels under a colour.
 #[inline(always)]
 pub(crate) fn draw_strip<L: Ledger>(
@@ -193,15 +223,35 @@ pub(crate) fn draw_strip<L: Ledger>(
     ensures last { IsKept span.now.paint vram.new last.new }
     ensures cost { steps.new ≤ steps.old + span_cost span.now }
 {
-    refresh(vram, texture, color, last, steps);
-    match &*last {
-        Some(kept) => {
-            let strip = Strip {
-                stretch: *stretch,
-                swatches: *kept,
-            };
-            draw_by_raw(vram, span, texture, &strip, steps);
-        }
-        None => unreachable!(),
-    }
+    let strip = strip_at(vram, span, texture, stretch, color, last, steps);
+    draw_by_raw(vram, span, texture, &strip, steps);
+}
+
+// The same where pixels are stored as they are.
+#[inline(always)]
+pub(crate) fn draw_plain_strip<L: Ledger>(
+    vram: &mut Vram,
+    span: &Span,
+    texture: &Texture,
+    stretch: &Stretch,
+    color: u32,
+    last: &mut Option<Swatches>,
+    steps: &mut Steps<L>,
+)
+    requires span { IsSpan span.now }
+    requires height { LiesIn (height_of vram.old) span.now }
+    requires hue { AreHues span.now.paint span.now.x span.now.y span.now.n (One color) }
+    requires texture { texture_of span.now.paint ≡ Some texture.now }
+    requires stretch { IsStretch span.now texture.now stretch.now }
+    requires suits { SuitsPalette span.now texture.now }
+    requires last { IsKept span.now.paint vram.old last.old }
+    requires mask { span.now.brush.mask ≡ 0 }
+    requires semi { span.now.brush.semi ≡ false }
+    ensures cells { vram.new ≡ drawn_span span.now span.now.n vram.old }
+    ensures long { length vram.new ≡ length vram.old }
+    ensures last { IsKept span.now.paint vram.new last.new }
+    ensures cost { steps.new ≤ steps.old + span_cost span.now }
+{
+    let strip = strip_at(vram, span, texture, stretch, color, last, steps);
+    draw_chunks(vram, &plain(span), texture, &strip, steps);
 }

@@ -1,5 +1,5 @@
 // Blocks of rows of texels of four bits that stand side by side, whose palette is coloured once.
-ghost use Rattle.std.specs.Prelude.{◌≡◌, ◌≤◌, ◌<◌, ◌+◌, IsTrue, length};
+ghost use Rattle.std.specs.Prelude.{◌≡◌, ◌≤◌, ◌+◌, IsTrue, length};
 ghost use Rattle.vram_store.specs.Vram.{height_of};
 ghost use Rattle.span_lanes.specs.declared.span.Paint.TheVariants.{TexturedRow};
 ghost use Rattle.span_lanes.specs.Spans.{drawn_rows, rows_cost, AreBelow, AreSpans};
@@ -11,13 +11,12 @@ use crate::plainly::{is_plain, plain};
 use crate::row::{TexelRow, row_down};
 use crate::shading::is_dithered;
 use crate::spans::Spans;
-use crate::stretch::{Stretch, has_room, is_open};
+use crate::stretch::{has_room, is_open, stretch_at};
 use crate::stretched::known;
 use crate::strip::{Strip, draw_chunks};
 use crate::swatches::{Swatches, swatches_of};
 use crate::{Paint, Span, Texture};
 use std::sync::ledger::Ledger;
-use texture_page::texel_cell;
 use vram_store::{Steps, Vram};
 
 // Whether rows of texels are of four bits and stand side by side, and their palette can be coloured once.
@@ -69,12 +68,8 @@ fn draw_rows<L: Ledger>(
             },
             brush,
         };
-        let stretch = Stretch {
-            u: row.u as u16,
-            y: texel_cell(&texture.page, &texture.window, row.u, v).y,
-        };
         let strip = Strip {
-            stretch,
+            stretch: stretch_at(texture, row.u, v),
             swatches: *swatches,
         };
         draw_chunks(vram, &span, texture, &strip, steps);

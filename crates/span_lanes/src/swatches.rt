@@ -1,6 +1,7 @@
 // Textures of four bits under one colour, whose palette is read and coloured once a primitive.
-ghost use Rattle.std.specs.Prelude.{◌≡◌, ◌≤◌, ◌<◌, ◌+◌, ◌%◌, IfSome, IsTrue, MatchOption, Some};
-ghost use Rattle.std.specs.Prelude.{length};
+ghost use Rattle.std.specs.Prelude.{◌≡◌, ◌≤◌, ◌+◌, ◌%◌, IfSome, IsTrue, MatchOption, Some};
+ghost use Rattle.std.specs.Prelude.{length, slice_index};
+ghost use Rattle.px_num.specs.Lanes.{EachLane};
 ghost use Rattle.vram_store.specs.Vram.{height_of};
 ghost use Rattle.span_lanes.specs.declared.hues.Hues.TheVariants.{One};
 ghost use Rattle.span_lanes.specs.Chunk.{IsChunk, drawn_chunk};
@@ -9,15 +10,16 @@ ghost use Rattle.span_lanes.specs.Plan.{HasTexels, IsPlan, IsPlanned};
 ghost use Rattle.span_lanes.specs.Shade.{drawn_span};
 ghost use Rattle.span_lanes.specs.Swatches.{AreColored, AreEntries, AreFronts, AreSwatches};
 ghost use Rattle.span_lanes.specs.Swatches.{IsKept, IsPalette, SuitsPalette};
+ghost use Rattle.span_lanes.specs.Table.{entry_at};
 
 use crate::beside::indexes_of;
 use crate::colors::no_shifts;
 use crate::fetch::sixteen_entries;
 use crate::hues::Hues;
-use crate::nibbles::entries_at;
 use crate::plan::Plan;
 use crate::shading::is_dithered;
 use crate::store::store_chunk;
+use crate::table::{Table, entries_at, table_of};
 use crate::textured::{collect_fronts, fronts};
 use crate::track::track_lanes;
 use crate::{Span, Texture};
@@ -30,8 +32,8 @@ use vram_store::{Steps, Vram};
 pub(crate) struct Swatches {
     pub(crate) raw: bool,
     pub(crate) color: u32,
-    pub(crate) entries: u16x16,
-    pub(crate) fronts: u16x16,
+    pub(crate) entries: Table,
+    pub(crate) fronts: Table,
 }
 
 // Texels, and what a colour makes of them.
@@ -48,14 +50,14 @@ fn colored(raw: bool, color: u32, entries: u16x16) -> Swatches
     ensures colored { AreColored result }
     ensures raw { result.raw ≡ raw }
     ensures color { result.color ≡ color }
-    ensures entries { result.entries ≡ entries }
+    ensures entries { EachLane (λ i. entry_at result.entries i ≡ slice_index entries i) }
 {
     let hues = Hues::One { color };
     Swatches {
         raw,
         color,
-        entries,
-        fronts: fronts(raw, &hues, no_shifts(), 0, entries),
+        entries: table_of(entries),
+        fronts: table_of(fronts(raw, &hues, no_shifts(), 0, entries)),
     }
 }
 
@@ -138,8 +140,8 @@ fn read_scattered<L: Ledger>(
     let at = track_lanes(&plan.track, first);
     let index = indexes_of(vram, texture, &at, k, steps);
     Drawn {
-        texels: entries_at(swatches.entries, index),
-        fronts: entries_at(swatches.fronts, index),
+        texels: entries_at(&swatches.entries, index),
+        fronts: entries_at(&swatches.fronts, index),
     }
 }
 

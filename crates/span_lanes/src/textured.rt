@@ -1,122 +1,29 @@
 // Textured chunks, all their lanes at once.
-ghost use Rattle.std.specs.Prelude.{◌≡◌, ◌≤◌, ◌<◌, ◌+◌, ◌*◌, ◌%◌, ◌^◌, ◌==◌, ◌&&◌, if◌then◌else◌};
+ghost use Rattle.std.specs.Prelude.{◌≡◌, ◌≤◌, ◌<◌, ◌+◌, ◌%◌, ◌==◌, ◌&&◌, if◌then◌else◌};
 ghost use Rattle.std.specs.Prelude.{false, pos, IsTrue, Some, ℕ};
-ghost use Rattle.std.specs.Prelude.{take, length, slice_index, slice_index_or};
+ghost use Rattle.std.specs.Prelude.{length, slice_index, slice_index_or};
 ghost use Rattle.blend_dither.specs.Color.{modulated_of, packed_pixel, red_of, green_of, blue_of};
-ghost use Rattle.px_num.specs.Height.{short_height};
 ghost use Rattle.px_num.specs.Lanes.{EachLane};
 ghost use Rattle.vram_store.specs.Vram.{bit, height_of};
 ghost use Rattle.span_lanes.specs.Chunk.{IsChunk, HasChunk};
-ghost use Rattle.span_lanes.specs.Shade.{IsTexture, IsSpan, LiesIn, texture_of, is_high, blended_if, front_of, at_cell};
+ghost use Rattle.span_lanes.specs.Shade.{IsSpan, LiesIn, texture_of, is_high, blended_if, front_of};
 ghost use Rattle.span_lanes.specs.Hues.{hue_at};
 ghost use Rattle.span_lanes.specs.Plan.{IsShading, HasTexels, HasFronts};
-ghost use Rattle.span_lanes.specs.Lanes.{AreShifts, AreCoordinates};
-ghost use Rattle.span_lanes.specs.Guard.{texel_cells};
-ghost use Rattle.overlap_guard.specs.Hazard.{cell_at};
-ghost use Rattle.texture_page.specs.Page.{clut_place, index_at};
-ghost use Rattle.span_lanes.specs.Cost.{texel_steps};
-ghost use Rattle.span_lanes.specs.Texels.{AreTexels};
+ghost use Rattle.span_lanes.specs.Lanes.{AreShifts};
 
 use crate::back::back_of;
 use crate::colors::{Shifts, modulated_by};
-use crate::coordinates::Coordinates;
 use crate::hues::{Hues, hue_lanes};
 use crate::lanes::{Lanes, both, drawn_bits};
-use crate::pixel::palette_entry;
 use crate::shading::Shading;
 use crate::swatches::Drawn;
 use crate::{Brush, Span, Texture};
 use blend_dither::blend_lanes;
-use px_num::Cell;
 use px_num::lanes::{add, mul, shifted_down, splat, sub_or_zero};
 use std::simd::prelude::*;
 use std::sync::ledger::Ledger;
-use texture_page::{clut_cell, index_of};
 use vram_store::mask::{force_lanes, open_bits};
 use vram_store::{Steps, Vram};
-
-// The halfwords of k cells, one by one.
-fn read_cells<L: Ledger>(vram: &Vram, cells: &[Cell; 16], k: u8, steps: &mut Steps<L>) -> [u16; 16]
-    requires few { k ≤ 16 }
-    requires in_row { (j : ℕ) → j < k → (cell_at cells.now j).x < 1024 }
-    requires in_height { (j : ℕ) → j < k → (cell_at cells.now j).y < height_of vram.now }
-    ensures long { length result ≡ 16 }
-    ensures value { (j : ℕ) → j < k → slice_index result j ≡ at_cell vram.now (cell_at cells.now j) }
-    ensures cost { steps.new ≤ steps.old + k }
-{
-    let mut halfwords = [0; 16];
-    for j in 0..k {
-        let cell = cells[j as usize];
-        halfwords[j as usize] = vram.get(cell.x, cell.y, steps);
-    }
-    halfwords
-}
-
-fn entry_of(texture: &Texture, u: u16, h: u16) -> Cell
-    requires texture { IsTexture texture.now }
-    requires depth { texture.now.page.depth < 2 }
-    requires byte { u ≤ 255 }
-    ensures value { result ≡ clut_place texture.now.clut (index_at texture.now.page texture.now.window u h) }
-    ensures in_row { result.x < 1024 }
-    ensures in_height { result.y < short_height }
-{
-    let index = index_of(&texture.page, &texture.window, u as u8, h);
-    clut_cell(texture.clut, index)
-}
-
-// The entries of the palette for k halfwords of texels, one by one.
-fn read_entries<L: Ledger>(
-    vram: &Vram,
-    texture: &Texture,
-    us: &[u16; 16],
-    halfwords: &[u16; 16],
-    k: u8,
-    steps: &mut Steps<L>,
-) -> [u16; 16]
-    requires texture { IsTexture texture.now }
-    requires depth { texture.now.page.depth < 2 }
-    requires across { AreCoordinates us.now }
-    requires few { k ≤ 16 }
-    ensures long { length result ≡ 16 }
-    ensures value { (j : ℕ) → j < k → slice_index result j
-        ≡ at_cell vram.now (clut_place texture.now.clut
-        (index_at texture.now.page texture.now.window (slice_index us.now j) (slice_index halfwords.now j))) }
-    ensures cost { steps.new ≤ steps.old + k }
-{
-    let mut entries = [0; 16];
-    for j in 0..k {
-        let cell = entry_of(texture, us[j as usize], halfwords[j as usize]);
-        entries[j as usize] = palette_entry(vram, cell, steps);
-    }
-    entries
-}
-
-// k texels by their columns and the cells that they stand in, one by one.
-pub(crate) fn read_texels<L: Ledger>(
-    vram: &Vram,
-    texture: &Texture,
-    at: &Coordinates,
-    cells: &[Cell; 16],
-    k: u8,
-    steps: &mut Steps<L>,
-) -> [u16; 16]
-    requires texture { IsTexture texture.now }
-    requires page { texture.now.page.y + 255 < height_of vram.now }
-    requires across { AreCoordinates at.now.us }
-    requires down { AreCoordinates at.now.vs }
-    requires few { k ≤ 16 }
-    requires cells { take k cells.now ≡ texel_cells texture.now at.now.us at.now.vs k }
-    ensures long { length result ≡ 16 }
-    ensures value { AreTexels texture.now at.now k vram.now result }
-    ensures cost { steps.new ≤ steps.old + texel_steps texture.now.page.depth * k }
-{
-    let halfwords = read_cells(vram, cells, k, steps);
-    if texture.page.depth < 2 {
-        read_entries(vram, texture, &at.us.to_array(), &halfwords, k, steps)
-    } else {
-        halfwords
-    }
-}
 
 // Bit 15 of each lane.
 fn high_bits(texels: u16x16) -> u16x16

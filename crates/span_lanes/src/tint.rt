@@ -17,6 +17,7 @@ pub(crate) enum Tint {
     },
 }
 
+#[inline(never)]
 fn tri_planes(tri: &Tri) -> Tint
     ensures { IsTintOf tri.now result }
 {
@@ -28,7 +29,8 @@ fn tri_planes(tri: &Tri) -> Tint
     }
 }
 
-fn tri_tint(tri: &Tri) -> Tint
+#[inline(always)]
+pub(crate) fn tri_tint(tri: &Tri) -> Tint
     ensures { IsTintOf tri.now result }
 {
     match tri.one_color() {

@@ -1,5 +1,5 @@
 // Spans without a texture, chunk by chunk.
-ghost use Rattle.std.specs.Prelude.{◌≡◌, ◌≤◌, ◌+◌, ◌*◌, ◌%◌, None, length};
+ghost use Rattle.std.specs.Prelude.{◌≡◌, ◌≤◌, ◌+◌, ◌%◌, None, length};
 ghost use Rattle.vram_store.specs.Vram.{height_of};
 ghost use Rattle.span_lanes.specs.Chunk.{IsChunk, drawn_chunk};
 ghost use Rattle.span_lanes.specs.Shade.{IsSpan, LiesIn, texture_of, drawn_span};

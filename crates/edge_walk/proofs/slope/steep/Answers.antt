@@ -12,5 +12,5 @@ returns-then-rises c p q fall =
 pub returns-else-rises : goal.returns-else-rises
 returns-else-rises c p q fall =
     let parts = c.parts_over-parts.ensures in
-    falling_is c.args.rows c.parts_over-parts.result c.requires.some c.requires.most parts.enough parts.close p q _ _
-    (omega (arith, ints, parts.most)) (omega (arith, ints, parts.most)) parts.most (rw c.if-rises.false at fall)
+    falling_is c.args.rows c.parts_over-parts.result c.requires.some c.requires.most parts.enough parts.close p q _
+    (omega (arith, ints, parts.most)) parts.most (rw c.if-rises.false at fall)

@@ -10,7 +10,7 @@ returns-in-Some-clause-drawn g c =
     let can = rw c.in-Some.is at c.requires.run in
     record {
       cells = rw c.in-Some.is
-          (c.draw.ensures.cells ∙ span_pixels coat run.x c.args.y run.n c.args.vram.now c.requires.coat.alike);
-      long = c.draw.ensures.long;
-      cost = rw (c.in-Some.is, span_of_row coat run.x c.args.y run.n can.some) c.draw.ensures.cost;
+          (c.draw.ensures.drawn.cells ∙ span_pixels coat run.x c.args.y run.n c.args.vram.now c.requires.coat.alike);
+      long = c.draw.ensures.drawn.long;
+      cost = rw (c.in-Some.is, span_of_row coat run.x c.args.y run.n can.some) c.draw.ensures.drawn.cost;
     }

@@ -2,7 +2,7 @@ use Rattle.std.proofs.Common.{ℕ, ◌≡◌, ◌≤◌, ◌+◌, ◌-◌, ◌-�
 use Rattle.std.proofs.lemmas.Int.{to_z-of_z, ints}
 use Rattle.edge_walk.specs.Row.{IsRowSpan}
 use Rattle.prim_draw.specs.Boxes.{block_of, row_box}
-use Rattle.prim_draw.specs.declared.boxes.Block.{Block}
+use Rattle.span_lanes.specs.declared.block.Block.{Block}
 use Rattle.edge_walk.specs.Triangle.{Corners}
 use Rattle.px_num.specs.declared.shape.Box2.{Box2}
 use Rattle.prim_draw.specs.Walks.{IsRowOf}
@@ -86,6 +86,7 @@ returns-in-None c = record {
       (none_found t (block_of clip) y (box_is clip is.on_screen).some
       (row_none _ _ _ _ is (c.in-None.ensures.span t clip (pos y) is.stands is.in_box)));
   inside = λ t clip y is. tt;
+  within = λ t clip y is. tt;
   next = λ t clip y is. rw (← next_row y) (c.in-None.ensures.next t clip (pos y) is.stands is.in_box);
 }
 
@@ -101,8 +102,16 @@ returns-in-Some c =
           record {
             some = r.some;
             in_row = omega (arith, r.right, (box_is clip is.on_screen).in_row);
-            inside =
-                r.inside;
+            inside = r.inside;
+          };
+      within = λ t clip y is.
+          let r = run c t clip y is in
+          let box = box_is clip is.on_screen in
+          record {
+            left = r.left;
+            right = r.right;
+            top = omega (arith, ints, is.stands.above, box.top);
+            bottom = omega (arith, ints, is.in_box, box.bottom, box.rows);
           };
       next = λ t clip y is. rw (← next_row y) (c.in-Some.ensures.next t clip (pos y) is.stands is.in_box);
     }))

@@ -1,17 +1,19 @@
-use Rattle.std.proofs.Common.{inl, inr, arith}
+use Rattle.std.proofs.Common.{arith}
 use Rattle.span_lanes.specs.Spans.{nth_span}
-use Rattle.span_lanes.proofs.ApartLemmas.{span_apart}
 use Rattle.span_lanes.proofs.apart.are_apart.Goals as goal
 
-pub returns-then-are_beside_page-clause-apart : goal.returns-then-are_beside_page-clause-apart
-returns-then-are_beside_page-clause-apart c off j lt =
-    let spans = c.args.spans.now in
-    span_apart (nth_span spans j) c.args.texture.now (c.requires.spans.each j lt)
-    (rw (c.requires.texture j) at (c.requires.spans.each j lt).texture) (c.requires.texture j)
-    (c.are_beside_page.ensures c.if-are_beside_page.true j lt) (c.are_off_palette.ensures off j lt)
+pub is_block_apart-requires-clause-block : goal.is_block_apart-requires-clause-block
+is_block_apart-requires-clause-block c =
+    let first = c.requires.spans.each 0 (omega (arith, c.requires.spans.some)) in
+    record { columns = first.some; rows = c.requires.spans.some; right = first.in_row; bottom = c.requires.spans.short }
 
-pub returns-then-are_beside_page-clause-palette : goal.returns-then-are_beside_page-clause-palette
-returns-then-are_beside_page-clause-palette c off shallow j lt same = elim (c.are_off_palette.ensures off j lt) [
-  | inl deep ↦ omega (arith, deep, shallow)
-  | inr other ↦ other same
-]
+pub returns-clause-apart : goal.returns-clause-apart
+returns-clause-apart c is j lt =
+    (c.is_block_apart.ensures is).apart (nth_span c.args.spans.now j) (c.requires.texture j)
+    (c.requires.spans.each j lt)
+    (record { left = omega arith; right = omega arith; top = omega arith; bottom = omega arith })
+
+pub returns-clause-palette : goal.returns-clause-palette
+returns-clause-palette c is four j lt =
+    (c.is_block_apart.ensures is).palette (nth_span c.args.spans.now j) four
+    (record { left = omega arith; right = omega arith; top = omega arith; bottom = omega arith })

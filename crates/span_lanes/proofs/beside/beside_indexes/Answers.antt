@@ -6,7 +6,7 @@ sixteen_indexes-requires-clause-in_row g c = rw c.requires.depth at c.requires.b
 
 pub returns-clause-indexes : goal.returns-clause-indexes
 returns-clause-indexes g c = record {
-  long = c.sixteen_indexes.ensures.long;
+  bytes = c.sixteen_indexes.ensures.bytes;
   low = c.sixteen_indexes.ensures.low;
   value = λ j lane.
       beside_index c.args.texture.now c.args.at.now j _ c.args.vram.now c.requires.depth c.requires.beside

@@ -7,19 +7,13 @@ pub returns-clause-value : goal.returns-clause-value
 returns-clause-value g c = λ j lane.
     let m = c.args.vram.now in
     let u : ℕ = c.args.u in
-    let across : get_or c.add-across.result j 0
-    ≡ u % 4 + j = cc
-    (c.add-across.ensures.value j lane, c.splat.ensures.value j lane, c.ramp.ensures.value j lane) in
-    let at : get_or c.shifted_down.result j 0 ≡ (u % 4 + j) / 4 = c.shifted_down.ensures.value j lane
-    ∙ ap (λ (n : ℕ). n / 4) across in
     let few : (u % 4 + j) / 4 < 16 = omega arith in
     let place : 1024 * c.args.y + (c.args.page + u / 4) + (u % 4 + j) / 4
     ≡ 1024 * c.args.y + (c.args.page + (u + j) / 4) = omega arith in
-    let h : get_or c.entries_at.result j 0 ≡ get_or m (1024 * c.args.y + (c.args.page + (u + j) / 4)) 0 =
-    c.entries_at.ensures.value j lane ∙ ap (λ (n : ℕ). get_or c.load16-cells.result n 0) at
-    ∙ c.load16-cells.ensures.lanes.cells ((u % 4 + j) / 4) few ∙ ap (λ (n : ℕ). get_or m n 0) place in
+    let h : get_or c.load16-cells.result ((u % 4 + j) / 4) 0
+    ≡ get_or m (1024 * c.args.y + (c.args.page + (u + j) / 4)) 0 =
+    c.load16-cells.ensures.lanes.cells ((u % 4 + j) / 4) few ∙ ap (λ (n : ℕ). get_or m n 0) place in
     let column : (u % 4 + j) % 4 ≡ (u + j) % 4 = omega arith in
-    c.indexes.ensures.value j lane
-    ∙ ap (λ (n : ℕ). index_in 0 n (get_or c.entries_at.result j 0)) across
-    ∙ same_part (u % 4 + j) (u + j) (get_or c.entries_at.result j 0) column
+    c.nibbles_from.ensures.value j lane
+    ∙ same_part (u % 4 + j) (u + j) (get_or c.load16-cells.result ((u % 4 + j) / 4) 0) column
     ∙ ap (λ (n : ℕ). index_in 0 (u + j) n) h

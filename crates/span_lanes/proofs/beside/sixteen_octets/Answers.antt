@@ -15,11 +15,11 @@ returns-clause-value g c = λ j lane.
     let few : (u % 2 + j) / 2 < 16 = omega arith in
     let place : 1024 * c.args.y + (c.args.page + u / 2) + (u % 2 + j) / 2
     ≡ 1024 * c.args.y + (c.args.page + (u + j) / 2) = omega arith in
-    let h : get_or c.entries_at.result j 0 ≡ get_or m (1024 * c.args.y + (c.args.page + (u + j) / 2)) 0 =
-    c.entries_at.ensures.value j lane ∙ ap (λ (n : ℕ). get_or c.load16-cells.result n 0) at
+    let h : get_or c.halfwords_at.result j 0 ≡ get_or m (1024 * c.args.y + (c.args.page + (u + j) / 2)) 0 =
+    c.halfwords_at.ensures.value j lane ∙ ap (λ (n : ℕ). get_or c.load16-cells.result n 0) at
     ∙ c.load16-cells.ensures.lanes.cells ((u % 2 + j) / 2) few ∙ ap (λ (n : ℕ). get_or m n 0) place in
     let column : (u % 2 + j) % 2 ≡ (u + j) % 2 = omega arith in
     c.octets.ensures.value j lane
-    ∙ ap (λ (n : ℕ). index_in 1 n (get_or c.entries_at.result j 0)) across
-    ∙ same_half (u % 2 + j) (u + j) (get_or c.entries_at.result j 0) column
+    ∙ ap (λ (n : ℕ). index_in 1 n (get_or c.halfwords_at.result j 0)) across
+    ∙ same_half (u % 2 + j) (u + j) (get_or c.halfwords_at.result j 0) column
     ∙ ap (λ (n : ℕ). index_in 1 (u + j) n) h

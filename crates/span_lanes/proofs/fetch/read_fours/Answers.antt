@@ -8,4 +8,5 @@ returns-clause-value g c = λ j lt.
     let index = c.indexes_of-index.ensures.indexes in
     texel_four c.args.texture.now _ _ c.args.vram.now _ _ _ c.requires.depth refl refl
     (rw (index.value j lt) at
-    (c.entries_at.ensures.value j lane ∙ c.sixteen_entries-entries.ensures.value _ (index.low j lane)))
+    (c.entries_at.ensures.value j lane ∙ c.table_of.ensures.value _ (index.low j lane)
+    ∙ c.sixteen_entries-entries.ensures.value _ (index.low j lane)))

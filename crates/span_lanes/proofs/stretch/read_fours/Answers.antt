@@ -19,5 +19,6 @@ returns-clause-texels g c = record {
       four_texel c.args.span.now c.args.texture.now s _ (c.args.first + j) _ c.args.vram.now
       c.requires.stretch c.requires.depth (omega arith) (omega arith)
       (rw position at
-      (c.entries_at.ensures.value j lane ∙ c.sixteen_entries-entries.ensures.value _ few));
+      (c.entries_at.ensures.value j lane ∙ c.table_of.ensures.value _ few
+      ∙ c.sixteen_entries-entries.ensures.value _ few));
 }

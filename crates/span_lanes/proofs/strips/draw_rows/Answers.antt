@@ -1,5 +1,4 @@
 use Rattle.std.proofs.Common.{◌≡◌, ◌/◌, ◌∙◌, sym, ap, refl, subst, arith}
-use Rattle.px_num.specs.declared.shape.Cell.{Cell}
 use Rattle.vram_store.specs.Vram.{height_of}
 use Rattle.span_lanes.specs.Shade.{IsSpan, LiesIn}
 use Rattle.span_lanes.specs.Spans.{nth_span}
@@ -9,6 +8,11 @@ use Rattle.span_lanes.specs.declared.span.Span.{Span}
 use Rattle.span_lanes.proofs.SpansLemmas.{one_more, one_more_cost, repainted, texel_span}
 use Rattle.span_lanes.proofs.StretchLemmas.{rising_stretch, row_rising}
 use Rattle.span_lanes.proofs.strips.draw_rows.Goals as goal
+
+pub stretch_at-requires : goal.stretch_at-requires
+stretch_at-requires g c =
+    let first = c.requires.spans.below.each c.loop-j.j c.loop-j-test.true in
+    record { texture = rw c.requires.strips.paint at first.texture }
 
 pub draw_chunks-requires : goal.draw_chunks-requires
 draw_chunks-requires g c =
@@ -33,8 +37,8 @@ draw_chunks-requires g c =
         texture = refl;
         hue = λ at i few within. c.requires.palette.color;
         stretch = rising_stretch span t row.u v _ (row_rising span t row.color row.u v row.flip refl are.rises)
-            are.clear refl (ap (λ (cell : Cell). cell.y) c.texel_cell.ensures.value) c.texel_cell.ensures.in_page
-            are.in_page (λ deep. absurd (omega (arith, deep, suits.depth)))
+            are.clear c.stretch_at.ensures.column c.stretch_at.ensures.row c.stretch_at.ensures.low are.in_page
+            (λ deep. absurd (omega (arith, deep, suits.depth)))
             (λ eight. absurd (omega (arith, eight, suits.depth))) (λ four. are.fours);
         suits = suits;
         raw = c.requires.palette.raw;

@@ -26,13 +26,12 @@ raised-far-requires-clause-value c =
 -- the column at which the edge stands
 held : (c : After-in_parts)
     → IsPlaced c.in_parts.result c.raised-far.result
-    (in_parts c.args.origin c.args.p.now.x +ℤ
-    (start_value c.args.p.now c.args.q.now c.args.y *ℤ c.slope_of-slope.result.scale +ℤ c.slope_of-slope.result.slack))
+    (in_parts c.args.p.now.x +ℤ
+    (start_value c.args.p.now c.args.q.now c.args.y *ℤ c.args.slope.now.scale +ℤ c.args.slope.now.slack))
 held c =
     let p = c.args.p.now in
     let q = c.args.q.now in
-    let slope = c.slope_of-slope.result in
-    let origin_fits = c.ranges.origin in
+    let slope = c.args.slope.now in
     let y_fits = c.ranges.y in
     let left : SFits w32 p.x = search rules in
     let right : SFits w32 q.x = search rules in
@@ -48,9 +47,9 @@ held c =
     ≡ (c.difference-across.result *ℤ c.difference.result) = simp to_z-of_z at c.product-value.ensures.value in
     let is : c.product-value.result ≡ start_value p q c.args.y = rw (across, down) at value in
     let small = value_small p q c.args.y c.requires.near c.requires.reach in
-    let far = far_small (start_value p q c.args.y) slope.scale (omega (arith, small)) c.slope_of-slope.ensures.scale in
-    let reached = in_reach c.args.origin p.x (start_value p q c.args.y *ℤ slope.scale) slope.slack c.requires.origin
-    far c.slope_of-slope.ensures.slack in
+    let far = far_small (start_value p q c.args.y) slope.scale (omega (arith, small)) c.requires.slope.scale in
+    let reached = in_reach p.x (start_value p q c.args.y *ℤ slope.scale) slope.slack left
+    far c.requires.slope.slack in
     let start_is = simp to_z-of_z at c.in_parts.ensures in
     let far_is = simp to_z-of_z at c.raised-far.ensures in
     placed c.in_parts.result c.raised-far.result _ (start_value p q c.args.y *ℤ slope.scale) slope.slack start_is
@@ -64,7 +63,7 @@ overflow_sub-result c = let h = held (goal.at.overflow_sub-result c).After-in_pa
 
 pub returns : goal.returns
 returns c =
-    let slope = c.slope_of-slope.result in
+    let slope = c.args.slope.now in
     let start_fits : SFits w32 c.args.p.now.x = search rules in
     let end_fits : SFits w32 c.args.q.now.x = search rules in
     let across_fits : SFits w64 c.difference-across.result = search rules in
@@ -74,9 +73,9 @@ returns c =
     let step = rw across_is at step_is in
     record {
       slope = slope;
-      is_slope = c.slope_of-slope.ensures;
+      is_slope = c.requires.slope;
       bound = refl;
-      start = c.requires.origin;
+      start = start_fits;
       at = (held (goal.at.returns c).After-in_parts).value;
       raised = c.raised-step.result;
       by = refl;

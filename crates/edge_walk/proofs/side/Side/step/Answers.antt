@@ -3,4 +3,4 @@ use Rattle.edge_walk.proofs.WalkLemmas.{moved_with}
 use Rattle.edge_walk.proofs.side.Side.step.Goals as goal
 
 pub returns : goal.returns
-returns c p q origin y near reach h = moved_with p q origin y c.args.self.now _ near reach h refl
+returns c p q y near reach h = moved_with p q y c.args.self.now _ near reach h refl

@@ -1,14 +1,14 @@
-use Rattle.std.proofs.Common.{◌∙◌, ◌+◌, pos, ◌+ℤ◌, SFits, w32, sym, ap, arith, rules}
+use Rattle.std.proofs.Common.{◌∙◌, ◌+◌, ℤ, pos, ◌+ℤ◌, IsTrue, SFits, w32, sym, ap, arith, rules}
 use Rattle.std.proofs.lemmas.Int.{ints, clamps}
 use Rattle.edge_walk.specs.Attribute.{mixed_of}
 use Rattle.edge_walk.specs.Extent.{bounding_box}
-use Rattle.edge_walk.specs.Triangle.{corners}
+use Rattle.edge_walk.specs.Triangle.{corners, is_inside, is_within}
 use Rattle.edge_walk.proofs.Corner.{inside_is}
 use Rattle.edge_walk.proofs.InBox.{within-in_box}
 use Rattle.edge_walk.proofs.MixLemmas.{IsAreaOf, area_held}
-use Rattle.edge_walk.proofs.PlaneLemmas.{plane_line}
+use Rattle.edge_walk.proofs.PlaneLemmas.{PlaneAt, plane_at}
 use Rattle.edge_walk.proofs.triangle.Tri.plane.Goals as goal
-use Rattle.edge_walk.proofs.triangle.Tri.plane.Goals.{After-upright-t}
+use Rattle.edge_walk.proofs.triangle.Tri.plane.Goals.{After-upright-t, After-of}
 
 area : (c : After-upright-t)
     → IsAreaOf c.args.divisor.now (corners c.upright-t.result.a c.upright-t.result.b c.upright-t.result.c)
@@ -17,14 +17,15 @@ area c = area_held _ _ _ _ _ c.requires.divisor c.upright-t.ensures.same c.uprig
 pub of-requires-clause-divisor : goal.of-requires-clause-divisor
 of-requires-clause-divisor c = (area (goal.at.of-requires-clause-divisor c).After-upright-t).divisor
 
-pub returns : goal.returns
-unfolding bounding_box
-returns c = record {
-  lines = λ x y inside at j lt there.
+module _ (c : After-of) (x y : ℤ) (inside : IsTrue (is_inside c.args.self.now x y)) where
+  here : IsTrue (is_within (corners c.upright-t.result.a c.upright-t.result.b c.upright-t.result.c) x y)
+  here = sym (inside_is c.args.self.now _ _ _ c.upright-t.ensures.same x y) ∙ inside
+
+  both : PlaneAt c.upright-t.result.a c.upright-t.result.b c.upright-t.result.c c.args.which c.of.result x y
+  unfolding bounding_box
+  both =
       let t = c.upright-t.result in
-      let same = c.upright-t.ensures.same in
-      let held = area (goal.at.returns c).After-upright-t in
-      let here = sym (inside_is c.args.self.now t.a t.b t.c same x y) ∙ inside in
+      let held = area_held _ _ _ _ _ c.requires.divisor c.upright-t.ensures.same c.upright-t.ensures.upright in
       let box = within-in_box t.a t.b t.c x y c.upright-t.ensures.upright here in
       let ax : SFits w32 t.a.x = search rules in
       let bx : SFits w32 t.b.x = search rules in
@@ -32,12 +33,19 @@ returns c = record {
       let ay : SFits w32 t.a.y = search rules in
       let by : SFits w32 t.b.y = search rules in
       let cy : SFits w32 t.c.y = search rules in
-      plane_line t.a t.b t.c c.args.which c.args.divisor.now.area c.args.divisor.now.reciprocal c.of.result
+      plane_at t.a t.b t.c c.args.which c.args.divisor.now.area c.args.divisor.now.reciprocal c.of.result
       c.upright-t.ensures.upright c.of.ensures.bytes held.is held.divisor.some held.divisor.most
       held.divisor.reciprocal
       (record { across = c.of.ensures.across; down_is = c.of.ensures.down; base = c.of.ensures.base })
       x y here (omega (arith, ints)) (omega (arith, ints)) (omega (arith, ints, clamps, box.0.0))
       (omega (arith, ints, clamps, box.1.0))
-      at j lt (sym (inside_is c.args.self.now t.a t.b t.c same (x +ℤ pos (at + j)) y) ∙ there)
-      ∙ ap (λ w. mixed_of w c.args.which (x +ℤ pos (at + j)) y) same;
-}
+
+pub returns : goal.returns
+returns c =
+    let same = c.upright-t.ensures.same in
+    let at = both (goal.at.returns c).After-of in record {
+      own = λ x y inside. (at x y inside).own ∙ ap (λ w. mixed_of w c.args.which x y) same;
+      lines = λ x y inside k j lt there. (at x y inside).line k j lt
+          (sym (inside_is c.args.self.now _ _ _ same (x +ℤ pos (k + j)) y) ∙ there)
+          ∙ ap (λ w. mixed_of w c.args.which (x +ℤ pos (k + j)) y) same;
+    }

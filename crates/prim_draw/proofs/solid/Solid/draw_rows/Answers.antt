@@ -10,7 +10,8 @@ rows-rows-requires g c = has_rows _ _ c.requires.small c.requires.inside
 pub loop-j-init : goal.loop-j-init
 loop-j-init g c =
     rows_start (solid_coat c.args.self.now) c.args.tri.now c.args.clip.now c.block_of-block.result c.requires.small
-    c.block_of-block.ensures.value c.rows-rows.result c.args.vram.now c.args.steps.now c.rows-rows.ensures
+    c.block_of-block.ensures.value c.rows-rows.result (record { m = c.args.vram.now; steps = c.args.steps.now })
+    c.rows-rows.ensures
 
 pub next_run-run-requires : goal.next_run-run-requires
 next_run-run-requires g c =
@@ -27,10 +28,10 @@ draw_run-requires-clause-run g c =
 pub loop-j-preserved : goal.loop-j-preserved
 loop-j-preserved g c =
     rows_next (solid_coat c.args.self.now) c.args.tri.now c.args.clip.now c.block_of-block.result c.requires.small
-    c.block_of-block.ensures.value c.loop-j.j _ _ c.next_run-run.result _ _ _ _ _ _ c.loop-j-test.true
+    c.block_of-block.ensures.value c.loop-j.j _ _ c.next_run-run.result _ _ _ c.loop-j-test.true
     c.loop-j.invariant c.next_run-run.ensures c.draw_run.ensures
 
 pub returns : goal.returns
 returns g c =
     let all : c.loop-j.j ≡ c.block_of-block.result.h = omega arith in
-    rows_drawn _ _ _ _ _ _ _ _ _ c.block_of-block.ensures.value all c.loop-j.invariant.drawn
+    rows_drawn _ _ _ _ _ _ _ c.block_of-block.ensures.value all c.loop-j.invariant.drawn

@@ -1,5 +1,4 @@
 use Rattle.std.proofs.Common.{◌∙◌}
-use Rattle.span_lanes.proofs.CellsLemmas.{span_law}
 use Rattle.prim_draw.specs.Solids.{solid_coat}
 use Rattle.prim_draw.proofs.RowLemmas.{span_of_row, span_pixels}
 use Rattle.prim_draw.proofs.solid.Solid.draw_run.Goals as goal
@@ -9,12 +8,10 @@ returns-in-Some g c =
     let run = c.in-Some.run' in
     let coat = solid_coat c.args.self.now in
     let can = rw c.in-Some.is at c.requires.run in
+    let drawn = c.draw_solid.ensures.drawn in
     record {
       cells = rw c.in-Some.is
-          (c.draw_solid.ensures.cells
-          ∙ span_law (record { x = run.x; y = c.args.y; n = run.n; paint = coat.paint; brush = coat.brush }) run.n
-          c.args.vram.now
-          ∙ span_pixels coat run.x c.args.y run.n c.args.vram.now c.requires.coat.alike);
-      long = c.draw_solid.ensures.long;
-      cost = rw (c.in-Some.is, span_of_row coat run.x c.args.y run.n can.some) c.draw_solid.ensures.cost;
+          (drawn.cells ∙ span_pixels coat run.x c.args.y run.n c.args.vram.now c.requires.coat.alike);
+      long = drawn.long;
+      cost = rw (c.in-Some.is, span_of_row coat run.x c.args.y run.n can.some) drawn.cost;
     }

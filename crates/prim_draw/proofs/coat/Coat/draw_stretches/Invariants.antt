@@ -1,0 +1,14 @@
+use Rattle.std.proofs.Common.{◌≡◌}
+use Rattle.span_lanes.specs.Pen.{IsFresh}
+use Rattle.prim_draw.specs.Boxes.{block_of}
+use Rattle.prim_draw.specs.Walks.{StandsBehind, coat_of_ink}
+use Rattle.prim_draw.proofs.coat.Coat.draw_stretches.Given as goal
+
+abbrev pub invariant-loop-j : goal.invariant-loop-j
+invariant-loop-j g l = record {
+  behind : StandsBehind l.self l.tri l.clip l.block l.j l.rows
+      (record { m = l.initial.vram; steps = l.initial.steps }) (record { m = l.vram; steps = l.steps });
+  coat : coat_of_ink l.pen.loaded.ink ≡ l.self;
+  block : l.pen.block ≡ block_of l.clip;
+  fresh : IsFresh l.pen.loaded l.vram;
+}

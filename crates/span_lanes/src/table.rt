@@ -1,0 +1,60 @@
+// Tables of sixteen halfwords.
+ghost use Rattle.std.specs.Prelude.{◌≡◌, ◌<◌, ◌%◌, length, slice_index};
+ghost use Rattle.px_num.specs.Lanes.{EachLane};
+ghost use Rattle.span_lanes.specs.Table.{AreBytes, IsTable, entry_at};
+
+use crate::bytes::{bytes_at, joined, narrowed};
+use px_num::lanes::shifted_down;
+use std::simd::prelude::*;
+
+// Sixteen halfwords by their bytes.
+#[derive(Clone, Copy)]
+pub(crate) struct Table {
+    pub(crate) low: u8x16,
+    pub(crate) high: u8x16,
+}
+
+// Each number modulo 256.
+#[inline(always)]
+pub(crate) fn low8(a: u16x16) -> u16x16
+    requires { length a ≡ 16 }
+    ensures long { length result ≡ 16 }
+    ensures value { EachLane (λ i. slice_index result i ≡ slice_index a i % 256) }
+{
+    a & u16x16::splat(255)
+}
+
+#[inline(always)]
+pub(crate) fn table_of(entries: u16x16) -> Table
+    requires { length entries ≡ 16 }
+    ensures table { IsTable result }
+    ensures value { EachLane (λ i. entry_at result i ≡ slice_index entries i) }
+{
+    Table {
+        low: narrowed(low8(entries)),
+        high: narrowed(shifted_down(entries, 8)),
+    }
+}
+
+// The entries of sixteen indexes.
+#[inline(always)]
+pub(crate) fn entries_at(table: &Table, indexes: u8x16) -> u16x16
+    requires table { IsTable table.now }
+    requires indexes { AreBytes indexes }
+    requires low { EachLane (λ i. slice_index indexes i < 16) }
+    ensures long { length result ≡ 16 }
+    ensures value { EachLane (λ i. slice_index result i ≡ entry_at table.now (slice_index indexes i)) }
+{
+    joined(bytes_at(table.low, indexes), bytes_at(table.high, indexes))
+}
+
+// The halfwords at sixteen positions.
+#[inline(always)]
+pub(crate) fn halfwords_at(cells: u16x16, positions: u16x16) -> u16x16
+    requires long { (length cells ≡ 16) × (length positions ≡ 16) }
+    requires low { EachLane (λ i. slice_index positions i < 16) }
+    ensures long { length result ≡ 16 }
+    ensures value { EachLane (λ i. slice_index result i ≡ slice_index cells (slice_index positions i)) }
+{
+    entries_at(&table_of(cells), narrowed(positions))
+}
