@@ -101,7 +101,7 @@ bit_few false = omega arith
 front_fits : (height played : ℕ) → height ≤ 1024 → played < 2 ^ 63 → AreWords (front_words height played)
 front_fits height played tall few = (omega (arith, tall), (omega arith, (omega (arith, few), tt)))
 
-registers_fit : (r : Registers) → KeepsWidths r → r.latch < 2 ^ 32 → r.height ≤ 1024 → AreWords (words_of r)
+registers_fit : (r : Registers) → KeepsWidths r → r.held < 2 ^ 32 → r.height ≤ 1024 → AreWords (words_of r)
 registers_fit r widths held tall =
     let e1 = widths.e1 in
     let window = widths.window in
@@ -116,7 +116,7 @@ registers_fit r widths held tall =
     let hrange = widths.hrange in
     let vrange = widths.vrange in
     let mode = widths.mode in
-    let behind : AreWords (r.direction ∷ r.start ∷ r.hrange ∷ r.vrange ∷ r.mode ∷ r.latch ∷ []) = (
+    let behind : AreWords (r.direction ∷ r.start ∷ r.hrange ∷ r.vrange ∷ r.mode ∷ r.held ∷ []) = (
       omega (arith, direction),
       (
         omega (arith, start, tall),
@@ -228,7 +228,7 @@ outline_fits o tall few registers load store running pending =
     (run_fits o.run running)
 
 pub rig_writable : (rig : RigState) → rig.played < 2 ^ 63 → KeepsWidths rig.gpu.parts.regs
-    → rig.gpu.parts.regs.latch < 2 ^ 32 → IsPending rig.gpu.pending → IsLinked rig.gpu.pending rig.gpu.parts.load
+    → rig.gpu.parts.regs.held < 2 ^ 32 → IsPending rig.gpu.pending → IsLinked rig.gpu.pending rig.gpu.parts.load
     → IsOpen rig.gpu.parts.regs.height rig.gpu.parts.load → IsOpen rig.gpu.parts.regs.height rig.gpu.parts.store
     → IsRun rig.running → AreWords (pending_words rig.gpu.pending None)
     → length rig.gpu.parts.m ≡ 1024 * rig.gpu.parts.regs.height → AreCells rig.gpu.parts.m

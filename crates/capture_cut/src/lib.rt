@@ -12,6 +12,7 @@ mod state;
 mod whole;
 
 pub use ending::CutEnding;
+pub use state::write_state;
 pub use whole::cut;
 
 #[cfg(test)]

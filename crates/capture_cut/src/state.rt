@@ -20,7 +20,7 @@ use vram_copy::Transfer;
 use vram_store::Steps;
 
 /// Writes the head of a snapshot, and the state of a rig. After a failure a proper part of them was written.
-pub(crate) fn write_state<K: Sink, L: Ledger>(
+pub fn write_state<K: Sink, L: Ledger>(
     rig: &Rig,
     out: &mut K,
     steps: &mut Steps<L>,
@@ -95,12 +95,12 @@ fn copied(regs: &Regs) -> Regs
 /// Each register is as wide as it is. It does nothing.
 pub(crate) fn keep_widths(regs: &Regs)
     ensures widths { KeepsWidths regs.now }
-    ensures latch { regs.now.latch < 2 ^ 32 }
+    ensures latch { regs.now.held < 2 ^ 32 }
 {
     let _ = (regs.height(), regs.e1(), regs.window(), regs.top_left());
     let _ = (regs.bottom_right(), regs.offset(), regs.mask());
     let _ = (regs.direction(), regs.start(), regs.hrange());
-    let _ = (regs.vrange(), regs.mode(), regs.latch_word());
+    let _ = (regs.vrange(), regs.mode(), regs.held());
 }
 
 // How many bytes the head and a state but for its memories have.

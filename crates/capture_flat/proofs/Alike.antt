@@ -1,39 +1,120 @@
 -- Flat events do at the ports what the events do that they were made of.
-use Rattle.std.proofs.Common.{◌≡◌, ◌++◌, ℕ, zero, suc, List, [], ◌∷◌, map, replicate, Result, Ok, Err, option_to_list}
+use Rattle.std.proofs.Common.{◌≡◌, ◌++◌, ℕ, zero, suc, List, [], ◌∷◌, map, flat_map, replicate, Option, None, Some}
+use Rattle.std.proofs.Common.{Result, Ok, Err, option_to_list, if◌then◌else◌}
 use Rattle.std.proofs.Common.{refl, ap, sym, subst, ◌∙◌, append_assoc, append-nil}
+use Rattle.std.proofs.lemmas.List.{map-append}
 use Rattle.px_num.specs.Fold.{each_below}
+use Rattle.gp0_packets.specs.declared.note.Note.{Note}
 use Rattle.gpu_capture.specs.declared.event.Event.{Event}
 use Rattle.gpu_capture.specs.declared.event.Event.TheVariants as event
 use Rattle.gpu_capture.specs.declared.event.Stop.TheVariants.{End}
-use Rattle.gpu_core.specs.Machine.{State, after_gp1, after_read, read_word, status_word}
+use Rattle.gpu_core.specs.Machine.{State, Parts, new_item, noted, after_gp0, gp0_note, after_gp1, after_read, read_word, status_word}
+use Rattle.gpu_taps.specs.Tally.{Reading}
+use Rattle.event_play.specs.Alike.{AreAlike}
 use Rattle.event_play.specs.Fed.{fed}
+use Rattle.event_play.specs.Frames.{Frame, frames_behind, is_moment, frame_bytes, picture_at, bytes_at_end}
+use Rattle.event_play.specs.Out.{out_bytes, final_bytes}
 use Rattle.event_play.specs.Replay.{Tale, Played, played_events, after_event, go_on, next_number}
-use Rattle.event_play.specs.Step.{Machine, event_step, stepped, done, words_of}
+use Rattle.event_play.specs.Step.{Machine, event_step, stepped, done, words_of, asked_words, event_words}
+use Rattle.event_play.specs.Strokes.{Stroke, stroke_of, fed_strokes, event_strokes}
 use Rattle.event_play.specs.Taken.{first_taken}
 use Rattle.event_play.specs.Work.{work_of}
 use Rattle.event_play.specs.declared.block.Block.{Block}
 use Rattle.event_play.specs.declared.ending.Ending.TheVariants.{Done, Faulted}
+use Rattle.event_play.specs.declared.ending.Mode.TheVariants.{Frames}
+use Rattle.event_play.specs.declared.ending.Moment.{Moment}
 use Rattle.event_play.specs.declared.fault.EventFault.{EventFault}
 use Rattle.event_play.specs.declared.work.Work.{Work}
 use Rattle.event_play.specs.declared.work.Work.TheVariants as work
 use Rattle.event_play.specs.declared.work.Words.TheVariants.{One}
 use Rattle.event_play.proofs.Grows.{tale_on, after-event}
+use Rattle.capture_flat.specs.Film.{bare_frame, unnumbered, bare_stroke, ShowAlike}
 use Rattle.capture_flat.specs.Flat.{flat_events, flat_replay, flat_work, flat_asked, then_flat}
-use Rattle.event_play.specs.Alike.{AreAlike}
+use Rattle.capture_flat.proofs.Controls.{frames_of, frames_are}
 
 -- a list of events, and nothing more
 abbrev whole : Tale → List Event → Played
 whole t events = played_events t events End []
 
--- these events have no fault, and lead to a state of the drawing processor and to shown words, whatever follows them
-record Leads (t : Tale) (events : List Event) (gpu : State) (shown : List ℕ) : Type 0 where
+-- ---- what is seen of a replay
+
+-- the shown words, and the frames and strokes without the numbers of their events
+record Seen : Type 0 where
+  shown : List ℕ
+  frames : List (ℕ × Parts)
+  strokes : List Stroke
+
+abbrev seen_of : Tale → Seen
+seen_of t = record {
+  shown = t.shown;
+  frames = map bare_frame t.frames;
+  strokes = map bare_stroke t.strokes;
+}
+
+abbrev seen_more : Seen → (shown : List ℕ) → (frames : List (ℕ × Parts)) → (strokes : List Stroke) → Seen
+seen_more seen shown frames strokes = record {
+  shown = seen.shown ++ shown;
+  frames = seen.frames ++ frames;
+  strokes = seen.strokes ++ strokes;
+}
+
+more_none : (seen : Seen) → seen_more seen [] [] [] ≡ seen
+more_none seen = rw (append-nil seen.shown, append-nil seen.frames, append-nil seen.strokes) refl
+
+-- with strokes, and then with others
+more_strokes : (seen : Seen) (xs ys : List Stroke)
+    → seen_more (seen_more seen [] [] xs) [] [] ys ≡ seen_more seen [] [] (xs ++ ys)
+more_strokes seen xs ys = rw (
+  append-nil seen.shown,
+  append-nil seen.shown,
+  append-nil seen.frames,
+  append-nil seen.frames,
+  append_assoc seen.strokes xs ys,
+) refl
+
+-- what a work adds to it
+abbrev strokes_of : State → List ℕ → List Stroke
+strokes_of s words = map bare_stroke (fed_strokes s 0 words)
+
+-- the number of an event does not matter to notes and strokes without it
+note_bare : (s : State) (n : ℕ) (item : _)
+    → unnumbered (noted s.parts.regs n item) ≡ unnumbered (noted s.parts.regs 0 item)
+note_bare s n None = refl
+note_bare s n (Some item) = refl
+
+stroke_bare : (s : State) (n word : ℕ) → bare_stroke (stroke_of s n word) ≡ bare_stroke (stroke_of s 0 word)
+unfolding gp0_note
+stroke_bare s n word =
+    ap (λ note. record { note = note; before = s.parts.m; after = (after_gp0 s word).parts.m })
+    (note_bare s n (new_item s.words word))
+
+strokes_bare : (s : State) (n : ℕ) (words : List ℕ) → map bare_stroke (fed_strokes s n words) ≡ strokes_of s words
+strokes_bare s n [] = refl
+strokes_bare s n (word ∷ words) =
+    ap (λ stroke. stroke ∷ map bare_stroke (fed_strokes (after_gp0 s word) n words)) (stroke_bare s n word)
+    ∙ ap (λ strokes. bare_stroke (stroke_of s 0 word) ∷ strokes) (strokes_bare (after_gp0 s word) n words)
+
+-- ---- events that lead somewhere
+
+-- these events have no fault, and lead to a state of the drawing processor and to what is seen, whatever follows them
+record Leads (t : Tale) (events : List Event) (gpu : State) (seen : Seen) : Type 0 where
   tale : Tale
   says : (more : List Event) → whole t (events ++ more) ≡ whole tale more
   gpu_is : tale.state.gpu ≡ gpu
-  shown_is : tale.shown ≡ shown
+  seen_is : seen_of tale ≡ seen
 
-leads_none : (t : Tale) → Leads t [] t.state.gpu t.shown
-leads_none t = record { tale = t; says = λ more. refl; gpu_is = refl; shown_is = refl }
+leads_none : (t : Tale) → Leads t [] t.state.gpu (seen_of t)
+leads_none t = record { tale = t; says = λ more. refl; gpu_is = refl; seen_is = refl }
+
+-- what is seen with one event more
+seen_on : (t : Tale) (given : Event) (machine : Machine) (shown : Option ℕ) (notes : List Note)
+    → seen_of (tale_on t given machine shown notes) ≡ seen_more (seen_of t) (option_to_list shown)
+    (map bare_frame (frames_behind given (next_number t.played) machine.gpu.parts))
+    (map bare_stroke (event_strokes t.state (next_number t.played) given))
+seen_on t given machine shown notes = rw (
+  map-append bare_frame t.frames (frames_behind given (next_number t.played) machine.gpu.parts),
+  map-append bare_stroke t.strokes (event_strokes t.state (next_number t.played) given),
+) refl
 
 -- the replay goes on behind an event
 goes_on : (t next : Tale) (given : Event) (events : List Event) → after_event t given ≡ Ok next
@@ -45,7 +126,9 @@ goes_on t next given events is =
 -- one event that is a work
 leads_one : (t : Tale) (given : Event) (asked : Work) → work_of t.state.ram t.state.running given ≡ Ok asked
     → let did = done t.state (next_number t.played) asked in Leads t (given ∷ []) did.machine.gpu
-    (t.shown ++ option_to_list did.shown)
+    (seen_more (seen_of t) (option_to_list did.shown)
+    (map bare_frame (frames_behind given (next_number t.played) did.machine.gpu.parts))
+    (map bare_stroke (event_strokes t.state (next_number t.played) given)))
 unfolding event_step
 leads_one t given asked is =
     let did = done t.state (next_number t.played) asked in
@@ -56,37 +139,46 @@ leads_one t given asked is =
       says = λ more. goes_on t (tale_on t given did.machine did.shown did.notes) given more
           (after-event t given did.machine did.shown did.notes steps);
       gpu_is = refl;
-      shown_is = refl;
+      seen_is = seen_on t given did.machine did.shown did.notes;
     }
 
 -- the same, said of values that agree with it
-leads_as : (t : Tale) (events : List Event) (gpu other : State) (shown others : List ℕ) → Leads t events gpu shown
-    → gpu ≡ other → shown ≡ others
+leads_as : (t : Tale) (events : List Event) (gpu other : State) (seen others : Seen) → Leads t events gpu seen
+    → gpu ≡ other → seen ≡ others
     → Leads t events other others
-leads_as t events gpu other shown others leads same alike =
-    record { tale = leads.tale; says = leads.says; gpu_is = leads.gpu_is ∙ same; shown_is = leads.shown_is ∙ alike }
+leads_as t events gpu other seen others leads same alike =
+    record { tale = leads.tale; says = leads.says; gpu_is = leads.gpu_is ∙ same; seen_is = leads.seen_is ∙ alike }
 
 -- events, and then others
-leads_on : (t : Tale) (xs ys : List Event) (gpu other : State) (shown others : List ℕ)
-    → (first : Leads t xs gpu shown) → Leads first.tale ys other others
+leads_on : (t : Tale) (xs ys : List Event) (gpu other : State) (seen others : Seen)
+    → (first : Leads t xs gpu seen) → Leads first.tale ys other others
     → Leads t (xs ++ ys) other others
-leads_on t xs ys gpu other shown others first next = record {
+leads_on t xs ys gpu other seen others first next = record {
   tale = next.tale;
   says = λ more. rw (append_assoc xs ys more) (first.says (ys ++ more) ∙ next.says more);
   gpu_is = next.gpu_is;
-  shown_is = next.shown_is;
+  seen_is = next.seen_is;
 }
 
 -- words that are written to GP0
-leads_words : (t : Tale) (words : List ℕ) → Leads t (map event.Gp0 words) (fed t.state.gpu words) t.shown
-leads_words t [] = leads_none t
+leads_words : (t : Tale) (words : List ℕ)
+    → Leads t (map event.Gp0 words) (fed t.state.gpu words) (seen_more (seen_of t) [] [] (strokes_of t.state.gpu words))
+leads_words t [] = leads_as t [] _ _ _ _ (leads_none t) refl (sym (more_none (seen_of t)))
 leads_words t (word ∷ words) =
     let one = leads_one t (event.Gp0 word) (work.Feed (One word) t.state.running) refl in
     let rest = leads_words one.tale words in
+    let first = strokes_of t.state.gpu (word ∷ []) in
+    let behind = after_gp0 t.state.gpu word in
     leads_as t (map event.Gp0 (word ∷ words)) (fed one.tale.state.gpu words) (fed t.state.gpu (word ∷ words))
-    one.tale.shown t.shown
-    (leads_on t (event.Gp0 word ∷ []) (map event.Gp0 words) _ (fed one.tale.state.gpu words) _ one.tale.shown one rest)
-    (ap (λ s. fed s words) one.gpu_is) (one.shown_is ∙ append-nil t.shown)
+    (seen_more (seen_of one.tale) [] [] (strokes_of one.tale.state.gpu words))
+    (seen_more (seen_of t) [] [] (strokes_of t.state.gpu (word ∷ words)))
+    (leads_on t (event.Gp0 word ∷ []) (map event.Gp0 words) _ (fed one.tale.state.gpu words) _
+    (seen_more (seen_of one.tale) [] [] (strokes_of one.tale.state.gpu words)) one rest)
+    (ap (λ s. fed s words) one.gpu_is)
+    (ap (λ s. seen_more (seen_of one.tale) [] [] (strokes_of s words)) one.gpu_is
+    ∙ ap (λ seen. seen_more seen [] [] (strokes_of behind words))
+    (one.seen_is ∙ ap (seen_more (seen_of t) [] []) (strokes_bare t.state.gpu (next_number t.played) (word ∷ [])))
+    ∙ more_strokes (seen_of t) first (strokes_of behind words))
 
 -- reads, one after another
 abbrev reads : ℕ → State → State
@@ -97,15 +189,15 @@ reads_first zero s = refl
 reads_first (suc n) s = ap after_read (reads_first n s)
 
 -- reads that are not shown
-leads_skips : (t : Tale) (n : ℕ) → Leads t (replicate n event.Skip) (reads n t.state.gpu) t.shown
+leads_skips : (t : Tale) (n : ℕ) → Leads t (replicate n event.Skip) (reads n t.state.gpu) (seen_of t)
 leads_skips t zero = leads_none t
 leads_skips t (suc n) =
     let one = leads_one t event.Skip work.Skip refl in
     let rest = leads_skips one.tale n in
-    leads_as t (replicate (suc n) event.Skip) (reads n one.tale.state.gpu) (reads (suc n) t.state.gpu) one.tale.shown
-    t.shown
-    (leads_on t (event.Skip ∷ []) (replicate n event.Skip) _ (reads n one.tale.state.gpu) _ one.tale.shown one rest)
-    (ap (reads n) one.gpu_is ∙ reads_first n t.state.gpu) (one.shown_is ∙ append-nil t.shown)
+    leads_as t (replicate (suc n) event.Skip) (reads n one.tale.state.gpu) (reads (suc n) t.state.gpu)
+    (seen_of one.tale) (seen_of t)
+    (leads_on t (event.Skip ∷ []) (replicate n event.Skip) _ (reads n one.tale.state.gpu) _ (seen_of one.tale) one rest)
+    (ap (reads n) one.gpu_is ∙ reads_first n t.state.gpu) (one.seen_is ∙ more_none (seen_of t))
 
 -- the drawing processor after reads whose words go to main memory
 reads_taken : (block : Block) (n : ℕ) (s : State) (ram : List ℕ) → (first_taken block n s ram).gpu ≡ reads n s
@@ -114,41 +206,51 @@ reads_taken block (suc n) s ram = ap after_read (reads_taken block n s ram)
 
 -- ---- one event
 
+-- what is seen with a work more
+abbrev work_seen : Seen → Machine → (number : ℕ) → Work → Seen
+work_seen seen s number asked =
+    let did = done s number asked in
+    seen_more seen (option_to_list did.shown) (frames_of asked did.machine.gpu.parts)
+    (strokes_of s.gpu (asked_words s.ram (Ok asked)))
+
 -- The flat events of a work do at the ports what the work does, from every tale with the same drawing processor.
 leads_work : (u : Tale) (s : Machine) (number : ℕ) (asked : Work) → u.state.gpu ≡ s.gpu
-    → Leads u (flat_work s.ram asked) (done s number asked).machine.gpu
-    (u.shown ++ option_to_list (done s number asked).shown)
-leads_work u s number work.Nothing same = leads_as u [] _ _ _ _ (leads_none u) same (sym (append-nil u.shown))
+    → Leads u (flat_work s.ram asked) (done s number asked).machine.gpu (work_seen (seen_of u) s number asked)
+leads_work u s number work.Nothing same = leads_as u [] _ _ _ _ (leads_none u) same (sym (more_none (seen_of u)))
 leads_work u s number (work.Put address word) same = leads_as u [] _ _ _ _ (leads_none u) same
-    (sym (append-nil u.shown))
+    (sym (more_none (seen_of u)))
 leads_work u s number (work.Feed asked next) same =
     leads_as u _ _ _ _ _ (leads_words u (words_of s.ram asked)) (ap (λ g. fed g (words_of s.ram asked)) same)
-    (sym (append-nil u.shown))
+    (ap (λ g. seen_more (seen_of u) [] [] (strokes_of g (words_of s.ram asked))) same)
 leads_work u s number (work.Take block next) same =
     leads_as u _ _ _ _ _ (leads_skips u block.n) (ap (reads block.n) same ∙ sym (reads_taken block block.n s.gpu s.ram))
-    (sym (append-nil u.shown))
+    (sym (more_none (seen_of u)))
 leads_work u s number (work.Control word) same =
-    leads_as u _ _ _ _ _ (leads_one u (event.Gp1 word) (work.Control word) refl) (ap (λ g. after_gp1 g word) same) refl
+    leads_as u _ _ _ _ _ (leads_one u (event.Gp1 word) (work.Control word) refl) (ap (λ g. after_gp1 g word) same)
+    (ap (λ g. seen_more (seen_of u) [] ((word, (after_gp1 g word).parts) ∷ []) []) same)
 leads_work u s number work.Read same =
     leads_as u _ _ _ _ _ (leads_one u event.Read work.Read refl) (ap after_read same)
-    (ap (λ g. u.shown ++ read_word g ∷ []) same)
+    (ap (λ g. seen_more (seen_of u) (read_word g ∷ []) [] []) same)
 leads_work u s number work.Skip same =
     leads_as u _ _ _ _ _ (leads_one u event.Skip work.Skip refl) (ap after_read same) refl
 leads_work u s number work.Stat same =
-    leads_as u _ _ _ _ _ (leads_one u event.Stat work.Stat refl) same (ap (λ g. u.shown ++ status_word g ∷ []) same)
-leads_work u s number (work.Clear madr n) same = leads_as u [] _ _ _ _ (leads_none u) same (sym (append-nil u.shown))
-leads_work u s number (work.Begin next) same = leads_as u [] _ _ _ _ (leads_none u) same (sym (append-nil u.shown))
+    leads_as u _ _ _ _ _ (leads_one u event.Stat work.Stat refl) same
+    (ap (λ g. seen_more (seen_of u) (status_word g ∷ []) [] []) same)
+leads_work u s number (work.Clear madr n) same = leads_as u [] _ _ _ _ (leads_none u) same
+    (sym (more_none (seen_of u)))
+leads_work u s number (work.Begin next) same = leads_as u [] _ _ _ _ (leads_none u) same
+    (sym (more_none (seen_of u)))
 
 -- ---- all events
 
--- two tales with the same drawing processor that showed the same words
+-- two tales with the same drawing processor of which the same was seen
 record AreSame (u t : Tale) : Type 0 where
   gpu : u.state.gpu ≡ t.state.gpu
-  shown : u.shown ≡ t.shown
+  seen : seen_of u ≡ seen_of t
 
 -- what is claimed of events and of flat ones
 abbrev Alike : Tale → List Event → Tale → List Event → Type 0
-Alike u flat t events = ((whole u flat).ending ≡ Done) × AreAlike (whole u flat).tale (whole t events).tale
+Alike u flat t events = ((whole u flat).ending ≡ Done) × AreSame (whole u flat).tale (whole t events).tale
 
 -- one event of the list, by what it asks for
 alike_on : (u t : Tale) (given : Event) (events : List Event) (asked : Result Work EventFault)
@@ -162,45 +264,99 @@ alike_on u t given events (Err fault) is same fine later =
     ap (stepped t.state (next_number t.played)) is in
     let faulted : Faulted (next_number t.played) fault ≡ Done = rw refused at fine in absurd cc
 alike_on u t given events (Ok asked) is same fine later =
-    let did = done t.state (next_number t.played) asked in
-    let steps : event_step t.state (next_number t.played) given ≡ Ok did =
-    ap (stepped t.state (next_number t.played)) is in
+    let n = next_number t.played in
+    let did = done t.state n asked in
+    let steps : event_step t.state n given ≡ Ok did = ap (stepped t.state n) is in
     let next = tale_on t given did.machine did.shown did.notes in
     let after = after-event t given did.machine did.shown did.notes steps in
     let goes = goes_on t next given events after in
-    let flat = leads_work u t.state (next_number t.played) asked same.gpu in
+    let flat = leads_work u t.state n asked same.gpu in
     let cut : flat_replay t (given ∷ events) ≡ flat_work t.state.ram asked ++ flat_replay next events =
     ap (λ r. flat_asked t.state.ram r ++ then_flat (after_event t given) (λ next. flat_replay next events)) is
     ∙ ap (λ r. flat_work t.state.ram asked ++ then_flat r (λ next. flat_replay next events)) after in
     let says : whole u (flat_replay t (given ∷ events)) ≡ whole flat.tale (flat_replay next events) =
     ap (whole u) cut ∙ flat.says (flat_replay next events) in
+    let frames : map bare_frame (frames_behind given n did.machine.gpu.parts)
+    ≡ frames_of asked did.machine.gpu.parts =
+    frames_are t.state.ram t.state.running given asked n did.machine.gpu.parts is in
+    let strokes : map bare_stroke (event_strokes t.state n given)
+    ≡ strokes_of t.state.gpu (asked_words t.state.ram (Ok asked)) =
+    strokes_bare t.state.gpu n (event_words t.state given)
+    ∙ ap (λ r. strokes_of t.state.gpu (asked_words t.state.ram r)) is in
+    let seen : seen_of next ≡ work_seen (seen_of t) t.state n asked =
+    seen_on t given did.machine did.shown did.notes
+    ∙ ap (λ xs. seen_more (seen_of t) (option_to_list did.shown) xs
+    (map bare_stroke (event_strokes t.state n given))) frames
+    ∙ ap (seen_more (seen_of t) (option_to_list did.shown) (frames_of asked did.machine.gpu.parts)) strokes in
     let alike = later flat.tale next (record {
       gpu = flat.gpu_is;
-      shown = flat.shown_is ∙ ap (λ shown. shown ++ option_to_list did.shown) same.shown;
+      seen = flat.seen_is ∙ ap (λ seen. work_seen seen t.state n asked) same.seen ∙ sym seen;
     }) (ap (λ (r : Played). r.ending) (sym goes) ∙ fine) in
-    let P : Played → Played → Type 0 = λ a b. (a.ending ≡ Done) × AreAlike a.tale b.tale in
+    let P : Played → Played → Type 0 = λ a b. (a.ending ≡ Done) × AreSame a.tale b.tale in
     let Q : Played → Type 0 = λ a. P a (whole t (given ∷ events)) in
     let R : Played → Type 0 = λ b. P (whole flat.tale (flat_replay next events)) b in
     subst Q (sym says) (subst R (sym goes) alike)
 
 alike_all : (events : List Event) (u t : Tale) → AreSame u t → (whole t events).ending ≡ Done
     → Alike u (flat_replay t events) t events
-alike_all [] u t same fine = (
-  refl,
-  record {
-    shown = same.shown;
-    status = ap status_word same.gpu;
-    cells = ap (λ (s : State). s.parts.m) same.gpu;
-  },
-)
+alike_all [] u t same fine = (refl, same)
 alike_all (given ∷ events) u t same fine =
     alike_on u t given events (work_of t.state.ram t.state.running given) refl same fine
     (λ v next alike ends. alike_all events v next alike ends)
 
+flat_same : (t : Tale) (events : List Event) → (whole t events).ending ≡ Done
+    → Alike t (flat_replay t events) t events
+flat_same t events fine = alike_all events t t (record { gpu = refl; seen = refl }) fine
+
 pub flat_alike : (t : Tale) (events : List Event) → (whole t events).ending ≡ Done
     → ((whole t (flat_replay t events)).ending ≡ Done)
     × AreAlike (whole t (flat_replay t events)).tale (whole t events).tale
-flat_alike t events fine = alike_all events t t (record { gpu = refl; shown = refl }) fine
+flat_alike t events fine =
+    let same = flat_same t events fine in (
+      same.0,
+      record {
+        shown = ap (λ (seen : Seen). seen.shown) same.1.seen;
+        status = ap status_word same.1.gpu;
+        cells = ap (λ (s : State). s.parts.m) same.1.gpu;
+      },
+    )
+
+-- ---- the film
+
+-- the pictures of frames, by what is seen of them
+abbrev picture_of_bare : Moment → ℕ × Parts → List ℕ
+picture_of_bare at frame = if is_moment at frame.0 then frame_bytes frame.1 else []
+
+pictures_bare : (at : Moment) (frames : List Frame)
+    → flat_map (picture_at at) frames ≡ flat_map (picture_of_bare at) (map bare_frame frames)
+pictures_bare at [] = refl
+pictures_bare at (frame ∷ frames) = ap (λ xs. picture_at at frame ++ xs) (pictures_bare at frames)
+
+-- what is written of a whole replay as a film
+film_of : (at : Moment) (heard : List Reading) (r : Played) → r.ending ≡ Done
+    → out_bytes (Frames at) heard r
+    ≡ flat_map (picture_of_bare at) (map bare_frame r.tale.frames)
+    ++ bytes_at_end at (frame_bytes r.tale.state.gpu.parts)
+unfolding final_bytes
+film_of at heard r done =
+    rw done (ap (λ xs. xs ++ bytes_at_end at (frame_bytes r.tale.state.gpu.parts)) (pictures_bare at r.tale.frames))
+
+pub flat_film : (t : Tale) (events : List Event) → (whole t events).ending ≡ Done
+    → ShowAlike (whole t (flat_replay t events)) (whole t events)
+flat_film t events fine =
+    let same = flat_same t events fine in
+    let flat = whole t (flat_replay t events) in
+    let frames = ap (λ (seen : Seen). seen.frames) same.1.seen in
+    record {
+      pictures = λ at heard other.
+          film_of at heard flat same.0
+          ∙ ap (λ xs. flat_map (picture_of_bare at) xs ++ bytes_at_end at (frame_bytes flat.tale.state.gpu.parts)) frames
+          ∙ ap (λ (s : State). flat_map (picture_of_bare at) (map bare_frame (whole t events).tale.frames)
+          ++ bytes_at_end at (frame_bytes s.parts)) same.1.gpu
+          ∙ sym (film_of at other (whole t events) fine);
+      frames = frames;
+      strokes = ap (λ (seen : Seen). seen.strokes) same.1.seen;
+    }
 
 -- ---- whatever bytes follow
 

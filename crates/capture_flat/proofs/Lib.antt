@@ -1,6 +1,7 @@
 pub mod Alike
 pub mod Allows
 pub mod Awaiting
+pub mod Controls
 pub mod Counts
 pub mod Following
 pub mod Needed

@@ -1,3 +1,4 @@
+pub mod Film
 pub mod Flat
 pub mod Laws
 pub mod OneEvent

@@ -147,7 +147,7 @@ control_stays words c d idle =
 -- ---- dropping one packet
 
 -- the area of a packet hangs on no latch
-area_latch : (r : Registers) (latch : ℕ) (what : Packet) → area_of (record r { latch = latch }) what ≡ area_of r what
+area_latch : (r : Registers) (latch : ℕ) (what : Packet) → area_of (record r { held = latch }) what ≡ area_of r what
 unfolding area_of polygon_area triangle_box segment_box rectangle_box extent_at placed drawing_area
 area_latch r latch (packet.Poly four a b c d shaded textured semi raw clut page) = refl
 area_latch r latch (packet.Segment a b semi) = refl
@@ -162,10 +162,10 @@ area_latch r latch packet.Irq = refl
 area_latch r latch packet.Nop = refl
 area_latch r latch packet.Finish = refl
 
-area_but_latch : (r now : Registers) (words : List ℕ) → now ≡ record r { latch = now.latch }
+area_but_latch : (r now : Registers) (words : List ℕ) → now ≡ record r { held = now.held }
     → area_of now (whole_of now.height words) ≡ area_of r (whole_of r.height words)
 area_but_latch r now words e =
-    ap (λ (q : Registers). area_of q (whole_of q.height words)) e ∙ area_latch r now.latch (whole_of r.height words)
+    ap (λ (q : Registers). area_of q (whole_of q.height words)) e ∙ area_latch r now.held (whole_of r.height words)
 
 -- what hides a packet follows it at once, or nothing has to
 pub record IsGoneBefore (s : State) (words : List ℕ) (behind : List Event) : Type 0 where

@@ -23,7 +23,7 @@ use Rattle.dead_drawing.proofs.Events.{new_is}
 
 -- registers that are the same but for the latch
 abbrev pub IsButLatch : Registers → Registers → Type 0
-IsButLatch r now = now ≡ record r { latch = now.latch }
+IsButLatch r now = now ≡ record r { held = now.held }
 
 pub record Tracks (c : Control) (s : State) : Type 0 where
   pub regs : IsButLatch c.regs s.parts.regs
@@ -37,7 +37,7 @@ held_cond false q q_now r r_now e f = f
 -- ---- packets
 
 env_latch : (r : Registers) (latch index value : ℕ)
-    → IsButLatch (env_of r index value) (env_of (record r { latch = latch }) index value)
+    → IsButLatch (env_of r index value) (env_of (record r { held = latch }) index value)
 env_latch r latch index value =
     held_cond (index == 1) _ _ _ _ refl
     (held_cond (index == 2) _ _ _ _ refl
@@ -45,12 +45,12 @@ env_latch r latch index value =
     (held_cond (index == 4) _ _ _ _ refl (held_cond (index == 5) _ _ _ _ refl refl))))
 
 page_latch : (r : Registers) (latch : ℕ) (textured : Bool) (page : ℕ)
-    → IsButLatch (with_page r textured page) (with_page (record r { latch = latch }) textured page)
+    → IsButLatch (with_page r textured page) (with_page (record r { held = latch }) textured page)
 page_latch r latch true page = refl
 page_latch r latch false page = refl
 
 after_latch : (r : Registers) (latch : ℕ) (what : Packet)
-    → IsButLatch (regs_after r what) (regs_after (record r { latch = latch }) what)
+    → IsButLatch (regs_after r what) (regs_after (record r { held = latch }) what)
 after_latch r latch (packet.Env index value) = env_latch r latch index value
 after_latch r latch packet.Irq = refl
 after_latch r latch (packet.Poly four a b c d shaded textured semi raw clut page) = page_latch r latch textured page
@@ -65,7 +65,7 @@ after_latch r latch packet.Nop = refl
 after_latch r latch packet.Finish = refl
 
 by_latch : (r : Registers) (latch : ℕ) (item : Option Item)
-    → IsButLatch (regs_by r item) (regs_by (record r { latch = latch }) item)
+    → IsButLatch (regs_by r item) (regs_by (record r { held = latch }) item)
 by_latch r latch None = refl
 by_latch r latch (Some item) = after_latch r latch (packet_of r.height item)
 
@@ -98,19 +98,19 @@ unfolding controlled after_gp0
 feed_tracks c s word h =
     let same : new_item s.words word ≡ next_item c.pending word = new_is s.words word
     ∙ ap (λ (p : Pending). next_item p word) h.pending in
-    let now : (after_item s.parts (new_item s.words word)).regs ≡ regs_by (record c.regs { latch = s.parts.regs.latch })
+    let now : (after_item s.parts (new_item s.words word)).regs ≡ regs_by (record c.regs { held = s.parts.regs.held })
     (next_item c.pending word) =
     ap (λ (item : Option Item). (after_item s.parts item).regs) same ∙ item_regs s.parts (next_item c.pending word)
     ∙ ap (λ (r : Registers). regs_by r (next_item c.pending word)) h.regs in
     record {
       regs = subst (IsButLatch (regs_by c.regs (next_item c.pending word))) (sym now)
-          (by_latch c.regs s.parts.regs.latch (next_item c.pending word));
+          (by_latch c.regs s.parts.regs.held (next_item c.pending word));
       pending = pending_behind-push s.words word ∙ ap (λ (p : Pending). next_pending p word) h.pending;
     }
 
 -- ---- the other events
 
-gp1_latch : (r : Registers) (latch word : ℕ) → IsButLatch (gp1_of r word) (gp1_of (record r { latch = latch }) word)
+gp1_latch : (r : Registers) (latch word : ℕ) → IsButLatch (gp1_of r word) (gp1_of (record r { held = latch }) word)
 gp1_latch r latch word =
     held_cond (opcode_of word == 0x00) _ _ _ _ refl
     (held_cond (opcode_of word == 0x02) _ _ _ _ refl
@@ -131,7 +131,7 @@ gp1_tracks c s word h = by_test (is_clearing word)
   where
     regs : IsButLatch (gp1_of c.regs word) (gp1_of s.parts.regs word)
     regs = subst (λ (r : Registers). IsButLatch (gp1_of c.regs word) (gp1_of r word)) (sym h.regs)
-        (gp1_latch c.regs s.parts.regs.latch word)
+        (gp1_latch c.regs s.parts.regs.held word)
 
     by_test : (b : Bool) → Tracks (record { regs = gp1_of c.regs word; pending = cond b pending.Idle c.pending })
         (cond b (record { parts = cleared (record s.parts { regs = gp1_of s.parts.regs word }); words = [] })
@@ -142,7 +142,7 @@ gp1_tracks c s word h = by_test (is_clearing word)
 taken_latch : (r : Registers) (p : Parts) (job : Option Transfer) → IsButLatch r p.regs
     → IsButLatch r (taken_from p job).parts.regs
 taken_latch r p None e = e
-taken_latch r p (Some job) e = ap (λ (q : Registers). record q { latch = (taken_from p (Some job)).word }) e
+taken_latch r p (Some job) e = ap (λ (q : Registers). record q { held = (taken_from p (Some job)).word }) e
 
 pub event_tracks : (c : Control) (s : State) (e : Event) → Tracks c s → Tracks (controlled c e) (after s e)
 unfolding controlled after after_read

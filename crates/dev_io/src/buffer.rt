@@ -1,8 +1,8 @@
 // A buffer that is filled from a source.
-ghost use Rattle.std.specs.Prelude.{◌≤◌, ◌<◌, length, IfOk, IfErr, OnErr};
+ghost use Rattle.std.specs.Prelude.{◌≡◌, ◌≤◌, ◌<◌, length, IfOk, IfErr, OnErr, MatchOption, unwrap_or};
 ghost use Rattle.dev_io.specs.Device.{Rose, Gives, IsAtEnd};
 
-use crate::device::Source;
+use crate::device::{Failed, Source};
 
 /// Takes bytes until the buffer is full or none is left, and says how many came: as `Err` where the source failed,
 /// and then fewer than the buffer holds.
@@ -16,11 +16,29 @@ pub fn fill<S: Source>(source: &mut S, buf: &mut [u8]) -> Result<usize, usize>
 {
     let mut n = 0;
     while n < buf.len() {
-        match source.read(&mut buf[n..]) {
-            Ok(0) => return Ok(n),
-            Ok(more) => n += more,
-            Err(_) => return Err(n),
-        }
+        let Ok(taken) = take_some(source, &mut buf[n..]) else {
+            return Err(n);
+        };
+        let Some(more) = taken else {
+            return Ok(n);
+        };
+        n += more;
     }
     Ok(n)
+}
+
+/// One turn of a loop over a source: it takes at least one byte, or it is the last, since none is left or the source
+/// failed.
+fn take_some<S: Source>(source: &mut S, rest: &mut [u8]) -> Result<Option<usize>, Failed>
+    requires { 0 < length rest.old }
+    ensures some { IfOk result (λ taken. MatchOption taken (IsAtEnd (S.left source.new)) (λ n. 0 < n)) }
+    ensures ok { IfOk result (λ taken. Gives (S.left source.old) (S.left source.new) rest.new (unwrap_or taken 0)) }
+    ensures failed { OnErr result (S.left source.new ≡ S.left source.old) }
+    ensures cause { OnErr result (Rose (S.faults source.old) (S.faults source.new)) }
+    ensures faults { S.faults source.old ≤ S.faults source.new }
+{
+    match source.read(rest)? {
+        0 => Ok(None),
+        n => Ok(Some(n)),
+    }
 }

@@ -1,6 +1,6 @@
 // Pieces that are written whole, one after another.
-ghost use Rattle.std.specs.Prelude.{◌≡◌, flat_map, IfSome};
-ghost use Rattle.dev_io.specs.Device.{Writes};
+ghost use Rattle.std.specs.Prelude.{◌≡◌, ◌≤◌, ◌<◌, flat_map, length, IfOk, IfSome, OnErr};
+ghost use Rattle.dev_io.specs.Device.{Accepts, Rose, Writes};
 
 use crate::device::{Failed, Sink};
 use arrayvec::ArrayVec;
@@ -15,9 +15,21 @@ pub fn write_all<K: Sink>(sink: &mut K, piece: &[u8]) -> Result<(), Failed>
 {
     let mut at = 0;
     while at < piece.len() {
-        at += sink.write(&piece[at..])?;
+        at += give_some(sink, &piece[at..])?;
     }
     Ok(())
+}
+
+/// One turn of a loop over a sink: it gives at least one byte, or it is the last, since the sink failed.
+fn give_some<K: Sink>(sink: &mut K, rest: &[u8]) -> Result<usize, Failed>
+    requires { 0 < length rest.now }
+    ensures some { IfOk result (λ n. 0 < n) }
+    ensures ok { IfOk result (λ n. Accepts (K.held sink.old) (K.held sink.new) rest.now n) }
+    ensures failed { OnErr result (K.held sink.new ≡ K.held sink.old) }
+    ensures cause { OnErr result (Rose (K.faults sink.old) (K.faults sink.new)) }
+    ensures faults { K.faults sink.old ≤ K.faults sink.new }
+{
+    sink.write(rest)
 }
 
 /// Writes the pieces, one after another. Where they are few bytes together, the sink is called for all of them at once.

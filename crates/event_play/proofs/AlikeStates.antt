@@ -1,12 +1,13 @@
 -- Machines that are alike replay alike.
-use Rattle.std.proofs.Common.{◌≡◌, ℕ, zero, suc, ◌+◌, ◌++◌, ◌==◌, List, [], ◌∷◌, Some}
+use Rattle.std.proofs.Common.{◌≡◌, ℕ, zero, suc, ◌+◌, ◌++◌, ◌==◌, List, [], ◌∷◌, Option, Some}
 use Rattle.std.proofs.Common.{Result, Ok, Err, inl, inr, refl, ap, subst, ◌∙◌}
 use Rattle.std.proofs.lemmas.Bool.{cases_Bool}
 use Rattle.gpu_capture.specs.Capture.{Captured}
 use Rattle.gpu_capture.specs.declared.event.Event.{Event}
 use Rattle.gpu_capture.specs.declared.event.Stop.{Stop}
 use Rattle.gpu_core.specs.Kept.{Kept, kept_of}
-use Rattle.gpu_core.specs.Machine.{State, after_gp0, tall_parts, tall_state}
+use Rattle.gp0_packets.specs.declared.note.Note.{Note}
+use Rattle.gpu_core.specs.Machine.{State, after_gp0, gp0_note, tall_parts, tall_state}
 use Rattle.gpu_core.proofs.Alike.{feed-alike, note-alike, feed_cost-alike, feed_box_cost-alike, gp1-alike}
 use Rattle.gpu_core.proofs.Alike.{take-alike, taken-alike, take_cost-alike, take_box_cost-alike, status-alike}
 use Rattle.gpu_taps.specs.Tally.{Reading}
@@ -16,14 +17,17 @@ use Rattle.picture_out.specs.Dump.{dump, dump_cost}
 use Rattle.picture_out.specs.Picture.{picture, picture_cost}
 use Rattle.event_play.specs.AlikeStates.{StandAlike, TellAlike, PlayAlike, AlikeReplayAlike}
 use Rattle.event_play.specs.Fed.{fed, fed_notes, fed_cost, fed_box_cost}
+use Rattle.event_play.specs.Frames.{frames_behind, frame_bytes, frame_sum, frame_cost, vram_sum, bytes_at_end, cost_at_end}
 use Rattle.event_play.specs.Lines.{lines_for}
-use Rattle.event_play.specs.Out.{final_bytes, final_cost, finals_at, finals_cost_at, ending_under}
+use Rattle.event_play.specs.Out.{final_bytes, final_cost, finals_at, finals_cost_at, ending_under, tale_cost}
+use Rattle.event_play.specs.Out.{tale_box_cost}
 use Rattle.event_play.specs.Replay.{Tale, Played, played_events, go_on, told_on, after_event, next_number, ending_of}
 use Rattle.event_play.specs.Replay.{from_state}
 use Rattle.event_play.specs.Replay.{raised, tall_version, played_from}
 use Rattle.event_play.specs.Step.{Machine, Stepped, event_step, event_cost, event_box_cost, done, stepped, step_cost}
 use Rattle.event_play.specs.Step.{step_box_cost}
 use Rattle.event_play.specs.Step.{work_cost, work_box_cost, words_of}
+use Rattle.event_play.specs.Strokes.{Stroke, stroke_of, fed_strokes, event_strokes}
 use Rattle.event_play.specs.Taken.{Taken, take_one, first_taken}
 use Rattle.event_play.specs.Told.{told_notes}
 use Rattle.event_play.specs.Work.{work_of}
@@ -31,7 +35,8 @@ use Rattle.event_play.specs.declared.block.Block.{Block}
 use Rattle.event_play.specs.declared.ending.Ending.{Ending}
 use Rattle.event_play.specs.declared.ending.Ending.TheVariants.{Done, Stopped, Faulted, NoPicture, WriteFailed}
 use Rattle.event_play.specs.declared.ending.Mode.{Mode}
-use Rattle.event_play.specs.declared.ending.Mode.TheVariants.{Vram, Shot, Report, List as Listing, Play as Words}
+use Rattle.event_play.specs.declared.ending.Mode.TheVariants.{Vram, Shot, Report, Frames, Sums, Pixel}
+use Rattle.event_play.specs.declared.ending.Mode.TheVariants.{List as Listing, Play as Words}
 use Rattle.event_play.specs.declared.fault.EventFault.{EventFault}
 use Rattle.event_play.specs.declared.work.Work.{Work}
 use Rattle.event_play.specs.declared.work.Work.TheVariants as work
@@ -50,6 +55,20 @@ notes-alike a b number (word ∷ words) same =
       note-alike a b same number word,
       notes-alike (after_gp0 a word) (after_gp0 b word) number words (feed-alike a b same word),
     ) refl
+
+strokes-alike : (a b : State) (number : ℕ) (words : List ℕ) → kept_of a ≡ kept_of b
+    → fed_strokes a number words ≡ fed_strokes b number words
+strokes-alike a b number [] same = refl
+strokes-alike a b number (word ∷ words) same =
+    let fed = feed-alike a b same word in
+    let stroke : Option Note → (before after : List ℕ) → Stroke = λ note before after.
+    record { note = note; before = before; after = after } in
+    let more = fed_strokes (after_gp0 a word) number words in
+    ap (λ note. stroke note a.parts.m (after_gp0 a word).parts.m ∷ more) (note-alike a b same number word)
+    ∙ ap (λ (k : Kept). stroke (gp0_note b number word) k.parts.m (after_gp0 a word).parts.m ∷ more) same
+    ∙ ap (λ (k : Kept). stroke (gp0_note b number word) b.parts.m k.parts.m ∷ more) fed
+    ∙ ap (λ strokes. stroke_of b number word ∷ strokes)
+    (strokes-alike (after_gp0 a word) (after_gp0 b word) number words fed)
 
 fed_cost-alike : (a b : State) (words : List ℕ) → kept_of a ≡ kept_of b → fed_cost a words ≡ fed_cost b words
 fed_cost-alike a b [] same = refl
@@ -193,6 +212,11 @@ event-alike a b number event same =
     subst (λ z. EventAlike a z number event) other
     (record { answer = alike.answer; cost = alike.cost; box_cost = alike.box_cost })
 
+event_strokes-alike : (a b : Machine) (number : ℕ) (event : Event) → StandAlike a b
+    → event_strokes a number event ≡ event_strokes b number event
+event_strokes-alike a b number event same =
+    rw (same.ram, same.running) (strokes-alike a.gpu b.gpu number _ same.gpu)
+
 -- ---- events
 
 abbrev GoAlike : Result Tale EventFault → Result Tale EventFault → Type 0
@@ -200,20 +224,30 @@ GoAlike (Ok t) (Ok u) = TellAlike t u
 GoAlike (Err f) (Err g) = f ≡ g
 GoAlike r q = ⊥
 
-told-alike : (t u : Tale) (cost other box_cost other_box : ℕ) (r q : Result Stepped EventFault) → TellAlike t u
+told-alike : (t u : Tale) (event : Event) (cost other box_cost other_box : ℕ) (r q : Result Stepped EventFault)
+    → TellAlike t u
     → cost ≡ other → box_cost ≡ other_box → AnswerAlike r q
-    → GoAlike (told_on t cost box_cost r) (told_on u other other_box q)
-told-alike t u cost other box_cost other_box (Ok s) (Ok z) same costs boxes step = record {
+    → GoAlike (told_on t event cost box_cost r) (told_on u event other other_box q)
+told-alike t u event cost other box_cost other_box (Ok s) (Ok z) same costs boxes step = record {
   state = step.machine;
   played = ap next_number same.played;
   shown = rw (same.shown, step.shown) refl;
+  frames = rw (
+    same.frames,
+    same.played,
+    ap (λ (k : Kept). frames_behind event (next_number u.played) k.parts) step.machine.gpu,
+  ) refl;
   notes = rw (same.notes, step.notes) refl;
+  strokes = ap (λ strokes. t.strokes ++ strokes) (event_strokes-alike t.state u.state (next_number t.played) event
+      same.state)
+      ∙ ap (λ n. t.strokes ++ event_strokes u.state n event) (ap next_number same.played)
+      ∙ ap (λ strokes. strokes ++ event_strokes u.state (next_number u.played) event) same.strokes;
   cost = rw (same.cost, costs) refl;
   box_cost = rw (same.box_cost, boxes) refl;
 }
-told-alike t u cost other box_cost other_box (Err f) (Err g) same costs boxes step = step
-told-alike t u cost other box_cost other_box (Ok s) (Err g) same costs boxes step = absurd step
-told-alike t u cost other box_cost other_box (Err f) (Ok z) same costs boxes step = absurd step
+told-alike t u event cost other box_cost other_box (Err f) (Err g) same costs boxes step = step
+told-alike t u event cost other box_cost other_box (Ok s) (Err g) same costs boxes step = absurd step
+told-alike t u event cost other box_cost other_box (Err f) (Ok z) same costs boxes step = absurd step
 
 goes-alike : (t u : Tale) (event : Event) → TellAlike t u → GoAlike (after_event t event) (after_event u event)
 goes-alike t u event same =
@@ -221,37 +255,46 @@ goes-alike t u event same =
     let alike = event-alike t.state u.state n event same.state in
     let answer : AnswerAlike (event_step t.state n event) (event_step u.state (next_number u.played) event) =
     rw (← same.played) alike.answer in
-    told-alike t u (event_cost t.state event) (event_cost u.state event) (event_box_cost t.state event)
+    told-alike t u event (event_cost t.state event) (event_cost u.state event) (event_box_cost t.state event)
     (event_box_cost u.state event) (event_step t.state n event) (event_step u.state (next_number u.played) event)
     same alike.cost
     alike.box_cost answer
 
 -- ---- what is written
 
-final-alike : (mode : Mode) (heard : List Reading) (a b : State) → kept_of a ≡ kept_of b
-    → final_bytes mode heard a ≡ final_bytes mode heard b
+final-alike : (mode : Mode) (heard : List Reading) (number : ℕ) (a b : State) → kept_of a ≡ kept_of b
+    → final_bytes mode heard number a ≡ final_bytes mode heard number b
 unfolding final_bytes
-final-alike Words heard a b same = ap status_line (status-alike a b same)
-final-alike Listing heard a b same = refl
-final-alike Vram heard a b same = ap (λ (k : Kept). dump k.parts.m) same
-final-alike Shot heard a b same = ap (λ (k : Kept). picture k.parts.m k.parts.regs) same
-final-alike Report heard a b same = refl
+final-alike Words heard number a b same = ap status_line (status-alike a b same)
+final-alike Listing heard number a b same = refl
+final-alike (Pixel cell) heard number a b same = refl
+final-alike Vram heard number a b same = ap (λ (k : Kept). dump k.parts.m) same
+final-alike Shot heard number a b same = ap (λ (k : Kept). picture k.parts.m k.parts.regs) same
+final-alike (Frames at) heard number a b same = ap (λ (k : Kept). bytes_at_end at (frame_bytes k.parts)) same
+final-alike (Sums at) heard number a b same =
+    ap (λ (k : Kept). bytes_at_end at (frame_sum number k.parts) ++ vram_sum k.parts.m) same
+final-alike Report heard number a b same = refl
 
 final_cost-alike : (mode : Mode) (a b : State) → kept_of a ≡ kept_of b → final_cost mode a ≡ final_cost mode b
 unfolding final_cost
 final_cost-alike Words a b same = refl
 final_cost-alike Listing a b same = refl
+final_cost-alike (Pixel cell) a b same = refl
 final_cost-alike Vram a b same = ap (λ (k : Kept). dump_cost k.parts.m) same
 final_cost-alike Shot a b same = ap (λ (k : Kept). picture_cost k.parts.regs) same
+final_cost-alike (Frames at) a b same = ap (λ (k : Kept). cost_at_end at (frame_cost k.parts)) same
+final_cost-alike (Sums at) a b same =
+    ap (λ (k : Kept). cost_at_end at (frame_cost k.parts) + dump_cost k.parts.m) same
 final_cost-alike Report a b same = refl
 
-finals-alike : (ending : Ending) (mode : Mode) (heard : List Reading) (a b : State) → kept_of a ≡ kept_of b
-    → finals_at ending mode heard a ≡ finals_at ending mode heard b
-finals-alike Done mode heard a b same = final-alike mode heard a b same
-finals-alike (Stopped number stop) mode heard a b same = refl
-finals-alike (Faulted number fault) mode heard a b same = refl
-finals-alike (NoPicture number) mode heard a b same = refl
-finals-alike (WriteFailed number) mode heard a b same = refl
+finals-alike : (ending : Ending) (mode : Mode) (heard : List Reading) (next : ℕ) (a b : State)
+    → kept_of a ≡ kept_of b
+    → finals_at ending mode heard next a ≡ finals_at ending mode heard next b
+finals-alike Done mode heard next a b same = final-alike mode heard next a b same
+finals-alike (Stopped number stop) mode heard next a b same = refl
+finals-alike (Faulted number fault) mode heard next a b same = refl
+finals-alike (NoPicture number) mode heard next a b same = refl
+finals-alike (WriteFailed number) mode heard next a b same = refl
 
 finals_cost-alike : (ending : Ending) (mode : Mode) (a b : State) → kept_of a ≡ kept_of b
     → finals_cost_at ending mode a ≡ finals_cost_at ending mode b
@@ -275,13 +318,18 @@ ended-alike t u ending other rest same e =
       ending = e;
       rest = refl;
       out = λ mode heard.
-          rw (same.shown, same.notes, under mode)
-          (ap (λ finals. lines_for mode u.shown u.notes ++ finals)
-          (finals-alike (ending_under mode q) mode (told_notes u.notes heard) t.state.gpu u.state.gpu same.state.gpu));
-      cost = λ mode. ap (λ more. t.cost + more) (cost mode)
-          ∙ ap (λ n. n + finals_cost_at (ending_under mode q) mode u.state.gpu) same.cost;
-      box_cost = λ mode. ap (λ more. t.box_cost + more) (cost mode)
-          ∙ ap (λ n. n + finals_cost_at (ending_under mode q) mode u.state.gpu) same.box_cost;
+          rw (same.shown, same.frames, same.notes, same.strokes, under mode, same.played)
+          (ap (λ finals. lines_for mode u.shown u.frames u.notes u.strokes ++ finals)
+          (finals-alike (ending_under mode q) mode (told_notes u.notes heard) (next_number u.played) t.state.gpu
+          u.state.gpu same.state.gpu));
+      cost = λ mode.
+          let told : tale_cost mode t ≡ tale_cost mode u = rw (same.cost, same.frames, same.strokes) refl in
+          ap (λ more. tale_cost mode t + more) (cost mode)
+          ∙ ap (λ n. n + finals_cost_at (ending_under mode q) mode u.state.gpu) told;
+      box_cost = λ mode.
+          let told : tale_box_cost mode t ≡ tale_box_cost mode u = rw (same.box_cost, same.frames, same.strokes) refl in
+          ap (λ more. tale_box_cost mode t + more) (cost mode)
+          ∙ ap (λ n. n + finals_cost_at (ending_under mode q) mode u.state.gpu) told;
     }
 
 -- ---- replays
@@ -320,7 +368,9 @@ raised-alike t u version same = elim (cases_Bool (version == tall_version)) [
     };
     played = same.played;
     shown = same.shown;
+    frames = same.frames;
     notes = same.notes;
+    strokes = same.strokes;
     cost = same.cost;
     box_cost = same.box_cost;
   })
@@ -335,4 +385,4 @@ played-alike t u c same =
 pub states-alike : AlikeReplayAlike
 states-alike a b played c same =
     played-alike (from_state a played) (from_state b played) c
-    (record { state = same; played = refl; shown = refl; notes = refl; cost = refl; box_cost = refl })
+    (record { state = same; played = refl; shown = refl; frames = refl; notes = refl; strokes = refl; cost = refl; box_cost = refl })

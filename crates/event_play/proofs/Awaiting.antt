@@ -13,7 +13,8 @@ use Rattle.gpu_capture.specs.declared.event.Stop.{Stop}
 use Rattle.gpu_capture.specs.declared.event.Stop.TheVariants.{End, NotCapture, Truncated, BadRecord, TooLong, ReadFault}
 use Rattle.gpu_capture.specs.declared.progress.Progress.{Progress}
 use Rattle.gpu_taps.specs.Tally.{Reading}
-use Rattle.event_play.specs.Out.{lines_of}
+use Rattle.event_play.specs.Lines.{lines_cost}
+use Rattle.event_play.specs.Out.{lines_of, tale_cost}
 use Rattle.event_play.specs.Playing.{AreAllNeeded}
 use Rattle.event_play.specs.Replay.{Tale, Played, from_state, replayed, raised, played_from, played_capture}
 use Rattle.event_play.specs.Replay.{played_behind}
@@ -23,7 +24,7 @@ use Rattle.event_play.specs.Step.{Machine}
 use Rattle.event_play.specs.Streams.{Streams, streams}
 use Rattle.event_play.specs.Told.{told_notes}
 use Rattle.event_play.specs.declared.ending.Mode.{Mode}
-use Rattle.event_play.proofs.Grows.{lines-none, cost_grows}
+use Rattle.event_play.proofs.Grows.{lines-none, lines_cost-none, cost_grows}
 use Rattle.event_play.proofs.Firsts.{IsFirst, raised_first, from_first}
 
 -- The first bytes of the source were taken, and exactly what is due so far has been written and told. What the bytes
@@ -38,7 +39,7 @@ pub record Reaches (mode : Mode) (by_bytes : List ℕ → Played) (before now : 
   pub stands : StandsFor rig tale
   pub held : now.held ≡ appended before.held (lines_of mode tale)
   pub heard : now.heard ≡ told_notes tale.notes before.heard
-  pub cost : now.steps ≤ before.steps + tale.cost
+  pub cost : now.steps ≤ before.steps + tale_cost mode tale
 
 -- whatever follows, playing goes on from the tale at the reader's place
 abbrev pub GoesOn : (List ℕ → Played) → Progress → Tale → List ℕ → Type 0
@@ -57,13 +58,13 @@ SaysNext by_bytes p left (Err (Truncated byte)) t taken =
     (by_bytes taken ≡ stopped t (Truncated byte) []) × IsAtEnd left
 SaysNext by_bytes p left (Err stop) t taken = (rest : List ℕ) → by_bytes (taken ++ rest) ≡ stopped t stop rest
 
-pub record Answers (by_bytes : List ℕ → Played) (p : Progress) (left : Option (List ℕ)) (next : Result Event Stop)
+pub record Answers (mode : Mode) (by_bytes : List ℕ → Played) (p : Progress) (left : Option (List ℕ)) (next : Result Event Stop)
     (t : Tale) (taken : List ℕ) : Type 0 where
   pub says : SaysNext by_bytes p left next t taken
-  pub costs : (rest : List ℕ) → t.cost ≤ (by_bytes (taken ++ rest)).tale.cost
+  pub costs : (rest : List ℕ) → tale_cost mode t ≤ tale_cost mode (by_bytes (taken ++ rest)).tale
 
 abbrev pub Awaits : Mode → (List ℕ → Played) → (before now : Streams) → RigState → Progress → Result Event Stop → Type 0
-Awaits mode by_bytes before now rig p next = Reaches mode by_bytes before now rig (Answers by_bytes p now.left next)
+Awaits mode by_bytes before now rig p next = Reaches mode by_bytes before now rig (Answers mode by_bytes p now.left next)
 
 -- a bound on the events that are still to be played
 abbrev pub events_left : Progress → Result Event Stop → ℕ
@@ -121,9 +122,15 @@ module _ (mode : Mode) (s : Machine) (played : ℕ) (left left_now held : Option
       bytes = bytes;
       needed = first_needed begun start taken needed;
       tale = profiled;
-      says = record { says = says; costs = λ rest. omega (arith, none.cost) };
+      says = record {
+        says = says;
+        costs = λ rest.
+            let e = ap (λ frames. lines_cost mode frames profiled.strokes) none.frames
+            ∙ ap (lines_cost mode []) none.strokes ∙ lines_cost-none mode in
+            omega (arith, none.cost, e);
+      };
       stands = stands;
-      held = rw (none.shown, none.notes, lines-none mode, appended-nil held) refl;
+      held = rw (none.shown, none.frames, none.notes, none.strokes, lines-none mode, appended-nil held) refl;
       heard = rw none.notes refl;
       cost = omega arith;
     }
@@ -189,11 +196,12 @@ module _ (mode : Mode) (by_bytes : List ℕ → Played) (before now : Streams) (
   abbrev read : Streams
   read = record now { left = left }
 
-  costs_past : (ys rest : List ℕ) → reached.tale.cost ≤ (by_bytes ((reached.taken ++ ys) ++ rest)).tale.cost
+  costs_past : (ys rest : List ℕ)
+      → tale_cost mode reached.tale ≤ tale_cost mode (by_bytes ((reached.taken ++ ys) ++ rest)).tale
   costs_past ys rest =
       let c = capture_from old (ys ++ rest) in
       rw (goes_past by_bytes reached.tale old reached.taken ys rest c reached.says refl)
-      (cost_grows reached.tale c.events c.ending c.rest)
+      (cost_grows mode reached.tale c.events c.ending c.rest)
 
   answered : (next : Result Event Stop) (taken : List ℕ) → now.left ≡ prepended taken left → AreNeeded old taken
       → SaysNext by_bytes new left next reached.tale (reached.taken ++ taken)

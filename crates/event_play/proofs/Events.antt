@@ -1,17 +1,19 @@
 -- Works that are the steps of events.
-use Rattle.std.proofs.Common.{◌≡◌, ℕ, List, Option, Ok, Err, refl, ap, sym, subst, ◌∙◌}
+use Rattle.std.proofs.Common.{◌≡◌, ◌≤◌, ℕ, ◌+◌, List, [], Option, Ok, Err, refl, ap, sym, subst, ◌∙◌, arith}
 use Rattle.dev_io.specs.Device.{appended}
 use Rattle.gpu_capture.specs.declared.event.Event.{Event}
 use Rattle.gpu_core.specs.Kept.{kept_of}
 use Rattle.gpu_core.specs.Machine.{State}
 use Rattle.event_play.specs.Does.{Does}
-use Rattle.event_play.specs.Lines.{lines_of_notes}
+use Rattle.event_play.specs.Lines.{lines_while, lines_cost}
 use Rattle.event_play.specs.RigState.{RigState, Stands, machine_of}
 use Rattle.event_play.specs.Step.{Machine, Stepped, event_step, event_cost, done}
 use Rattle.event_play.specs.Stepping.{HasStepped}
 use Rattle.event_play.specs.Streams.{Outlets}
+use Rattle.event_play.specs.Strokes.{event_strokes}
 use Rattle.event_play.specs.Work.{work_of}
 use Rattle.event_play.specs.declared.ending.Mode.{Mode}
+use Rattle.event_play.specs.declared.ending.Mode.TheVariants.{Vram}
 use Rattle.event_play.specs.declared.fault.EventFault.{EventFault}
 use Rattle.event_play.specs.declared.work.Work.{Work}
 
@@ -27,11 +29,26 @@ pub step_fault : (rig : RigState) (s : Machine) (number : ℕ) (event : Event) (
 unfolding event_step
 step_fault rig s number event fault stands asked = rw (stands.ram, stands.running, ← asked) refl
 
--- what was done for an event, and what was written of its notes
+-- what was done for an event by so many steps, and what was written of its words by the others
 pub record HasDone (mode : Mode) (s : Machine) (number : ℕ) (event : Event) (shown : Option ℕ) (before now : Outlets)
     (rig : RigState) : Type 0 where
-  pub step : HasStepped s number event shown before now rig
-  pub held : now.held ≡ appended before.held (lines_of_notes mode step.notes)
+  pub at : ℕ
+  pub step : HasStepped s number event shown before (record now { steps = at }) rig
+  pub held : now.held ≡ appended before.held (lines_while mode step.notes (event_strokes s number event))
+  pub spent : now.steps ≤ at + lines_cost mode [] (event_strokes s number event)
+
+-- where nothing is written, all steps are those of the event
+pub only_stepped : (s : Machine) (number : ℕ) (event : Event) (shown : Option ℕ) (before now : Outlets)
+    (rig : RigState)
+    → HasDone Vram s number event shown before now rig → HasStepped s number event shown before now rig
+only_stepped s number event shown before now rig did = record {
+  machine = did.step.machine;
+  notes = did.step.notes;
+  is = did.step.is;
+  stands = did.step.stands;
+  heard = did.step.heard;
+  cost = let c = did.step.cost in let spent = did.spent in omega (arith, c, spent);
+}
 
 module _ (mode : Mode) (was mid rig : RigState) (number counted : ℕ) (event : Event) (asked : Work) (shown : Option ℕ)
     (before now : Outlets)
@@ -46,6 +63,7 @@ module _ (mode : Mode) (was mid rig : RigState) (number counted : ℕ) (event : 
       let m : Machine = machine_of was s.gpu in
       let after : Stepped = done m number asked in
       let at_rig : HasDone mode m number event shown before now counts = record {
+        at = before.steps + event_cost m event;
         step = record {
           machine = after.machine;
           notes = after.notes;
@@ -53,9 +71,10 @@ module _ (mode : Mode) (was mid rig : RigState) (number counted : ℕ) (event : 
               (sym did.shows));
           stands = rw same (record { gpu = did.stands.gpu; ram = did.stands.ram; running = did.stands.running });
           heard = did.heard;
-          cost = rw (← is) did.cost;
+          cost = omega arith;
         };
-        held = did.held;
+        held = rw (← is) did.held;
+        spent = rw (← is) (let c = did.cost in omega (arith, c));
       } in
       let P : Machine → Type 0 = λ s. HasDone mode s number event shown before now counts in
       subst P (stands_is was s stands) at_rig

@@ -1,7 +1,6 @@
 -- Words that are fed, part by part.
 use Rattle.std.proofs.Common.{◌≡◌, ◌≤◌, ℕ, ◌+◌, ◌++◌, List, [], ◌∷◌, Option, None, Some, Ok, Err, option_to_list}
 use Rattle.std.proofs.Common.{flat_map, refl, ap, sym, subst, ◌∙◌, append_assoc, append-nil, arith}
-use Rattle.std.proofs.lemmas.Grind.{flat_map-append}
 use Rattle.std.proofs.lemmas.List.Sums.{fold-append}
 use Rattle.dev_io.specs.Device.{appended, AppendsPart}
 use Rattle.dev_io.proofs.Appended.{appended-appended, appended-nil}
@@ -10,14 +9,18 @@ use Rattle.gpu_core.specs.Cost.{gp0_cost}
 use Rattle.gpu_core.specs.Kept.{Kept, kept_of}
 use Rattle.gpu_core.specs.Machine.{State, after_gp0, gp0_note, told_option}
 use Rattle.gpu_taps.specs.Tally.{Reading}
+use Rattle.px_num.specs.declared.shape.Cell.{Cell}
 use Rattle.packet_text.specs.Line.{listed}
 use Rattle.event_play.specs.Fed.{fed, fed_notes, fed_cost}
-use Rattle.event_play.specs.Feeding.{Feeds, StopsFeeding, FeedsWords}
-use Rattle.event_play.specs.Lines.{lines_of_notes}
+use Rattle.event_play.specs.Feeding.{Feeds, StopsFeeding, FeedsWords, fed_lines, fed_lines_cost}
+use Rattle.event_play.specs.Lines.{lines_while, lines_cost}
 use Rattle.event_play.specs.Streams.{Outlets}
+use Rattle.event_play.specs.Strokes.{stroke_of, fed_strokes, seen_cell, change_of}
 use Rattle.event_play.specs.Told.{told_notes}
 use Rattle.event_play.specs.declared.ending.Mode.{Mode}
-use Rattle.event_play.specs.declared.ending.Mode.TheVariants.{Vram, Shot, Report, List as Listing, Play as Words}
+use Rattle.event_play.specs.declared.ending.Mode.TheVariants.{Pixel}
+use Rattle.event_play.specs.declared.ending.Mode.TheVariants.{List as Listing}
+use Rattle.event_play.proofs.Grows.{lines-none, lines-append, lines_cost-append}
 
 -- ---- two lists of words, one after the other
 
@@ -40,25 +43,38 @@ pub told-append : (notes others : List Note) (readings : List Reading)
     → told_notes (notes ++ others) readings ≡ told_notes others (told_notes notes readings)
 told-append notes others readings = fold-append _ readings notes others
 
-pub lines_of_notes-append : (mode : Mode) (notes others : List Note)
-    → lines_of_notes mode (notes ++ others) ≡ lines_of_notes mode notes ++ lines_of_notes mode others
-lines_of_notes-append Words notes others = refl
-lines_of_notes-append Listing notes others = flat_map-append listed notes others
-lines_of_notes-append Vram notes others = refl
-lines_of_notes-append Shot notes others = refl
-lines_of_notes-append Report notes others = refl
+pub fed_strokes-append : (s : State) (number : ℕ) (xs ys : List ℕ)
+    → fed_strokes s number (xs ++ ys) ≡ fed_strokes s number xs ++ fed_strokes (fed s xs) number ys
+fed_strokes-append s number [] ys = refl
+fed_strokes-append s number (x ∷ xs) ys =
+    ap (λ strokes. stroke_of s number x ∷ strokes) (fed_strokes-append (after_gp0 s x) number xs ys)
 
-pub lines_of_notes-nil : (mode : Mode) → lines_of_notes mode [] ≡ []
-lines_of_notes-nil Words = refl
-lines_of_notes-nil Listing = refl
-lines_of_notes-nil Vram = refl
-lines_of_notes-nil Shot = refl
-lines_of_notes-nil Report = refl
+pub fed_lines-append : (mode : Mode) (s : State) (number : ℕ) (xs ys : List ℕ)
+    → fed_lines mode s number (xs ++ ys) ≡ fed_lines mode s number xs ++ fed_lines mode (fed s xs) number ys
+fed_lines-append mode s number xs ys =
+    let notes = fed_notes s number xs in
+    let others = fed_notes (fed s xs) number ys in
+    ap (λ notes. lines_while mode notes (fed_strokes s number (xs ++ ys))) (fed_notes-append s number xs ys)
+    ∙ ap (lines_while mode (notes ++ others)) (fed_strokes-append s number xs ys)
+    ∙ lines-append mode [] [] [] [] notes others (fed_strokes s number xs) (fed_strokes (fed s xs) number ys)
+
+pub fed_looks-append : (mode : Mode) (s : State) (number : ℕ) (xs ys : List ℕ)
+    → lines_cost mode [] (fed_strokes s number (xs ++ ys))
+    ≡ lines_cost mode [] (fed_strokes s number xs) + lines_cost mode [] (fed_strokes (fed s xs) number ys)
+fed_looks-append mode s number xs ys =
+    ap (lines_cost mode []) (fed_strokes-append s number xs ys)
+    ∙ lines_cost-append mode [] [] (fed_strokes s number xs) (fed_strokes (fed s xs) number ys)
+
+pub fed_lines_cost-append : (mode : Mode) (s : State) (number : ℕ) (xs ys : List ℕ)
+    → fed_lines_cost mode s number (xs ++ ys)
+    ≡ fed_lines_cost mode s number xs + fed_lines_cost mode (fed s xs) number ys
+fed_lines_cost-append mode s number xs ys =
+    let e = fed_cost-append s xs ys in let looks = fed_looks-append mode s number xs ys in omega (arith, e, looks)
 
 -- ---- no word, and one
 
-pub nothing_held : (mode : Mode) (held : Option (List ℕ)) → held ≡ appended held (lines_of_notes mode [])
-nothing_held mode held = sym (ap (appended held) (lines_of_notes-nil mode) ∙ appended-nil held)
+pub nothing_held : (mode : Mode) (held : Option (List ℕ)) → held ≡ appended held (lines_while mode [] [])
+nothing_held mode held = sym (ap (appended held) (lines-none mode) ∙ appended-nil held)
 
 pub feeds_none : (mode : Mode) (s : State) (number : ℕ) (at : Outlets) (gpu : Kept) → kept_of s ≡ gpu
     → Feeds mode s number [] at at gpu
@@ -107,6 +123,44 @@ word_stops s number word note before now gpu stands noted part told cost =
       cost = omega (arith, cost);
     }
 
+-- the same where a cell is looked at, and the line of its change was written or not
+module _ (cell : Cell) (s : State) (number word : ℕ) (note : Option Note) (was gpu : Kept) (old new : ℕ)
+    (before now : Outlets) (is : kept_of s ≡ was) (stands : kept_of (after_gp0 s word) ≡ gpu)
+    (noted : gp0_note s number word ≡ note)
+    (saw : old ≡ seen_cell cell was.parts.m) (sees : new ≡ seen_cell cell gpu.parts.m)
+    (told : now.heard ≡ told_option note before.heard) (cost : now.steps ≤ before.steps + gp0_cost s word + 2) where
+  watched_notes : fed_notes s number (word ∷ []) ≡ option_to_list note ++ []
+  watched_notes = ap (λ n. option_to_list n ++ []) noted
+
+  watched_lines : fed_lines (Pixel cell) s number (word ∷ []) ≡ change_of note old new
+  watched_lines =
+      let first : seen_cell cell s.parts.m ≡ old = ap (λ (k : Kept). seen_cell cell k.parts.m) is ∙ sym saw in
+      let last : seen_cell cell (after_gp0 s word).parts.m
+      ≡ new = ap (λ (k : Kept). seen_cell cell k.parts.m) stands ∙ sym sees in
+      append-nil _ ∙ rw (noted, first, last) refl
+
+  pub watched_feeds : now.held ≡ appended before.held (change_of note old new)
+      → Feeds (Pixel cell) s number (word ∷ []) before now gpu
+  watched_feeds wrote = record {
+    stands = stands;
+    held = wrote ∙ ap (appended before.held) (sym watched_lines);
+    heard = told ∙ told_one note before.heard ∙ ap (λ ns. told_notes ns before.heard) (sym watched_notes);
+    cost = omega (arith, cost);
+  }
+
+  pub watched_stops : AppendsPart before.held now.held (change_of note old new)
+      → StopsFeeding (Pixel cell) s number (word ∷ []) before now gpu
+  watched_stops part = record {
+    before = [];
+    word = word;
+    after = [];
+    is = refl;
+    stands = stands;
+    held = rw (watched_lines, appended-nil) part;
+    heard = told ∙ told_one note before.heard ∙ ap (λ ns. told_notes ns before.heard) (sym watched_notes);
+    cost = omega (arith, cost);
+  }
+
 -- ---- part by part
 
 module _ (mode : Mode) (s : State) (number : ℕ) (xs ys : List ℕ) (before mid now : Outlets) (was gpu : Kept)
@@ -114,15 +168,13 @@ module _ (mode : Mode) (s : State) (number : ℕ) (xs ys : List ℕ) (before mid
   pub feeds_on : Feeds mode (fed s xs) number ys mid now gpu → Feeds mode s number (xs ++ ys) before now gpu
   feeds_on next = record {
     stands = ap kept_of (fed-append s xs ys) ∙ next.stands;
-    held = next.held ∙ ap (λ held. appended held (lines_of_notes mode (fed_notes (fed s xs) number ys))) first.held
-        ∙ appended-appended before.held (lines_of_notes mode (fed_notes s number xs))
-        (lines_of_notes mode (fed_notes (fed s xs) number ys))
-        ∙ ap (appended before.held) (sym (ap (lines_of_notes mode) (fed_notes-append s number xs ys)
-        ∙ lines_of_notes-append mode (fed_notes s number xs) (fed_notes (fed s xs) number ys)));
+    held = next.held ∙ ap (λ held. appended held (fed_lines mode (fed s xs) number ys)) first.held
+        ∙ appended-appended before.held (fed_lines mode s number xs) (fed_lines mode (fed s xs) number ys)
+        ∙ ap (appended before.held) (sym (fed_lines-append mode s number xs ys));
     heard = next.heard ∙ ap (told_notes (fed_notes (fed s xs) number ys)) first.heard
         ∙ sym (ap (λ notes. told_notes notes before.heard) (fed_notes-append s number xs ys)
         ∙ told-append (fed_notes s number xs) (fed_notes (fed s xs) number ys) before.heard);
-    cost = let e = fed_cost-append s xs ys in omega (arith, e, first.cost, next.cost);
+    cost = let e = fed_lines_cost-append mode s number xs ys in omega (arith, e, first.cost, next.cost);
   }
 
   pub stops_on : StopsFeeding mode (fed s xs) number ys mid now gpu
@@ -131,14 +183,12 @@ module _ (mode : Mode) (s : State) (number : ℕ) (xs ys : List ℕ) (before mid
       let done = next.before ++ next.word ∷ [] in
       let all : (xs ++ next.before) ++ next.word ∷ [] ≡ xs ++ done = append_assoc xs next.before (next.word ∷ []) in
       let P : Option (List ℕ) → Type 0 = λ held. AppendsPart held now.held
-      (lines_of_notes mode (fed_notes (fed (fed s xs) next.before) number (next.word ∷ []))) in
-      let was : appended mid.held (lines_of_notes mode (fed_notes (fed s xs) number next.before))
-      ≡ appended before.held (lines_of_notes mode (fed_notes s number (xs ++ next.before))) =
-      ap (λ held. appended held (lines_of_notes mode (fed_notes (fed s xs) number next.before))) first.held
-      ∙ appended-appended before.held (lines_of_notes mode (fed_notes s number xs))
-      (lines_of_notes mode (fed_notes (fed s xs) number next.before))
-      ∙ ap (appended before.held) (sym (ap (lines_of_notes mode) (fed_notes-append s number xs next.before)
-      ∙ lines_of_notes-append mode (fed_notes s number xs) (fed_notes (fed s xs) number next.before)))
+      (fed_lines mode (fed (fed s xs) next.before) number (next.word ∷ [])) in
+      let was : appended mid.held (fed_lines mode (fed s xs) number next.before)
+      ≡ appended before.held (fed_lines mode s number (xs ++ next.before)) =
+      ap (λ held. appended held (fed_lines mode (fed s xs) number next.before)) first.held
+      ∙ appended-appended before.held (fed_lines mode s number xs) (fed_lines mode (fed s xs) number next.before)
+      ∙ ap (appended before.held) (sym (fed_lines-append mode s number xs next.before))
       in record {
         before = xs ++ next.before;
         word = next.word;
@@ -150,7 +200,8 @@ module _ (mode : Mode) (s : State) (number : ℕ) (xs ys : List ℕ) (before mid
             ∙ sym (ap (λ notes. told_notes notes before.heard)
             (ap (fed_notes s number) all ∙ fed_notes-append s number xs done)
             ∙ told-append (fed_notes s number xs) (fed_notes (fed s xs) number done) before.heard);
-        cost = let e = ap (fed_cost s) all ∙ fed_cost-append s xs done in omega (arith, e, first.cost, next.cost);
+        cost = let e = ap (fed_lines_cost mode s number) all ∙ fed_lines_cost-append mode s number xs done in
+            omega (arith, e, first.cost, next.cost);
       }
 
 -- words behind those that were fed change nothing of a stop

@@ -7,15 +7,24 @@ use Rattle.event_play.specs.Step.{Machine}
 -- nothing was played, shown or told yet
 pub record IsFirst (t : Tale) : Type 0 where
   pub shown : t.shown ≡ []
+  pub frames : t.frames ≡ []
   pub notes : t.notes ≡ []
+  pub strokes : t.strokes ≡ []
   pub cost : t.cost ≡ 0
   pub box_cost : t.box_cost ≡ 0
 
 pub raised_first : (t : Tale) (version : ℕ) → IsFirst t → IsFirst (raised t version)
 raised_first t version first = elim (cases_Bool (version == tall_version)) [
-  | inl is ↦ rw is (record { shown = first.shown; notes = first.notes; cost = first.cost; box_cost = first.box_cost })
+  | inl is ↦ rw is (record {
+    shown = first.shown;
+    frames = first.frames;
+    notes = first.notes;
+    strokes = first.strokes;
+    cost = first.cost;
+    box_cost = first.box_cost;
+  })
   | inr is ↦ rw is first
 ]
 
 pub from_first : (s : Machine) (played : ℕ) → IsFirst (from_state s played)
-from_first s played = record { shown = refl; notes = refl; cost = refl; box_cost = refl }
+from_first s played = record { shown = refl; frames = refl; notes = refl; strokes = refl; cost = refl; box_cost = refl }

@@ -8,31 +8,82 @@ use Rattle.gpu_capture.specs.declared.event.Event.{Event}
 use Rattle.gpu_capture.specs.declared.event.Stop.{Stop}
 use Rattle.packet_text.specs.Line.{word_line, listed}
 use Rattle.gpu_taps.specs.Tally.{Reading}
-use Rattle.event_play.specs.Lines.{lines_for}
-use Rattle.event_play.specs.Out.{lines_of, finals, finals_cost, out_bytes, out_cost}
+use Rattle.event_play.specs.Frames.{Frame, frames_behind, picture_at, sum_at, cost_at, frames_cost}
+use Rattle.event_play.specs.Lines.{lines_for, lines_cost}
+use Rattle.event_play.specs.Out.{lines_of, tale_cost, finals, finals_cost, out_bytes, out_cost}
 use Rattle.event_play.specs.Replay.{Tale, Played, told_on, after_event, go_on, played_events, replayed, next_number}
 use Rattle.event_play.specs.Step.{Machine, Stepped, event_step, event_cost, event_box_cost}
+use Rattle.event_play.specs.Strokes.{Stroke, stroke_lines, looks_cost, event_strokes}
 use Rattle.event_play.specs.declared.ending.Ending.TheVariants.{Faulted}
 use Rattle.event_play.specs.declared.ending.Mode.{Mode}
-use Rattle.event_play.specs.declared.ending.Mode.TheVariants.{Vram, Shot, Report, List as Listing, Play as Words}
+use Rattle.event_play.specs.declared.ending.Moment.{Moment}
+use Rattle.event_play.specs.declared.ending.Mode.TheVariants.{Vram, Shot, Report, Frames, Sums, Pixel}
+use Rattle.event_play.specs.declared.ending.Mode.TheVariants.{List as Listing, Play as Words}
 use Rattle.event_play.specs.declared.fault.EventFault.{EventFault}
 
 -- ---- lines
 
-pub lines-none : (mode : Mode) → lines_for mode [] [] ≡ []
+pub lines-none : (mode : Mode) → lines_for mode [] [] [] [] ≡ []
 lines-none Words = refl
 lines-none Listing = refl
+lines-none (Frames at) = refl
+lines-none (Sums at) = refl
+lines-none (Pixel cell) = refl
 lines-none Vram = refl
 lines-none Shot = refl
 lines-none Report = refl
 
-pub lines-append : (mode : Mode) (shown more : List ℕ) (notes others : List Note)
-    → lines_for mode (shown ++ more) (notes ++ others) ≡ lines_for mode shown notes ++ lines_for mode more others
-lines-append Words shown more notes others = flat_map-append word_line shown more
-lines-append Listing shown more notes others = flat_map-append listed notes others
-lines-append Vram shown more notes others = refl
-lines-append Shot shown more notes others = refl
-lines-append Report shown more notes others = refl
+pub lines-append : (mode : Mode) (shown more : List ℕ) (frames behind : List Frame) (notes others : List Note)
+    (strokes later : List Stroke)
+    → lines_for mode (shown ++ more) (frames ++ behind) (notes ++ others) (strokes ++ later)
+    ≡ lines_for mode shown frames notes strokes ++ lines_for mode more behind others later
+lines-append Words shown more frames behind notes others strokes later = flat_map-append word_line shown more
+lines-append Listing shown more frames behind notes others strokes later = flat_map-append listed notes others
+lines-append (Frames at) shown more frames behind notes others strokes later =
+    flat_map-append (picture_at at) frames behind
+lines-append (Sums at) shown more frames behind notes others strokes later =
+    flat_map-append (sum_at at) frames behind
+lines-append (Pixel cell) shown more frames behind notes others strokes later =
+    flat_map-append (stroke_lines cell) strokes later
+lines-append Vram shown more frames behind notes others strokes later = refl
+lines-append Shot shown more frames behind notes others strokes later = refl
+lines-append Report shown more frames behind notes others strokes later = refl
+
+frames_cost-append : (at : Moment) (frames behind : List Frame)
+    → frames_cost at (frames ++ behind) ≡ frames_cost at frames + frames_cost at behind
+frames_cost-append at [] behind = omega arith
+frames_cost-append at (frame ∷ frames) behind = one_more (cost_at at frame) (frames_cost-append at frames behind)
+  where
+    one_more : (cost : ℕ) → frames_cost at (frames ++ behind) ≡ frames_cost at frames + frames_cost at behind
+        → cost + frames_cost at (frames ++ behind) ≡ cost + frames_cost at frames + frames_cost at behind
+    one_more cost e = omega (arith, e)
+
+looks_cost-append : (strokes later : List Stroke)
+    → looks_cost (strokes ++ later) ≡ looks_cost strokes + looks_cost later
+looks_cost-append [] later = omega arith
+looks_cost-append (stroke ∷ strokes) later = let e = looks_cost-append strokes later in omega (arith, e)
+
+pub lines_cost-none : (mode : Mode) → lines_cost mode [] [] ≡ 0
+lines_cost-none Words = refl
+lines_cost-none Listing = refl
+lines_cost-none (Frames at) = refl
+lines_cost-none (Sums at) = refl
+lines_cost-none (Pixel cell) = refl
+lines_cost-none Vram = refl
+lines_cost-none Shot = refl
+lines_cost-none Report = refl
+
+pub lines_cost-append : (mode : Mode) (frames behind : List Frame) (strokes later : List Stroke)
+    → lines_cost mode (frames ++ behind) (strokes ++ later)
+    ≡ lines_cost mode frames strokes + lines_cost mode behind later
+lines_cost-append Words frames behind strokes later = refl
+lines_cost-append Listing frames behind strokes later = refl
+lines_cost-append (Frames at) frames behind strokes later = frames_cost-append at frames behind
+lines_cost-append (Sums at) frames behind strokes later = frames_cost-append at frames behind
+lines_cost-append (Pixel cell) frames behind strokes later = looks_cost-append strokes later
+lines_cost-append Vram frames behind strokes later = refl
+lines_cost-append Shot frames behind strokes later = refl
+lines_cost-append Report frames behind strokes later = refl
 
 -- ---- the tale with one event more
 
@@ -41,7 +92,9 @@ tale_on t event machine shown notes = record {
   state = machine;
   played = next_number t.played;
   shown = t.shown ++ option_to_list shown;
+  frames = t.frames ++ frames_behind event (next_number t.played) machine.gpu.parts;
   notes = t.notes ++ notes;
+  strokes = t.strokes ++ event_strokes t.state (next_number t.played) event;
   cost = t.cost + event_cost t.state event;
   box_cost = t.box_cost + event_box_cost t.state event;
 }
@@ -60,7 +113,7 @@ pub along : (P : Tale → Played → Type 0) (t : Tale) (event : Event) (step : 
     (on (tale_on t event stepped.machine stepped.shown stepped.notes))
     → P t (on (tale_on t event stepped.machine stepped.shown stepped.notes)))
     → ((next : Tale) → P next (on next)) → ((fault : EventFault) → P t (faulted fault))
-    → P t (go_on (told_on t (event_cost t.state event) (event_box_cost t.state event) step) on faulted)
+    → P t (go_on (told_on t event (event_cost t.state event) (event_box_cost t.state event) step) on faulted)
 along P t event (Ok stepped) on faulted back at_next at_fault =
     back stepped (at_next (tale_on t event stepped.machine stepped.shown stepped.notes))
 along P t event (Err fault) on faulted back at_next at_fault = at_fault fault
@@ -78,10 +131,13 @@ out_grows mode heard t (event ∷ events) stop rest =
     (λ next. played_events next events stop rest)
     (λ fault. record { tale = t; ending = Faulted (next_number t.played) fault; rest = rest })
     (λ stepped more.
-    let due = lines_for mode (option_to_list stepped.shown) stepped.notes in (
+    let frames = frames_behind event (next_number t.played) stepped.machine.gpu.parts in
+    let strokes = event_strokes t.state (next_number t.played) event in
+    let due = lines_for mode (option_to_list stepped.shown) frames stepped.notes strokes in (
       due ++ more.0,
       more.1 ∙ ap (λ xs. xs ++ more.0)
-          (lines-append mode t.shown (option_to_list stepped.shown) t.notes stepped.notes)
+          (lines-append mode t.shown (option_to_list stepped.shown) t.frames frames t.notes stepped.notes
+          t.strokes strokes)
           ∙ append_assoc (lines_of mode t) due more.0,
     ))
     (λ next. out_grows mode heard next events stop rest)
@@ -91,22 +147,27 @@ out_grows mode heard t (event ∷ events) stop rest =
     ))
 
 -- steps aren't given back
-pub cost_grows : (t : Tale) (events : List Event) (stop : Stop) (rest : List ℕ)
-    → t.cost ≤ (played_events t events stop rest).tale.cost
-cost_grows t [] stop rest = omega arith
-cost_grows t (event ∷ events) stop rest =
-    along (λ t r. t.cost ≤ r.tale.cost) t event (event_step t.state (next_number t.played) event)
+pub cost_grows : (mode : Mode) (t : Tale) (events : List Event) (stop : Stop) (rest : List ℕ)
+    → tale_cost mode t ≤ tale_cost mode (played_events t events stop rest).tale
+cost_grows mode t [] stop rest = omega arith
+cost_grows mode t (event ∷ events) stop rest =
+    along (λ t r. tale_cost mode t ≤ tale_cost mode r.tale) t event (event_step t.state (next_number t.played) event)
     (λ next. played_events next events stop rest)
     (λ fault. record { tale = t; ending = Faulted (next_number t.played) fault; rest = rest })
-    (λ stepped grows. omega (arith, grows))
-    (λ next. cost_grows next events stop rest)
+    (λ stepped grows.
+    let e = lines_cost-append mode t.frames
+    (frames_behind event (next_number t.played) stepped.machine.gpu.parts) t.strokes
+    (event_strokes t.state (next_number t.played) event) in
+    omega (arith, e, grows))
+    (λ next. cost_grows mode next events stop rest)
     (λ fault. omega arith)
 
 pub cost_within : (mode : Mode) (t : Tale) (r : Played) (c : Captured) (before now : ℕ) → r ≡ replayed t c
-    → now ≤ before + t.cost → now ≤ before + out_cost mode r
+    → now ≤ before + tale_cost mode t → now ≤ before + out_cost mode r
 cost_within mode t r c before now is within =
-    let grows = cost_grows t c.events c.ending c.rest in
+    let grows = cost_grows mode t c.events c.ending c.rest in
     rw is (added (finals_cost mode (replayed t c)) grows)
   where
-    added : (more : ℕ) → t.cost ≤ (replayed t c).tale.cost → now ≤ before + ((replayed t c).tale.cost + more)
+    added : (more : ℕ) → tale_cost mode t ≤ tale_cost mode (replayed t c).tale
+        → now ≤ before + (tale_cost mode (replayed t c).tale + more)
     added more grows = omega (arith, within, grows)

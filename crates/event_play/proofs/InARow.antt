@@ -18,6 +18,7 @@ use Rattle.gpu_capture.proofs.Steps.{split}
 use Rattle.gpu_core.specs.Cost.{gp0_cost, gp0_box_cost}
 use Rattle.gpu_core.specs.Machine.{gp0_note}
 use Rattle.gpu_taps.specs.Tally.{Reading}
+use Rattle.event_play.specs.Lines.{lines_cost}
 use Rattle.event_play.specs.Out.{lines_of}
 use Rattle.event_play.specs.PlayedWords.{after_word, after_words, IsTold, AreQuiet}
 use Rattle.event_play.specs.Playing.{AreAllNeeded, IsShort}
@@ -26,7 +27,8 @@ use Rattle.event_play.specs.RigState.{RigState}
 use Rattle.event_play.specs.Step.{event_step, event_cost, event_box_cost}
 use Rattle.event_play.specs.Streams.{Outlets, Streams, streams, without_sink}
 use Rattle.event_play.specs.declared.ending.Mode.{Mode}
-use Rattle.event_play.specs.declared.ending.Mode.TheVariants.{Vram, Shot, Report, List as Listing, Play as Words}
+use Rattle.event_play.specs.declared.ending.Mode.TheVariants.{Vram, Shot, Report, Frames, Sums, Pixel}
+use Rattle.event_play.specs.declared.ending.Mode.TheVariants.{List as Listing, Play as Words}
 use Rattle.event_play.proofs.Awaiting.{Reaches, GoesOn, Awaits, goes_past, reads, events_left}
 use Rattle.event_play.proofs.Reaching.{goes_on}
 
@@ -43,6 +45,7 @@ word_is t word =
     let note = option_to_list (gp0_note t.state.gpu n word) in
     rw (
       append-nil t.shown,
+      append-nil t.frames,
       append-nil note,
       add-zero (gp0_cost t.state.gpu word),
       add-zero
@@ -86,14 +89,29 @@ quiet_lines : (mode : Mode) (t : Tale) (words : List ℕ) → AreQuiet mode word
     → lines_of mode (after_words t words) ≡ lines_of mode t
 quiet_lines mode t [] quiet = refl
 quiet_lines Listing t (word ∷ words) quiet = absurd cc
+quiet_lines (Pixel cell) t (word ∷ words) quiet = absurd cc
 quiet_lines Words t (word ∷ words) quiet = quiet_lines Words (after_word t word) words tt
 quiet_lines Vram t (word ∷ words) quiet = refl
 quiet_lines Shot t (word ∷ words) quiet = refl
 quiet_lines Report t (word ∷ words) quiet = refl
+quiet_lines (Frames at) t (word ∷ words) quiet = quiet_lines (Frames at) (after_word t word) words tt
+quiet_lines (Sums at) t (word ∷ words) quiet = quiet_lines (Sums at) (after_word t word) words tt
 
 same_ram : (t : Tale) (words : List ℕ) → (after_words t words).state.ram ≡ t.state.ram
 same_ram t [] = refl
 same_ram t (word ∷ words) = same_ram (after_word t word) words
+
+quiet_cost : (mode : Mode) (t : Tale) (words : List ℕ) → AreQuiet mode words
+    → lines_cost mode (after_words t words).frames (after_words t words).strokes ≡ lines_cost mode t.frames t.strokes
+quiet_cost mode t [] quiet = refl
+quiet_cost Listing t (word ∷ words) quiet = refl
+quiet_cost (Pixel cell) t (word ∷ words) quiet = absurd cc
+quiet_cost Words t (word ∷ words) quiet = refl
+quiet_cost Vram t (word ∷ words) quiet = refl
+quiet_cost Shot t (word ∷ words) quiet = refl
+quiet_cost Report t (word ∷ words) quiet = refl
+quiet_cost (Frames at) t (word ∷ words) quiet = quiet_cost (Frames at) (after_word t word) words tt
+quiet_cost (Sums at) t (word ∷ words) quiet = quiet_cost (Sums at) (after_word t word) words tt
 
 same_running : (t : Tale) (words : List ℕ) → (after_words t words).state.running ≡ t.state.running
 same_running t [] = refl
@@ -110,11 +128,12 @@ module _ (mode : Mode) (by_bytes : List ℕ → Played) (before : Streams) (left
       → Reaches mode by_bytes before (streams after held heard_now steps_now) rig (GoesOn by_bytes q)
   words_play takes =
       let t = reached.tale in
-      let told = tells t (without_sink before.heard before.steps) (record {
+      let spent = lines_cost mode t.frames t.strokes in
+      let told = tells t (without_sink before.heard (before.steps + spent)) (record {
         state = reached.stands.state.gpu;
         number = reached.stands.played;
         heard = reached.heard;
-        cost = reached.cost;
+        cost = let c = reached.cost in omega (arith, c);
       }) in
       record {
         taken = reached.taken ++ takes.taken;
@@ -136,7 +155,7 @@ module _ (mode : Mode) (by_bytes : List ℕ → Played) (before : Streams) (left
         };
         held = reached.held ∙ ap (appended before.held) (sym (quiet_lines mode t words quiet));
         heard = told.heard;
-        cost = told.cost;
+        cost = let e = quiet_cost mode t words quiet in let c = told.cost in omega (arith, e, c);
       }
 
 -- words were taken and played, and then the reader stopped

@@ -12,5 +12,7 @@ pub mod Reports
 pub mod Turns
 pub mod Firsts
 pub mod InARow
+pub mod OwnWords
 pub mod AlikeStates
 pub mod Splits
+pub mod Shots

@@ -4,22 +4,27 @@ use Rattle.std.proofs.Common.{subst, ◌∙◌, append_assoc, append-nil, arith}
 use Rattle.dev_io.specs.Device.{appended, AppendsPart}
 use Rattle.dev_io.proofs.Appended.{appended-appended}
 use Rattle.gpu_capture.specs.declared.event.Event.{Event}
+use Rattle.gpu_capture.specs.declared.event.Event.TheVariants as event
 use Rattle.gpu_core.specs.Kept.{Kept}
-use Rattle.gpu_core.specs.Machine.{State}
+use Rattle.gpu_core.specs.Machine.{State, Parts}
 use Rattle.event_play.specs.Fed.{fed, fed_notes, fed_cost}
-use Rattle.event_play.specs.Feeding.{StopsFeeding}
-use Rattle.event_play.specs.Lines.{lines_for, lines_of_notes}
+use Rattle.event_play.specs.Feeding.{StopsFeeding, fed_lines, fed_lines_cost}
+use Rattle.event_play.specs.Frames.{frames_behind}
+use Rattle.event_play.specs.Lines.{lines_for, lines_cost}
 use Rattle.event_play.specs.Out.{lines_of}
 use Rattle.event_play.specs.Replay.{Tale, part_fed, next_number}
 use Rattle.event_play.specs.Step.{Machine, event_step, event_cost, event_words, asked_words, done, stepped, step_cost}
 use Rattle.event_play.specs.Streams.{Outlets}
+use Rattle.event_play.specs.Strokes.{fed_strokes}
 use Rattle.event_play.specs.Work.{work_of}
 use Rattle.event_play.specs.declared.ending.Mode.{Mode}
-use Rattle.event_play.specs.declared.ending.Mode.TheVariants.{Vram, Shot, Report, List as Listing, Play as Words}
+use Rattle.event_play.specs.declared.ending.Mode.TheVariants.{Vram, Shot, Report, Frames, Sums, Pixel}
+use Rattle.event_play.specs.declared.ending.Mode.TheVariants.{List as Listing, Play as Words}
 use Rattle.event_play.specs.declared.fault.EventFault.{EventFault}
 use Rattle.event_play.specs.declared.work.Work.{Work}
 use Rattle.event_play.specs.declared.work.Work.TheVariants as work
-use Rattle.event_play.proofs.Feeds.{fed_notes-append, fed_cost-append, lines_of_notes-append}
+use Rattle.event_play.specs.Playing.{DueIn, DueInside}
+use Rattle.event_play.proofs.Feeds.{fed_lines-append, fed_cost-append, fed_looks-append}
 use Rattle.event_play.proofs.Grows.{lines-append}
 
 -- ---- an event that feeds words does nothing else
@@ -54,54 +59,69 @@ event_feeds s number event before word after are =
     let feeds = asked_feeds s number (work_of s.ram s.running event) before word after are in
     record { machine = feeds.machine; is = feeds.is; cost = feeds.cost }
 
+-- and is no word of GP1
+pub no_frames : (s : Machine) (event : Event) (number : ℕ) (parts : Parts) (before : List ℕ) (word : ℕ) (after : List ℕ)
+    → event_words s event ≡ before ++ word ∷ after → frames_behind event number parts ≡ []
+no_frames s (event.Gp1 x) number parts before word after are = absurd (no_words before word after are)
+no_frames s other number parts before word after are = refl
+
 -- ---- what was written and told of the first words
 
--- only in a list can the line of a note fail
-pub stops_listing : (mode : Mode) (s : State) (number : ℕ) (words : List ℕ) (before now : Outlets) (gpu : Kept)
-    → StopsFeeding mode s number words before now gpu → mode ≡ Listing
-stops_listing Listing s number words before now gpu stop = refl
-stops_listing Words s number words before now gpu stop = let none : stop.held.count < 0 =
-    stop.held.part in absurd (omega arith)
-stops_listing Vram s number words before now gpu stop = let none : stop.held.count < 0 =
-    stop.held.part in absurd (omega arith)
-stops_listing Shot s number words before now gpu stop = let none : stop.held.count < 0 =
-    stop.held.part in absurd (omega arith)
-stops_listing Report s number words before now gpu stop = let none : stop.held.count < 0 =
-    stop.held.part in absurd (omega arith)
+-- only the line of an item can fail while words are fed
+module _ (s : State) (number : ℕ) (words : List ℕ) (before now : Outlets) (gpu : Kept) (t start last : Tale)
+    (event : Event) where
+  pub due_inside : (mode : Mode) → StopsFeeding mode s number words before now gpu → DueInside t start last event
+      → DueIn mode t start last event
+  due_inside Listing stop due = due
+  due_inside (Pixel cell) stop due = due
+  due_inside Words stop due = let none : stop.held.count < 0 = stop.held.part in absurd (omega arith)
+  due_inside Vram stop due = let none : stop.held.count < 0 = stop.held.part in absurd (omega arith)
+  due_inside Shot stop due = let none : stop.held.count < 0 = stop.held.part in absurd (omega arith)
+  due_inside Report stop due = let none : stop.held.count < 0 = stop.held.part in absurd (omega arith)
+  due_inside (Frames at) stop due = let none : stop.held.count < 0 = stop.held.part in absurd (omega arith)
+  due_inside (Sums at) stop due = let none : stop.held.count < 0 = stop.held.part in absurd (omega arith)
+
+-- the lines of a tale, and of words of its next event
+lines_with : (mode : Mode) (t : Tale) (words : List ℕ)
+    → lines_for mode (t.shown ++ []) (t.frames ++ [])
+    (t.notes ++ fed_notes t.state.gpu (next_number t.played) words)
+    (t.strokes ++ fed_strokes t.state.gpu (next_number t.played) words)
+    ≡ lines_of mode t ++ fed_lines mode t.state.gpu (next_number t.played) words
+lines_with mode t words = lines-append mode t.shown [] t.frames [] t.notes
+    (fed_notes t.state.gpu (next_number t.played) words) t.strokes
+    (fed_strokes t.state.gpu (next_number t.played) words)
 
 -- the lines of a tale with the first words of an event
 lines_fed : (mode : Mode) (t : Tale) (words : List ℕ)
-    → lines_of mode (part_fed t words) ≡ lines_of mode t ++ lines_of_notes mode
-    (fed_notes t.state.gpu (next_number t.played) words)
+    → lines_of mode (part_fed t words) ≡ lines_of mode t ++ fed_lines mode t.state.gpu (next_number t.played) words
 lines_fed mode t words =
-    let notes = fed_notes t.state.gpu (next_number t.played) words in
-    ap (λ shown. lines_for mode shown (t.notes ++ notes)) (sym (append-nil t.shown))
-    ∙ lines-append mode t.shown [] t.notes notes
+    let notes = t.notes ++ fed_notes t.state.gpu (next_number t.played) words in
+    let strokes = t.strokes ++ fed_strokes t.state.gpu (next_number t.played) words in
+    ap (λ shown. lines_for mode shown t.frames notes strokes) (sym (append-nil t.shown))
+    ∙ ap (λ frames. lines_for mode (t.shown ++ []) frames notes strokes) (sym (append-nil t.frames))
+    ∙ lines_with mode t words
 
 -- the lines of a tale with more of an event's words are those with fewer, and those of the words between
 pub lines_fed_on : (mode : Mode) (t : Tale) (before words : List ℕ)
     → lines_of mode (part_fed t (before ++ words)) ≡ lines_of mode (part_fed t before)
-    ++ lines_of_notes mode (fed_notes (fed t.state.gpu before) (next_number t.played) words)
+    ++ fed_lines mode (fed t.state.gpu before) (next_number t.played) words
 lines_fed_on mode t before words =
     let n = next_number t.played in
     let s = t.state.gpu in
-    let first = lines_of_notes mode (fed_notes s n before) in
-    let more = lines_of_notes mode (fed_notes (fed s before) n words) in
+    let first = fed_lines mode s n before in
+    let more = fed_lines mode (fed s before) n words in
     lines_fed mode t (before ++ words)
-    ∙ ap (λ notes. lines_of mode t ++ lines_of_notes mode notes) (fed_notes-append s n before words)
-    ∙ ap (λ xs. lines_of mode t ++ xs)
-    (lines_of_notes-append mode (fed_notes s n before) (fed_notes (fed s before) n words))
+    ∙ ap (λ xs. lines_of mode t ++ xs) (fed_lines-append mode s n before words)
     ∙ sym (append_assoc (lines_of mode t) first more)
     ∙ ap (λ xs. xs ++ more) (sym (lines_fed mode t before))
 
 pub part_held : (mode : Mode) (t : Tale) (words : List ℕ) (held_before held_mid held_now : Option (List ℕ))
     (due : List ℕ)
     → held_mid ≡ appended held_before (lines_of mode t)
-    → AppendsPart (appended held_mid (lines_of_notes mode (fed_notes t.state.gpu (next_number t.played) words)))
-    held_now due
+    → AppendsPart (appended held_mid (fed_lines mode t.state.gpu (next_number t.played) words)) held_now due
     → AppendsPart (appended held_before (lines_of mode (part_fed t words))) held_now due
 part_held mode t words held_before held_mid held_now due was part =
-    let lines = lines_of_notes mode (fed_notes t.state.gpu (next_number t.played) words) in
+    let lines = fed_lines mode t.state.gpu (next_number t.played) words in
     let e : appended held_mid lines ≡ appended held_before (lines_of mode (part_fed t words)) =
     ap (λ held. appended held lines) was ∙ appended-appended held_before (lines_of mode t) lines
     ∙ ap (appended held_before) (sym (lines_fed mode t words)) in
@@ -110,27 +130,23 @@ part_held mode t words held_before held_mid held_now due was part =
 
 -- all lines of an event, by those of the words before one, of that word, and of those behind it
 pub part_lines : (mode : Mode) (t : Tale) (before : List ℕ) (word : ℕ) (after more : List ℕ)
-    → (rest : List ℕ) × (lines_for mode (t.shown ++ [])
-    (t.notes ++ fed_notes t.state.gpu (next_number t.played) (before ++ word ∷ after)) ++ more
+    → (rest : List ℕ) × (lines_for mode (t.shown ++ []) (t.frames ++ [])
+    (t.notes ++ fed_notes t.state.gpu (next_number t.played) (before ++ word ∷ after))
+    (t.strokes ++ fed_strokes t.state.gpu (next_number t.played) (before ++ word ∷ after)) ++ more
     ≡ lines_of mode (part_fed t before) ++
-    (lines_of_notes mode (fed_notes (fed t.state.gpu before) (next_number t.played) (word ∷ [])) ++ rest))
+    (fed_lines mode (fed t.state.gpu before) (next_number t.played) (word ∷ []) ++ rest))
 part_lines mode t before word after more =
     let n = next_number t.played in
     let s = t.state.gpu in
-    let here = fed_notes (fed s before) n (word ∷ []) in
-    let behind = fed_notes (fed (fed s before) (word ∷ [])) n after in
-    let notes : fed_notes s n (before ++ word ∷ after) ≡ fed_notes s n before ++ (here ++ behind) =
-    fed_notes-append s n before (word ∷ after) ∙ ap (λ ns. fed_notes s n before ++ ns)
-    (fed_notes-append (fed s before) n (word ∷ []) after) in
-    let first = lines_of_notes mode (fed_notes s n before) in
-    let one = lines_of_notes mode here in
-    let rest = lines_of_notes mode behind in
-    let all : lines_of_notes mode (fed_notes s n (before ++ word ∷ after)) ≡ first ++ (one ++ rest) =
-    ap (lines_of_notes mode) notes ∙ lines_of_notes-append mode (fed_notes s n before) (here ++ behind)
-    ∙ ap (λ xs. first ++ xs) (lines_of_notes-append mode here behind) in (
+    let first = fed_lines mode s n before in
+    let one = fed_lines mode (fed s before) n (word ∷ []) in
+    let rest = fed_lines mode (fed (fed s before) (word ∷ [])) n after in
+    let all : fed_lines mode s n (before ++ word ∷ after) ≡ first ++ (one ++ rest) =
+    fed_lines-append mode s n before (word ∷ after)
+    ∙ ap (λ xs. first ++ xs) (fed_lines-append mode (fed s before) n (word ∷ []) after) in (
       rest ++ more,
       ap (λ xs. xs ++ more)
-          (lines-append mode t.shown [] t.notes (fed_notes s n (before ++ word ∷ after))
+          (lines_with mode t (before ++ word ∷ after)
           ∙ ap (λ xs. lines_of mode t ++ xs) all
           ∙ sym (append_assoc (lines_of mode t) first (one ++ rest))
           ∙ ap (λ xs. xs ++ (one ++ rest)) (sym (lines_fed mode t before)))
@@ -138,11 +154,16 @@ part_lines mode t before word after more =
           ∙ ap (λ xs. lines_of mode (part_fed t before) ++ xs) (append_assoc one rest more),
     )
 
-pub part_cost : (s : State) (before : List ℕ) (word : ℕ) (after : List ℕ) (all steps_before steps_now : ℕ)
-    → all ≡ fed_cost s (before ++ word ∷ after) → steps_now ≤ steps_before + fed_cost s (before ++ word ∷ [])
-    → steps_now ≤ steps_before + all
-part_cost s before word after all steps_before steps_now is within =
-    let whole = fed_cost-append s (before ++ word ∷ []) after in
-    let same : fed_cost s ((before ++ word ∷ []) ++ after) ≡ fed_cost s (before ++ word ∷ after) =
-    ap (fed_cost s) (append_assoc before (word ∷ []) after) in
-    omega (arith, is, within, whole, same)
+-- what the first words cost is within what the event costs
+pub part_cost : (mode : Mode) (s : State) (number : ℕ) (before : List ℕ) (word : ℕ) (after : List ℕ)
+    (all steps_before steps_now : ℕ)
+    → all ≡ fed_cost s (before ++ word ∷ after)
+    → steps_now ≤ steps_before + fed_lines_cost mode s number (before ++ word ∷ [])
+    → steps_now ≤ steps_before + all + lines_cost mode [] (fed_strokes s number (before ++ word ∷ after))
+part_cost mode s number before word after all steps_before steps_now is within =
+    let first = before ++ word ∷ [] in
+    let whole : first ++ after ≡ before ++ word ∷ after = append_assoc before (word ∷ []) after in
+    let cost = sym (fed_cost-append s first after) ∙ ap (fed_cost s) whole in
+    let looks = sym (fed_looks-append mode s number first after)
+    ∙ ap (λ words. lines_cost mode [] (fed_strokes s number words)) whole in
+    omega (arith, is, within, cost, looks)

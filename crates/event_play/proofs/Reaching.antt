@@ -12,25 +12,32 @@ use Rattle.gpu_capture.specs.declared.event.Stop.TheVariants.{End, NotCapture, T
 use Rattle.gpu_capture.specs.declared.progress.Progress.{Progress}
 use Rattle.gpu_taps.specs.Tally.{Reading}
 use Rattle.event_play.specs.Ends.{PlaysEvent, ShowsPart, FeedsPart, FaultsEvent, EndsEvent, EndsAt, WritesEnd}
-use Rattle.event_play.specs.Ends.{WritesEndPart, IsNotEnd}
+use Rattle.event_play.specs.Ends.{WritesEndPart, IsNotEnd, event_lines, event_lines_cost}
+use Rattle.event_play.specs.Frames.{frames_behind}
 use Rattle.event_play.specs.Fed.{fed, fed_notes}
-use Rattle.event_play.specs.Lines.{lines_for, lines_of_notes}
-use Rattle.event_play.specs.Out.{lines_of, final_bytes, final_cost, ending_under, lacks_picture, out_bytes, out_cost}
-use Rattle.event_play.specs.Playing.{SaysEnding, EndsPlay, IsLast, whole}
+use Rattle.event_play.specs.Feeding.{fed_lines}
+use Rattle.event_play.specs.Lines.{lines_for, WritesBehind}
+use Rattle.event_play.specs.Out.{lines_of, tale_cost, final_bytes, final_cost, ending_under, lacks_picture, out_bytes}
+use Rattle.event_play.specs.Out.{out_cost}
+use Rattle.event_play.specs.Playing.{SaysEnding, EndsPlay, IsLast, DueIn, whole}
 use Rattle.event_play.specs.Replay.{Tale, Played, part_fed, after_event, go_on, played_events, replayed, next_number}
 use Rattle.event_play.specs.RigState.{RigState, StandsFor}
 use Rattle.event_play.specs.Step.{Machine, event_cost}
 use Rattle.event_play.specs.Streams.{Outlets, Streams, streams}
+use Rattle.event_play.specs.Strokes.{fed_strokes, event_strokes}
 use Rattle.event_play.specs.Told.{told_notes}
 use Rattle.event_play.specs.declared.ending.Ending.{Ending}
 use Rattle.event_play.specs.declared.ending.Ending.TheVariants.{Done, Stopped, Faulted, NoPicture, WriteFailed}
 use Rattle.event_play.specs.declared.ending.Mode.{Mode}
+use Rattle.event_play.specs.declared.ending.Mode.TheVariants.{Vram, Shot, Report, Frames, Sums, Pixel}
+use Rattle.event_play.specs.declared.ending.Mode.TheVariants.{List as Listing, Play as Words}
 use Rattle.event_play.specs.declared.fault.EventFault.{EventFault}
 use Rattle.event_play.proofs.Awaiting.{Reaches, GoesOn, Awaits, SaysNext}
 use Rattle.event_play.proofs.BoxCosts.{AreSmall, within_boxes}
 use Rattle.event_play.proofs.Feeds.{told-append}
-use Rattle.event_play.proofs.Grows.{lines-append, tale_on, after-event, out_grows, cost_within}
-use Rattle.event_play.proofs.Parts.{event_feeds, stops_listing, part_held, part_lines, part_cost, lines_fed_on}
+use Rattle.event_play.proofs.Grows.{lines-append, lines_cost-append, tale_on, after-event, out_grows, cost_within}
+use Rattle.event_play.proofs.Parts.{event_feeds, no_frames, due_inside, part_held, part_lines, part_cost}
+use Rattle.event_play.proofs.Parts.{lines_fed_on}
 
 -- ---- one event more
 
@@ -41,15 +48,24 @@ goes_on t next event c is =
     ap (λ r. go_on r (λ next. played_events next c.events c.ending c.rest)
     (λ fault. record { tale = t; ending = Faulted (next_number t.played) fault; rest = c.rest })) is
 
+-- what was due, and what is due for an event
+lines_more : (mode : Mode) (t : Tale) (event : Event) (machine : Machine) (shown : Option ℕ) (notes : List Note)
+    → lines_of mode (tale_on t event machine shown notes)
+    ≡ lines_of mode t ++ event_lines mode t event machine shown notes
+lines_more mode t event machine shown notes = lines-append mode t.shown (option_to_list shown)
+    t.frames (frames_behind event (next_number t.played) machine.gpu.parts) t.notes notes t.strokes
+    (event_strokes t.state (next_number t.played) event)
+
 -- what was held, and what is due for an event
 held_on : (mode : Mode) (before mid now : Option (List ℕ)) (t : Tale) (event : Event) (machine : Machine)
     (shown : Option ℕ) (notes : List Note)
-    → mid ≡ appended before (lines_of mode t) → now ≡ appended mid (lines_for mode (option_to_list shown) notes)
+    → mid ≡ appended before (lines_of mode t)
+    → now ≡ appended mid (event_lines mode t event machine shown notes)
     → now ≡ appended before (lines_of mode (tale_on t event machine shown notes))
 held_on mode before mid now t event machine shown notes was took =
-    took ∙ ap (λ held. appended held (lines_for mode (option_to_list shown) notes)) was
-    ∙ appended-appended before (lines_of mode t) (lines_for mode (option_to_list shown) notes)
-    ∙ ap (appended before) (sym (lines-append mode t.shown (option_to_list shown) t.notes notes))
+    let due = event_lines mode t event machine shown notes in
+    took ∙ ap (λ held. appended held due) was ∙ appended-appended before (lines_of mode t) due
+    ∙ ap (appended before) (sym (lines_more mode t event machine shown notes))
 
 heard_on : (before mid now : List Reading) (told notes : List Note) → mid ≡ told_notes told before
     → now ≡ told_notes notes mid → now ≡ told_notes (told ++ notes) before
@@ -57,6 +73,29 @@ heard_on before mid now told notes was took = took ∙ ap (told_notes notes) was
 
 spent_on : (before mid now a b : ℕ) → mid ≤ before + a → now ≤ mid + b → now ≤ before + (a + b)
 spent_on before mid now a b was took = omega arith
+
+-- what was spent, and what is spent on an event and on what is due for it
+cost_on : (mode : Mode) (before mid at now : ℕ) (t : Tale) (event : Event) (machine : Machine) (shown : Option ℕ)
+    (notes : List Note)
+    → mid ≤ before + tale_cost mode t → at ≤ mid + event_cost t.state event
+    → now ≤ at + event_lines_cost mode t event machine
+    → now ≤ before + tale_cost mode (tale_on t event machine shown notes)
+cost_on mode before mid at now t event machine shown notes was took spent =
+    let e = lines_cost-append mode t.frames (frames_behind event (next_number t.played) machine.gpu.parts) t.strokes
+    (event_strokes t.state (next_number t.played) event) in
+    omega (arith, e, was, took, spent)
+
+-- what is written behind its event is due there
+due_behind : (mode : Mode) (t last : Tale) (event : Event) → WritesBehind mode → after_event t event ≡ Ok last
+    → DueIn mode t t last event
+due_behind Words t last event behind is = (refl, is)
+due_behind (Frames at) t last event behind is = (refl, is)
+due_behind (Sums at) t last event behind is = (refl, is)
+due_behind Listing t last event behind is = absurd behind
+due_behind (Pixel cell) t last event behind is = absurd behind
+due_behind Vram t last event behind is = absurd behind
+due_behind Shot t last event behind is = absurd behind
+due_behind Report t last event behind is = absurd behind
 
 -- what playing works on, with the bytes left of the source
 abbrev pub beside : Option (List ℕ) → Outlets → Streams
@@ -81,7 +120,8 @@ module _ (mode : Mode) (by_bytes : List ℕ → Played) (before : Streams) (left
         held = held_on mode before.held mid.held now.held t event plays.step.machine plays.shown plays.step.notes
             reached.held plays.held;
         heard = heard_on before.heard mid.heard now.heard t.notes plays.step.notes reached.heard plays.step.heard;
-        cost = spent_on before.steps mid.steps now.steps t.cost (event_cost t.state event) reached.cost plays.step.cost;
+        cost = cost_on mode before.steps mid.steps plays.at now.steps t event plays.step.machine plays.shown
+            plays.step.notes reached.cost plays.step.cost plays.spent;
       }
 
   -- ---- an event that ends playing
@@ -127,7 +167,7 @@ module _ (mode : Mode) (by_bytes : List ℕ → Played) (before : Streams) (left
     shows_ends number at parts =
         let t = reached.tale in
         let next = tale_on t event parts.step.machine parts.shown parts.step.notes in
-        let due = lines_for mode (option_to_list parts.shown) parts.step.notes in
+        let due = event_lines mode t event parts.step.machine parts.shown parts.step.notes in
         let is = after-event t event parts.step.machine parts.shown parts.step.notes parts.step.is in
         let says = λ (rest : List ℕ). reached.says.says rest ∙ goes_on t next event (capture_from p rest) is in
         ends_at t next (WriteFailed number)
@@ -137,8 +177,8 @@ module _ (mode : Mode) (by_bytes : List ℕ → Played) (before : Streams) (left
           place = inl (record {
             event = event;
             comes = λ rest. (capture_from p rest, reached.says.says rest);
-            inside = rw parts.mode_is (refl, is);
-            lines = lines-append mode t.shown (option_to_list parts.shown) t.notes parts.step.notes;
+            inside = due_behind mode t next event parts.mode_is is;
+            lines = lines_more mode t event parts.step.machine parts.shown parts.step.notes;
           });
           due = due;
           held = let P : Option (List ℕ) → Type 0 = λ held. AppendsPart held now.held due in subst P reached.held
@@ -149,14 +189,15 @@ module _ (mode : Mode) (by_bytes : List ℕ → Played) (before : Streams) (left
                 more.0,
                 ap (out_bytes mode before.heard) (says rest) ∙ more.1
                     ∙ ap (λ xs. xs ++ more.0)
-                    (lines-append mode t.shown (option_to_list parts.shown) t.notes parts.step.notes)
+                    (lines_more mode t event parts.step.machine parts.shown parts.step.notes)
                     ∙ append_assoc (lines_of mode t) due more.0,
               );
         })
         tt (record { state = parts.step.stands; played = sym parts.played })
         (heard_on before.heard mid.heard now.heard t.notes parts.step.notes reached.heard parts.step.heard)
         (λ rest. cost_within mode next _ (capture_from p rest) before.steps now.steps (says rest)
-        (spent_on before.steps mid.steps now.steps t.cost (event_cost t.state event) reached.cost parts.step.cost))
+        (cost_on mode before.steps mid.steps parts.at now.steps t event parts.step.machine parts.shown parts.step.notes
+        reached.cost parts.step.cost parts.spent))
 
     feeds_ends : (number : ℕ) → number ≡ next_number reached.tale.played → FeedsPart mode reached.tale event mid now rig
         → EndsPlay mode by_bytes before (beside left now) rig (WriteFailed number)
@@ -164,6 +205,7 @@ module _ (mode : Mode) (by_bytes : List ℕ → Played) (before : Streams) (left
         let t = reached.tale in
         let stop = parts.feeding in
         let n = next_number t.played in
+        let words = stop.before ++ stop.word ∷ stop.after in
         let feeds = event_feeds t.state n event stop.before stop.word stop.after stop.is in
         let next = tale_on t event feeds.machine None (fed_notes t.state.gpu n (stop.before ++ stop.word ∷ stop.after))
         in
@@ -176,26 +218,33 @@ module _ (mode : Mode) (by_bytes : List ℕ → Played) (before : Streams) (left
           place = inl (record {
             event = event;
             comes = λ rest. (capture_from p rest, reached.says.says rest);
-            inside = rw (stops_listing _ _ _ _ _ _ _ stop)
+            inside = due_inside _ _ _ _ _ _ _ _ _ _ mode stop
                 (record {
                   before = stop.before;
                   word = stop.word;
                   after = stop.after;
                   is = stop.is;
-                  start_is =
-                      refl;
+                  start_is = refl;
                   last_is = refl;
                 });
             lines = lines_fed_on mode t stop.before (stop.word ∷ []);
           });
-          due = lines_of_notes mode (fed_notes (fed t.state.gpu stop.before) n (stop.word ∷ []));
+          due = fed_lines mode (fed t.state.gpu stop.before) n (stop.word ∷ []);
           held = part_held mode t stop.before before.held mid.held now.held _ reached.held stop.held;
           prefix = λ rest.
               let c = capture_from p rest in
               let more = out_grows mode before.heard next c.events c.ending c.rest in
-              let ends = part_lines mode t stop.before stop.word stop.after more.0 in (
+              let ends = part_lines mode t stop.before stop.word stop.after more.0 in
+              let quiet = no_frames t.state event n feeds.machine.gpu.parts stop.before stop.word stop.after stop.is in (
                 ends.0,
-                ap (out_bytes mode before.heard) (says rest) ∙ more.1 ∙ ends.1,
+                ap (out_bytes mode before.heard) (says rest) ∙ more.1
+                    ∙ ap (λ frames. lines_for mode (t.shown ++ []) (t.frames ++ frames)
+                    (t.notes ++ fed_notes t.state.gpu n words) (t.strokes ++ event_strokes t.state n event) ++ more.0)
+                    quiet
+                    ∙ ap (λ fed. lines_for mode (t.shown ++ []) (t.frames ++ [])
+                    (t.notes ++ fed_notes t.state.gpu n words) (t.strokes ++ fed_strokes t.state.gpu n fed) ++ more.0)
+                    stop.is
+                    ∙ ends.1,
               );
         })
         tt (record {
@@ -206,9 +255,11 @@ module _ (mode : Mode) (by_bytes : List ℕ → Played) (before : Streams) (left
         (heard_on before.heard mid.heard now.heard t.notes
         (fed_notes t.state.gpu n (stop.before ++ stop.word ∷ [])) reached.heard stop.heard)
         (λ rest. cost_within mode next _ (capture_from p rest) before.steps now.steps (says rest)
-        (spent_on before.steps mid.steps now.steps t.cost (event_cost t.state event) reached.cost
-        (part_cost t.state.gpu stop.before stop.word stop.after
-        (event_cost t.state event) mid.steps now.steps feeds.cost stop.cost)))
+        (cost_on mode before.steps mid.steps (mid.steps + event_cost t.state event) now.steps t event feeds.machine None
+        (fed_notes t.state.gpu n words) reached.cost (omega arith)
+        (rw (no_frames t.state event n feeds.machine.gpu.parts stop.before stop.word stop.after stop.is, stop.is)
+        (part_cost mode t.state.gpu n stop.before stop.word stop.after
+        (event_cost t.state event) mid.steps now.steps feeds.cost stop.cost))))
 
     pub event_ends : (ending : Ending) → EndsEvent mode reached.tale event mid now was rig ending
         → EndsPlay mode by_bytes before (beside left now) rig ending
@@ -273,27 +324,35 @@ module _ (mode : Mode) (by_bytes : List ℕ → Played) (before : Streams) (left
       → (rest : List ℕ) → now.steps ≤ before.steps + out_cost mode (by_bytes (reached.taken ++ rest))
   end_costs shows spent rest =
       rw (reached.says.says rest, shows)
-      (spent_on before.steps mid.steps now.steps reached.tale.cost
+      (spent_on before.steps mid.steps now.steps (tale_cost mode reached.tale)
       (final_cost mode reached.tale.state.gpu) reached.cost spent)
 
-  done_ends : WritesEnd mode reached.tale.state.gpu mid now → EndsPlay mode by_bytes before (beside left now) rig Done
-  done_ends writes =
+  done_ends : WritesEnd mode reached.tale.state.gpu (next_number rig.played) mid now
+      → EndsPlay mode by_bytes before (beside left now) rig Done
+  done_ends wrote =
       let t = reached.tale in
+      let Q : ℕ → Type 0 = λ number. WritesEnd mode t.state.gpu number mid now in
+      let writes = subst Q (number_of rig t reached.stands) wrote in
+      let due = final_bytes mode mid.heard (next_number t.played) t.state.gpu in
       let heard : mid.heard ≡ told_notes t.notes before.heard = reached.heard in
       ends_behind mode by_bytes before left mid now rig p End reached is_small same Done (
         reached.says.says,
         shown_ends mode t writes.shows,
-        writes.held ∙ ap (λ xs. appended xs (final_bytes mode mid.heard t.state.gpu)) reached.held
-            ∙ appended-appended before.held (lines_of mode t) (final_bytes mode mid.heard t.state.gpu)
-            ∙ ap (λ heard. appended before.held (lines_of mode t ++ final_bytes mode heard t.state.gpu)) heard,
+        writes.held ∙ ap (λ xs. appended xs due) reached.held
+            ∙ appended-appended before.held (lines_of mode t) due
+            ∙ ap (λ heard. appended before.held
+            (lines_of mode t ++ final_bytes mode heard (next_number t.played) t.state.gpu)) heard,
       )
       refl (end_costs writes.shows writes.cost)
 
-  finals_end : (number : ℕ) → number ≡ next_number rig.played → WritesEndPart mode reached.tale.state.gpu mid now
+  finals_end : (number : ℕ) → number ≡ next_number rig.played
+      → WritesEndPart mode reached.tale.state.gpu (next_number rig.played) mid now
       → EndsPlay mode by_bytes before (beside left now) rig (WriteFailed number)
-  finals_end number at writes =
+  finals_end number at wrote =
       let t = reached.tale in
-      let due = final_bytes mode mid.heard t.state.gpu in
+      let Q : ℕ → Type 0 = λ number. WritesEndPart mode t.state.gpu number mid now in
+      let writes = subst Q (number_of rig t reached.stands) wrote in
+      let due = final_bytes mode mid.heard (next_number t.played) t.state.gpu in
       ends_behind mode by_bytes before left mid now rig p End reached is_small same (WriteFailed number)
       (record {
         number_is = at ∙ number_of rig t reached.stands;
@@ -303,7 +362,7 @@ module _ (mode : Mode) (by_bytes : List ℕ → Played) (before : Streams) (left
           ends = shown_ends mode t writes.shows;
           start_is = refl;
           last_is = refl;
-          bytes = ap (λ heard. final_bytes mode heard t.state.gpu) reached.heard;
+          bytes = ap (λ heard. final_bytes mode heard (next_number t.played) t.state.gpu) reached.heard;
         });
         due = due;
         held = let P : Option (List ℕ) → Type 0 = λ held. AppendsPart held now.held due in subst P reached.held
@@ -349,12 +408,13 @@ module _ (mode : Mode) (by_bytes : List ℕ → Played) (before : Streams) (left
       → EndsPlay mode by_bytes before (beside left now) rig ending
   stop_ends stop reached is_small same Done (is, writes) =
       let P : Stop → Type 0 = λ stop. (reached : Awaits mode by_bytes before (beside left mid) rig p (Err stop))
-      → WritesEnd mode reached.tale.state.gpu mid now → EndsPlay mode by_bytes before (beside left now) rig Done in
+      → WritesEnd mode reached.tale.state.gpu (next_number rig.played) mid now
+      → EndsPlay mode by_bytes before (beside left now) rig Done in
       subst P (sym is) (λ reached writes. done_ends mode by_bytes before left mid now rig p reached is_small same
       writes) reached writes
   stop_ends stop reached is_small same (WriteFailed number) (is, at, writes) =
       let P : Stop → Type 0 = λ stop. (reached : Awaits mode by_bytes before (beside left mid) rig p (Err stop))
-      → WritesEndPart mode reached.tale.state.gpu mid now
+      → WritesEndPart mode reached.tale.state.gpu (next_number rig.played) mid now
       → EndsPlay mode by_bytes before (beside left now) rig (WriteFailed number) in
       subst P (sym is) (λ reached writes. finals_end mode by_bytes before left mid now rig p reached is_small same
       number at writes) reached writes

@@ -4,10 +4,12 @@ use Rattle.std.proofs.Common.{append_assoc, append-nil, add_assoc, add-zero}
 use Rattle.gpu_capture.specs.declared.event.Event.{Event}
 use Rattle.gpu_capture.specs.declared.event.Stop.{Stop}
 use Rattle.gpu_taps.specs.Tally.{Reading}
+use Rattle.event_play.specs.Frames.{frames_behind}
 use Rattle.event_play.specs.Out.{lines_of, finals_at, ending_under, out_bytes}
 use Rattle.event_play.specs.Splits.{alone, AreFaultless, behind_past, with_past, SplitLaw}
 use Rattle.event_play.specs.Replay.{Tale, Played, played_events, go_on, told_on, after_event, from_state, next_number}
 use Rattle.event_play.specs.Step.{Stepped, event_step, event_cost, event_box_cost}
+use Rattle.event_play.specs.Strokes.{event_strokes}
 use Rattle.event_play.specs.Told.{told_notes}
 use Rattle.event_play.specs.declared.ending.Ending.TheVariants.{Done, Faulted}
 use Rattle.event_play.specs.declared.ending.Mode.{Mode}
@@ -30,7 +32,7 @@ split_on t events more stop rest (Ok next) behind is = behind next is
 split_on t events more stop rest (Err fault) behind is = absurd cc
 
 -- a replay goes on from the tale behind events that have no fault
-split_at : (events more : List Event) (t : Tale) (stop : Stop) (rest : List ℕ) → AreFaultless t events
+pub split_at : (events more : List Event) (t : Tale) (stop : Stop) (rest : List ℕ) → AreFaultless t events
     → played_events t (events ++ more) stop rest ≡ played_events (alone t events).tale more stop rest
 split_at [] more t stop rest is = refl
 split_at (event ∷ events) more t stop rest is =
@@ -44,7 +46,7 @@ first_on t events more stop rest (Ok next) behind is = behind next is
 first_on t events more stop rest (Err fault) behind is = absurd cc
 
 -- where a whole replay has no fault, its first events have none
-first_faultless : (events more : List Event) (t : Tale) (stop : Stop) (rest : List ℕ)
+pub first_faultless : (events more : List Event) (t : Tale) (stop : Stop) (rest : List ℕ)
     → (played_events t (events ++ more) stop rest).ending ≡ Done → AreFaultless t events
 first_faultless [] more t stop rest is = refl
 first_faultless (event ∷ events) more t stop rest is =
@@ -54,23 +56,32 @@ first_faultless (event ∷ events) more t stop rest is =
 
 -- the past, and nothing behind it
 none_behind : (t : Tale) → behind_past t (from_state t.state t.played) ≡ t
-none_behind t = rw (append-nil t.shown, append-nil t.notes, add-zero t.cost, add-zero t.box_cost) refl
+none_behind t = rw (
+  append-nil t.shown,
+  append-nil t.frames,
+  append-nil t.notes,
+  append-nil t.strokes,
+  add-zero t.cost,
+  add-zero t.box_cost,
+) refl
 
 module _ (past : Tale) where
   abbrev after_past : Result Tale EventFault → Result Tale EventFault
   after_past (Ok next) = Ok (behind_past past next)
   after_past (Err fault) = Err fault
 
-  told_past : (now : Tale) (cost box_cost : ℕ) (step : Result Stepped EventFault)
-      → told_on (behind_past past now) cost box_cost step ≡ after_past (told_on now cost box_cost step)
-  told_past now cost box_cost (Ok step) =
+  told_past : (now : Tale) (event : Event) (cost box_cost : ℕ) (step : Result Stepped EventFault)
+      → told_on (behind_past past now) event cost box_cost step ≡ after_past (told_on now event cost box_cost step)
+  told_past now event cost box_cost (Ok step) =
       rw (
         append_assoc past.shown now.shown (option_to_list step.shown),
+        append_assoc past.frames now.frames (frames_behind event (next_number now.played) step.machine.gpu.parts),
         append_assoc past.notes now.notes step.notes,
+        append_assoc past.strokes now.strokes (event_strokes now.state (next_number now.played) event),
         add_assoc past.cost now.cost cost,
         add_assoc past.box_cost now.box_cost box_cost,
       ) refl
-  told_past now cost box_cost (Err fault) = refl
+  told_past now event cost box_cost (Err fault) = refl
 
   goes_behind : (now : Tale) (rest : List ℕ) (next : Result Tale EventFault) (on : Tale → Played)
       → ((u : Tale) → on (behind_past past u) ≡ with_past past (on u))
@@ -85,7 +96,7 @@ module _ (past : Tale) where
   replay_behind (event ∷ events) now stop rest =
       let on : Tale → Played = λ next. played_events next events stop rest in
       ap (λ next. go_on next on (faulted (behind_past past now) rest))
-      (told_past now (event_cost now.state event) (event_box_cost now.state event)
+      (told_past now event (event_cost now.state event) (event_box_cost now.state event)
       (event_step now.state (next_number now.played) event))
       ∙ goes_behind now rest (after_event now event) on (λ u. replay_behind events u stop rest)
 
@@ -101,16 +112,17 @@ played_on t events stop rest =
 
 pub lines_past : (mode : Mode) (past now : Tale)
     → lines_of mode (behind_past past now) ≡ lines_of mode past ++ lines_of mode now
-lines_past mode past now = lines-append mode past.shown now.shown past.notes now.notes
+lines_past mode past now = lines-append mode past.shown now.shown past.frames now.frames past.notes now.notes
+    past.strokes now.strokes
 
 -- behind the lines of the past comes what is written of the rest, by taps that have heard the past
 pub out_past : (mode : Mode) (heard : List Reading) (past : Tale) (r : Played)
     → out_bytes mode heard (with_past past r) ≡ lines_of mode past ++ out_bytes mode (told_notes past.notes heard) r
 out_past mode heard past r =
     ap (λ told. lines_of mode (behind_past past r.tale)
-    ++ finals_at (ending_under mode r) mode told r.tale.state.gpu) (told-append past.notes r.tale.notes heard)
+    ++ finals_at (ending_under mode r) mode told (next_number r.tale.played) r.tale.state.gpu) (told-append past.notes r.tale.notes heard)
     ∙ ap (λ lines. lines ++ finals_at (ending_under mode r) mode
-    (told_notes r.tale.notes (told_notes past.notes heard)) r.tale.state.gpu) (lines_past mode past r.tale)
+    (told_notes r.tale.notes (told_notes past.notes heard)) (next_number r.tale.played) r.tale.state.gpu) (lines_past mode past r.tale)
     ∙ append_assoc (lines_of mode past) (lines_of mode r.tale) _
 
 pub replays_split : SplitLaw

@@ -15,13 +15,15 @@ pub record StandAlike (a b : Machine) : Type 0 where
   pub ram : a.ram ≡ b.ram
   pub running : a.running ≡ b.running
 
--- as many events were played, they showed the same words, told the same notes and cost the same, and the machines are
--- alike
+-- as many events were played, they showed the same words and frames, told the same notes, changed the same cells and
+-- cost the same, and the machines are alike
 pub record TellAlike (t u : Tale) : Type 0 where
   pub state : StandAlike t.state u.state
   pub played : t.played ≡ u.played
   pub shown : t.shown ≡ u.shown
+  pub frames : t.frames ≡ u.frames
   pub notes : t.notes ≡ u.notes
+  pub strokes : t.strokes ≡ u.strokes
   pub cost : t.cost ≡ u.cost
   pub box_cost : t.box_cost ≡ u.box_cost
 

@@ -1,25 +1,31 @@
--- A work that was done while the lines of its notes were written.
-use Rattle.std.specs.Prelude.{◌≡◌, ◌≤◌, ℕ, ◌+◌, Option, Result, Ok, IfOk, OnErr}
+-- A work that was done while lines of its words were written.
+use Rattle.std.specs.Prelude.{◌≡◌, ◌≤◌, ℕ, ◌+◌, List, [], Option, Result, Ok, IfOk, OnErr}
 use Rattle.dev_io.specs.Device.{Rose, appended}
 use Rattle.gpu_core.specs.Kept.{kept_of}
 use Rattle.gpu_core.specs.Machine.{State}
 use Rattle.event_play.specs.Feeding.{StopsFeeding}
-use Rattle.event_play.specs.Lines.{lines_of_notes}
+use Rattle.event_play.specs.Lines.{lines_while, lines_cost}
 use Rattle.event_play.specs.RigState.{RigState, Stands, machine_of}
 use Rattle.event_play.specs.Step.{Machine, done, work_cost, asked_words}
 use Rattle.event_play.specs.Streams.{Outlets}
+use Rattle.event_play.specs.Strokes.{Stroke, fed_strokes}
 use Rattle.event_play.specs.Told.{told_notes}
 use Rattle.event_play.specs.declared.ending.Mode.{Mode}
 use Rattle.event_play.specs.declared.work.Work.{Work}
+
+-- the strokes of its words
+abbrev pub work_strokes : Machine → (number : ℕ) → Work → List Stroke
+work_strokes s number asked = fed_strokes s.gpu number (asked_words s.ram (Ok asked))
 
 -- it was done whole
 pub record Does (mode : Mode) (s : Machine) (number : ℕ) (asked : Work) (shown : Option ℕ) (before now : Outlets)
     (rig : RigState) : Type 0 where
   pub shows : shown ≡ (done s number asked).shown
   pub stands : Stands rig (done s number asked).machine
-  pub held : now.held ≡ appended before.held (lines_of_notes mode (done s number asked).notes)
+  pub held : now.held ≡ appended before.held
+      (lines_while mode (done s number asked).notes (work_strokes s number asked))
   pub heard : now.heard ≡ told_notes (done s number asked).notes before.heard
-  pub cost : now.steps ≤ before.steps + work_cost s asked
+  pub cost : now.steps ≤ before.steps + (work_cost s asked + lines_cost mode [] (work_strokes s number asked))
 
 -- Its words were fed up to one whose line could not be written. Main memory and the running transfer are as they were.
 pub record Stops (mode : Mode) (s : Machine) (number : ℕ) (asked : Work) (before now : Outlets) (rig : RigState)

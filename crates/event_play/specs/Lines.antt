@@ -2,17 +2,47 @@
 use Rattle.std.specs.Prelude.{ℕ, List, [], flat_map}
 use Rattle.gp0_packets.specs.declared.note.Note.{Note}
 use Rattle.packet_text.specs.Line.{word_line, listed}
+use Rattle.event_play.specs.Frames.{Frame, picture_at, sum_at, frames_cost}
+use Rattle.event_play.specs.Strokes.{Stroke, stroke_lines, looks_cost}
 use Rattle.event_play.specs.declared.ending.Mode.{Mode}
-use Rattle.event_play.specs.declared.ending.Mode.TheVariants.{Vram, Shot, Report, List as Listing, Play as Words}
+use Rattle.event_play.specs.declared.ending.Mode.TheVariants.{Vram, Shot, Report, Frames, Sums, Pixel}
+use Rattle.event_play.specs.declared.ending.Mode.TheVariants.{List as Listing, Play as Words}
 
--- the line of each shown word, or of each note but those of pixels
-abbrev pub lines_for : Mode → (shown : List ℕ) → (notes : List Note) → List ℕ
-lines_for Words shown notes = flat_map word_line shown
-lines_for Listing shown notes = flat_map listed notes
-lines_for Vram shown notes = []
-lines_for Shot shown notes = []
-lines_for Report shown notes = []
+-- the line of each shown word, or the picture of each frame at the moments asked for or the line of its sum, or the line
+-- of each note but those of pixels, or the line of each change of a cell
+abbrev pub lines_for : Mode → (shown : List ℕ) → (frames : List Frame) → (notes : List Note)
+    → (strokes : List Stroke) → List ℕ
+lines_for Words shown frames notes strokes = flat_map word_line shown
+lines_for Listing shown frames notes strokes = flat_map listed notes
+lines_for (Frames at) shown frames notes strokes = flat_map (picture_at at) frames
+lines_for (Sums at) shown frames notes strokes = flat_map (sum_at at) frames
+lines_for (Pixel cell) shown frames notes strokes = flat_map (stroke_lines cell) strokes
+lines_for Vram shown frames notes strokes = []
+lines_for Shot shown frames notes strokes = []
+lines_for Report shown frames notes strokes = []
 
--- the lines of notes alone
-abbrev pub lines_of_notes : Mode → List Note → List ℕ
-lines_of_notes mode notes = lines_for mode [] notes
+-- those that are written while words are fed
+abbrev pub lines_while : Mode → (notes : List Note) → (strokes : List Stroke) → List ℕ
+lines_while mode notes strokes = lines_for mode [] [] notes strokes
+
+-- and those behind an event
+abbrev pub lines_behind : Mode → (shown : List ℕ) → (frames : List Frame) → List ℕ
+lines_behind mode shown frames = lines_for mode shown frames [] []
+
+-- the most store steps of writing them: pictures take some, and looking at a cell
+abbrev pub lines_cost : Mode → (frames : List Frame) → (strokes : List Stroke) → ℕ
+lines_cost (Frames at) frames strokes = frames_cost at frames
+lines_cost (Sums at) frames strokes = frames_cost at frames
+lines_cost (Pixel cell) frames strokes = looks_cost strokes
+lines_cost Words frames strokes = 0
+lines_cost Listing frames strokes = 0
+lines_cost Vram frames strokes = 0
+lines_cost Shot frames strokes = 0
+lines_cost Report frames strokes = 0
+
+-- a word, a picture or the line of its sum is written behind its event
+abbrev pub WritesBehind : Mode → Type 0
+WritesBehind Words = Unit {0}
+WritesBehind (Frames at) = Unit {0}
+WritesBehind (Sums at) = Unit {0}
+WritesBehind mode = ⊥

@@ -8,17 +8,26 @@ use Rattle.packet_text.specs.Line.{status_line}
 use Rattle.packet_text.specs.Tap.{tap_line}
 use Rattle.picture_out.specs.Dump.{dump, dump_cost}
 use Rattle.picture_out.specs.Picture.{picture, picture_cost}
-use Rattle.event_play.specs.Lines.{lines_for}
+use Rattle.event_play.specs.Frames.{frame_bytes, frame_sum, frame_cost, vram_sum, bytes_at_end, cost_at_end}
+use Rattle.event_play.specs.Lines.{lines_for, lines_cost}
 use Rattle.event_play.specs.Replay.{Tale, Played, next_number}
 use Rattle.event_play.specs.Told.{told_notes}
 use Rattle.event_play.specs.declared.ending.Ending.{Ending}
 use Rattle.event_play.specs.declared.ending.Ending.TheVariants.{Done, NoPicture}
 use Rattle.event_play.specs.declared.ending.Mode.{Mode}
-use Rattle.event_play.specs.declared.ending.Mode.TheVariants.{Vram, Shot, Report, List as Listing, Play as Words}
+use Rattle.event_play.specs.declared.ending.Mode.TheVariants.{Vram, Shot, Report, Frames, Sums, Pixel}
+use Rattle.event_play.specs.declared.ending.Mode.TheVariants.{List as Listing, Play as Words}
 
 -- what is due as the events come
 abbrev pub lines_of : Mode → Tale → List ℕ
-lines_of mode t = lines_for mode t.shown t.notes
+lines_of mode t = lines_for mode t.shown t.frames t.notes t.strokes
+
+-- the most store steps of playing and of writing it, and the same by the boxes
+abbrev pub tale_cost : Mode → Tale → ℕ
+tale_cost mode t = t.cost + lines_cost mode t.frames t.strokes
+
+abbrev pub tale_box_cost : Mode → Tale → ℕ
+tale_box_cost mode t = t.box_cost + lines_cost mode t.frames t.strokes
 
 -- ---- the end
 
@@ -37,25 +46,32 @@ abbrev pub ending_under : Mode → Played → Ending
 ending_under mode r =
     unless_lacking (lacks_picture mode r.tale.state.gpu.parts.regs) (next_number r.tale.played) r.ending
 
--- what is due after the end: the status line, all cells of video memory, the picture, or the line of each tap
-unfoldable pub final_bytes : Mode → (heard : List Reading) → State → List ℕ
-final_bytes Words heard s = status_line (status_word s)
-final_bytes Listing heard s = []
-final_bytes Vram heard s = dump s.parts.m
-final_bytes Shot heard s = picture s.parts.m s.parts.regs
-final_bytes Report heard s = flat_map tap_line heard
+-- what is due after the end, at the number behind the last event: the status line, all cells of video memory, the
+-- picture, if one is shown, the line of its sum and that of video memory, or the line of each tap
+unfoldable pub final_bytes : Mode → (heard : List Reading) → (number : ℕ) → State → List ℕ
+final_bytes Words heard number s = status_line (status_word s)
+final_bytes Listing heard number s = []
+final_bytes (Pixel cell) heard number s = []
+final_bytes Vram heard number s = dump s.parts.m
+final_bytes Shot heard number s = picture s.parts.m s.parts.regs
+final_bytes (Frames at) heard number s = bytes_at_end at (frame_bytes s.parts)
+final_bytes (Sums at) heard number s = bytes_at_end at (frame_sum number s.parts) ++ vram_sum s.parts.m
+final_bytes Report heard number s = flat_map tap_line heard
 
 unfoldable pub final_cost : Mode → State → ℕ
 final_cost Words s = 0
 final_cost Listing s = 0
+final_cost (Pixel cell) s = 0
 final_cost Vram s = dump_cost s.parts.m
 final_cost Shot s = picture_cost s.parts.regs
+final_cost (Frames at) s = cost_at_end at (frame_cost s.parts)
+final_cost (Sums at) s = cost_at_end at (frame_cost s.parts) + dump_cost s.parts.m
 final_cost Report s = 0
 
 -- both only where playing ends with Done
-abbrev pub finals_at : Ending → Mode → (heard : List Reading) → State → List ℕ
-finals_at Done mode heard s = final_bytes mode heard s
-finals_at ending mode heard s = []
+abbrev pub finals_at : Ending → Mode → (heard : List Reading) → (number : ℕ) → State → List ℕ
+finals_at Done mode heard number s = final_bytes mode heard number s
+finals_at ending mode heard number s = []
 
 abbrev pub finals_cost_at : Ending → Mode → State → ℕ
 finals_cost_at Done mode s = final_cost mode s
@@ -63,7 +79,8 @@ finals_cost_at ending mode s = 0
 
 -- by what the taps say at the end, of which this is what they said when they were handed in
 abbrev pub finals : Mode → (heard : List Reading) → Played → List ℕ
-finals mode heard r = finals_at (ending_under mode r) mode (told_notes r.tale.notes heard) r.tale.state.gpu
+finals mode heard r =
+    finals_at (ending_under mode r) mode (told_notes r.tale.notes heard) (next_number r.tale.played) r.tale.state.gpu
 
 abbrev pub finals_cost : Mode → Played → ℕ
 finals_cost mode r = finals_cost_at (ending_under mode r) mode r.tale.state.gpu
@@ -76,7 +93,7 @@ out_bytes mode heard r = lines_of mode r.tale ++ finals mode heard r
 
 -- the most store steps of playing and writing, and the same by the boxes
 abbrev pub out_cost : Mode → Played → ℕ
-out_cost mode r = r.tale.cost + finals_cost mode r
+out_cost mode r = tale_cost mode r.tale + finals_cost mode r
 
 abbrev pub out_box_cost : Mode → Played → ℕ
-out_box_cost mode r = r.tale.box_cost + finals_cost mode r
+out_box_cost mode r = tale_box_cost mode r.tale + finals_cost mode r

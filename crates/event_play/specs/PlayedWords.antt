@@ -1,13 +1,14 @@
 -- Words that are written to GP0, an event each, where no line is due for them.
-use Rattle.std.specs.Prelude.{◌≡◌, ◌≤◌, ℕ, ◌+◌, ◌-◌, ◌^◌, min, List, [], ◌++◌, fold, option_to_list}
+use Rattle.std.specs.Prelude.{◌≡◌, ◌≤◌, ℕ, ◌+◌, ◌-◌, ◌^◌, min, List, [], ◌∷◌, ◌++◌, fold, option_to_list}
 use Rattle.gpu_core.specs.Cost.{gp0_cost, gp0_box_cost}
 use Rattle.gpu_core.specs.Kept.{Kept, kept_of}
 use Rattle.gpu_core.specs.Machine.{after_gp0, gp0_note}
 use Rattle.event_play.specs.Replay.{Tale, next_number}
 use Rattle.event_play.specs.Streams.{Outlets}
+use Rattle.event_play.specs.Strokes.{stroke_of}
 use Rattle.event_play.specs.Told.{told_notes}
 use Rattle.event_play.specs.declared.ending.Mode.{Mode}
-use Rattle.event_play.specs.declared.ending.Mode.TheVariants.{List as Listing}
+use Rattle.event_play.specs.declared.ending.Mode.TheVariants.{List as Listing, Pixel}
 
 -- the tale with one such event more
 abbrev pub after_word : Tale → (word : ℕ) → Tale
@@ -15,7 +16,9 @@ after_word t word = record {
   state = record t.state { gpu = after_gp0 t.state.gpu word };
   played = next_number t.played;
   shown = t.shown;
+  frames = t.frames;
   notes = t.notes ++ option_to_list (gp0_note t.state.gpu (next_number t.played) word);
+  strokes = t.strokes ++ stroke_of t.state.gpu (next_number t.played) word ∷ [];
   cost = t.cost + gp0_cost t.state.gpu word;
   box_cost = t.box_cost + gp0_box_cost t.state.gpu word;
 }
@@ -34,7 +37,8 @@ pub record IsTold (t : Tale) (first now : Outlets) (gpu : Kept) (played : ℕ) :
   pub heard : now.heard ≡ told_notes t.notes first.heard
   pub cost : now.steps ≤ first.steps + t.cost
 
--- no line is due for any of these words: the mode lists no notes, or there is no word
+-- no line is due for any of these words: the mode neither lists notes nor looks at a cell, or there is no word
 abbrev pub AreQuiet : Mode → (words : List ℕ) → Type 0
 AreQuiet Listing words = words ≡ []
+AreQuiet (Pixel cell) words = words ≡ []
 AreQuiet mode words = Unit {0}

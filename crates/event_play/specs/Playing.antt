@@ -16,7 +16,7 @@ use Rattle.event_play.specs.Told.{told_notes}
 use Rattle.event_play.specs.declared.ending.Ending.{Ending}
 use Rattle.event_play.specs.declared.ending.Ending.TheVariants.{Done, Stopped, Faulted, NoPicture, WriteFailed}
 use Rattle.event_play.specs.declared.ending.Mode.{Mode}
-use Rattle.event_play.specs.declared.ending.Mode.TheVariants.{List as Listing, Play as Words}
+use Rattle.event_play.specs.declared.ending.Mode.TheVariants.{List as Listing, Play as Words, Frames, Sums, Pixel}
 
 -- it ended for want of bytes
 abbrev pub IsShort : Ending → Type 0
@@ -44,10 +44,14 @@ pub record DueInside (t start last : Tale) (event : Event) : Type 0 where
   pub start_is : start ≡ part_fed t before
   pub last_is : last ≡ part_fed t (before ++ word ∷ [])
 
--- what was due at an event: the line of one of its items, or the line of the word that it shows
+-- what was due at an event: the line of one of its items, the line of the word that it shows, or the picture behind
+-- it or its sum
 abbrev pub DueIn : Mode → Tale → Tale → Tale → Event → Type 0
 DueIn Listing t start last event = DueInside t start last event
+DueIn (Pixel cell) t start last event = DueInside t start last event
 DueIn Words t start last event = (start ≡ t) × (after_event t event ≡ Ok last)
+DueIn (Frames at) t start last event = (start ≡ t) × (after_event t event ≡ Ok last)
+DueIn (Sums at) t start last event = (start ≡ t) × (after_event t event ≡ Ok last)
 DueIn mode t start last event = ⊥
 
 -- after the bytes taken the next event is this one, and these lines are due at it: those that the last tale has more
@@ -66,7 +70,7 @@ pub record DueAtEnd (mode : Mode) (heard : List Reading) (by_bytes : List ℕ �
   pub ends : ending_under mode (whole t []) ≡ Done
   pub start_is : start ≡ t
   pub last_is : last ≡ t
-  pub bytes : due ≡ final_bytes mode (told_notes t.notes heard) t.state.gpu
+  pub bytes : due ≡ final_bytes mode (told_notes t.notes heard) (next_number t.played) t.state.gpu
 
 -- What has been written begins all that there is to write. Of what is due at this number, and was to be written next,
 -- at least one byte is lacking: all that was due before stands, and nothing that is due later.
@@ -90,7 +94,7 @@ SaysEnding mode by_bytes t last taken before now Done =
     ((rest : List ℕ) → by_bytes (taken ++ rest) ≡ whole t rest)
     × (ending_under mode (whole t []) ≡ Done)
     × (now.held ≡ appended before.held (lines_of mode t
-    ++ final_bytes mode (told_notes t.notes before.heard) t.state.gpu))
+    ++ final_bytes mode (told_notes t.notes before.heard) (next_number t.played) t.state.gpu))
 SaysEnding mode by_bytes t last taken before now (NoPicture number) =
     ((rest : List ℕ) → by_bytes (taken ++ rest) ≡ whole t rest)
     × (ending_under mode (whole t []) ≡ NoPicture number)

@@ -9,44 +9,59 @@ use Rattle.gpu_capture.specs.declared.event.Stop.{Stop}
 use Rattle.gpu_capture.specs.declared.event.Stop.TheVariants.{End}
 use Rattle.gpu_capture.specs.declared.progress.Progress.{Progress}
 use Rattle.event_play.specs.Fed.{fed, fed_notes, fed_cost, fed_box_cost}
+use Rattle.event_play.specs.Frames.{Frame, frames_behind}
 use Rattle.event_play.specs.Step.{Machine, Stepped, event_step, event_cost, event_box_cost, tall_machine}
+use Rattle.event_play.specs.Strokes.{Stroke, fed_strokes, event_strokes}
 use Rattle.event_play.specs.declared.ending.Ending.{Ending}
 use Rattle.event_play.specs.declared.ending.Ending.TheVariants.{Done, Stopped, Faulted}
 use Rattle.event_play.specs.declared.fault.EventFault.{EventFault}
 
--- what has been played: the state, the number of events, the shown words, the notes, and the most store steps of all
--- this, also by the boxes
+-- what has been played: the state, the number of events, the shown words, the frames, the notes, the strokes, and the
+-- most store steps of all this, also by the boxes
 pub record Tale : Type 0 where
   pub state : Machine
   pub played : ℕ
   pub shown : List ℕ
+  pub frames : List Frame
   pub notes : List Note
+  pub strokes : List Stroke
   pub cost : ℕ
   pub box_cost : ℕ
 
 -- nothing yet, from a state and a number of events played before
 abbrev pub from_state : Machine → ℕ → Tale
-from_state s played = record { state = s; played = played; shown = []; notes = []; cost = 0; box_cost = 0 }
+from_state s played = record {
+  state = s;
+  played = played;
+  shown = [];
+  frames = [];
+  notes = [];
+  strokes = [];
+  cost = 0;
+  box_cost = 0;
+}
 
 -- the number of the next event; numbers stay at 2^64 - 1 once there
 abbrev pub next_number : ℕ → ℕ
 next_number played = min (played + 1) (2 ^ 64 - 1)
 
 -- the tale with one event more
-abbrev pub told_on : Tale → (cost box_cost : ℕ) → Result Stepped EventFault → Result Tale EventFault
-told_on t cost box_cost (Ok stepped) = Ok (record {
+abbrev pub told_on : Tale → Event → (cost box_cost : ℕ) → Result Stepped EventFault → Result Tale EventFault
+told_on t event cost box_cost (Ok stepped) = Ok (record {
   state = stepped.machine;
   played = next_number t.played;
   shown = t.shown ++ option_to_list stepped.shown;
+  frames = t.frames ++ frames_behind event (next_number t.played) stepped.machine.gpu.parts;
   notes = t.notes ++ stepped.notes;
+  strokes = t.strokes ++ event_strokes t.state (next_number t.played) event;
   cost = t.cost + cost;
   box_cost = t.box_cost + box_cost;
 })
-told_on t cost box_cost (Err fault) = Err fault
+told_on t event cost box_cost (Err fault) = Err fault
 
 abbrev pub after_event : Tale → Event → Result Tale EventFault
 after_event t event =
-    told_on t (event_cost t.state event) (event_box_cost t.state event)
+    told_on t event (event_cost t.state event) (event_box_cost t.state event)
     (event_step t.state (next_number t.played) event)
 
 -- the tale with the first words of its next event fed, which does not count that event
@@ -55,7 +70,9 @@ part_fed t words = record {
   state = record t.state { gpu = fed t.state.gpu words };
   played = t.played;
   shown = t.shown;
+  frames = t.frames;
   notes = t.notes ++ fed_notes t.state.gpu (next_number t.played) words;
+  strokes = t.strokes ++ fed_strokes t.state.gpu (next_number t.played) words;
   cost = t.cost + fed_cost t.state.gpu words;
   box_cost = t.box_cost + fed_box_cost t.state.gpu words;
 }

@@ -23,7 +23,9 @@ behind_past past now = record {
   state = now.state;
   played = now.played;
   shown = past.shown ++ now.shown;
+  frames = past.frames ++ now.frames;
   notes = past.notes ++ now.notes;
+  strokes = past.strokes ++ now.strokes;
   cost = past.cost + now.cost;
   box_cost = past.box_cost + now.box_cost;
 }

@@ -12,6 +12,7 @@ ghost use Rattle.event_play.specs.PlayedWords.{IsTold, after_words, number_behin
 ghost use Rattle.event_play.specs.Replay.{Tale};
 ghost use Rattle.event_play.specs.Step.{words_of};
 ghost use Rattle.event_play.specs.Streams.{Outlets, outlets, without_sink};
+ghost use Rattle.event_play.specs.Strokes.{seen_cell, change_of};
 ghost use Rattle.event_play.specs.Work.{AreWords};
 
 use crate::block::{Block, address_in};
@@ -23,12 +24,13 @@ use gpu_core::Gpu;
 use gpu_taps::Listener;
 use list_dma::{WALK_LIMIT, next_node, node_at};
 use ot_clear_dma::Ram;
-use packet_text::write_note;
+use packet_text::{write_change, write_note};
+use px_num::Cell;
 use std::sync::ledger::Ledger;
 use vram_store::Steps;
 
-/// Feeds words in the event of this number, and writes the lines of their notes as they come, if the mode asks for
-/// them. Where that fails, the words behind the item whose line it was are not fed.
+/// Feeds words in the event of this number, and writes their lines as they come, if the mode asks for them. Where that
+/// fails, the words behind the item whose line it was are not fed.
 pub(crate) fn feed<K: Sink, T: Listener, L: Ledger>(
     gpu: &mut Gpu,
     ram: &Ram,
@@ -52,8 +54,8 @@ pub(crate) fn feed<K: Sink, T: Listener, L: Ledger>(
     }
 }
 
-/// Feeds a word in the event of this number, and writes the line of its note, if the mode asks for it. Where that
-/// fails, the word has been fed all the same.
+/// Feeds a word in the event of this number, and writes the line of its note, or of what it changes of a cell, if the
+/// mode asks for it. Where that fails, the word has been fed all the same.
 pub(crate) fn feed_word<K: Sink, T: Listener, L: Ledger>(
     gpu: &mut Gpu,
     number: u64,
@@ -67,9 +69,63 @@ pub(crate) fn feed_word<K: Sink, T: Listener, L: Ledger>(
         (outlets (K.held out.old) (K.faults out.old) (map T.heard taps.old.items) steps.old)
         (outlets (K.held out.new) (K.faults out.new) (map T.heard taps.new.items) steps.new) gpu.old gpu.new result }
 {
-    let note = gpu.gp0(number, word, taps, steps);
     match mode {
-        Mode::List => write_listed(out, &note),
+        Mode::List => {
+            let note = gpu.gp0(number, word, taps, steps);
+            write_listed(out, &note)
+        }
+        Mode::Pixel { cell } => feed_watched(gpu, number, word, cell, out, taps, steps),
+        _ => {
+            let _ = gpu.gp0(number, word, taps, steps);
+            Ok(())
+        }
+    }
+}
+
+// The same where a cell is looked at.
+fn feed_watched<K: Sink, T: Listener, L: Ledger>(
+    gpu: &mut Gpu,
+    number: u64,
+    word: u32,
+    cell: Cell,
+    out: &mut K,
+    taps: &mut Vec<T>,
+    steps: &mut Steps<L>,
+) -> Result<(), Failed>
+    ensures { FeedsWords (Mode.Pixel cell) number (word ∷ [])
+        (outlets (K.held out.old) (K.faults out.old) (map T.heard taps.old.items) steps.old)
+        (outlets (K.held out.new) (K.faults out.new) (map T.heard taps.new.items) steps.new) gpu.old gpu.new result }
+{
+    let before = seen_cell(gpu, cell, steps);
+    let note = gpu.gp0(number, word, taps, steps);
+    let after = seen_cell(gpu, cell, steps);
+    write_changed(out, &note, before, after)
+}
+
+// The value of a cell, or 0 where video memory has no such cell.
+fn seen_cell<L: Ledger>(gpu: &Gpu, cell: Cell, steps: &mut Steps<L>) -> u16
+    ensures value { result ≡ seen_cell cell gpu.now.parts.m }
+    ensures cost { steps.new ≤ steps.old + 1 }
+{
+    let vram = gpu.vram();
+    if cell.x < 1024 && cell.y < vram.height() {
+        vram.get(cell.x, cell.y, steps)
+    } else {
+        0
+    }
+}
+
+// The line of an item that left another value in a cell than it found.
+fn write_changed<K: Sink>(
+    out: &mut K,
+    note: &Option<Note>,
+    before: u16,
+    after: u16,
+) -> Result<(), Failed>
+    ensures { Writes K.held K.faults out.old out.new (change_of note.now before after) result }
+{
+    match note {
+        Some(note) if before != after => write_change(out, note, before, after),
         _ => Ok(()),
     }
 }

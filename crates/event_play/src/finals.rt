@@ -1,14 +1,18 @@
-// What is written of the words that are shown, and behind the last event.
+// What is written behind an event, and behind the last one.
 ghost use Rattle.std.specs.Prelude.{◌≡◌, ◌≤◌, ◌+◌, [], false, map, flat_map, option_to_list, OnErr};
 ghost use Rattle.dev_io.specs.Device.{Rose, Writes};
 ghost use Rattle.gpu_core.specs.Kept.{kept_of};
 ghost use Rattle.gpu_core.specs.Machine.{State};
+ghost use Rattle.packet_text.specs.Line.{word_line};
 ghost use Rattle.packet_text.specs.Tap.{tap_line};
-ghost use Rattle.event_play.specs.Lines.{lines_for};
+ghost use Rattle.event_play.specs.Frames.{frames_behind};
+ghost use Rattle.event_play.specs.Lines.{lines_behind, lines_cost, WritesBehind};
 ghost use Rattle.event_play.specs.Out.{final_bytes, final_cost, lacks_picture};
 
 use crate::ending::Mode;
+use crate::film::{write_frames, write_last_frame, write_last_sums, write_sums};
 use dev_io::{Failed, Sink};
+use gpu_capture::Event;
 use gpu_core::Gpu;
 use gpu_taps::Listener;
 use packet_text::{write_status, write_tap, write_word};
@@ -16,21 +20,37 @@ use picture_out::{shape, write_ppm, write_vram};
 use std::sync::ledger::Ledger;
 use vram_store::Steps;
 
-/// Writes the line of a word that an event shows, if the mode asks for it.
-pub(crate) fn write_shown<K: Sink>(
+/// Writes what is due behind the event of this number by the mode: the line of the word that it shows, or the picture
+/// or the line of its sum, where the event is one of the moments asked for.
+pub(crate) fn write_behind<K: Sink, L: Ledger>(
+    gpu: &Gpu,
+    event: &Event,
+    number: u64,
+    shown: Option<u32>,
     out: &mut K,
     mode: Mode,
-    shown: Option<u32>,
+    steps: &mut Steps<L>,
 ) -> Result<(), Failed>
-    ensures writes { Writes K.held K.faults out.old out.new (lines_for mode (option_to_list shown) []) result }
-    ensures mode { OnErr result (mode ≡ Mode.Play) }
+    ensures writes { Writes K.held K.faults out.old out.new
+        (lines_behind mode (option_to_list shown) (frames_behind event.now number gpu.now.parts)) result }
+    ensures mode { OnErr result (WritesBehind mode) }
+    ensures cost { steps.new ≤ steps.old + lines_cost mode (frames_behind event.now number gpu.now.parts) [] }
 {
     match mode {
-        Mode::Play => match shown {
-            Some(word) => write_word(out, word),
-            None => Ok(()),
-        },
+        Mode::Play => write_shown(shown, out),
+        Mode::Frames { at } => write_frames(gpu, event, number, at, out, steps),
+        Mode::Sums { at } => write_sums(gpu, event, number, at, out, steps),
         _ => Ok(()),
+    }
+}
+
+// Writes the line of a word that an event shows.
+fn write_shown<K: Sink>(shown: Option<u32>, out: &mut K) -> Result<(), Failed>
+    ensures { Writes K.held K.faults out.old out.new (flat_map word_line (option_to_list shown)) result }
+{
+    match shown {
+        Some(word) => write_word(out, word),
+        None => Ok(()),
     }
 }
 
@@ -44,10 +64,11 @@ pub(crate) fn lacks_picture(gpu: &Gpu, mode: Mode) -> bool
     }
 }
 
-/// Writes what is due behind the last event.
+/// Writes what is due behind the last event, at the number of the next one.
 #[tactic(auto, unfolding(crate::specs::Out::final_bytes, crate::specs::Out::final_cost))]
 pub(crate) fn write_finals<K: Sink, T: Listener, L: Ledger>(
     gpu: &Gpu,
+    number: u64,
     out: &mut K,
     mode: Mode,
     taps: &Vec<T>,
@@ -55,7 +76,7 @@ pub(crate) fn write_finals<K: Sink, T: Listener, L: Ledger>(
 ) -> Result<(), Failed>
     requires { lacks_picture mode gpu.now.parts.regs ≡ false }
     ensures writes { (s : State) → kept_of s ≡ gpu.now →
-        Writes K.held K.faults out.old out.new (final_bytes mode (map T.heard taps.now.items) s) result }
+        Writes K.held K.faults out.old out.new (final_bytes mode (map T.heard taps.now.items) number s) result }
     ensures cause { OnErr result (Rose (K.faults out.old) (K.faults out.new)) }
     ensures faults { K.faults out.old ≤ K.faults out.new }
     ensures cost { (s : State) → kept_of s ≡ gpu.now → steps.new ≤ steps.old + final_cost mode s }
@@ -64,7 +85,10 @@ pub(crate) fn write_finals<K: Sink, T: Listener, L: Ledger>(
         Mode::Play => write_status(out, gpu.status()),
         Mode::Vram => write_vram(gpu.vram(), out, steps),
         Mode::Shot => write_ppm(gpu.vram(), gpu.regs(), out, steps),
+        Mode::Frames { at } => write_last_frame(gpu, at, out, steps),
+        Mode::Sums { at } => write_last_sums(gpu, number, at, out, steps),
         Mode::List => Ok(()),
+        Mode::Pixel { .. } => Ok(()),
         Mode::Report => write_report(out, taps),
     }
 }

@@ -1,6 +1,7 @@
 //! Laws of events, each of them the contract of a function that does nothing.
 ghost use Rattle.event_play.specs.AlikeStates.{AlikeReplayAlike};
 ghost use Rattle.event_play.specs.Costs.{CostsAreSmall};
+ghost use Rattle.event_play.specs.Shots.{FramesAreShots};
 ghost use Rattle.event_play.specs.Splits.{SplitLaw};
 ghost use Rattle.event_play.specs.Turns.{TurnsAreWhole};
 
@@ -27,4 +28,10 @@ pub fn alike_replay_alike()
 /// shows, tells, writes and costs what it does from there.
 pub fn replays_can_be_cut()
     ensures { SplitLaw }
+{}
+
+/// Each picture that `frames` writes is what `shot` writes of the events up to that flip or mark, and at flips the last
+/// one is what `shot` writes of them all.
+pub fn frames_are_shots()
+    ensures { FramesAreShots }
 {}

@@ -2,9 +2,11 @@
 #![tactic(auto)]
 
 mod block;
+mod direct;
 mod ending;
 mod fault;
 mod feed;
+mod film;
 mod finals;
 pub mod laws;
 mod nowhere;
@@ -15,7 +17,7 @@ mod take;
 mod work;
 
 pub use block::{Block, address_in};
-pub use ending::{Ending, Mode};
+pub use ending::{Ending, Mode, Moment};
 pub use fault::EventFault;
 pub use finals::write_report;
 pub use rig::Rig;

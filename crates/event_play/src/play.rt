@@ -16,7 +16,7 @@ ghost use Rattle.event_play.specs.Streams.{Outlets, outlets, streams, without_si
 
 use crate::ending::{Ending, Mode};
 use crate::feed::{feed_events, feed_word};
-use crate::finals::{lacks_picture, write_finals, write_shown};
+use crate::finals::{lacks_picture, write_behind, write_finals};
 use crate::rig::Rig;
 use crate::work::judge;
 use dev_io::{Sink, Source};
@@ -198,7 +198,7 @@ impl Rig {
             return Err(Ending::WriteFailed { event: number });
         };
         self.played = number;
-        let Ok(()) = write_shown(out, mode, shown) else {
+        let Ok(()) = write_behind(&self.gpu, event, number, shown, out, mode, steps) else {
             return Err(Ending::WriteFailed { event: number });
         };
         Ok(())
@@ -228,7 +228,7 @@ impl Rig {
                 if lacks_picture(&self.gpu, mode) {
                     return Ending::NoPicture { event };
                 }
-                match write_finals(&self.gpu, out, mode, taps, steps) {
+                match write_finals(&self.gpu, event, out, mode, taps, steps) {
                     Ok(()) => Ending::Done,
                     Err(_) => Ending::WriteFailed { event },
                 }
@@ -238,7 +238,7 @@ impl Rig {
     }
 }
 
-// Takes the words that come next at once, where the mode asks for no line of their notes.
+// Takes the words that come next at once, where the mode asks for no line of them.
 fn read_words<S: Source>(
     reader: &mut EventReader,
     source: &mut S,
@@ -257,7 +257,7 @@ fn read_words<S: Source>(
     ensures faults { S.faults source.old ≤ S.faults source.new }
 {
     match mode {
-        Mode::List => {
+        Mode::List | Mode::Pixel { .. } => {
             block.clear();
             Ok(())
         }

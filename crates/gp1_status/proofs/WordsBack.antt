@@ -74,7 +74,7 @@ both true true e f = refl
 both true false e f = absurd cc
 both false b e f = absurd cc
 
-at_place : (r : Registers) → KeepsWidths r → r.latch < 2 ^ 32 → (i : ℕ) → i < 13
+at_place : (r : Registers) → KeepsWidths r → r.held < 2 ^ 32 → (i : ℕ) → i < 13
     → is_allowed r.height i (slice_index (words_of r) i) ≡ true
 at_place r k latch zero h = both _ _ (lt-ltb _ _ k.e1) (le-leb _ _ k.page)
 at_place r k latch (suc zero) h = lt-ltb _ _ k.window
@@ -92,5 +92,5 @@ at_place r k latch (suc (suc (suc (suc (suc (suc (suc (suc (suc (suc (suc (suc z
 at_place r k latch (suc (suc (suc (suc (suc (suc (suc (suc (suc (suc (suc (suc (suc i))))))))))))) h = absurd
     (omega arith)
 
-pub words-allowed : (r : Registers) → KeepsWidths r → r.latch < 2 ^ 32 → AreAllowed r.height (words_of r)
+pub words-allowed : (r : Registers) → KeepsWidths r → r.held < 2 ^ 32 → AreAllowed r.height (words_of r)
 words-allowed r k latch = record { each = at_place r k latch }

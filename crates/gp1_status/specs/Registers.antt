@@ -20,7 +20,7 @@ pub record Registers : Type 0 where
   pub hrange : ℕ
   pub vrange : ℕ
   pub mode : ℕ
-  pub latch : ℕ
+  pub held : ℕ
   pub height : ℕ
 
 -- bit j of a number
@@ -74,7 +74,7 @@ reset latch height =
       hrange = 0x200 + 0xc00 * 2 ^ 12;
       vrange = 0x10 + 0x100 * 2 ^ 10;
       mode = 0;
-      latch = latch;
+      held = latch;
       height = height;
     }
 
@@ -121,7 +121,7 @@ is_clearing word = nat_le (opcode_of word) 1
 abbrev pub gp1_of : Registers → (word : ℕ) → Registers
 gp1_of r word =
     let opcode = opcode_of word in
-    if opcode == 0x00 then reset r.latch r.height else
+    if opcode == 0x00 then reset r.held r.height else
     (if opcode == 0x02 then record r { irq = false } else
     (if opcode == 0x03 then record r { display_off = word % 2 == 1 } else
     (if opcode == 0x04 then record r { direction = word % 4 } else
@@ -130,7 +130,7 @@ gp1_of r word =
     (if opcode == 0x07 then record r { vrange = word % 2 ^ 20 } else
     (if opcode == 0x08 then record r { mode = word % 2 ^ 8 } else
     (if nat_le 0x10 opcode && nat_le opcode 0x1f
-    then record r { latch = unwrap_or (info_of r word) r.latch } else r))))))))
+    then record r { held = unwrap_or (info_of r word) r.held } else r))))))))
 
 -- ---- the status word
 

@@ -18,6 +18,6 @@ registers_of r =
       hrange = r.hrange;
       vrange = r.vrange;
       mode = r.mode;
-      latch = r.latch;
+      held = r.held;
       height = r.height;
     }

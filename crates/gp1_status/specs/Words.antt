@@ -8,7 +8,7 @@ use Rattle.gp1_status.specs.Registers.{Registers, KeepsWidths, bit, bit_of}
 abbrev pub words_of : Registers → List ℕ
 words_of r =
     r.e1 ∷ r.window ∷ r.top_left ∷ r.bottom_right ∷ r.offset ∷ r.mask ∷ (bit_of r.irq + bit_of r.display_off * 2)
-    ∷ r.direction ∷ r.start ∷ r.hrange ∷ r.vrange ∷ r.mode ∷ r.latch ∷ []
+    ∷ r.direction ∷ r.start ∷ r.hrange ∷ r.vrange ∷ r.mode ∷ r.held ∷ []
 
 -- the registers of which these are the words, with video memory of so many rows
 abbrev pub registers_in : (height : ℕ) → List ℕ → Registers
@@ -27,7 +27,7 @@ registers_in height words =
       hrange = slice_index words 9;
       vrange = slice_index words 10;
       mode = slice_index words 11;
-      latch = slice_index words 12;
+      held = slice_index words 12;
       height = height;
     }
 
@@ -58,5 +58,5 @@ pub record AreAllowed (height : ℕ) (words : List ℕ) : Type 0 where
 
 -- registers are those of which their words are the words, and these have no bit that they may not have
 abbrev pub WordsSayAll : Type 0
-WordsSayAll = (r : Registers) → KeepsWidths r → r.latch < 2 ^ 32
+WordsSayAll = (r : Registers) → KeepsWidths r → r.held < 2 ^ 32
     → (registers_in r.height (words_of r) ≡ r) × AreAllowed r.height (words_of r)

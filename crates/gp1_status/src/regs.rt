@@ -25,7 +25,7 @@ pub struct Regs {
     hrange: u32,
     vrange: u32,
     mode: u8,
-    latch: u32,
+    held: u32,
     height: u16,
 }
 
@@ -59,7 +59,7 @@ impl Regs {
             hrange: 0xc0_0200,
             vrange: 0x4_0010,
             mode: 0,
-            latch: 0,
+            held: 0,
             height: SHORT_HEIGHT,
         }
     }
@@ -82,7 +82,7 @@ impl Regs {
             self.hrange,
             self.vrange,
             self.mode as u32,
-            self.latch,
+            self.held,
         ]
     }
 
@@ -112,7 +112,7 @@ impl Regs {
             hrange: words[9],
             vrange: words[10],
             mode: words[11] as u8,
-            latch: words[12],
+            held: words[12],
             height,
         })
     }
@@ -227,11 +227,11 @@ impl Regs {
         self.mode
     }
 
-    /// The latch: the word that a read gives where no store is open.
-    pub fn latch_word(&self) -> u32
-        ensures { result ≡ self.now.latch }
+    /// What the read port holds, the latch: the word that a read gives where no store is open.
+    pub fn held(&self) -> u32
+        ensures { result ≡ self.now.held }
     {
-        self.latch
+        self.held
     }
 
     /// How many rows video memory has: 512 or 1024.
@@ -258,9 +258,9 @@ impl Regs {
 
     /// Sets the latch.
     pub fn latch(&mut self, word: u32)
-        ensures { self.new ≡ record self.old { latch = word } }
+        ensures { self.new ≡ record self.old { held = word } }
     {
-        self.latch = word;
+        self.held = word;
     }
 
     /// Writes register 1 to 6 of the drawing environment, as GP0(E1h) to GP0(E6h) do. The bits of the
@@ -328,7 +328,7 @@ impl Regs {
             0x08 => self.mode = bits(word, 0, 8) as u8,
             0x10..=0x1f => {
                 if let Some(answer) = self.info(word) {
-                    self.latch = answer;
+                    self.held = answer;
                 }
             }
             _ => {}
@@ -337,10 +337,10 @@ impl Regs {
 
     // The first state, but for the latch and the height.
     fn reset(&mut self)
-        ensures { self.new ≡ reset self.old.latch self.old.height }
+        ensures { self.new ≡ reset self.old.held self.old.height }
     {
         *self = Regs {
-            latch: self.latch,
+            held: self.held,
             height: self.height,
             ..Regs::new()
         };

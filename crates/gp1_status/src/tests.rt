@@ -58,7 +58,7 @@ fn information_goes_to_the_latch(rt: HostRuntime) {
         (0x5f00_0007, 2),
     ] {
         regs.gp1(word);
-        assert_eq!(rt; regs.latch_word(), want, "after {word}");
+        assert_eq!(rt; regs.held(), want, "after {word}");
     }
     assert_eq!(rt; (regs.info(4), regs.info(6)), (Some(0x7_ffff), None));
 }
@@ -80,7 +80,7 @@ fn a_reset_keeps_the_latch(rt: HostRuntime) {
         (regs.start(), regs.hrange(), regs.vrange()),
         (0, 0xc0_0200, 0x4_0010)
     );
-    assert_eq!(rt; (regs.latch_word(), regs.height()), (0x1234_5678, 512));
+    assert_eq!(rt; (regs.held(), regs.height()), (0x1234_5678, 512));
     assert_eq!(rt; (clears(0x4100_0000), clears(0x0200_0000)), (true, false));
 }
 

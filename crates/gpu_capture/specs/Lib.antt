@@ -1,5 +1,6 @@
 pub mod Capture
 pub mod Head
+pub mod Limit
 pub mod Reader
 pub mod Record
 pub mod State

@@ -1,4 +1,5 @@
 //! Laws of captures, each of them the contract of a function that does nothing.
+ghost use Rattle.gpu_capture.specs.Limit.{TakesFew};
 ghost use Rattle.gpu_capture.specs.Whole.{RecordsAreRead};
 ghost use Rattle.gpu_capture.specs.Written.{WrittenIsRead};
 
@@ -12,4 +13,9 @@ pub fn written_is_read()
 /// them.
 pub fn records_are_read()
     ensures { RecordsAreRead }
+{}
+
+/// Of a capture no more than 2^30 bytes are taken: what the reader's calls promise of the bytes taken says so.
+pub fn few_bytes_are_taken()
+    ensures { TakesFew }
 {}

@@ -1,5 +1,5 @@
 -- The second table of costs is nowhere above the first.
-use Rattle.std.proofs.Common.{◌≤◌, ℕ, ◌*◌, Option, None, Some, arith}
+use Rattle.std.proofs.Common.{◌≡◌, ◌≤◌, ℕ, ◌*◌, List, Option, None, Some, refl, arith}
 use Rattle.gp0_words.specs.declared.item.Item.{Item}
 use Rattle.gp0_packets.specs.Packets.{packet_of}
 use Rattle.gp0_packets.specs.declared.packet.Packet.{Packet}
@@ -10,7 +10,7 @@ use Rattle.vram_copy.proofs.CutLemmas.{copies_small, fills_small}
 use Rattle.gpu_core.specs.Cost.{gp0_cost, gp0_box_cost, read_cost, read_box_cost, packet_cost, packet_box_cost}
 use Rattle.gpu_core.specs.Cost.{item_cost}
 use Rattle.gpu_core.specs.Cost.{item_box_cost, pixels_of}
-use Rattle.gpu_core.specs.Laws.{CostLaw}
+use Rattle.gpu_core.specs.Laws.{CostLaw, NoCellDecides, over_cells}
 use Rattle.gpu_core.specs.Machine.{Parts, State, new_item, with_page}
 
 twice : (n : ℕ) → 2 * n ≤ 4 * n
@@ -53,3 +53,35 @@ read_cost-small s = once (pixels_of s.parts.store)
 
 pub cost_law-is : CostLaw
 cost_law-is = record { words = gp0_cost-small; reads = read_cost-small }
+
+-- ---- no cell decides the first table's cost
+
+packet-cells : (p : Parts) (m : List ℕ) (q : Packet) → packet_box_cost (record p { m = m }) q ≡ packet_box_cost p q
+unfolding packet_box_cost
+packet-cells p m (packet.Fill color x y w h) = refl
+packet-cells p m (packet.Copy from to w h) = refl
+packet-cells p m (packet.Pixels word) = refl
+packet-cells p m (packet.Load x y w h) = refl
+packet-cells p m (packet.Store x y w h) = refl
+packet-cells p m (packet.Env index value) = refl
+packet-cells p m (packet.Poly four a b c d shaded textured semi raw clut page) = refl
+packet-cells p m (packet.Segment a b semi) = refl
+packet-cells p m (packet.Rect x y w h color textured semi raw u v clut) = refl
+packet-cells p m packet.Irq = refl
+packet-cells p m packet.Nop = refl
+packet-cells p m packet.Finish = refl
+
+item-cells : (p : Parts) (m : List ℕ) (i : Option Item) → item_box_cost (record p { m = m }) i ≡ item_box_cost p i
+item-cells p m None = refl
+item-cells p m (Some i) = packet-cells p m (packet_of p.regs.height i)
+
+words-cells : (s : State) (m : List ℕ) (word : ℕ) → gp0_box_cost (over_cells m s) word ≡ gp0_box_cost s word
+unfolding gp0_box_cost
+words-cells s m word = item-cells s.parts m (new_item s.words word)
+
+reads-cells : (s : State) (m : List ℕ) → read_box_cost (over_cells m s) ≡ read_box_cost s
+unfolding read_box_cost
+reads-cells s m = refl
+
+pub no_cell-decides : NoCellDecides
+no_cell-decides = record { words = words-cells; reads = reads-cells }

@@ -1,5 +1,5 @@
 -- What words and reads cost, and what decides how a state goes on.
-use Rattle.std.specs.Prelude.{◌≡◌, ◌≤◌, ℕ}
+use Rattle.std.specs.Prelude.{◌≡◌, ◌≤◌, ℕ, List}
 use Rattle.gpu_core.specs.Cost.{gp0_cost, gp0_box_cost, read_cost, read_box_cost}
 use Rattle.gpu_core.specs.Kept.{kept_of}
 use Rattle.gpu_core.specs.Machine.{State, after_gp0, gp0_note, after_gp1, after_read, read_word, status_word}
@@ -8,6 +8,15 @@ use Rattle.gpu_core.specs.Machine.{State, after_gp0, gp0_note, after_gp1, after_
 pub record CostLaw : Type 0 where
   pub words : (s : State) (word : ℕ) → gp0_cost s word ≤ gp0_box_cost s word
   pub reads : (s : State) → read_cost s ≤ read_box_cost s
+
+-- the same state with these cells
+abbrev pub over_cells : List ℕ → State → State
+over_cells m s = record s { parts = record s.parts { m = m } }
+
+-- no cell decides what a word of GP0 and a read cost by the first table
+pub record NoCellDecides : Type 0 where
+  pub words : (s : State) (m : List ℕ) (word : ℕ) → gp0_box_cost (over_cells m s) word ≡ gp0_box_cost s word
+  pub reads : (s : State) (m : List ℕ) → read_box_cost (over_cells m s) ≡ read_box_cost s
 
 -- two states do, tell, give and cost the same with the next word or read, and the same of them is kept then
 pub record GoOnAlike (a b : State) : Type 0 where

@@ -130,10 +130,10 @@ pub record Taken : Type 0 where
 -- A read while a store is open gives its next two pixels, which become the latch, and closes it after its last word. A
 -- read while none is open gives the latch.
 abbrev pub taken_from : Parts → Option Transfer → Taken
-taken_from p None = record { word = p.regs.latch; parts = p }
+taken_from p None = record { word = p.regs.held; parts = p }
 taken_from p (Some job) =
     let word = stored_word p.m job in
-    record { word = word; parts = record p { regs = record p.regs { latch = word }; store = after_word job } }
+    record { word = word; parts = record p { regs = record p.regs { held = word }; store = after_word job } }
 
 unfoldable pub read_word : State → ℕ
 read_word s = (taken_from s.parts s.parts.store).word

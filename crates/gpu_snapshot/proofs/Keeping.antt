@@ -3,9 +3,8 @@ use Rattle.std.proofs.Common.{◌≡◌, ◌≤◌, ◌+◌, ◌*◌, ◌++◌, 
 use Rattle.std.proofs.Common.{refl, arith, inl, inr, length-append}
 use Rattle.std.proofs.lemmas.Bool.{cases_Bool}
 use Rattle.std.proofs.lemmas.List.{take-append-le, drop-append-le}
-use Rattle.byteorder.specs.Endian.{little_number}
 use Rattle.snapshot_words.specs.Reading.{Found, Whole, Short, Bad, found_then, section_from, outline_from}
-use Rattle.snapshot_words.specs.Reading.{run_from, store_from, pending_from, registers_from}
+use Rattle.snapshot_words.specs.Reading.{word_of, run_from, store_from, pending_from, registers_from}
 use Rattle.snapshot_words.specs.Reading.{memory_from, memories_from, state_from, ram_words}
 use Rattle.snapshot_words.specs.Sections.{allows, wants}
 use Rattle.snapshot_words.specs.Values.{height_in, played_in, pending_in, load_in, store_in}
@@ -53,7 +52,7 @@ section_keeps s got place (a ∷ b ∷ c ∷ []) more =
       | inr full ↦ keeps_whole s got place (a ∷ b ∷ c ∷ []) more full
     ]
 section_keeps s got place (a ∷ b ∷ c ∷ d ∷ rest) more =
-    let word = little_number 4 (a ∷ b ∷ c ∷ d ∷ []) in
+    let word = word_of a b c d in
     elim (cases_Bool (wants s got)) [
       | inl due ↦
           elim (cases_Bool (allows s got word)) [

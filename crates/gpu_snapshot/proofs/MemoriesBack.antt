@@ -2,22 +2,14 @@
 use Rattle.std.proofs.Common.{◌≡◌, ◌+◌, ◌*◌, ◌/◌, ◌%◌, ◌^◌, ◌++◌, List, [], ◌∷◌, ℕ, length, take, drop, nat_lt}
 use Rattle.std.proofs.Common.{false, refl, ap, sym, ◌∙◌, arith, length-append}
 use Rattle.std.proofs.Math.Seq.{take-append_seam, drop-append_seam}
-use Rattle.byteorder.specs.Endian.{little_number, little_bytes}
 use Rattle.gpu_capture.specs.Whole.{AreWords}
-use Rattle.gpu_capture.specs.Written.{word_bytes}
 use Rattle.snapshot_words.specs.Outline.{bytes_of, AreCells}
-use Rattle.snapshot_words.specs.Reading.{Whole, words_in, memory_from, memories_from, ram_words}
+use Rattle.snapshot_words.specs.Reading.{Whole, memory_from, memories_from, ram_words}
 use Rattle.snapshot_words.specs.Values.{cell_words, cells_in}
+use Rattle.snapshot_words.proofs.States.{words_back}
 use Rattle.snapshot_words.specs.declared.outline.Outline.{Outline}
 use Rattle.gpu_snapshot.proofs.Bytes.{length-bytes_of}
 use Rattle.gpu_snapshot.proofs.CellWords.{count_words}
-
-words_back : (words : List ℕ) → AreWords words → words_in (bytes_of words) ≡ words
-unfolding word_bytes
-words_back [] are = refl
-words_back (w ∷ words) are =
-    let e : little_number 4 (little_bytes 4 w) ≡ w = (let fits = are.0 in omega (arith, fits)) in
-    rw (e, words_back words are.1) refl
 
 cells_back : (cells : List ℕ) → length cells % 2 ≡ 0 → AreCells cells → cells_in (cell_words cells) ≡ cells
 cells_back [] even are = refl

@@ -1,5 +1,5 @@
 //! Snapshots of a machine, and captures: one of either is opened, and played. What cuts a capture into a snapshot is
-//! passed on from `capture_cut`.
+//! passed on from `capture_cut`, and the error of opening from `snapshot_words`.
 #![tactic(auto)]
 
 mod cells;
@@ -19,3 +19,4 @@ pub use ending::AnyEnding;
 pub use head::FileHead;
 pub use opening::open;
 pub use play::play_any;
+pub use snapshot_words::SnapFault;

@@ -4,7 +4,7 @@ use Rattle.std.specs.Fmt.{signed_decimal}
 use Rattle.gp0_packets.specs.declared.note.Note.{Note}
 use Rattle.gp0_words.specs.Kinds.{opcode_of}
 use Rattle.px_num.specs.declared.shape.Box2.{Box2}
-use Rattle.packet_text.specs.Number.{word_text}
+use Rattle.packet_text.specs.Number.{word_text, cell_text}
 
 -- a word that was read
 unfoldable pub word_line : ℕ → List ℕ
@@ -55,3 +55,10 @@ note_line note =
 -- the line of a note in a list: pixels of a load have none
 abbrev pub listed : Note → List ℕ
 listed note = if note.class == 9 then [] else note_line note
+
+-- what an item changed of a cell: event, name, head, and the cell before and behind it
+unfoldable pub change_line : Note → (before after : ℕ) → List ℕ
+change_line note before after =
+    decimal note.event ++ (codes " " ++ (note_name note.class note.head
+    ++ (codes " " ++ (word_text note.head ++ (codes " " ++ (cell_text before
+    ++ (codes " " ++ (cell_text after ++ codes "\n"))))))))

@@ -1,4 +1,4 @@
--- Numbers as text (our own rule): words in eight hexadecimal digits, lower case.
+-- Numbers as text (our own rule): words in eight hexadecimal digits, cells in four, lower case.
 use Rattle.std.specs.Prelude.{ℕ, zero, suc, List, [], ◌∷◌, ◌++◌, ◌+◌, ◌/◌, ◌%◌, nat_lt, if◌then◌else◌}
 
 -- a digit: 0 to 9, and then a to f
@@ -13,6 +13,10 @@ hex_digits_of (suc n) number = hex_digits_of n (number / 16) ++ hex_digit (numbe
 -- a word in eight digits
 unfoldable pub word_text : ℕ → List ℕ
 word_text word = hex_digits_of 8 word
+
+-- a cell in four digits
+unfoldable pub cell_text : ℕ → List ℕ
+cell_text cell = hex_digits_of 4 cell
 
 -- an address of 24 bits in six digits
 unfoldable pub address_text : ℕ → List ℕ

@@ -6,10 +6,12 @@
 
 mod line;
 mod number;
+mod sums;
 mod tap;
 
-pub use line::{write_note, write_status, write_word};
+pub use line::{write_change, write_note, write_status, write_word};
 pub use number::{address_digits, decimal_text, hex_digits};
+pub use sums::{write_frame_sum, write_vram_sum};
 pub use tap::{write_last, write_sum, write_tap};
 
 #[cfg(test)]

@@ -1,9 +1,9 @@
 // The lines of words, of the status and of notes.
 ghost use Rattle.std.specs.Prelude.{◌≡◌, ◌≤◌, None, Some};
 ghost use Rattle.dev_io.specs.Device.{Writes};
-ghost use Rattle.packet_text.specs.Line.{word_line, status_line, note_name, note_line};
+ghost use Rattle.packet_text.specs.Line.{word_line, status_line, note_name, note_line, change_line};
 
-use crate::number::{decimal_text, hex_digits, signed_text};
+use crate::number::{cell_digits, decimal_text, hex_digits, signed_text};
 use dev_io::{Failed, Sink, write_pieces};
 use gp0_packets::Note;
 use itoa::Buffer;
@@ -35,6 +35,31 @@ pub fn write_note<K: Sink>(out: &mut K, note: &Note) -> Result<(), Failed>
         None => write_bare(out, note),
         Some(area) => write_with_area(out, note, area),
     }
+}
+
+/// Writes the line of what an item changed of a cell: its event, its name, its head in eight hexadecimal digits, and the
+/// cell before and behind it in four.
+#[tactic(auto, unfolding(crate::specs::Line::change_line))]
+pub fn write_change<K: Sink>(
+    out: &mut K,
+    note: &Note,
+    before: u16,
+    after: u16,
+) -> Result<(), Failed>
+    ensures { Writes K.held K.faults out.old out.new (change_line note.now before after) result }
+{
+    let mut number = Buffer::new();
+    let event = decimal_text(&mut number, note.event);
+    let name = name_of(note.class, note.head);
+    let head = hex_digits(note.head);
+    let old = cell_digits(before);
+    let new = cell_digits(after);
+    write_pieces(
+        out,
+        &[
+            event, b" ", name, b" ", &head, b" ", &old, b" ", &new, b"\n",
+        ],
+    )
 }
 
 // The name of a note.

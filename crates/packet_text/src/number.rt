@@ -1,7 +1,7 @@
 // Numbers as text.
 ghost use Rattle.std.specs.Prelude.{◌≡◌, ◌<◌, decimal};
 ghost use Rattle.std.specs.Fmt.{signed_decimal};
-ghost use Rattle.packet_text.specs.Number.{word_text, address_text, hex_digit};
+ghost use Rattle.packet_text.specs.Number.{word_text, cell_text, address_text, hex_digit};
 
 use itoa::Buffer;
 
@@ -14,6 +14,20 @@ pub fn hex_digits(word: u32) -> [u8; 8]
     let mut rest = word;
     for i in 0..8 {
         digits[7 - i] = digit(rest % 16);
+        rest /= 16;
+    }
+    digits
+}
+
+/// A cell in four hexadecimal digits, lower case.
+#[tactic(auto, unfolding(crate::specs::Number::cell_text))]
+pub(crate) fn cell_digits(cell: u16) -> [u8; 4]
+    ensures { result ≡ cell_text cell }
+{
+    let mut digits = [0u8; 4];
+    let mut rest = cell as u32;
+    for i in 0..4 {
+        digits[3 - i] = digit(rest % 16);
         rest /= 16;
     }
     digits

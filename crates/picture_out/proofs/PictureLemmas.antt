@@ -1,5 +1,5 @@
 -- The pixels of a picture, some of them at once.
-use Rattle.std.proofs.Common.{◌≡◌, ◌≤◌, ◌+◌, ◌-◌, ◌*◌, ◌++◌, ℕ, zero, suc, List, refl, sym, append_assoc, arith}
+use Rattle.std.proofs.Common.{◌≡◌, ◌≤◌, ◌+◌, ◌-◌, ◌*◌, ◌++◌, ◌∙◌, ℕ, zero, suc, List, refl, ap, sym, append_assoc, arith}
 use Rattle.std.proofs.lemmas.List.{append-nil}
 use Rattle.std.proofs.Math.Nat.{mul-le-mul_right, add-mul}
 use Rattle.picture_out.specs.Picture.{pixels_from, numbered_pixel}
@@ -35,3 +35,19 @@ cost_more before mid now done n cells so_far more =
 
 pub cost_part : (before now done all cells : ℕ) → done ≤ all → now ≡ before + done * cells → now ≤ before + all * cells
 cost_part before now done all cells le is = let most = mul-le-mul_right cells le in omega (arith, is, most)
+
+-- so many pixels behind a head, and the next ones
+pub pixels_on : (m : List ℕ) (shown : DisplayArea) (head bytes : List ℕ) (done n : ℕ)
+    → bytes ≡ pixels_from m shown done n
+    → (head ++ pixels_from m shown 0 done) ++ bytes ≡ head ++ pixels_from m shown 0 (done + n)
+pixels_on m shown head bytes done n is =
+    let start : 0 + done ≡ done = omega arith in
+    let split = rw start at (pixels_split m shown 0 done n (done + n) refl) in
+    append_assoc head (pixels_from m shown 0 done) bytes
+    ∙ ap (λ xs. head ++ (pixels_from m shown 0 done ++ xs)) is
+    ∙ ap (λ xs. head ++ xs) (sym split)
+
+-- five pieces, one after another
+pub five_pieces : (a b c d e : List ℕ) → (((a ++ b) ++ c) ++ d) ++ e ≡ a ++ (b ++ (c ++ (d ++ e)))
+five_pieces a b c d e =
+    append_assoc ((a ++ b) ++ c) d e ∙ append_assoc (a ++ b) c (d ++ e) ∙ append_assoc a b (c ++ (d ++ e))

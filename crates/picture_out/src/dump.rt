@@ -28,7 +28,7 @@ pub fn write_vram<K: Sink, L: Ledger>(
 }
 
 /// The bytes of a row.
-fn row_bytes<L: Ledger>(vram: &Vram, y: u16, steps: &mut Steps<L>) -> [u8; 2048]
+pub(crate) fn row_bytes<L: Ledger>(vram: &Vram, y: u16, steps: &mut Steps<L>) -> [u8; 2048]
     requires { y < height_of vram.now }
     ensures bytes { result ≡ dump (slice_range vram.now (1024 * y) (1024 * y + 1024)) }
     ensures cost { steps.new ≡ steps.old + 64 }

@@ -16,7 +16,7 @@ use std::sync::ledger::Ledger;
 use vram_store::{Steps, Vram};
 
 /// How many pixels are given to the sink at once, at most.
-const PIECE: u32 = 1024;
+pub(crate) const PIECE: u32 = 1024;
 
 /// The part of video memory that is shown: from which cell on, how many pixels a row and how many rows, and whether a
 /// pixel has 24 bits.
@@ -58,7 +58,7 @@ pub fn write_ppm<K: Sink, L: Ledger>(
 }
 
 // What is shown of a picture with this width and so many lines.
-fn display_area(regs: &Regs, width: u16, lines: u16) -> DisplayArea
+pub(crate) fn display_area(regs: &Regs, width: u16, lines: u16) -> DisplayArea
     ensures { result ≡ display_of regs.now (record { 0 = width; 1 = lines }) }
 {
     let start = regs.start();
@@ -99,7 +99,7 @@ fn write_head<K: Sink>(shown: DisplayArea, out: &mut K) -> Result<(), Failed>
 }
 
 // A number in decimal digits.
-fn decimal_text(buffer: &mut Buffer, n: u16) -> &[u8]
+pub(crate) fn decimal_text(buffer: &mut Buffer, n: u16) -> &[u8]
     ensures { result.now ≡ decimal n }
 {
     buffer.format(n).as_bytes()
@@ -128,7 +128,7 @@ fn write_pixels<K: Sink, L: Ledger>(
 }
 
 // The bytes of n pixels from number `first` on, and what is behind them.
-fn pixels<L: Ledger>(
+pub(crate) fn pixels<L: Ledger>(
     vram: &Vram,
     shown: DisplayArea,
     first: u32,

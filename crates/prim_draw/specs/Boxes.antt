@@ -1,5 +1,5 @@
 -- Boxes of cells, and their cells in the order in which they are drawn.
-use Rattle.std.specs.Prelude.{ℕ, zero, suc, ◌+◌, ◌-◌, ◌*◌, ◌≤◌, List, [], ◌++◌, Option, None, Some, ◌||◌, if◌then◌else◌}
+use Rattle.std.specs.Prelude.{ℕ, zero, suc, ◌+◌, ◌-◌, ◌*◌, List, [], ◌++◌, Option, None, Some, ◌||◌, if◌then◌else◌}
 use Rattle.std.specs.Prelude.{int_lt, unsigned_abs, pos, ◌-ℤ◌, ◌≤ℤ◌, ◌<ℤ◌}
 use Rattle.std.specs.Int.{int_min, int_max}
 use Rattle.px_num.specs.declared.shape.Box2.{Box2}

@@ -1,5 +1,5 @@
 -- The rows of a triangle, one after another.
-use Rattle.std.specs.Prelude.{ℕ, ◌+◌, ◌≤◌, ◌≡◌, List, Option, IfSome, length, pos, ◌≤ℤ◌}
+use Rattle.std.specs.Prelude.{ℕ, ◌+◌, ◌≤◌, ◌≡◌, Option, IfSome, length, pos, ◌≤ℤ◌}
 use Rattle.std.specs.List.{filter}
 use Rattle.px_num.specs.declared.shape.Box2.{Box2}
 use Rattle.edge_walk.specs.Triangle.{Corners}

@@ -16,6 +16,7 @@ mod point;
 mod polygon;
 mod primitives;
 mod rectangles;
+mod row_pen;
 mod settings;
 mod solid;
 mod style;

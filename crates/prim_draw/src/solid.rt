@@ -1,20 +1,14 @@
 // Triangles whose cells all become one halfword.
-ghost use Rattle.std.specs.Prelude.{◌≡◌, ◌≤◌, ◌<◌, ℕ, IfSome};
-ghost use Rattle.vram_store.specs.Vram.{height_of};
-ghost use Rattle.edge_walk.specs.Extent.{bounding_box};
+ghost use Rattle.std.specs.Prelude.{ℕ, ◌≡◌, ◌≤◌, IfSome};
 ghost use Rattle.edge_walk.specs.Triangle.{Corners};
-ghost use Rattle.prim_draw.specs.Boxes.{IsOnScreen, LiesIn, block_of};
 ghost use Rattle.prim_draw.specs.Triangles.{IsCoat, triangle_coat};
-ghost use Rattle.prim_draw.specs.Solids.{IsEven, flat_coat, solid_coat, solid_paint};
-ghost use Rattle.prim_draw.specs.Walks.{CanDraw, DrawsRows, DrawsRun};
+ghost use Rattle.prim_draw.specs.Solids.{IsEven, flat_coat, solid_coat};
 
-use crate::boxes::block_of;
+use crate::row_pen::RowPen;
 use crate::settings::brush_in;
 use crate::style::Style;
-use crate::triangles::{Run, next_run};
-use edge_walk::Tri;
+use crate::triangles::Run;
 use gp1_status::Regs;
-use px_num::Box2;
 use span_lanes::{Brush, Paint, Span, draw_solid, solid_of};
 use std::sync::ledger::Ledger;
 use vram_store::{Steps, Vram};
@@ -65,17 +59,23 @@ fn solid_flat(color: u32, brush: &Brush) -> Option<Solid>
     }
 }
 
-impl Solid {
-    // Draws a run of cells, or none.
+impl RowPen for Solid {
+    ghost use Rattle.prim_draw.specs.Solids.{IsEven, solid_coat};
+
+    ghost coat = { solid_coat };
+
+    ghost reaches = { λ solid y run. Unit {0} };
+
+    ghost ready = { λ solid m. IsEven solid };
+
     #[inline(always)]
-    fn draw_run<L: Ledger>(&self, vram: &mut Vram, found: Option<Run>, y: u16, steps: &mut Steps<L>)
-        requires even { IsEven self.now }
-        requires coat { IsCoat (height_of vram.old) (solid_coat self.now) }
-        requires row { y < height_of vram.old }
-        requires run { IfSome found (CanDraw (solid_paint self.now) y) }
-        ensures { DrawsRun (solid_coat self.now) y found
-            (record { m = vram.old; steps = steps.old }) (record { m = vram.new; steps = steps.new }) }
-    {
+    fn draw_run<L: Ledger>(
+        &mut self,
+        vram: &mut Vram,
+        found: Option<Run>,
+        y: u16,
+        steps: &mut Steps<L>,
+    ) {
         if let Some(run) = found {
             let span = Span {
                 x: run.x,
@@ -85,30 +85,6 @@ impl Solid {
                 brush: self.brush,
             };
             draw_solid(vram, &span, self.halfword, steps);
-        }
-    }
-
-    /// Draws the cells of a box that are inside of a triangle.
-    pub(crate) fn draw_rows<L: Ledger>(
-        &self,
-        vram: &mut Vram,
-        tri: &Tri,
-        clip: &Box2,
-        steps: &mut Steps<L>,
-    )
-        requires even { IsEven self.now }
-        requires coat { IsCoat (height_of vram.old) (solid_coat self.now) }
-        requires small { IsOnScreen 1024 clip.now }
-        requires clip { IsOnScreen (height_of vram.old) clip.now }
-        requires inside { LiesIn (bounding_box tri.now) clip.now }
-        ensures { DrawsRows (solid_coat self.now) tri.now (block_of clip.now) (block_of clip.now).h
-            (record { m = vram.old; steps = steps.old }) (record { m = vram.new; steps = steps.new }) }
-    {
-        let block = block_of(clip);
-        let mut rows = tri.rows(clip);
-        for j in 0..block.h {
-            let run = next_run(&mut rows);
-            self.draw_run(vram, run, block.y + j, steps);
         }
     }
 }

@@ -4,18 +4,17 @@ ghost use Rattle.vram_store.specs.Vram.{height_of};
 ghost use Rattle.gp0_packets.specs.Ranges.{IsPlace};
 ghost use Rattle.edge_walk.specs.Extent.{bounding_box};
 ghost use Rattle.edge_walk.specs.Triangle.{is_drawn};
-ghost use Rattle.span_lanes.specs.Frame.{framed_in};
-ghost use Rattle.span_lanes.specs.Pen.{IsFresh};
 ghost use Rattle.span_lanes.specs.Shade.{texture_of, IsTexture};
 ghost use Rattle.prim_draw.specs.Boxes.{IsOnScreen, LiesIn, block_of};
 ghost use Rattle.prim_draw.specs.Costs.{triangle_cost};
 ghost use Rattle.prim_draw.specs.Triangles.{draws, drawn_triangle, placed_corners};
 ghost use Rattle.prim_draw.specs.Triangles.{triangle_box, triangle_coat, triangle_paint, FitsTriangle, IsAlike};
 ghost use Rattle.prim_draw.specs.Triangles.{IsCoat};
-ghost use Rattle.prim_draw.specs.Walks.{CanDraw, DrawsRows, DrawsRun, IsOnRow, LiesInBlock, TakesRow, coat_of_ink};
+ghost use Rattle.prim_draw.specs.Walks.{DrawsRows, IsOnRow, TakesRow};
 
 use crate::boxes::{block_of, clipped};
 use crate::coat::Coat;
+use crate::row_pen::{RowPen, draw_rows};
 use crate::settings::{brush_in, placed, texture_in};
 use crate::solid::solid_in;
 use crate::style::Style;
@@ -82,106 +81,55 @@ pub(crate) fn next_run(rows: &mut RowWalk) -> Option<Run>
     }
 }
 
-// Draws a run of cells, or none.
-#[inline(always)]
-fn draw_run<L: Ledger>(
-    vram: &mut Vram,
-    pen: &mut Pen,
-    found: Option<Run>,
-    y: u16,
-    steps: &mut Steps<L>,
-)
-    requires coat { IsCoat (height_of vram.old) (coat_of_ink pen.old.ink) }
-    requires row { y < height_of vram.old }
-    requires run { IfSome found (CanDraw pen.old.ink.paint y) }
-    requires fresh { IsFresh pen.old vram.old }
-    ensures drawn { DrawsRun (coat_of_ink pen.old.ink) y found
-        (record { m = vram.old; steps = steps.old }) (record { m = vram.new; steps = steps.new }) }
-    ensures ink { pen.new.ink ≡ pen.old.ink }
-    ensures fresh { IsFresh pen.new vram.new }
-{
-    if let Some(run) = found {
-        pen.draw(vram, run.x, y, run.n, steps);
+impl RowPen for Pen {
+    ghost use Rattle.span_lanes.specs.Pen.{IsFresh};
+    ghost use Rattle.prim_draw.specs.Walks.{coat_of_ink};
+
+    ghost coat = { λ pen. coat_of_ink pen.ink };
+
+    ghost reaches = { λ pen y run. Unit {0} };
+
+    ghost ready = { IsFresh };
+
+    #[inline(always)]
+    fn draw_run<L: Ledger>(
+        &mut self,
+        vram: &mut Vram,
+        found: Option<Run>,
+        y: u16,
+        steps: &mut Steps<L>,
+    ) {
+        if let Some(run) = found {
+            self.draw(vram, run.x, y, run.n, steps);
+        }
     }
 }
 
-// The same with a pen for texels that stand side by side.
-#[inline(always)]
-fn draw_stretch<L: Ledger>(
-    vram: &mut Vram,
-    pen: &mut StretchPen,
-    found: Option<Run>,
-    y: u16,
-    steps: &mut Steps<L>,
-)
-    requires coat { IsCoat (height_of vram.old) (coat_of_ink pen.old.loaded.ink) }
-    requires row { y < height_of vram.old }
-    requires run { IfSome found (CanDraw pen.old.loaded.ink.paint y) }
-    requires block { IfSome found (LiesInBlock pen.old.block y) }
-    requires fresh { IsFresh pen.old.loaded vram.old }
-    ensures drawn { DrawsRun (coat_of_ink pen.old.loaded.ink) y found
-        (record { m = vram.old; steps = steps.old }) (record { m = vram.new; steps = steps.new }) }
-    ensures ink { pen.new.loaded.ink ≡ pen.old.loaded.ink }
-    ensures block { pen.new.block ≡ pen.old.block }
-    ensures fresh { IsFresh pen.new.loaded vram.new }
-{
-    if let Some(Run { x, n }) = found {
-        pen.draw(vram, x, y, n, steps);
+impl RowPen for StretchPen {
+    ghost use Rattle.span_lanes.specs.Pen.{IsFresh};
+    ghost use Rattle.prim_draw.specs.Walks.{LiesInBlock, coat_of_ink};
+
+    ghost coat = { λ pen. coat_of_ink pen.loaded.ink };
+
+    ghost reaches = { λ pen. LiesInBlock pen.block };
+
+    ghost ready = { λ pen. IsFresh pen.loaded };
+
+    #[inline(always)]
+    fn draw_run<L: Ledger>(
+        &mut self,
+        vram: &mut Vram,
+        found: Option<Run>,
+        y: u16,
+        steps: &mut Steps<L>,
+    ) {
+        if let Some(Run { x, n }) = found {
+            self.draw(vram, x, y, n, steps);
+        }
     }
 }
 
 impl Coat {
-    // Draws the cells of a box that are inside of a triangle, by a pen for texels that stand side by side.
-    fn draw_stretches<L: Ledger>(
-        &self,
-        vram: &mut Vram,
-        mut pen: StretchPen,
-        tri: &Tri,
-        clip: &Box2,
-        steps: &mut Steps<L>,
-    )
-        requires coat { IsCoat (height_of vram.old) self.now }
-        requires pen { pen ≡ framed_in self.now.paint self.now.brush (block_of clip.now) }
-        requires fits { FitsTriangle tri.now self.now.paint }
-        requires small { IsOnScreen 1024 clip.now }
-        requires clip { IsOnScreen (height_of vram.old) clip.now }
-        requires inside { LiesIn (bounding_box tri.now) clip.now }
-        ensures { DrawsRows self.now tri.now (block_of clip.now) (block_of clip.now).h
-            (record { m = vram.old; steps = steps.old }) (record { m = vram.new; steps = steps.new }) }
-    {
-        let block = block_of(clip);
-        let mut rows = tri.rows(clip);
-        for j in 0..block.h {
-            let run = next_run(&mut rows);
-            draw_stretch(vram, &mut pen, run, block.y + j, steps);
-        }
-    }
-
-    // Draws the cells of a box that are inside of a triangle, by a pen for all that there is.
-    fn draw_each_row<L: Ledger>(
-        &self,
-        vram: &mut Vram,
-        tri: &Tri,
-        clip: &Box2,
-        steps: &mut Steps<L>,
-    )
-        requires coat { IsCoat (height_of vram.old) self.now }
-        requires fits { FitsTriangle tri.now self.now.paint }
-        requires small { IsOnScreen 1024 clip.now }
-        requires clip { IsOnScreen (height_of vram.old) clip.now }
-        requires inside { LiesIn (bounding_box tri.now) clip.now }
-        ensures { DrawsRows self.now tri.now (block_of clip.now) (block_of clip.now).h
-            (record { m = vram.old; steps = steps.old }) (record { m = vram.new; steps = steps.new }) }
-    {
-        let block = block_of(clip);
-        let mut rows = tri.rows(clip);
-        let mut pen = Pen::new(&self.paint, &self.brush);
-        for j in 0..block.h {
-            let run = next_run(&mut rows);
-            draw_run(vram, &mut pen, run, block.y + j, steps);
-        }
-    }
-
     // Draws the cells of a box that are inside of a triangle.
     #[inline(always)]
     fn draw_rows<L: Ledger>(&self, vram: &mut Vram, tri: &Tri, clip: &Box2, steps: &mut Steps<L>)
@@ -194,8 +142,8 @@ impl Coat {
             (record { m = vram.old; steps = steps.old }) (record { m = vram.new; steps = steps.new }) }
     {
         match StretchPen::new(&self.paint, &self.brush, &block_of(clip)) {
-            Some(pen) => self.draw_stretches(vram, pen, tri, clip, steps),
-            None => self.draw_each_row(vram, tri, clip, steps),
+            Some(pen) => draw_rows(vram, pen, tri, clip, steps),
+            None => draw_rows(vram, Pen::new(&self.paint, &self.brush), tri, clip, steps),
         }
     }
 }
@@ -261,7 +209,7 @@ fn draw_inside<L: Ledger>(
         (record { m = vram.old; steps = steps.old }) (record { m = vram.new; steps = steps.new }) }
 {
     match solid_in(regs, style) {
-        Some(solid) => solid.draw_rows(vram, tri, clip, steps),
+        Some(solid) => draw_rows(vram, solid, tri, clip, steps),
         None => coat_of(regs, style, tri).draw_rows(vram, tri, clip, steps),
     }
 }

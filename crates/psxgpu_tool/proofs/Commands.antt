@@ -4,23 +4,33 @@ use Rattle.std.proofs.Common.{refl}
 use Rattle.std.proofs.Common.{ap, sym, ◌∙◌, arith}
 use Rattle.std.specs.Str.Parse.{digits_value}
 use Rattle.std.proofs.lemmas.Fmt.{decimal_is_IsNumeral}
-use Rattle.event_play.specs.declared.ending.Mode.TheVariants.{Vram, Shot, Report, List as Listing, Play as Words}
+use Rattle.event_play.specs.declared.ending.Mode.TheVariants.{Vram, Shot, Report, Frames, Sums, Pixel}
+use Rattle.event_play.specs.declared.ending.Mode.TheVariants.{List as Listing, Play as Words}
+use Rattle.event_play.specs.declared.ending.Moment.{Moment}
+use Rattle.event_play.specs.declared.ending.Moment.TheVariants.{Flip, Mark}
 use Rattle.psxgpu_tool.specs.Command.{names_of, AreNames, IsCommand}
 use Rattle.psxgpu_tool.specs.declared.command.Command.{Command}
 use Rattle.psxgpu_tool.specs.declared.command.Command.TheVariants.{Plays, Flat, Slim, Cut, Demo, Help, Version}
 
--- the first and third letter of a name: no two commands have the same
+-- the first, third and fourth letter of a name: no two commands have the same
 abbrev letters : List ℕ → ℕ
-letters name = 256 * slice_index_or name 0 0 + slice_index_or name 2 0
+letters name = 65536 * slice_index_or name 0 0 + 256 * slice_index_or name 2 0 + slice_index_or name 3 0
 
--- the command of these letters, with this number
-abbrev command_by : (letters n : ℕ) → Command
-command_by given n =
+-- the moments of this second name
+abbrev moment_by : (name : List ℕ) → Moment
+moment_by name = if slice_index_or name 0 0 == 109 then Mark else Flip
+
+-- the command of these letters, with this moment and these numbers
+abbrev command_by : (letters : ℕ) → Moment → (n m : ℕ) → Command
+command_by given at n m =
     if given == letters (codes "play") then Plays Words else
     if given == letters (codes "vram") then Plays Vram else
     if given == letters (codes "shot") then Plays Shot else
+    if given == letters (codes "frames") then Plays (Frames at) else
+    if given == letters (codes "sums") then Plays (Sums at) else
     if given == letters (codes "list") then Plays Listing else
     if given == letters (codes "report") then Plays Report else
+    if given == letters (codes "pixel") then Plays (Pixel (record { x = n; y = m })) else
     if given == letters (codes "flat") then Flat else
     if given == letters (codes "slim") then Slim else
     if given == letters (codes "cut") then Cut n else
@@ -29,15 +39,24 @@ command_by given n =
     Version
 
 abbrev command_of : (names : List (List ℕ)) → Command
-command_of names = command_by (letters (slice_index_or names 0 [])) (digits_value 10 (slice_index_or names 1 []))
+command_of names = command_by (letters (slice_index_or names 0 [])) (moment_by (slice_index_or names 1 []))
+    (digits_value 10 (slice_index_or names 1 [])) (digits_value 10 (slice_index_or names 2 []))
 
 -- its names give a command back
 is_named : (command : Command) → IsCommand command → command_of (names_of command) ≡ command
 is_named (Plays Words) is = refl
 is_named (Plays Vram) is = refl
 is_named (Plays Shot) is = refl
+is_named (Plays (Frames Flip)) is = refl
+is_named (Plays (Frames Mark)) is = refl
+is_named (Plays (Sums Flip)) is = refl
+is_named (Plays (Sums Mark)) is = refl
 is_named (Plays Listing) is = refl
 is_named (Plays Report) is = refl
+is_named (Plays (Pixel cell)) is =
+    ap (λ x. Plays (Pixel (record { x = x; y = digits_value 10 (decimal cell.y) })))
+    (decimal_is_IsNumeral cell.x (omega (arith, is.0))).1
+    ∙ ap (λ y. Plays (Pixel (record { x = cell.x; y = y }))) (decimal_is_IsNumeral cell.y (omega (arith, is.1))).1
 is_named Flat is = refl
 is_named Slim is = refl
 is_named (Cut n) is = ap Cut (decimal_is_IsNumeral n (omega (arith, is.1))).1

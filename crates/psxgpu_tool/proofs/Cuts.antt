@@ -122,7 +122,7 @@ module _ (n : ℕ) (way : Way) (heard heard_now : List Reading) (rig : RigState)
         ≡ play.Faulted (next_number way.tale.played) fault
     faults_first more =
         let after : after_event way.tale event ≡ Err fault =
-        ap (told_on way.tale (event_cost way.tale.state event) (event_box_cost way.tale.state event)) is
+        ap (told_on way.tale event (event_cost way.tale.state event) (event_box_cost way.tale.state event)) is
         in
         ap (λ (r : Played). r.ending) (plays.replays (event ∷ more) End []
         ∙ ap (λ r. go_on r (λ next. played_events next more End [])

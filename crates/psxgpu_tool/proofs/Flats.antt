@@ -213,7 +213,7 @@ module _ (heard heard_now : List Reading) (before now : Outside) (rig : RigState
       ap (λ n. event_step way.tale.state n event) (sym ends.says.number_is) ∙ ends.says.fault_is
       in
       let after : after_event way.tale event
-      ≡ Err fault = ap (told_on way.tale (event_cost way.tale.state event)
+      ≡ Err fault = ap (told_on way.tale event (event_cost way.tale.state event)
       (event_box_cost way.tale.state event)) step in
       let replay : played_events start ((way.events ++ event ∷ []) ++ more.events) more.ending more.rest
       ≡ record { tale = way.tale; ending = play.Faulted (next_number way.tale.played) fault; rest = more.rest } =

@@ -48,7 +48,7 @@ stays_under mode r ending is other = ap (unless_lacking _ _) is ∙ stays _ _ en
 
 -- nothing is due behind the events of a replay that is not whole
 no_finals : (mode : Mode) (heard : List Reading) (t : Tale) (ending : Ending) → IsNotDone ending
-    → finals_at ending mode (told_notes t.notes heard) t.state.gpu ≡ []
+    → finals_at ending mode (told_notes t.notes heard) (next_number t.played) t.state.gpu ≡ []
 no_finals mode heard t Done other = absurd other
 no_finals mode heard t (Stopped n stop) other = refl
 no_finals mode heard t (Faulted n fault) other = refl
@@ -58,10 +58,13 @@ no_finals mode heard t (WriteFailed n) other = refl
 -- all that is written of a replay, by its tale and its ending
 out_is : (mode : Mode) (heard : List Reading) (r : Played) (t : Tale) (ending : Ending) → r.tale ≡ t
     → ending_under mode r ≡ ending
-    → out_bytes mode heard r ≡ lines_of mode t ++ finals_at ending mode (told_notes t.notes heard) t.state.gpu
+    → out_bytes mode heard r ≡ lines_of mode t
+    ++ finals_at ending mode (told_notes t.notes heard) (next_number t.played) t.state.gpu
 out_is mode heard r t ending tale is =
-    ap (λ (e : Ending). lines_of mode r.tale ++ finals_at e mode (told_notes r.tale.notes heard) r.tale.state.gpu) is
-    ∙ ap (λ (t : Tale). lines_of mode t ++ finals_at ending mode (told_notes t.notes heard) t.state.gpu) tale
+    ap (λ (e : Ending). lines_of mode r.tale
+    ++ finals_at e mode (told_notes r.tale.notes heard) (next_number r.tale.played) r.tale.state.gpu) is
+    ∙ ap (λ (t : Tale). lines_of mode t
+    ++ finals_at ending mode (told_notes t.notes heard) (next_number t.played) t.state.gpu) tale
 
 lines_are : (mode : Mode) (heard : List Reading) (r : Played) (t : Tale) (ending : Ending) → r.tale ≡ t
     → ending_under mode r ≡ ending

@@ -12,8 +12,10 @@ use Rattle.gpu_taps.specs.Tally.{Reading, reading_after}
 use Rattle.event_play.specs.Replay.{Tale, next_number}
 use Rattle.event_play.specs.RigState.{RigState, Stands}
 use Rattle.event_play.specs.Step.{Machine, Stepped, event_step, event_cost, event_box_cost}
+use Rattle.event_play.specs.Frames.{frames_behind}
 use Rattle.event_play.specs.Stepping.{HasStepped}
 use Rattle.event_play.specs.Streams.{Outlets}
+use Rattle.event_play.specs.Strokes.{event_strokes}
 use Rattle.event_play.specs.Told.{told_notes}
 use Rattle.event_play.specs.declared.fault.EventFault.{EventFault}
 use Rattle.psxgpu_tool.specs.Demo.{packet, number_before, first_packets}
@@ -27,7 +29,9 @@ tale_on t event machine shown notes = record {
   state = machine;
   played = next_number t.played;
   shown = t.shown ++ option_to_list shown;
+  frames = t.frames ++ frames_behind event (next_number t.played) machine.gpu.parts;
   notes = t.notes ++ notes;
+  strokes = t.strokes ++ event_strokes t.state (next_number t.played) event;
   cost = t.cost + event_cost t.state event;
   box_cost = t.box_cost + event_box_cost t.state event;
 }

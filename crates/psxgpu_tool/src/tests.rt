@@ -5,6 +5,7 @@ mod capture;
 mod cut;
 mod devices;
 mod dumps;
+mod film;
 mod flat;
 mod lines;
 mod pictures;

@@ -19,7 +19,7 @@ use Rattle.snapshot_words.proofs.Spelling.{outline_read}
 
 -- ---- words of a memory
 
-words_back : (words : List ℕ) → AreWords words → words_in (bytes_of words) ≡ words
+pub words_back : (words : List ℕ) → AreWords words → words_in (bytes_of words) ≡ words
 unfolding word_bytes
 words_back [] are = refl
 words_back (w ∷ words) are =

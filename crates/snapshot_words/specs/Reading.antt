@@ -26,6 +26,10 @@ found_then (Bad place word) next = Bad place word
 
 -- ---- one part
 
+-- the word that four bytes are
+abbrev pub word_of : (a b c d : ℕ) → ℕ
+word_of a b c d = little_number 4 (a ∷ b ∷ c ∷ d ∷ [])
+
 -- the words of a part of which these came
 abbrev pub section_from : Section → (got : List ℕ) → (place : ℕ) → (bytes : List ℕ) → Found (List ℕ)
 section_from s got place [] = if wants s got then Short place else Whole got place []
@@ -34,7 +38,7 @@ section_from s got place (a ∷ b ∷ []) = if wants s got then Short (place + 2
 section_from s got place (a ∷ b ∷ c ∷ []) =
     if wants s got then Short (place + 3) else Whole got place (a ∷ b ∷ c ∷ [])
 section_from s got place (a ∷ b ∷ c ∷ d ∷ rest) =
-    let word = little_number 4 (a ∷ b ∷ c ∷ d ∷ []) in
+    let word = word_of a b c d in
     if wants s got then
     (if allows s got word then section_from s (got ++ word ∷ []) (place + 4) rest else Bad place word)
     else Whole got place (a ∷ b ∷ c ∷ d ∷ rest)
@@ -80,7 +84,7 @@ outline_from place bytes =
 
 -- the words that bytes are, four by four
 abbrev pub words_in : List ℕ → List ℕ
-words_in (a ∷ b ∷ c ∷ d ∷ rest) = little_number 4 (a ∷ b ∷ c ∷ d ∷ []) ∷ words_in rest
+words_in (a ∷ b ∷ c ∷ d ∷ rest) = word_of a b c d ∷ words_in rest
 words_in short = []
 
 -- so many words, which may be any

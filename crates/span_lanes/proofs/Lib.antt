@@ -8,6 +8,7 @@ pub mod CostLemmas
 pub mod DrawnBits
 pub mod GuardLemmas
 pub mod NibbleLemmas
+pub mod PartLemmas
 pub mod PlainLemmas
 pub mod PlanLemmas
 pub mod SameLemmas

@@ -1,16 +1,10 @@
 -- The chunks in which a span is drawn.
-use Rattle.std.specs.Prelude.{ℕ, ◌+◌, ◌*◌, ◌≤◌, List}
+use Rattle.std.specs.Prelude.{ℕ, ◌+◌, ◌*◌, List}
 use Rattle.vram_store.specs.Plot.{drawn_lanes, later}
 use Rattle.vram_store.specs.Chunk.{HasLanes}
 use Rattle.span_lanes.specs.declared.lanes.Lanes.{Lanes}
 use Rattle.span_lanes.specs.declared.span.Span.{Span}
 use Rattle.span_lanes.specs.Shade.{shade}
-
--- k cells of a span from cell `first` on, at most sixteen
-pub record IsChunk (span : Span) (first k : ℕ) : Type 0 where
-  pub some : 1 ≤ k
-  pub few : k ≤ 16
-  pub within : first + k ≤ span.n
 
 -- where cell `first` of a span lies in video memory
 abbrev pub chunk_place : Span → ℕ → ℕ

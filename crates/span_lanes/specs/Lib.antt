@@ -1,9 +1,11 @@
 pub mod Cells
 pub mod Chunk
 pub mod Cost
+pub mod Draws
 pub mod Frame
 pub mod Guard
 pub mod Hues
+pub mod Kept
 pub mod Lanes
 pub mod Laws
 pub mod Nibbles
@@ -11,12 +13,13 @@ pub mod Paints
 pub mod Pen
 pub mod Plan
 pub mod Shade
+pub mod Solid
 pub mod Spans
 pub mod Stretch
 pub mod StretchPen
-pub mod Strip
 pub mod Strips
 pub mod Swatches
 pub mod Table
 pub mod Texels
+pub mod Toned
 pub mod Track

@@ -1,10 +1,10 @@
 -- What is one for all chunks of a textured span.
-use Rattle.std.specs.Prelude.{ℕ, ◌≡◌, ◌+◌, ◌<◌, ◌&&◌, not, IsTrue, Some, List, length, slice_index}
+use Rattle.std.specs.Prelude.{ℕ, ◌≡◌, ◌+◌, ◌<◌, ◌&&◌, not, IsTrue, List, length, slice_index}
 use Rattle.span_lanes.specs.declared.plan.Plan.{Plan}
 use Rattle.span_lanes.specs.declared.shading.Shading.{Shading}
 use Rattle.span_lanes.specs.declared.span.Texture.{Texture}
 use Rattle.span_lanes.specs.declared.span.Span.{Span}
-use Rattle.span_lanes.specs.Shade.{IsSpan, LiesIn, texture_of, texel, front_of, shift_of}
+use Rattle.span_lanes.specs.Shade.{texel, front_of, shift_of}
 use Rattle.span_lanes.specs.Guard.{IsApart}
 use Rattle.span_lanes.specs.Hues.{AreHues}
 use Rattle.span_lanes.specs.Lanes.{AreShiftsAt}
@@ -17,16 +17,10 @@ pub record IsShading (span : Span) (t : Texture) (shading : Shading) : Type 0 wh
   pub shifts : AreShiftsAt (span.brush.dither && not t.raw) span.x span.y shading.shifts.lanes
 
 pub record IsPlan (span : Span) (t : Texture) (plan : Plan) : Type 0 where
+  pub texture : plan.texture ≡ t
   pub shading : IsShading span t plan.shading
   pub track : IsTrack span.paint span.x span.y span.n plan.track
   pub apart : IsTrue plan.apart → IsApart span
-
--- a textured span that can be drawn in video memory of a height, and what was chosen for it
-pub record IsPlanned (height : ℕ) (s : Span) (t : Texture) (p : Plan) : Type 0 where
-  pub span : IsSpan s
-  pub lies : LiesIn height s
-  pub texture : texture_of s.paint ≡ Some t
-  pub plan : IsPlan s t p
 
 -- sixteen lanes: the texels of n cells of a span from a first one on, and then others
 pub record HasTexels (span : Span) (t : Texture) (first n : ℕ) (m lanes : List ℕ) : Type 0 where

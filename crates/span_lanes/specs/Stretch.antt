@@ -1,12 +1,10 @@
 -- Texels that stand side by side in a row of video memory.
-use Rattle.std.specs.Prelude.{ℕ, ◌≡◌, ◌≤◌, ◌<◌, ◌+◌, ◌/◌, Some}
+use Rattle.std.specs.Prelude.{ℕ, ◌≡◌, ◌≤◌, ◌<◌, ◌+◌, ◌/◌}
 use Rattle.texture_page.specs.Page.{windowed}
 use Rattle.span_lanes.specs.declared.stretch.Stretch.{Stretch}
 use Rattle.span_lanes.specs.declared.span.Texture.{Texture}
 use Rattle.span_lanes.specs.declared.span.Span.{Span}
-use Rattle.span_lanes.specs.Guard.{IsApart}
 use Rattle.span_lanes.specs.Paints.{paint_u, paint_v}
-use Rattle.span_lanes.specs.Shade.{IsSpan, LiesIn, texture_of}
 
 -- the texels of a span stand in a row of video memory, their columns in the page one more from cell to cell, and the
 -- cells that they stand in do not wrap: with texels of fifteen bits those alone, with smaller ones the first of any
@@ -26,12 +24,3 @@ pub record IsStretch (span : Span) (t : Texture) (stretch : Stretch) : Type 0 wh
 pub record IsRising (span : Span) (u v : ℕ) : Type 0 where
   pub column : (i : ℕ) → i < span.n → u + i ≤ 255 → paint_u span.paint (span.x + i) span.y i ≡ u + i
   pub row : (i : ℕ) → i < span.n → paint_v span.paint (span.x + i) span.y i ≡ v
-
--- a textured span that can be drawn in video memory of a height and reads nothing that it writes, and where its texels
--- stand side by side
-pub record IsStretched (height : ℕ) (s : Span) (t : Texture) (stretch : Stretch) : Type 0 where
-  pub span : IsSpan s
-  pub lies : LiesIn height s
-  pub texture : texture_of s.paint ≡ Some t
-  pub apart : IsApart s
-  pub places : IsStretch s t stretch

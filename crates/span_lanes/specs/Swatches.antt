@@ -1,5 +1,5 @@
 -- A palette of sixteen entries as it is drawn.
-use Rattle.std.specs.Prelude.{ℕ, ◌≡◌, ◌≢◌, ◌<◌, ◌/◌, ◌%◌, ◌&&◌, not, false, Bool, pos, List, length, slice_index}
+use Rattle.std.specs.Prelude.{ℕ, ◌≡◌, ◌≢◌, ◌/◌, ◌%◌, ◌&&◌, not, false, pos, List, slice_index}
 use Rattle.std.specs.Prelude.{Option, None, Some, IfSome}
 use Rattle.px_num.specs.Lanes.{EachLane}
 use Rattle.texture_page.specs.Page.{clut_place}
@@ -54,11 +54,6 @@ pub record IsPalette (t : Texture) (m : List ℕ) (tint : ℕ) (s : Swatches) : 
   pub swatches : AreSwatches t m s
   pub raw : s.raw ≡ t.raw
   pub color : s.color ≡ tint
-
--- the first k lanes are what a colour makes of texels without dither
-pub record AreFronts (raw : Bool) (color k : ℕ) (texels fronts : List ℕ) : Type 0 where
-  pub long : length fronts ≡ 16
-  pub front : (j : ℕ) → j < k → slice_index fronts j ≡ front_of raw color (pos 0) (slice_index texels j)
 
 -- a span whose palette of sixteen entries can be coloured once for all its cells
 pub record SuitsPalette (span : Span) (t : Texture) : Type 0 where

@@ -1,22 +1,22 @@
 // Spans, each by what suits it.
-ghost use Rattle.std.specs.Prelude.{◌≡◌, ◌≢◌, ◌≤◌, ◌+◌, ◌/◌, ◌%◌, length};
-ghost use Rattle.vram_store.specs.Vram.{height_of};
-ghost use Rattle.span_lanes.specs.Shade.{IsSpan, LiesIn, drawn_span};
+ghost use Rattle.std.specs.Prelude.{◌≡◌, ◌≢◌, ◌/◌, ◌%◌};
+ghost use Rattle.span_lanes.specs.Draws.{CanDraw, DrawsSpan, at_stage};
+ghost use Rattle.span_lanes.specs.Kept.{CanTake};
 ghost use Rattle.span_lanes.specs.declared.hues.Hues.TheVariants.{One};
 ghost use Rattle.span_lanes.specs.declared.span.Paint.TheVariants.{TexturedTri, TexturedRow};
 ghost use Rattle.span_lanes.specs.Pen.{IsTint, AreSlopes, HasSlopes, IsReady, ink_of};
 ghost use Rattle.span_lanes.specs.Hues.{AreHues};
-ghost use Rattle.span_lanes.specs.Stretch.{IsStretched};
+ghost use Rattle.span_lanes.specs.Stretch.{IsStretch};
 ghost use Rattle.span_lanes.specs.Swatches.{IsKept};
-ghost use Rattle.span_lanes.specs.Cost.{span_cost};
 
 use crate::apart::is_apart;
 use crate::hues::{Hues, hues_of};
+use crate::loops::draw_parts;
 use crate::plan::{row_plan, tri_plan};
+use crate::planned::draw_planned;
 use crate::row::TexelRow;
-use crate::sheet::draw_planned;
 use crate::slopes::Slopes;
-use crate::solid::store_solid;
+use crate::solid::Solid;
 use crate::stretch::{Stretch, row_stretch, tri_stretch};
 use crate::stretched::draw_stretched;
 use crate::strip::{draw_strip, suits_strip};
@@ -39,14 +39,12 @@ fn draw_beside<L: Ledger>(
     last: &mut Option<Swatches>,
     steps: &mut Steps<L>,
 )
-    requires stretched { IsStretched (height_of vram.old) span.now texture.now stretch.now }
+    requires take { CanTake span.now texture.now (IsStretch span.now texture.now stretch.now) vram.old }
     requires tint { IsTint span.now.paint tint.now }
     requires palette { texture.now.page.depth ≡ 0 → texture.now.clut / 64 % 512 ≢ span.now.y }
     requires last { IsKept span.now.paint vram.old last.old }
-    ensures cells { vram.new ≡ drawn_span span.now span.now.n vram.old }
-    ensures long { length vram.new ≡ length vram.old }
+    ensures drawn { DrawsSpan span.now 0 (at_stage vram.old steps.old) (at_stage vram.new steps.new) }
     ensures last { IsKept span.now.paint vram.new last.new }
-    ensures cost { steps.new ≤ steps.old + span_cost span.now }
 {
     match tint {
         Tint::Plain { color } if suits_strip(span, texture) => {
@@ -70,14 +68,12 @@ pub(crate) fn draw_beside_row<L: Ledger>(
     last: &mut Option<Swatches>,
     steps: &mut Steps<L>,
 )
-    requires stretched { IsStretched (height_of vram.old) span.now texture.now stretch.now }
+    requires take { CanTake span.now texture.now (IsStretch span.now texture.now stretch.now) vram.old }
     requires tint { IsTint span.now.paint tint.now }
     requires palette { texture.now.page.depth ≡ 0 → texture.now.clut / 64 % 512 ≢ span.now.y }
     requires last { IsKept span.now.paint vram.old last.old }
-    ensures cells { vram.new ≡ drawn_span span.now span.now.n vram.old }
-    ensures long { length vram.new ≡ length vram.old }
+    ensures drawn { DrawsSpan span.now 0 (at_stage vram.old steps.old) (at_stage vram.new steps.new) }
     ensures last { IsKept span.now.paint vram.new last.new }
-    ensures cost { steps.new ≤ steps.old + span_cost span.now }
 {
     draw_beside(vram, span, texture, stretch, tint, last, steps);
 }
@@ -92,14 +88,11 @@ fn draw_planned_row<L: Ledger>(
     last: &mut Option<Swatches>,
     steps: &mut Steps<L>,
 )
-    requires span { IsSpan span.now }
-    requires height { LiesIn (height_of vram.old) span.now }
+    requires can { CanDraw span.now vram.old }
     requires paint { span.now.paint ≡ TexturedRow row.color texture.now row.u row.v row.flip }
     requires last { IsKept span.now.paint vram.old last.old }
-    ensures cells { vram.new ≡ drawn_span span.now span.now.n vram.old }
-    ensures long { length vram.new ≡ length vram.old }
+    ensures drawn { DrawsSpan span.now 0 (at_stage vram.old steps.old) (at_stage vram.new steps.new) }
     ensures last { IsKept span.now.paint vram.new last.new }
-    ensures cost { steps.new ≤ steps.old + span_cost span.now }
 {
     let plan = row_plan(span, texture, row);
     draw_planned(vram, span, texture, &plan, last, steps);
@@ -116,15 +109,12 @@ pub(crate) fn draw_row<L: Ledger>(
     last: &mut Option<Swatches>,
     steps: &mut Steps<L>,
 )
-    requires span { IsSpan span.now }
-    requires height { LiesIn (height_of vram.old) span.now }
+    requires can { CanDraw span.now vram.old }
     requires paint { span.now.paint ≡ TexturedRow row.color texture.now row.u row.v row.flip }
     requires tint { IsTint span.now.paint tint.now }
     requires last { IsKept span.now.paint vram.old last.old }
-    ensures cells { vram.new ≡ drawn_span span.now span.now.n vram.old }
-    ensures long { length vram.new ≡ length vram.old }
+    ensures drawn { DrawsSpan span.now 0 (at_stage vram.old steps.old) (at_stage vram.new steps.new) }
     ensures last { IsKept span.now.paint vram.new last.new }
-    ensures cost { steps.new ≤ steps.old + span_cost span.now }
 {
     match row_stretch(span, texture, row) {
         Some(stretch) if is_apart(span, texture) => {
@@ -149,16 +139,13 @@ fn draw_plain_sheet<L: Ledger>(
     last: &mut Option<Swatches>,
     steps: &mut Steps<L>,
 )
-    requires span { IsSpan span.now }
-    requires height { LiesIn (height_of vram.old) span.now }
+    requires can { CanDraw span.now vram.old }
     requires paint { span.now.paint ≡ TexturedTri tri.now texture.now }
     requires hues { AreHues span.now.paint span.now.x span.now.y span.now.n (One color) }
     requires slopes { AreSlopes tri.now slopes.now }
     requires last { IsKept span.now.paint vram.old last.old }
-    ensures cells { vram.new ≡ drawn_span span.now span.now.n vram.old }
-    ensures long { length vram.new ≡ length vram.old }
+    ensures drawn { DrawsSpan span.now 0 (at_stage vram.old steps.old) (at_stage vram.new steps.new) }
     ensures last { IsKept span.now.paint vram.new last.new }
-    ensures cost { steps.new ≤ steps.old + span_cost span.now }
 {
     let plan = tri_plan(span, tri, texture, Hues::One { color }, slopes);
     draw_planned(vram, span, texture, &plan, last, steps);
@@ -176,16 +163,13 @@ fn draw_mixed_sheet<L: Ledger>(
     last: &mut Option<Swatches>,
     steps: &mut Steps<L>,
 )
-    requires span { IsSpan span.now }
-    requires height { LiesIn (height_of vram.old) span.now }
+    requires can { CanDraw span.now vram.old }
     requires paint { span.now.paint ≡ TexturedTri tri.now texture.now }
     requires hues { AreHues span.now.paint span.now.x span.now.y span.now.n hues }
     requires slopes { AreSlopes tri.now slopes.now }
     requires last { IsKept span.now.paint vram.old last.old }
-    ensures cells { vram.new ≡ drawn_span span.now span.now.n vram.old }
-    ensures long { length vram.new ≡ length vram.old }
+    ensures drawn { DrawsSpan span.now 0 (at_stage vram.old steps.old) (at_stage vram.new steps.new) }
     ensures last { IsKept span.now.paint vram.new last.new }
-    ensures cost { steps.new ≤ steps.old + span_cost span.now }
 {
     let plan = tri_plan(span, tri, texture, hues, slopes);
     draw_planned(vram, span, texture, &plan, last, steps);
@@ -203,16 +187,13 @@ fn draw_planned_tri<L: Ledger>(
     last: &mut Option<Swatches>,
     steps: &mut Steps<L>,
 )
-    requires span { IsSpan span.now }
-    requires height { LiesIn (height_of vram.old) span.now }
+    requires can { CanDraw span.now vram.old }
     requires paint { span.now.paint ≡ TexturedTri tri.now texture.now }
     requires tint { IsTint span.now.paint tint.now }
     requires slopes { AreSlopes tri.now slopes.now }
     requires last { IsKept span.now.paint vram.old last.old }
-    ensures cells { vram.new ≡ drawn_span span.now span.now.n vram.old }
-    ensures long { length vram.new ≡ length vram.old }
+    ensures drawn { DrawsSpan span.now 0 (at_stage vram.old steps.old) (at_stage vram.new steps.new) }
     ensures last { IsKept span.now.paint vram.new last.new }
-    ensures cost { steps.new ≤ steps.old + span_cost span.now }
 {
     let hues = hues_of(span, tint);
     match hues {
@@ -235,16 +216,13 @@ fn draw_tri<L: Ledger>(
     last: &mut Option<Swatches>,
     steps: &mut Steps<L>,
 )
-    requires span { IsSpan span.now }
-    requires height { LiesIn (height_of vram.old) span.now }
+    requires can { CanDraw span.now vram.old }
     requires paint { span.now.paint ≡ TexturedTri tri.now texture.now }
     requires tint { IsTint span.now.paint tint.now }
     requires slopes { AreSlopes tri.now slopes.now }
     requires last { IsKept span.now.paint vram.old last.old }
-    ensures cells { vram.new ≡ drawn_span span.now span.now.n vram.old }
-    ensures long { length vram.new ≡ length vram.old }
+    ensures drawn { DrawsSpan span.now 0 (at_stage vram.old steps.old) (at_stage vram.new steps.new) }
     ensures last { IsKept span.now.paint vram.new last.new }
-    ensures cost { steps.new ≤ steps.old + span_cost span.now }
 {
     match tri_stretch(span, tri, texture, slopes) {
         Some(stretch) if is_apart(span, texture) => {
@@ -264,15 +242,12 @@ fn draw_varied<L: Ledger>(
     last: &mut Option<Swatches>,
     steps: &mut Steps<L>,
 )
-    requires span { IsSpan span.now }
-    requires height { LiesIn (height_of vram.old) span.now }
+    requires can { CanDraw span.now vram.old }
     requires tint { IsTint span.now.paint tint.now }
     requires slopes { HasSlopes span.now.paint slopes.now }
     requires last { IsKept span.now.paint vram.old last.old }
-    ensures cells { vram.new ≡ drawn_span span.now span.now.n vram.old }
-    ensures long { length vram.new ≡ length vram.old }
+    ensures drawn { DrawsSpan span.now 0 (at_stage vram.old steps.old) (at_stage vram.new steps.new) }
     ensures last { IsKept span.now.paint vram.new last.new }
-    ensures cost { steps.new ≤ steps.old + span_cost span.now }
 {
     match &span.paint {
         Paint::Flat { .. } => draw_untextured(vram, span, tint, steps),
@@ -310,17 +285,14 @@ pub(crate) fn draw_ready<L: Ledger>(
     last: &mut Option<Swatches>,
     steps: &mut Steps<L>,
 )
-    requires span { IsSpan span.now }
-    requires height { LiesIn (height_of vram.old) span.now }
+    requires can { CanDraw span.now vram.old }
     requires ready { IsReady (ink_of span.now) solid tint.now slopes.now }
     requires last { IsKept span.now.paint vram.old last.old }
-    ensures cells { vram.new ≡ drawn_span span.now span.now.n vram.old }
-    ensures long { length vram.new ≡ length vram.old }
+    ensures drawn { DrawsSpan span.now 0 (at_stage vram.old steps.old) (at_stage vram.new steps.new) }
     ensures last { IsKept span.now.paint vram.new last.new }
-    ensures cost { steps.new ≤ steps.old + span_cost span.now }
 {
     match solid {
-        Some(h) => store_solid(vram, span, h, steps),
+        Some(h) => draw_parts(vram, span, &Solid { h }, steps),
         None => draw_varied(vram, span, tint, slopes, last, steps),
     }
 }

@@ -1,18 +1,20 @@
 // Chunks without a texture, all their lanes at once.
-ghost use Rattle.std.specs.Prelude.{◌≡◌, ◌≤◌, ◌<◌, ◌+◌, ◌%◌, ◌^◌, None, false, pos, length, slice_index};
+ghost use Rattle.std.specs.Prelude.{◌≡◌, ◌≤◌, ◌<◌, ◌+◌, ◌^◌, false, pos, length, slice_index};
 ghost use Rattle.std.specs.Prelude.{slice_index_or};
 ghost use Rattle.px_num.specs.Lanes.{EachLane};
-ghost use Rattle.vram_store.specs.Vram.{height_of};
-ghost use Rattle.span_lanes.specs.Chunk.{IsChunk, HasChunk};
-ghost use Rattle.span_lanes.specs.Shade.{IsSpan, LiesIn, texture_of, blended_if};
-ghost use Rattle.span_lanes.specs.Hues.{hue_at, AreHues};
-ghost use Rattle.span_lanes.specs.Lanes.{AreShifts, AreShiftsAt, tone_with};
+ghost use Rattle.span_lanes.specs.Chunk.{HasChunk};
+ghost use Rattle.span_lanes.specs.Draws.{IsPart};
+ghost use Rattle.span_lanes.specs.Shade.{blended_if};
+ghost use Rattle.span_lanes.specs.Hues.{hue_at};
+ghost use Rattle.span_lanes.specs.Lanes.{AreShifts, tone_with};
+ghost use Rattle.span_lanes.specs.Toned.{CanTone};
 
 use crate::Span;
 use crate::back::back_of;
 use crate::colors::{Shifts, tones_of};
 use crate::hues::{Hues, hue_lanes};
 use crate::lanes::Lanes;
+use crate::part::Part;
 use blend_dither::{blend_lanes, plain_tone_lanes, tone};
 use px_num::lanes::splat;
 use std::simd::prelude::*;
@@ -97,23 +99,17 @@ pub(crate) fn collect_plain<L: Ledger>(
     span: &Span,
     hues: &Hues,
     shifts: Shifts,
-    first: u16,
-    k: u8,
+    part: Part,
     steps: &mut Steps<L>,
 ) -> Lanes
-    requires span { IsSpan span.now }
-    requires height { LiesIn (height_of vram.now) span.now }
-    requires chunk { IsChunk span.now first k }
-    requires plain { texture_of span.now.paint ≡ None }
-    requires fourth { first % 4 ≡ 0 }
-    requires hues { AreHues span.now.paint span.now.x span.now.y span.now.n hues.now }
-    requires shifts { AreShiftsAt span.now.brush.dither span.now.x span.now.y shifts.lanes }
-    ensures lanes { HasChunk span.now first k vram.now result }
+    requires tones { CanTone span.now hues.now shifts.lanes vram.now }
+    requires part { IsPart span.now part }
+    ensures lanes { HasChunk span.now part.first part.k vram.now result }
     ensures cost { steps.new ≤ steps.old + 1 }
 {
-    let x = span.x + first;
-    let back = back_of(vram, &span.brush, x, span.y, k, steps);
-    let tones = hue_tones(hues, span.brush.dither, shifts, first);
+    let x = span.x + part.first;
+    let back = back_of(vram, &span.brush, x, span.y, part.k, steps);
+    let tones = hue_tones(hues, span.brush.dither, shifts, part.first);
     let plotted = blend_lanes_if(span.brush.semi, span.brush.mode, back, tones);
     Lanes {
         cells: force_lanes(span.brush.mask, plotted),

@@ -18,6 +18,7 @@ use edge_walk::Tri;
 
 #[derive(Clone, Copy)]
 pub(crate) struct Plan {
+    pub(crate) texture: Texture,
     pub(crate) shading: Shading,
     pub(crate) track: Track,
     // whether the span is known to read nothing that it writes
@@ -33,6 +34,7 @@ fn plan_with(span: &Span, texture: &Texture, hues: Hues, track: Track) -> Plan
     ensures { IsPlan span.now texture.now result }
 {
     Plan {
+        texture: *texture,
         shading: shading_of(span, texture, hues),
         track,
         apart: is_apart(span, texture),

@@ -1,15 +1,15 @@
 // Spans whose cells all become the same halfword.
-ghost use Rattle.std.specs.Prelude.{ℕ, ◌≡◌, ◌≤◌, ◌+◌, ◌&&◌, ◌||◌, not, IfSome, length};
+ghost use Rattle.std.specs.Prelude.{ℕ, ◌≡◌, ◌&&◌, ◌||◌, not, IfSome};
 ghost use Rattle.vram_store.specs.Vram.{height_of};
 ghost use Rattle.vram_store.specs.Plot.{is_testing};
 ghost use Rattle.span_lanes.specs.declared.span.Paint.TheVariants.{Flat};
 ghost use Rattle.span_lanes.specs.Pen.{DrawsCells, HasHalfword, ink_of};
-ghost use Rattle.span_lanes.specs.Chunk.{IsChunk, drawn_chunk};
-ghost use Rattle.span_lanes.specs.Shade.{IsSpan, LiesIn, drawn_span};
+ghost use Rattle.span_lanes.specs.Shade.{IsSpan, LiesIn};
 ghost use Rattle.span_lanes.specs.Lanes.{IsSolid};
-ghost use Rattle.span_lanes.specs.Cost.{chunk_cost, span_cost};
 
 use crate::back::looks;
+use crate::loops::{Chunks, draw_parts};
+use crate::part::Part;
 use crate::{Brush, Paint, Span};
 use blend_dither::tone;
 use px_num::lanes::splat;
@@ -45,44 +45,26 @@ pub fn solid_of(paint: &Paint, brush: &Brush) -> Option<u16>
     }
 }
 
-#[inline(always)]
-fn solid_chunk<L: Ledger>(
-    vram: &mut Vram,
-    span: &Span,
-    h: u16,
-    first: u16,
-    k: u8,
-    steps: &mut Steps<L>,
-)
-    requires span { IsSpan span.now }
-    requires height { LiesIn (height_of vram.old) span.now }
-    requires solid { IsSolid span.now h }
-    requires chunk { IsChunk span.now first k }
-    ensures cells { vram.new ≡ drawn_chunk span.now first k vram.old }
-    ensures long { length vram.new ≡ length vram.old }
-    ensures cost { steps.new ≤ steps.old + chunk_cost span.now first k }
-{
-    vram.store16(span.x + first, span.y, k, splat(h), 0xffff, steps);
+// A halfword that each cell becomes.
+#[derive(Clone, Copy)]
+pub(crate) struct Solid {
+    pub(crate) h: u16,
 }
 
-// The cells of a span that all become one halfword.
-#[inline(always)]
-pub(crate) fn store_solid<L: Ledger>(vram: &mut Vram, span: &Span, h: u16, steps: &mut Steps<L>)
-    requires span { IsSpan span.now }
-    requires height { LiesIn (height_of vram.old) span.now }
-    requires solid { IsSolid span.now h }
-    ensures cells { vram.new ≡ drawn_span span.now span.now.n vram.old }
-    ensures long { length vram.new ≡ length vram.old }
-    ensures cost { steps.new ≤ steps.old + span_cost span.now }
-{
-    let whole = span.n / 16;
-    for c in 0..whole {
-        solid_chunk(vram, span, h, 16 * c, 16, steps);
+impl Chunks for Solid {
+    ghost use Rattle.span_lanes.specs.Solid.{CanFill};
+
+    ghost serves = { λ c s m. CanFill s c.h m };
+
+    ghost spared = { λ c. 0 };
+
+    #[inline(always)]
+    fn draw_part<L: Ledger>(&self, vram: &mut Vram, span: &Span, part: Part, steps: &mut Steps<L>) {
+        let x = span.x + part.first;
+        vram.store16(x, span.y, part.k, splat(self.h), 0xffff, steps);
     }
-    let rest = span.n % 16;
-    if rest > 0 {
-        solid_chunk(vram, span, h, span.n - rest, rest as u8, steps);
-    }
+
+    ghost can = { λ c s m serves. serves.can };
 }
 
 /// Draws the cells of a span that all become one halfword, as [`draw_span`](crate::draw_span) does.
@@ -94,5 +76,5 @@ pub fn draw_solid<L: Ledger>(vram: &mut Vram, span: &Span, h: u16, steps: &mut S
     ensures drawn { DrawsCells (ink_of span.now) span.now.x span.now.y span.now.n
         (record { m = vram.old; steps = steps.old }) (record { m = vram.new; steps = steps.new }) }
 {
-    store_solid(vram, span, h, steps);
+    draw_parts(vram, span, &Solid { h }, steps);
 }

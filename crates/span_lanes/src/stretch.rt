@@ -3,8 +3,7 @@ ghost use Rattle.std.specs.Prelude.{◌≡◌, ◌≤◌, ◌<◌, ◌+◌, ◌*
 ghost use Rattle.texture_page.specs.Page.{windowed};
 ghost use Rattle.vram_store.specs.Vram.{height_of};
 ghost use Rattle.span_lanes.specs.declared.span.Paint.TheVariants.{TexturedRow, TexturedTri};
-ghost use Rattle.span_lanes.specs.Chunk.{IsChunk};
-ghost use Rattle.span_lanes.specs.Cost.{texel_steps};
+ghost use Rattle.span_lanes.specs.Draws.{IsPart};
 ghost use Rattle.span_lanes.specs.Pen.{AreSlopes};
 ghost use Rattle.span_lanes.specs.Plan.{HasTexels};
 ghost use Rattle.span_lanes.specs.Shade.{IsSpan, IsTexture};
@@ -13,7 +12,9 @@ ghost use Rattle.span_lanes.specs.StretchPen.{AreSideBySide};
 
 use crate::beside::{sixteen_indexes, sixteen_octets};
 use crate::fetch::{gather_entries, sixteen_entries};
+use crate::part::Part;
 use crate::row::TexelRow;
+use crate::sampler::{Indexed, Sampler};
 use crate::slopes::{Slopes, value_of};
 use crate::table::{entries_at, table_of};
 use crate::{Span, Texture};
@@ -143,19 +144,23 @@ fn read_wholes<L: Ledger>(
     span: &Span,
     texture: &Texture,
     stretch: &Stretch,
-    first: u16,
-    k: u8,
+    part: Part,
     steps: &mut Steps<L>,
 ) -> u16x16
     requires page { texture.now.page.y + 255 < height_of vram.now }
-    requires chunk { IsChunk span.now first k }
+    requires part { IsPart span.now part }
     requires stretch { IsStretch span.now texture.now stretch.now }
     requires depth { 2 ≤ texture.now.page.depth }
-    ensures texels { HasTexels span.now texture.now first k vram.now result }
-    ensures cost { steps.new ≤ steps.old + k }
+    ensures texels { HasTexels span.now texture.now part.first part.k vram.now result }
+    ensures cost { steps.new ≤ steps.old + part.k }
 {
     let _ = span;
-    vram.load16(texture.page.x + stretch.u + first, stretch.y, k, steps)
+    vram.load16(
+        texture.page.x + stretch.u + part.first,
+        stretch.y,
+        part.k,
+        steps,
+    )
 }
 
 // k texels of eight bits that stand side by side.
@@ -165,21 +170,20 @@ fn read_eights<L: Ledger>(
     span: &Span,
     texture: &Texture,
     stretch: &Stretch,
-    first: u16,
-    k: u8,
+    part: Part,
     steps: &mut Steps<L>,
 ) -> u16x16
     requires page { texture.now.page.y + 255 < height_of vram.now }
-    requires chunk { IsChunk span.now first k }
+    requires part { IsPart span.now part }
     requires stretch { IsStretch span.now texture.now stretch.now }
     requires depth { texture.now.page.depth ≡ 1 }
-    ensures texels { HasTexels span.now texture.now first k vram.now result }
-    ensures cost { steps.new ≤ steps.old + 2 * k }
+    ensures texels { HasTexels span.now texture.now part.first part.k vram.now result }
+    ensures cost { steps.new ≤ steps.old + 2 * part.k }
 {
     let _ = span;
-    let u = stretch.u + first;
+    let u = stretch.u + part.first;
     let index = sixteen_octets(vram, texture.page.x, u, stretch.y, steps);
-    gather_entries(vram, texture.clut, index, k, steps)
+    gather_entries(vram, texture.clut, index, part.k, steps)
 }
 
 // k texels of four bits that stand side by side.
@@ -189,45 +193,114 @@ fn read_fours<L: Ledger>(
     span: &Span,
     texture: &Texture,
     stretch: &Stretch,
-    first: u16,
-    k: u8,
+    part: Part,
     steps: &mut Steps<L>,
 ) -> u16x16
     requires page { texture.now.page.y + 255 < height_of vram.now }
-    requires chunk { IsChunk span.now first k }
+    requires part { IsPart span.now part }
     requires stretch { IsStretch span.now texture.now stretch.now }
     requires depth { texture.now.page.depth ≡ 0 }
-    ensures texels { HasTexels span.now texture.now first k vram.now result }
-    ensures cost { steps.new ≤ steps.old + 2 * k }
+    ensures texels { HasTexels span.now texture.now part.first part.k vram.now result }
+    ensures cost { steps.new ≤ steps.old + 2 * part.k }
 {
     let _ = span;
-    let _ = k;
-    let u = stretch.u + first;
+    let u = stretch.u + part.first;
     let index = sixteen_indexes(vram, texture.page.x, u, stretch.y, steps);
     let entries = sixteen_entries(vram, texture.clut, steps);
     entries_at(&table_of(entries), index)
 }
 
-// k texels that stand side by side.
-#[inline(always)]
-pub(crate) fn read_stretch<L: Ledger>(
-    vram: &Vram,
-    span: &Span,
-    texture: &Texture,
-    stretch: &Stretch,
-    first: u16,
-    k: u8,
-    steps: &mut Steps<L>,
-) -> u16x16
-    requires page { texture.now.page.y + 255 < height_of vram.now }
-    requires chunk { IsChunk span.now first k }
-    requires stretch { IsStretch span.now texture.now stretch.now }
-    ensures texels { HasTexels span.now texture.now first k vram.now result }
-    ensures cost { steps.new ≤ steps.old + texel_steps texture.now.page.depth * k }
-{
-    match texture.page.depth {
-        0 => read_fours(vram, span, texture, stretch, first, k, steps),
-        1 => read_eights(vram, span, texture, stretch, first, k, steps),
-        _ => read_wholes(vram, span, texture, stretch, first, k, steps),
+// Texels of four bits that stand side by side.
+#[derive(Clone, Copy)]
+pub(crate) struct Fours {
+    pub(crate) stretch: Stretch,
+}
+
+impl Sampler for Fours {
+    ghost use Rattle.std.specs.Prelude.{◌≡◌, ◌≤◌};
+    ghost use Rattle.span_lanes.specs.Stretch.{IsStretch};
+
+    ghost finds = { λ c s t. IsStretch s t c.stretch × (t.page.depth ≡ 0) };
+
+    #[inline(always)]
+    fn read_texels<L: Ledger>(
+        &self,
+        vram: &Vram,
+        span: &Span,
+        texture: &Texture,
+        part: Part,
+        steps: &mut Steps<L>,
+    ) -> u16x16 {
+        read_fours(vram, span, texture, &self.stretch, part, steps)
+    }
+}
+
+// Texels of eight bits that stand side by side.
+#[derive(Clone, Copy)]
+pub(crate) struct Eights {
+    pub(crate) stretch: Stretch,
+}
+
+impl Sampler for Eights {
+    ghost use Rattle.std.specs.Prelude.{◌≡◌, ◌≤◌};
+    ghost use Rattle.span_lanes.specs.Stretch.{IsStretch};
+
+    ghost finds = { λ c s t. IsStretch s t c.stretch × (t.page.depth ≡ 1) };
+
+    #[inline(always)]
+    fn read_texels<L: Ledger>(
+        &self,
+        vram: &Vram,
+        span: &Span,
+        texture: &Texture,
+        part: Part,
+        steps: &mut Steps<L>,
+    ) -> u16x16 {
+        read_eights(vram, span, texture, &self.stretch, part, steps)
+    }
+}
+
+// Texels of fifteen bits that stand side by side.
+#[derive(Clone, Copy)]
+pub(crate) struct Wholes {
+    pub(crate) stretch: Stretch,
+}
+
+impl Sampler for Wholes {
+    ghost use Rattle.std.specs.Prelude.{◌≡◌, ◌≤◌};
+    ghost use Rattle.span_lanes.specs.Stretch.{IsStretch};
+
+    ghost finds = { λ c s t. IsStretch s t c.stretch × (2 ≤ t.page.depth) };
+
+    #[inline(always)]
+    fn read_texels<L: Ledger>(
+        &self,
+        vram: &Vram,
+        span: &Span,
+        texture: &Texture,
+        part: Part,
+        steps: &mut Steps<L>,
+    ) -> u16x16 {
+        read_wholes(vram, span, texture, &self.stretch, part, steps)
+    }
+}
+
+impl Indexed for Stretch {
+    ghost use Rattle.span_lanes.specs.Stretch.{IsStretch};
+
+    ghost finds = { λ stretch s t. IsStretch s t stretch };
+
+    #[inline(always)]
+    fn read_indexes<L: Ledger>(
+        &self,
+        vram: &Vram,
+        span: &Span,
+        texture: &Texture,
+        part: Part,
+        steps: &mut Steps<L>,
+    ) -> u8x16 {
+        let _ = span;
+        let u = self.u + part.first;
+        sixteen_indexes(vram, texture.page.x, u, self.y, steps)
     }
 }

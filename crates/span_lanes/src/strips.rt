@@ -7,14 +7,15 @@ ghost use Rattle.span_lanes.specs.Strips.{AreStrips};
 ghost use Rattle.span_lanes.specs.Swatches.{IsPalette};
 
 use crate::apart::are_apart;
+use crate::loops::draw_parts;
 use crate::plainly::{is_plain, plain};
 use crate::row::{TexelRow, row_down};
 use crate::shading::is_dithered;
 use crate::spans::Spans;
 use crate::stretch::{has_room, is_open, stretch_at};
 use crate::stretched::known;
-use crate::strip::{Strip, draw_chunks};
 use crate::swatches::{Swatches, swatches_of};
+use crate::texels::Kept;
 use crate::{Paint, Span, Texture};
 use std::sync::ledger::Ledger;
 use vram_store::{Steps, Vram};
@@ -68,11 +69,12 @@ fn draw_rows<L: Ledger>(
             },
             brush,
         };
-        let strip = Strip {
-            stretch: stretch_at(texture, row.u, v),
+        let kept = Kept {
+            texture: *texture,
+            sampler: stretch_at(texture, row.u, v),
             swatches: *swatches,
         };
-        draw_chunks(vram, &span, texture, &strip, steps);
+        draw_parts(vram, &span, &kept, steps);
     }
 }
 
@@ -122,12 +124,11 @@ pub(crate) fn draw_strips<L: Ledger>(
 {
     let mut last = None;
     let swatches = swatches_of(vram, texture, row.color, &mut last, steps);
-    let depth = texture.page.depth;
     if texture.raw {
-        let texture = known(texture, depth, true);
+        let texture = known(texture, true);
         draw_by_brush(vram, spans, &texture, row, &swatches, steps);
     } else {
-        let texture = known(texture, depth, false);
+        let texture = known(texture, false);
         draw_by_brush(vram, spans, &texture, row, &swatches, steps);
     }
 }

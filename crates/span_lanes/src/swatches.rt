@@ -1,27 +1,19 @@
 // Textures of four bits under one colour, whose palette is read and coloured once a primitive.
-ghost use Rattle.std.specs.Prelude.{◌≡◌, ◌≤◌, ◌+◌, ◌%◌, IfSome, IsTrue, MatchOption, Some};
+ghost use Rattle.std.specs.Prelude.{◌≡◌, ◌≤◌, ◌<◌, ◌+◌, IfSome, IsTrue, MatchOption, Some, pos};
 ghost use Rattle.std.specs.Prelude.{length, slice_index};
 ghost use Rattle.px_num.specs.Lanes.{EachLane};
-ghost use Rattle.vram_store.specs.Vram.{height_of};
-ghost use Rattle.span_lanes.specs.declared.hues.Hues.TheVariants.{One};
-ghost use Rattle.span_lanes.specs.Chunk.{IsChunk, drawn_chunk};
-ghost use Rattle.span_lanes.specs.Cost.{chunk_cost, span_cost};
-ghost use Rattle.span_lanes.specs.Plan.{HasTexels, IsPlan, IsPlanned};
-ghost use Rattle.span_lanes.specs.Shade.{drawn_span};
-ghost use Rattle.span_lanes.specs.Swatches.{AreColored, AreEntries, AreFronts, AreSwatches};
-ghost use Rattle.span_lanes.specs.Swatches.{IsKept, IsPalette, SuitsPalette};
-ghost use Rattle.span_lanes.specs.Table.{entry_at};
+ghost use Rattle.span_lanes.specs.Plan.{IsPlan};
+ghost use Rattle.span_lanes.specs.Shade.{front_of};
+ghost use Rattle.span_lanes.specs.Swatches.{AreColored, AreEntries, IsPalette, SuitsPalette};
+ghost use Rattle.span_lanes.specs.Table.{AreBytes, entry_at};
 
-use crate::beside::indexes_of;
 use crate::colors::no_shifts;
 use crate::fetch::sixteen_entries;
 use crate::hues::Hues;
 use crate::plan::Plan;
 use crate::shading::is_dithered;
-use crate::store::store_chunk;
 use crate::table::{Table, entries_at, table_of};
-use crate::textured::{collect_fronts, fronts};
-use crate::track::track_lanes;
+use crate::textured::fronts;
 use crate::{Span, Texture};
 use std::simd::prelude::*;
 use std::sync::ledger::Ledger;
@@ -115,102 +107,27 @@ pub(crate) fn swatches_of<L: Ledger>(
     }
 }
 
-// k texels by their coordinates.
+// Sixteen texels by their indexes, and what the colour makes of them.
 #[inline(always)]
-fn read_scattered<L: Ledger>(
-    vram: &Vram,
-    span: &Span,
-    texture: &Texture,
-    plan: &Plan,
-    swatches: &Swatches,
-    first: u16,
-    k: u8,
-    steps: &mut Steps<L>,
-) -> Drawn
-    requires planned { IsPlanned (height_of vram.now) span.now texture.now plan.now }
-    requires depth { texture.now.page.depth ≡ 0 }
-    requires chunk { IsChunk span.now first k }
-    requires whole { first % 16 ≡ 0 }
-    requires swatches { AreSwatches texture.now vram.now swatches.now }
-    ensures texels { HasTexels span.now texture.now first k vram.now result.texels }
-    ensures fronts { AreFronts texture.now.raw swatches.now.color k result.texels result.fronts }
-    ensures cost { steps.new ≤ steps.old + k }
+#[tactic(auto, unfolding(crate::specs::Shade::front_of))]
+pub(crate) fn drawn_at(swatches: &Swatches, raw: bool, index: u8x16) -> Drawn
+    requires colored { AreColored swatches.now }
+    requires raw { swatches.now.raw ≡ raw }
+    requires bytes { AreBytes index }
+    requires low { EachLane (λ i. slice_index index i < 16) }
+    ensures long { (length result.texels ≡ 16) × (length result.fronts ≡ 16) }
+    ensures texels { EachLane (λ i. slice_index result.texels i
+        ≡ entry_at swatches.now.entries (slice_index index i)) }
+    ensures fronts { EachLane (λ i. slice_index result.fronts i
+        ≡ front_of raw swatches.now.color (pos 0) (slice_index result.texels i)) }
 {
-    let _ = span;
-    let at = track_lanes(&plan.track, first);
-    let index = indexes_of(vram, texture, &at, k, steps);
-    Drawn {
-        texels: entries_at(&swatches.entries, index),
-        fronts: entries_at(&swatches.fronts, index),
-    }
-}
-
-// A chunk of a span that lies apart from its texels and is on another row than its palette.
-#[inline(always)]
-fn swatch_chunk<L: Ledger>(
-    vram: &mut Vram,
-    span: &Span,
-    texture: &Texture,
-    plan: &Plan,
-    swatches: &Swatches,
-    first: u16,
-    k: u8,
-    steps: &mut Steps<L>,
-)
-    requires planned { IsPlanned (height_of vram.old) span.now texture.now plan.now }
-    requires chunk { IsChunk span.now first k }
-    requires whole { first % 16 ≡ 0 }
-    requires suits { SuitsPalette span.now texture.now }
-    requires hue { plan.now.shading.hues ≡ One swatches.now.color }
-    requires swatches { AreSwatches texture.now vram.old swatches.now }
-    ensures cells { vram.new ≡ drawn_chunk span.now first k vram.old }
-    ensures long { length vram.new ≡ length vram.old }
-    ensures swatches { AreSwatches texture.now vram.new swatches.now }
-    ensures cost { steps.new + 1 ≤ steps.old + chunk_cost span.now first k }
-{
-    let drawn = read_scattered(vram, span, texture, plan, swatches, first, k, steps);
-    let lanes = collect_fronts(vram, span, texture, drawn, first, k, steps);
-    store_chunk(vram, span, first, k, &lanes, steps);
-}
-
-// A span that lies apart from its texels and is on another row than its palette.
-#[inline(always)]
-pub(crate) fn draw_swatches<L: Ledger>(
-    vram: &mut Vram,
-    span: &Span,
-    texture: &Texture,
-    plan: &Plan,
-    color: u32,
-    last: &mut Option<Swatches>,
-    steps: &mut Steps<L>,
-)
-    requires planned { IsPlanned (height_of vram.old) span.now texture.now plan.now }
-    requires suits { SuitsPalette span.now texture.now }
-    requires hue { plan.now.shading.hues ≡ One color }
-    requires last { IsKept span.now.paint vram.old last.old }
-    ensures cells { vram.new ≡ drawn_span span.now span.now.n vram.old }
-    ensures long { length vram.new ≡ length vram.old }
-    ensures last { IsKept span.now.paint vram.new last.new }
-    ensures cost { steps.new ≤ steps.old + span_cost span.now }
-{
-    let swatches = swatches_of(vram, texture, color, last, steps);
-    let whole = span.n / 16;
-    for c in 0..whole {
-        swatch_chunk(vram, span, texture, plan, &swatches, 16 * c, 16, steps);
-    }
-    let rest = span.n % 16;
-    if rest > 0 {
-        swatch_chunk(
-            vram,
-            span,
-            texture,
-            plan,
-            &swatches,
-            16 * whole,
-            rest as u8,
-            steps,
-        );
-    }
+    let texels = entries_at(&swatches.entries, index);
+    let fronts = if raw {
+        texels
+    } else {
+        entries_at(&swatches.fronts, index)
+    };
+    Drawn { texels, fronts }
 }
 
 // Whether a palette of sixteen entries can be coloured for a whole span.

@@ -4,9 +4,12 @@ ghost use Rattle.std.specs.Prelude.{false, pos, IsTrue, Some, ℕ};
 ghost use Rattle.std.specs.Prelude.{length, slice_index, slice_index_or};
 ghost use Rattle.blend_dither.specs.Color.{modulated_of, packed_pixel, red_of, green_of, blue_of};
 ghost use Rattle.px_num.specs.Lanes.{EachLane};
-ghost use Rattle.vram_store.specs.Vram.{bit, height_of};
-ghost use Rattle.span_lanes.specs.Chunk.{IsChunk, HasChunk};
-ghost use Rattle.span_lanes.specs.Shade.{IsSpan, LiesIn, texture_of, is_high, blended_if, front_of};
+ghost use Rattle.vram_store.specs.Chunk.{AgreesApart};
+ghost use Rattle.vram_store.specs.Vram.{bit};
+ghost use Rattle.span_lanes.specs.Chunk.{chunk_place, drawn_chunk, HasChunk};
+ghost use Rattle.span_lanes.specs.Draws.{CanSample, IsPart};
+ghost use Rattle.span_lanes.specs.Guard.{HasHazard};
+ghost use Rattle.span_lanes.specs.Shade.{is_high, blended_if, front_of};
 ghost use Rattle.span_lanes.specs.Hues.{hue_at};
 ghost use Rattle.span_lanes.specs.Plan.{IsShading, HasTexels, HasFronts};
 ghost use Rattle.span_lanes.specs.Lanes.{AreShifts};
@@ -15,7 +18,9 @@ use crate::back::back_of;
 use crate::colors::{Shifts, modulated_by};
 use crate::hues::{Hues, hue_lanes};
 use crate::lanes::{Lanes, both, drawn_bits};
+use crate::part::Part;
 use crate::shading::Shading;
+use crate::store::store_part;
 use crate::swatches::Drawn;
 use crate::{Brush, Span, Texture};
 use blend_dither::blend_lanes;
@@ -156,60 +161,84 @@ pub(crate) fn fronts(raw: bool, hues: &Hues, shifts: Shifts, first: u16, texels:
     }
 }
 
-// The pixels of k cells of a textured span by their texels and what colours make of these.
+// The pixels of a part by its texels and what colours make of these.
 #[inline(always)]
-pub(crate) fn collect_fronts<L: Ledger>(
+fn collect_fronts<L: Ledger>(
     vram: &Vram,
     span: &Span,
     texture: &Texture,
     drawn: Drawn,
-    first: u16,
-    k: u8,
+    part: Part,
     steps: &mut Steps<L>,
 ) -> Lanes
-    requires span { IsSpan span.now }
-    requires height { LiesIn (height_of vram.now) span.now }
-    requires chunk { IsChunk span.now first k }
-    requires texture { texture_of span.now.paint ≡ Some texture.now }
-    requires texels { HasTexels span.now texture.now first k vram.now drawn.texels }
+    requires sample { CanSample span.now texture.now vram.now }
+    requires part { IsPart span.now part }
+    requires texels { HasTexels span.now texture.now part.first part.k vram.now drawn.texels }
     requires long { length drawn.fronts ≡ 16 }
-    requires front { HasFronts span.now texture.now first k drawn.texels drawn.fronts }
-    ensures lanes { HasChunk span.now first k vram.now result }
+    requires front { HasFronts span.now texture.now part.first part.k drawn.texels drawn.fronts }
+    ensures lanes { HasChunk span.now part.first part.k vram.now result }
     ensures cost { steps.new ≤ steps.old + 1 }
 {
-    let x = span.x + first;
+    let x = span.x + part.first;
     let brush = span.brush;
-    let back = back_of(vram, &brush, x, span.y, k, steps);
-    let plotted = plotted_of(&brush, texture.raw, back, drawn, k);
+    let back = back_of(vram, &brush, x, span.y, part.k, steps);
+    let plotted = plotted_of(&brush, texture.raw, back, drawn, part.k);
     Lanes {
         cells: force_lanes(brush.mask, plotted),
         bits: both(open_bits(brush.mask, back), drawn_bits(drawn.texels)),
     }
 }
 
-// The pixels of k cells of a textured span, all of them read in video memory as it is.
+// Draws a part that reads nothing that it writes, by its texels and what colours make of these.
 #[inline(always)]
-pub(crate) fn collect_textured<L: Ledger>(
-    vram: &Vram,
+pub(crate) fn draw_fronts<L: Ledger>(
+    vram: &mut Vram,
+    span: &Span,
+    texture: &Texture,
+    drawn: Drawn,
+    part: Part,
+    steps: &mut Steps<L>,
+)
+    requires sample { CanSample span.now texture.now vram.old }
+    requires part { IsPart span.now part }
+    requires free { HasHazard span.now part.first part.k → ⊥ }
+    requires texels { HasTexels span.now texture.now part.first part.k vram.old drawn.texels }
+    requires long { length drawn.fronts ≡ 16 }
+    requires front { HasFronts span.now texture.now part.first part.k drawn.texels drawn.fronts }
+    ensures cells { vram.new ≡ drawn_chunk span.now part.first part.k vram.old }
+    ensures others { AgreesApart (chunk_place span.now part.first) part.k vram.old vram.new }
+    ensures cost { steps.new ≤ steps.old + 2 }
+{
+    let lanes = collect_fronts(vram, span, texture, drawn, part, steps);
+    store_part(vram, span, part, &lanes, steps);
+}
+
+// The same by its texels and the colours of the span.
+#[inline(always)]
+pub(crate) fn draw_shaded<L: Ledger>(
+    vram: &mut Vram,
     span: &Span,
     texture: &Texture,
     shading: &Shading,
     texels: u16x16,
-    first: u16,
-    k: u8,
+    part: Part,
     steps: &mut Steps<L>,
-) -> Lanes
-    requires span { IsSpan span.now }
-    requires height { LiesIn (height_of vram.now) span.now }
-    requires chunk { IsChunk span.now first k }
-    requires whole { first % 16 ≡ 0 }
-    requires texture { texture_of span.now.paint ≡ Some texture.now }
+)
+    requires sample { CanSample span.now texture.now vram.old }
+    requires part { IsPart span.now part }
+    requires free { HasHazard span.now part.first part.k → ⊥ }
     requires shading { IsShading span.now texture.now shading.now }
-    requires texels { HasTexels span.now texture.now first k vram.now texels }
-    ensures lanes { HasChunk span.now first k vram.now result }
-    ensures cost { steps.new ≤ steps.old + 1 }
+    requires texels { HasTexels span.now texture.now part.first part.k vram.old texels }
+    ensures cells { vram.new ≡ drawn_chunk span.now part.first part.k vram.old }
+    ensures others { AgreesApart (chunk_place span.now part.first) part.k vram.old vram.new }
+    ensures cost { steps.new ≤ steps.old + 2 }
 {
-    let fronts = fronts(texture.raw, &shading.hues, shading.shifts, first, texels);
-    let drawn = Drawn { texels, fronts };
-    collect_fronts(vram, span, texture, drawn, first, k, steps)
+    let fronts = fronts(
+        texture.raw,
+        &shading.hues,
+        shading.shifts,
+        part.first,
+        texels,
+    );
+    draw_fronts(vram, span, texture, Drawn { texels, fronts }, part, steps);
 }

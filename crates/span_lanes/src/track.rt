@@ -6,14 +6,20 @@ ghost use Rattle.span_lanes.specs.Pen.{AreSlopes};
 ghost use Rattle.span_lanes.specs.Lanes.{AreCoordinates};
 ghost use Rattle.span_lanes.specs.Track.{along_at, IsAlong};
 
+use crate::beside::indexes_of;
 use crate::coordinates::Coordinates;
-use crate::fetch::ramp;
+use crate::fetch::{ramp, read_texels};
 use crate::hues::line_of;
+use crate::part::Part;
+use crate::sampler::{Indexed, Sampler};
 use crate::slopes::Slopes;
 use crate::table::low8;
+use crate::{Span, Texture};
 use edge_walk::RowLine;
 use px_num::lanes::{add, splat, sub_or_zero};
 use std::simd::prelude::*;
+use std::sync::ledger::Ledger;
+use vram_store::{Steps, Vram};
 
 // One coordinate of the texels of a span.
 #[derive(Clone, Copy)]
@@ -117,5 +123,45 @@ pub(crate) fn track_lanes(track: &Track, first: u16) -> Coordinates
     Coordinates {
         us: along_lanes(&track.u, first),
         vs: along_lanes(&track.v, first),
+    }
+}
+
+impl Sampler for Track {
+    ghost use Rattle.span_lanes.specs.Track.{IsTrack};
+
+    ghost finds = { λ track s t. IsTrack s.paint s.x s.y s.n track };
+
+    #[inline(always)]
+    fn read_texels<L: Ledger>(
+        &self,
+        vram: &Vram,
+        span: &Span,
+        texture: &Texture,
+        part: Part,
+        steps: &mut Steps<L>,
+    ) -> u16x16 {
+        let _ = span;
+        let at = track_lanes(self, part.first);
+        read_texels(vram, texture, &at, part.k, steps)
+    }
+}
+
+impl Indexed for Track {
+    ghost use Rattle.span_lanes.specs.Track.{IsTrack};
+
+    ghost finds = { λ track s t. IsTrack s.paint s.x s.y s.n track };
+
+    #[inline(always)]
+    fn read_indexes<L: Ledger>(
+        &self,
+        vram: &Vram,
+        span: &Span,
+        texture: &Texture,
+        part: Part,
+        steps: &mut Steps<L>,
+    ) -> u8x16 {
+        let _ = span;
+        let at = track_lanes(self, part.first);
+        indexes_of(vram, texture, &at, part.k, steps)
     }
 }

@@ -1,84 +1,67 @@
-// Spans without a texture, chunk by chunk.
-ghost use Rattle.std.specs.Prelude.{◌≡◌, ◌≤◌, ◌+◌, ◌%◌, None, length};
-ghost use Rattle.vram_store.specs.Vram.{height_of};
-ghost use Rattle.span_lanes.specs.Chunk.{IsChunk, drawn_chunk};
-ghost use Rattle.span_lanes.specs.Shade.{IsSpan, LiesIn, texture_of, drawn_span};
+// Spans without a texture, part by part.
+ghost use Rattle.std.specs.Prelude.{◌≡◌, None};
+ghost use Rattle.span_lanes.specs.Draws.{CanDraw, DrawsSpan, at_stage};
+ghost use Rattle.span_lanes.specs.Shade.{texture_of};
 ghost use Rattle.span_lanes.specs.declared.hues.Hues.TheVariants.{One, Lines};
 ghost use Rattle.span_lanes.specs.Pen.{IsTint};
 ghost use Rattle.span_lanes.specs.Hues.{AreHues};
-ghost use Rattle.span_lanes.specs.Lanes.{AreShiftsAt};
-ghost use Rattle.span_lanes.specs.Cost.{chunk_cost, span_cost};
 
 use crate::Span;
 use crate::colors::{Shifts, shifts_of};
 use crate::hues::{Hues, hues_of};
+use crate::loops::{Chunks, draw_parts};
+use crate::part::Part;
 use crate::plain::collect_plain;
-use crate::store::store_chunk;
+use crate::store::store_part;
 use crate::tint::Tint;
 use edge_walk::RowLine;
 use std::sync::ledger::Ledger;
 use vram_store::{Steps, Vram};
 
-// A chunk without a texture, which reads nothing but its own cells.
-#[inline(always)]
-fn draw_plain<L: Ledger>(
-    vram: &mut Vram,
-    span: &Span,
-    hues: &Hues,
+// Cells that take their colours alone, and look at nothing but themselves.
+#[derive(Clone, Copy)]
+struct Toned {
+    hues: Hues,
     shifts: Shifts,
-    first: u16,
-    k: u8,
-    steps: &mut Steps<L>,
-)
-    requires span { IsSpan span.now }
-    requires height { LiesIn (height_of vram.old) span.now }
-    requires chunk { IsChunk span.now first k }
-    requires plain { texture_of span.now.paint ≡ None }
-    requires fourth { first % 4 ≡ 0 }
-    requires hues { AreHues span.now.paint span.now.x span.now.y span.now.n hues.now }
-    requires shifts { AreShiftsAt span.now.brush.dither span.now.x span.now.y shifts.lanes }
-    ensures cells { vram.new ≡ drawn_chunk span.now first k vram.old }
-    ensures long { length vram.new ≡ length vram.old }
-    ensures cost { steps.new ≤ steps.old + chunk_cost span.now first k }
-{
-    let lanes = collect_plain(vram, span, hues, shifts, first, k, steps);
-    store_chunk(vram, span, first, k, &lanes, steps);
+}
+
+impl Chunks for Toned {
+    ghost use Rattle.span_lanes.specs.Toned.{CanTone};
+
+    ghost serves = { λ c s m. CanTone s c.hues c.shifts.lanes m };
+
+    ghost spared = { λ c. 0 };
+
+    #[inline(always)]
+    fn draw_part<L: Ledger>(&self, vram: &mut Vram, span: &Span, part: Part, steps: &mut Steps<L>) {
+        let lanes = collect_plain(vram, span, &self.hues, self.shifts, part, steps);
+        store_part(vram, span, part, &lanes, steps);
+    }
+
+    ghost can = { λ c s m serves. serves.can };
 }
 
 // A span without a texture, by its colours.
 #[inline(always)]
-fn draw_hues<L: Ledger>(vram: &mut Vram, span: &Span, hues: &Hues, steps: &mut Steps<L>)
-    requires span { IsSpan span.now }
-    requires height { LiesIn (height_of vram.old) span.now }
+fn draw_hues<L: Ledger>(vram: &mut Vram, span: &Span, hues: Hues, steps: &mut Steps<L>)
+    requires can { CanDraw span.now vram.old }
     requires plain { texture_of span.now.paint ≡ None }
-    requires hues { AreHues span.now.paint span.now.x span.now.y span.now.n hues.now }
-    ensures cells { vram.new ≡ drawn_span span.now span.now.n vram.old }
-    ensures long { length vram.new ≡ length vram.old }
-    ensures cost { steps.new ≤ steps.old + span_cost span.now }
+    requires hues { AreHues span.now.paint span.now.x span.now.y span.now.n hues }
+    ensures drawn { DrawsSpan span.now 0 (at_stage vram.old steps.old) (at_stage vram.new steps.new) }
 {
     let shifts = shifts_of(span.brush.dither, span.x, span.y);
-    let whole = span.n / 16;
-    for c in 0..whole {
-        draw_plain(vram, span, hues, shifts, 16 * c, 16, steps);
-    }
-    let rest = span.n % 16;
-    if rest > 0 {
-        draw_plain(vram, span, hues, shifts, 16 * whole, rest as u8, steps);
-    }
+    draw_parts(vram, span, &Toned { hues, shifts }, steps);
 }
 
 // A span of one colour.
 #[inline(never)]
 fn draw_one<L: Ledger>(vram: &mut Vram, span: &Span, color: u32, steps: &mut Steps<L>)
-    requires span { IsSpan span.now }
-    requires height { LiesIn (height_of vram.old) span.now }
+    requires can { CanDraw span.now vram.old }
     requires plain { texture_of span.now.paint ≡ None }
     requires hues { AreHues span.now.paint span.now.x span.now.y span.now.n (One color) }
-    ensures cells { vram.new ≡ drawn_span span.now span.now.n vram.old }
-    ensures long { length vram.new ≡ length vram.old }
-    ensures cost { steps.new ≤ steps.old + span_cost span.now }
+    ensures drawn { DrawsSpan span.now 0 (at_stage vram.old steps.old) (at_stage vram.new steps.new) }
 {
-    draw_hues(vram, span, &Hues::One { color }, steps);
+    draw_hues(vram, span, Hues::One { color }, steps);
 }
 
 // A span of colours along the row.
@@ -91,15 +74,12 @@ fn draw_lines<L: Ledger>(
     blue: RowLine,
     steps: &mut Steps<L>,
 )
-    requires span { IsSpan span.now }
-    requires height { LiesIn (height_of vram.old) span.now }
+    requires can { CanDraw span.now vram.old }
     requires plain { texture_of span.now.paint ≡ None }
     requires hues { AreHues span.now.paint span.now.x span.now.y span.now.n (Lines red green blue) }
-    ensures cells { vram.new ≡ drawn_span span.now span.now.n vram.old }
-    ensures long { length vram.new ≡ length vram.old }
-    ensures cost { steps.new ≤ steps.old + span_cost span.now }
+    ensures drawn { DrawsSpan span.now 0 (at_stage vram.old steps.old) (at_stage vram.new steps.new) }
 {
-    draw_hues(vram, span, &Hues::Lines { red, green, blue }, steps);
+    draw_hues(vram, span, Hues::Lines { red, green, blue }, steps);
 }
 
 // A span without a texture.
@@ -110,13 +90,10 @@ pub(crate) fn draw_untextured<L: Ledger>(
     tint: &Tint,
     steps: &mut Steps<L>,
 )
-    requires span { IsSpan span.now }
-    requires height { LiesIn (height_of vram.old) span.now }
+    requires can { CanDraw span.now vram.old }
     requires plain { texture_of span.now.paint ≡ None }
     requires tint { IsTint span.now.paint tint.now }
-    ensures cells { vram.new ≡ drawn_span span.now span.now.n vram.old }
-    ensures long { length vram.new ≡ length vram.old }
-    ensures cost { steps.new ≤ steps.old + span_cost span.now }
+    ensures drawn { DrawsSpan span.now 0 (at_stage vram.old steps.old) (at_stage vram.new steps.new) }
 {
     match hues_of(span, tint) {
         Hues::One { color } => draw_one(vram, span, color, steps),

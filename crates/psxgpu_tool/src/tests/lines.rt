@@ -51,6 +51,13 @@ fn lines_of_events(rt: HostRuntime) -> Result<(), Fail> {
             err: "",
         },
         Case {
+            words: "pixel 1 0",
+            records: "gp0 a0000000 0 10003 22221111 99993333, gp0 20000ff 0 10001, gp0 20000ff 0 10001",
+            status: 0,
+            out: "4 pixels 22221111 0000 2222\n8 fill 020000ff 2222 001f\n",
+            err: "",
+        },
+        Case {
             words: "list",
             records: "gp0 0 20000ff 11 10001",
             status: 0,
@@ -177,7 +184,10 @@ fn lines_of_events(rt: HostRuntime) -> Result<(), Fail> {
             words: "--version",
             records: "stat",
             status: 0,
-            out: "psxgpu_tool 0.1.0\n",
+            out: "psxgpu_tool 1.0.0
+plays captures of versions 1, 2 and 3, and snapshots of version 1
+proved with rattle-kit-13b logic dac8208d650f15bf
+",
             err: "",
         },
     ] {

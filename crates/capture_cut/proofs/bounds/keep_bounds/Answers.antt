@@ -14,7 +14,7 @@ use Rattle.capture_cut.proofs.bounds.keep_bounds.Goals as goal
 pub returns : goal.returns
 returns c =
     let gpu : Kept = c.gpu-gpu.result.now in
-    let IsBelow : Registers → Type 0 = λ r. r.latch < 2 ^ 32 in
+    let IsBelow : Registers → Type 0 = λ r. r.held < 2 ^ 32 in
     let IsTied : Pending → Type 0 = λ p. IsLinked p gpu.parts.load in
     let Fits : Pending → Type 0 = λ p. AreWords (pending_words p None) in
     λ few. subst IsWritable

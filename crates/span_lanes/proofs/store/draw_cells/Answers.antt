@@ -13,14 +13,14 @@ loop-j-preserved g c = record {
   cells =
       let span = c.args.span.now in
       let start : ℕ = 1024 * span.y + span.x in
-      let place : ℕ = 1024 * span.y + (span.x + c.args.first) in
+      let place : ℕ = 1024 * span.y + (span.x + c.args.part.first) in
       c.draw_cell.ensures.cells
-      ∙ lane_later (shade span) span.brush.mask start c.args.first place c.loop-j.j c.loop-j.vram (omega arith)
-      ∙ ap (draw_lane (later (shade span) c.args.first) span.brush.mask place c.loop-j.j) c.loop-j.invariant.cells
-      ∙ sym (drawn_more (later (shade span) c.args.first) span.brush.mask place c.loop-j.j c.args.vram.now);
+      ∙ lane_later (shade span) span.brush.mask start c.args.part.first place c.loop-j.j c.loop-j.vram (omega arith)
+      ∙ ap (draw_lane (later (shade span) c.args.part.first) span.brush.mask place c.loop-j.j) c.loop-j.invariant.cells
+      ∙ sym (drawn_more (later (shade span) c.args.part.first) span.brush.mask place c.loop-j.j c.args.vram.now);
   cost = grind (arith, common_steps, c.loop-j.invariant.cost, c.draw_cell.ensures.cost);
   long = c.draw_cell.ensures.long ∙ c.loop-j.invariant.long;
 }
 
 pub draw_cell-requires-clause-height : goal.draw_cell-requires-clause-height
-draw_cell-requires-clause-height g c = rw c.loop-j.invariant.long c.requires.height
+draw_cell-requires-clause-height g c = rw c.loop-j.invariant.long c.requires.can.lies

@@ -7,9 +7,9 @@ returns-clause-texels g c = record {
   long = c.load16.ensures.lanes.count;
   value = λ j lt.
       let s = c.args.stretch.now in
-      let place : 1024 * s.y + (c.args.texture.now.page.x + s.u + c.args.first) + j
-      ≡ 1024 * s.y + (c.args.texture.now.page.x + (s.u + (c.args.first + j))) = omega arith in
-      whole_texel c.args.span.now c.args.texture.now s _ (c.args.first + j) _ c.args.vram.now c.requires.stretch
+      let place : 1024 * s.y + (c.args.texture.now.page.x + s.u + c.args.part.first) + j
+      ≡ 1024 * s.y + (c.args.texture.now.page.x + (s.u + (c.args.part.first + j))) = omega arith in
+      whole_texel c.args.span.now c.args.texture.now s _ (c.args.part.first + j) _ c.args.vram.now c.requires.stretch
       c.requires.depth (omega arith) (omega arith)
       (c.load16.ensures.lanes.cells j lt ∙ ap (λ (k : ℕ). get_or c.args.vram.now k 0) place);
 }

@@ -14,8 +14,8 @@ stretch_at-requires g c =
     let first = c.requires.spans.below.each c.loop-j.j c.loop-j-test.true in
     record { texture = rw c.requires.strips.paint at first.texture }
 
-pub draw_chunks-requires : goal.draw_chunks-requires
-draw_chunks-requires g c =
+pub draw_parts-requires : goal.draw_parts-requires
+draw_parts-requires g c =
     let spans = c.args.spans.now in
     let row = c.args.row in
     let t = c.args.texture.now in
@@ -31,20 +31,22 @@ draw_chunks-requires g c =
     let lies : LiesIn (height_of c.args.vram.now) span = subst (λ (s : Span). LiesIn (height_of c.args.vram.now) s) is
     (c.requires.spans.lie j lt) in
     record {
-      strip = record {
-        span = subst (λ (s : Span). IsSpan s) is (c.requires.spans.below.each j lt);
-        lies = subst (λ k. LiesIn k span) height lies;
+      sample = record {
+        can = record {
+          span = subst (λ (s : Span). IsSpan s) is (c.requires.spans.below.each j lt);
+          lies = subst (λ k. LiesIn k span) height lies;
+        };
         texture = refl;
-        hue = λ at i few within. c.requires.palette.color;
-        stretch = rising_stretch span t row.u v _ (row_rising span t row.color row.u v row.flip refl are.rises)
-            are.clear c.stretch_at.ensures.column c.stretch_at.ensures.row c.stretch_at.ensures.low are.in_page
-            (λ deep. absurd (omega (arith, deep, suits.depth)))
-            (λ eight. absurd (omega (arith, eight, suits.depth))) (λ four. are.fours);
-        suits = suits;
-        raw = c.requires.palette.raw;
-        colored = c.requires.palette.colored;
-        swatches = c.loop-j.invariant.swatches;
       };
+      suits = suits;
+      finds = rising_stretch span t row.u v _ (row_rising span t row.color row.u v row.flip refl are.rises)
+          are.clear c.stretch_at.ensures.column c.stretch_at.ensures.row c.stretch_at.ensures.low are.in_page
+          (λ deep. absurd (omega (arith, deep, suits.depth)))
+          (λ eight. absurd (omega (arith, eight, suits.depth))) (λ four. are.fours);
+      hue = λ at i few within. c.requires.palette.color;
+      raw = c.requires.palette.raw;
+      colored = c.requires.palette.colored;
+      entries = c.loop-j.invariant.swatches;
     }
 
 pub loop-j-preserved : goal.loop-j-preserved
@@ -55,8 +57,8 @@ loop-j-preserved g c =
     let is = texel_span spans row.color row.u row.v c.row_down-v.result c.loop-j.j c.args.texture.now row.flip
     c.requires.strips.paint c.row_down-v.ensures in
     record {
-      cells = one_more spans c.loop-j.j _ _ _ _ is h.cells c.draw_chunks.ensures.cells;
-      long = c.draw_chunks.ensures.long ∙ h.long;
-      cost = one_more_cost spans c.loop-j.j _ _ _ _ is h.cost (omega (arith, c.draw_chunks.ensures.cost));
-      swatches = c.draw_chunks.ensures.strip.swatches;
+      cells = one_more spans c.loop-j.j _ _ _ _ is h.cells c.draw_parts.ensures.drawn.cells;
+      long = c.draw_parts.ensures.drawn.long ∙ h.long;
+      cost = one_more_cost spans c.loop-j.j _ _ _ _ is h.cost (omega (arith, c.draw_parts.ensures.drawn.cost));
+      swatches = c.draw_parts.ensures.serves.entries;
     }

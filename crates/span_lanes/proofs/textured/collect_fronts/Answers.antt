@@ -12,14 +12,14 @@ returns-clause-lanes g c = record {
       let span = c.args.span.now in
       let t = c.args.texture.now in
       let in_lanes : j < 16 = omega arith in
-      let x : ℕ = span.x + c.args.first + j in
-      let i : ℕ = c.args.first + j in
-      let same_x : span.x + (c.args.first + j) ≡ x = omega arith in
-      let place : 1024 * span.y + (span.x + c.args.first + j)
-      ≡ 1024 * span.y + (span.x + c.args.first) + j = omega arith in
-      let cell : ℕ = get_or c.args.vram.now (1024 * span.y + (span.x + c.args.first) + j) 0 in
+      let x : ℕ = span.x + c.args.part.first + j in
+      let i : ℕ = c.args.part.first + j in
+      let same_x : span.x + (c.args.part.first + j) ≡ x = omega arith in
+      let place : 1024 * span.y + (span.x + c.args.part.first + j)
+      ≡ 1024 * span.y + (span.x + c.args.part.first) + j = omega arith in
+      let cell : ℕ = get_or c.args.vram.now (1024 * span.y + (span.x + c.args.part.first) + j) 0 in
       let back : DoesFor span.brush cell (get_or c.back_of-back.result j 0) = c.back_of-back.ensures.value j lt in
-      let here : get_or c.args.vram.now (1024 * span.y + (span.x + c.args.first + j)) 0
+      let here : get_or c.args.vram.now (1024 * span.y + (span.x + c.args.part.first + j)) 0
       ≡ cell = ap (λ (k : ℕ). get_or c.args.vram.now k 0) place in
       let same = c.requires.texels.value j lt in
       let color : ℕ = paint_color span.paint x span.y in
@@ -27,7 +27,7 @@ returns-clause-lanes g c = record {
       let u : ℕ = paint_u span.paint x span.y i in
       let v : ℕ = paint_v span.paint x span.y i in
       textured_lane span.brush.mask _ _ span.brush t.raw color shift _ _ _ _ _ _ _ _
-      (shade_textured span t i x c.args.vram.now c.requires.texture (omega arith)
+      (shade_textured span t i x c.args.vram.now c.requires.sample.texture (omega arith)
       ∙ ap (λ (b : ℕ). textured_pixel span.brush t.raw color shift b (texel t u v c.args.vram.now)) here
       ∙ textured_back span.brush t.raw color shift cell _ (texel t u v c.args.vram.now) back
       ∙ ap (λ (h : ℕ). textured_pixel span.brush t.raw color shift (get_or c.back_of-back.result j 0) h) (sym same))

@@ -1,5 +1,5 @@
 use Rattle.event_play.specs.RigState.{RigState}
-use Rattle.event_play.proofs.Events.{step_fault, has_done}
+use Rattle.event_play.proofs.Events.{step_fault, has_done, only_stepped}
 use Rattle.event_play.proofs.rig.Rig.event.Goals as goal
 
 pub returns-in-Ok-perform-clause-stepped : goal.returns-in-Ok-perform-clause-stepped
@@ -20,7 +20,7 @@ returns-in-Ok-perform-clause-stepped g c =
     } in
     let did = has_done _ was mid _ c.next_number-number.result _ _ _ _ _ _ c.in-Ok.ensures.value c.self-in-Ok.view_is
     c.in-Ok-perform.ensures.ok in
-    rw (← c.self.view_is, ← c.next_number-number.ensures) (λ s stands. (did s stands).step)
+    rw (← c.self.view_is, ← c.next_number-number.ensures) (λ s stands. only_stepped _ _ _ _ _ _ _ (did s stands))
 
 pub returns-in-Err-clause-fault : goal.returns-in-Err-clause-fault
 returns-in-Err-clause-fault g c = rw (← c.self.view_is) (λ s stands. step_fault _ s _ _ _ stands c.in-Err.ensures.value)

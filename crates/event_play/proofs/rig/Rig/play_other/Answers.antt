@@ -32,8 +32,8 @@ returns-in-Err g c =
       faults = omega arith;
     }
 
-pub returns-in_default-write_shown : goal.returns-in_default-write_shown
-returns-in_default-write_shown g c =
+pub returns-in_default-write_behind : goal.returns-in_default-write_behind
+returns-in_default-write_behind g c =
     let was : RigState = record {
       gpu = c.self.inside.gpu;
       ram = c.self.inside.ram;
@@ -55,14 +55,14 @@ returns-in_default-write_shown g c =
           let Q : RigState → Type 0 = λ rig. StandsFor rig t in
           let inside : StandsFor was t = subst Q (sym c.self.view_is) stands in (
             number,
-            inr (shows_part _ was mid _ t c.next_number-number.result _ _ _ _ _ _ _ c.in-Ok.ensures.value
+            inr (shows_part _ was mid _ t c.next_number-number.result _ _ _ _ _ _ _ _ c.in-Ok.ensures.value
                 c.self-2.view_is inside number
-                c.in-Ok-perform.ensures.ok c.in_default-write_shown.ensures.mode
-                c.in_default-write_shown.ensures.writes.failed),
+                c.in-Ok-perform.ensures.ok c.in_default-write_behind.ensures.mode
+                c.in_default-write_behind.ensures.writes.failed c.in_default-write_behind.ensures.cost),
           );
       known = (tt, λ x. x);
-      cause = λ x. omega (arith, c.in-Ok-perform.ensures.faults, c.in_default-write_shown.ensures.writes.cause);
-      faults = omega (arith, c.in-Ok-perform.ensures.faults, c.in_default-write_shown.ensures.writes.faults);
+      cause = λ x. omega (arith, c.in-Ok-perform.ensures.faults, c.in_default-write_behind.ensures.writes.cause);
+      faults = omega (arith, c.in-Ok-perform.ensures.faults, c.in_default-write_behind.ensures.writes.faults);
     }
 
 pub returns : goal.returns
@@ -86,11 +86,11 @@ returns g c =
           let number = c.next_number-number.ensures ∙ ap next_number (sym stands.played) in
           let Q : RigState → Type 0 = λ rig. StandsFor rig t in
           let inside : StandsFor was t = subst Q (sym c.self.view_is) stands in
-          plays _ was mid _ t c.next_number-number.result _ _ _ _ _ _ _ c.in-Ok.ensures.value c.self-2.view_is
+          plays _ was mid _ t c.next_number-number.result _ _ _ _ _ _ _ _ c.in-Ok.ensures.value c.self-2.view_is
           inside number c.in-Ok-perform.ensures.ok
-          c.in-Ok-write_shown.ensures.writes.ok;
+          c.in-Ok-write_behind.ensures.writes.ok c.in-Ok-write_behind.ensures.cost;
       ends = λ t stands. tt;
       known = tt;
       cause = tt;
-      faults = omega (arith, c.in-Ok-perform.ensures.faults, c.in-Ok-write_shown.ensures.writes.faults);
+      faults = omega (arith, c.in-Ok-perform.ensures.faults, c.in-Ok-write_behind.ensures.writes.faults);
     }

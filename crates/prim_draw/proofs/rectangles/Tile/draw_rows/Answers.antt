@@ -1,4 +1,4 @@
-use Rattle.std.proofs.Common.{◌≡◌, ◌≤◌, ◌+◌, ◌∙◌, sym, ap, subst, arith}
+use Rattle.std.proofs.Common.{◌≤◌, ◌+◌, ◌∙◌, sym, ap, subst, arith}
 use Rattle.vram_store.specs.Vram.{height_of}
 use Rattle.span_lanes.specs.Spans.{drawn_rows, rows_cost, AreSpans}
 use Rattle.span_lanes.specs.declared.span.Paint.{Paint}

@@ -1,5 +1,6 @@
 use Rattle.std.proofs.Common.{◌∙◌, refl}
 use Rattle.span_lanes.proofs.CellsLemmas.{span_law}
+use Rattle.span_lanes.proofs.PartLemmas.{none_spared}
 use Rattle.span_lanes.proofs.SwatchLemmas.{fresh_of_kept, kept_of_fresh}
 use Rattle.span_lanes.specs.declared.span.Paint.TheVariants.{TexturedTri}
 use Rattle.span_lanes.specs.Pen.{ink_span}
@@ -35,10 +36,10 @@ returns-in-Some-clause-drawn g c =
     let pen = c.self.inside in
     let ink = (framed_of pen.tri pen.texture pen.brush pen.block pen.last).loaded.ink in
     rw (← c.self.view_is) (record {
-      cells = (rw (c.span-span.ensures, ← c.self.view_is) at c.draw_plain_strip.ensures.cells)
+      cells = (rw (c.span-span.ensures, ← c.self.view_is) at c.draw_plain_strip.ensures.drawn.cells)
           ∙ span_law (ink_span ink c.args.x c.args.y c.args.n) c.args.n c.args.vram.now;
-      long = c.draw_plain_strip.ensures.long;
-      cost = rw (c.span-span.ensures, ← c.self.view_is) at c.draw_plain_strip.ensures.cost;
+      long = c.draw_plain_strip.ensures.drawn.long;
+      cost = none_spared (rw (c.span-span.ensures, ← c.self.view_is) at c.draw_plain_strip.ensures.drawn.cost);
     })
 
 pub returns-in-None-clause-drawn : goal.returns-in-None-clause-drawn
@@ -46,10 +47,10 @@ returns-in-None-clause-drawn g c =
     let pen = c.self.inside in
     let ink = (framed_of pen.tri pen.texture pen.brush pen.block pen.last).loaded.ink in
     rw (← c.self.view_is) (record {
-      cells = (rw (c.span-span-in-None.ensures, ← c.self.view_is) at c.draw_beside_row.ensures.cells)
+      cells = (rw (c.span-span-in-None.ensures, ← c.self.view_is) at c.draw_beside_row.ensures.drawn.cells)
           ∙ span_law (ink_span ink c.args.x c.args.y c.args.n) c.args.n c.args.vram.now;
-      long = c.draw_beside_row.ensures.long;
-      cost = rw (c.span-span-in-None.ensures, ← c.self.view_is) at c.draw_beside_row.ensures.cost;
+      long = c.draw_beside_row.ensures.drawn.long;
+      cost = none_spared (rw (c.span-span-in-None.ensures, ← c.self.view_is) at c.draw_beside_row.ensures.drawn.cost);
     })
 
 pub draw_plain_strip-requires-clause-last : goal.draw_plain_strip-requires-clause-last

@@ -1,0 +1,47 @@
+-- What words of GP0 change of a cell (our own rule).
+use Rattle.std.specs.Prelude.{ℕ, ◌+◌, ◌==◌, ◌&&◌, List, [], ◌∷◌, Option, None, Some, nat_lt, if◌then◌else◌}
+use Rattle.px_num.specs.declared.shape.Cell.{Cell}
+use Rattle.gp0_packets.specs.declared.note.Note.{Note}
+use Rattle.gpu_capture.specs.declared.event.Event.{Event}
+use Rattle.gpu_core.specs.Machine.{State, after_gp0, gp0_note}
+use Rattle.packet_text.specs.Line.{change_line}
+use Rattle.vram_store.specs.Vram.{at, height_of}
+use Rattle.event_play.specs.Step.{Machine, event_words}
+
+-- a word that was fed: the note of the item that it completed, if it did, and video memory before and behind it
+pub record Stroke : Type 0 where
+  pub note : Option Note
+  pub before : List ℕ
+  pub after : List ℕ
+
+abbrev pub stroke_of : State → (number word : ℕ) → Stroke
+stroke_of s number word =
+    record { note = gp0_note s number word; before = s.parts.m; after = (after_gp0 s word).parts.m }
+
+-- words, one after another, all in the event of this number
+abbrev pub fed_strokes : State → (number : ℕ) → List ℕ → List Stroke
+fed_strokes s number [] = []
+fed_strokes s number (word ∷ words) = stroke_of s number word ∷ fed_strokes (after_gp0 s word) number words
+
+-- those of an event
+abbrev pub event_strokes : Machine → (number : ℕ) → Event → List Stroke
+event_strokes s number event = fed_strokes s.gpu number (event_words s event)
+
+-- ---- one cell
+
+-- the value of a cell; 0 where video memory has no such cell
+abbrev pub seen_cell : Cell → List ℕ → ℕ
+seen_cell cell m = if nat_lt cell.x 1024 && nat_lt cell.y (height_of m) then at m cell.x cell.y else 0
+
+-- the line of an item that leaves another value than it found
+abbrev pub change_of : Option Note → (before after : ℕ) → List ℕ
+change_of None before after = []
+change_of (Some note) before after = if before == after then [] else change_line note before after
+
+abbrev pub stroke_lines : Cell → Stroke → List ℕ
+stroke_lines cell stroke = change_of stroke.note (seen_cell cell stroke.before) (seen_cell cell stroke.after)
+
+-- the store steps of looking at the cell: one before and one behind each word
+abbrev pub looks_cost : List Stroke → ℕ
+looks_cost [] = 0
+looks_cost (stroke ∷ strokes) = 2 + looks_cost strokes

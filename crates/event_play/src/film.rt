@@ -1,0 +1,166 @@
+// The pictures that are shown one after another, and their sums.
+ghost use Rattle.std.specs.Prelude.{◌≡◌, ◌≤◌, ◌+◌, ◌++◌, flat_map};
+ghost use Rattle.dev_io.specs.Device.{Writes};
+ghost use Rattle.picture_out.specs.Dump.{dump_cost};
+ghost use Rattle.event_play.specs.Frames.{is_moment, frames_behind, frame_bytes, frame_sum, frame_cost, vram_sum};
+ghost use Rattle.event_play.specs.Frames.{picture_at, sum_at, frames_cost, bytes_at_end, cost_at_end};
+
+use crate::ending::Moment;
+use dev_io::{Failed, Sink};
+use gpu_capture::Event;
+use gpu_core::Gpu;
+use packet_text::{write_frame_sum, write_vram_sum};
+use picture_out::{picture_sum, shape, vram_sum, write_ppm};
+use px_num::bits;
+use std::sync::ledger::Ledger;
+use vram_store::Steps;
+
+/// Writes the picture behind an event, if it is one of the moments asked for and a picture is shown.
+pub(crate) fn write_frames<K: Sink, L: Ledger>(
+    gpu: &Gpu,
+    event: &Event,
+    number: u64,
+    at: Moment,
+    out: &mut K,
+    steps: &mut Steps<L>,
+) -> Result<(), Failed>
+    ensures writes { Writes K.held K.faults out.old out.new
+        (flat_map (picture_at at) (frames_behind event.now number gpu.now.parts)) result }
+    ensures cost { steps.new ≤ steps.old + frames_cost at (frames_behind event.now number gpu.now.parts) }
+{
+    let _ = number;
+    match *event {
+        Event::Gp1 { word } if is_moment(at, word) => write_frame(gpu, out, steps),
+        _ => Ok(()),
+    }
+}
+
+/// The same for the line of the picture's sum.
+pub(crate) fn write_sums<K: Sink, L: Ledger>(
+    gpu: &Gpu,
+    event: &Event,
+    number: u64,
+    at: Moment,
+    out: &mut K,
+    steps: &mut Steps<L>,
+) -> Result<(), Failed>
+    ensures writes { Writes K.held K.faults out.old out.new
+        (flat_map (sum_at at) (frames_behind event.now number gpu.now.parts)) result }
+    ensures cost { steps.new ≤ steps.old + frames_cost at (frames_behind event.now number gpu.now.parts) }
+{
+    match *event {
+        Event::Gp1 { word } if is_moment(at, word) => write_sum(gpu, number, out, steps),
+        _ => Ok(()),
+    }
+}
+
+// Whether a word of GP1 is one of the moments asked for.
+fn is_moment(at: Moment, word: u32) -> bool
+    ensures { result ≡ is_moment at word }
+{
+    let opcode = bits(word, 24, 6);
+    match at {
+        Moment::Flip => opcode == 0x05,
+        Moment::Mark => opcode == 0x3f,
+    }
+}
+
+/// Writes the picture that is due at the end, if it is and one is shown.
+pub(crate) fn write_last_frame<K: Sink, L: Ledger>(
+    gpu: &Gpu,
+    at: Moment,
+    out: &mut K,
+    steps: &mut Steps<L>,
+) -> Result<(), Failed>
+    ensures writes { Writes K.held K.faults out.old out.new (bytes_at_end at (frame_bytes gpu.now.parts)) result }
+    ensures cost { steps.new ≤ steps.old + cost_at_end at (frame_cost gpu.now.parts) }
+{
+    match at {
+        Moment::Flip => write_frame(gpu, out, steps),
+        Moment::Mark => Ok(()),
+    }
+}
+
+/// Writes the line of that picture's sum, and then that of video memory.
+pub(crate) fn write_last_sums<K: Sink, L: Ledger>(
+    gpu: &Gpu,
+    number: u64,
+    at: Moment,
+    out: &mut K,
+    steps: &mut Steps<L>,
+) -> Result<(), Failed>
+    ensures writes { Writes K.held K.faults out.old out.new
+        (bytes_at_end at (frame_sum number gpu.now.parts) ++ vram_sum gpu.now.parts.m) result }
+    ensures cost { steps.new ≤ steps.old + (cost_at_end at (frame_cost gpu.now.parts) + dump_cost gpu.now.parts.m) }
+{
+    write_last_sum(gpu, number, at, out, steps)?;
+    write_memory_sum(gpu, out, steps)
+}
+
+// The line of the sum of the picture that is due at the end.
+fn write_last_sum<K: Sink, L: Ledger>(
+    gpu: &Gpu,
+    number: u64,
+    at: Moment,
+    out: &mut K,
+    steps: &mut Steps<L>,
+) -> Result<(), Failed>
+    ensures writes { Writes K.held K.faults out.old out.new
+        (bytes_at_end at (frame_sum number gpu.now.parts)) result }
+    ensures cost { steps.new ≤ steps.old + cost_at_end at (frame_cost gpu.now.parts) }
+{
+    match at {
+        Moment::Flip => write_sum(gpu, number, out, steps),
+        Moment::Mark => Ok(()),
+    }
+}
+
+// The line of the sum of all cells of video memory.
+#[tactic(auto, unfolding(crate::specs::Frames::vram_sum))]
+fn write_memory_sum<K: Sink, L: Ledger>(
+    gpu: &Gpu,
+    out: &mut K,
+    steps: &mut Steps<L>,
+) -> Result<(), Failed>
+    ensures writes { Writes K.held K.faults out.old out.new (vram_sum gpu.now.parts.m) result }
+    ensures cost { steps.new ≤ steps.old + dump_cost gpu.now.parts.m }
+{
+    let digest = vram_sum(gpu.vram(), steps);
+    write_vram_sum(out, &digest)
+}
+
+// Writes the picture that is shown, if one is.
+#[tactic(auto, unfolding(crate::specs::Frames::frame_bytes, crate::specs::Frames::frame_cost))]
+fn write_frame<K: Sink, L: Ledger>(
+    gpu: &Gpu,
+    out: &mut K,
+    steps: &mut Steps<L>,
+) -> Result<(), Failed>
+    ensures writes { Writes K.held K.faults out.old out.new (frame_bytes gpu.now.parts) result }
+    ensures cost { steps.new ≤ steps.old + frame_cost gpu.now.parts }
+{
+    if shape(gpu.regs()).is_none() {
+        return Ok(());
+    }
+    write_ppm(gpu.vram(), gpu.regs(), out, steps)
+}
+
+// Writes the line of its sum.
+#[tactic(auto, unfolding(crate::specs::Frames::frame_bytes, crate::specs::Frames::frame_sum, crate::specs::Frames::frame_cost))]
+fn write_sum<K: Sink, L: Ledger>(
+    gpu: &Gpu,
+    number: u64,
+    out: &mut K,
+    steps: &mut Steps<L>,
+) -> Result<(), Failed>
+    ensures writes { Writes K.held K.faults out.old out.new (frame_sum number gpu.now.parts) result }
+    ensures cost { steps.new ≤ steps.old + frame_cost gpu.now.parts }
+{
+    match shape(gpu.regs()) {
+        None => Ok(()),
+        Some(shown) => {
+            let digest = picture_sum(gpu.vram(), gpu.regs(), steps);
+            write_frame_sum(out, number, shown, &digest)
+        }
+    }
+}

@@ -1,0 +1,145 @@
+-- No byte of a capture is taken past the limit.
+use Rattle.std.proofs.Common.{◌≡◌, ◌≤◌, ◌<◌, ◌+◌, ◌-◌, ◌%◌, ℕ, List, [], ◌∷◌, Bool, true, false, cond, nat_lt}
+use Rattle.std.proofs.Common.{length, take, drop, Result, Ok, Err, sym, subst, ap, inl, inr, arith}
+use Rattle.std.proofs.lemmas.Bool.{cases_Bool, cases_lt}
+use Rattle.std.proofs.lemmas.Bool.Decides.{nat_tests}
+use Rattle.std.proofs.lemmas.List.{take-append-drop, length-drop, length-take-le}
+use Rattle.gpu_capture.specs.Capture.{Captured, after_step, capture, limit, opened, records, head_version}
+use Rattle.gpu_capture.specs.Limit.{TakesFew}
+use Rattle.gpu_capture.specs.Reader.{AreNeeded, IsStart, capture_from}
+use Rattle.gpu_capture.specs.Record.{count_of, word_step}
+use Rattle.gpu_capture.specs.declared.event.Event.TheVariants as event
+use Rattle.gpu_capture.specs.declared.event.Stop.{Stop}
+use Rattle.gpu_capture.specs.declared.event.Stop.TheVariants.{End, BadRecord, Truncated}
+use Rattle.gpu_capture.specs.declared.progress.Progress.{Progress}
+use Rattle.gpu_capture.specs.declared.record.Due.{Due}
+use Rattle.gpu_capture.specs.declared.record.Due.TheVariants as due
+use Rattle.gpu_capture.specs.declared.record.Start.TheVariants as start
+use Rattle.gpu_capture.specs.declared.record.Step.{Step}
+use Rattle.gpu_capture.specs.declared.record.Step.TheVariants.{Opens, Gives, Closes}
+
+-- a stop that bytes behind it would not have put off
+abbrev IsFinal : Stop → Type 0
+IsFinal (Truncated byte) = ⊥
+IsFinal other = Unit {0}
+
+abbrev ClosesFinally : Step → Type 0
+ClosesFinally (Closes stop) = IsFinal stop
+ClosesFinally other = Unit {0}
+
+-- ---- one word
+
+by_tests : (place tag count : ℕ) (a b c d e f g h i j : Bool)
+    → ClosesFinally (cond a (Closes End) (cond b (Opens (due.Address count)) (cond c (Opens (due.Gp0 count))
+    (cond d (Opens due.Gp1) (cond e (Gives event.Read count due.Tag) (cond f (Gives event.Stat 1 due.Tag)
+    (cond g (Opens (due.Madr (start.Dma count))) (cond h (Opens (due.Madr start.Begin))
+    (cond i (Gives event.Turn count due.Tag) (cond j (Gives event.Skip count due.Tag)
+    (Closes (BadRecord place tag))))))))))))
+by_tests place tag count true b c d e f g h i j = tt
+by_tests place tag count false true c d e f g h i j = tt
+by_tests place tag count false false true d e f g h i j = tt
+by_tests place tag count false false false true e f g h i j = tt
+by_tests place tag count false false false false true f g h i j = tt
+by_tests place tag count false false false false false true g h i j = tt
+by_tests place tag count false false false false false false true h i j = tt
+by_tests place tag count false false false false false false false true i j = tt
+by_tests place tag count false false false false false false false false true j = tt
+by_tests place tag count false false false false false false false false false true = tt
+by_tests place tag count false false false false false false false false false false = tt
+
+by_address : (b : Bool) (next : Due) (byte word : ℕ) → ClosesFinally (cond b (Opens next) (Closes (BadRecord byte word)))
+by_address true next byte word = tt
+by_address false next byte word = tt
+
+step_closes : (version : ℕ) (at : Due) (place word : ℕ) → ClosesFinally (word_step version at place word)
+step_closes version due.Tag place word = by_tests place word (count_of word) _ _ _ _ _ _ _ _ _ _
+step_closes version (due.Address count) place word = by_address _ (due.Ram word count) place word
+step_closes version (due.Ram address left) place word = tt
+step_closes version (due.Gp0 left) place word = tt
+step_closes version due.Gp1 place word = tt
+step_closes version (due.Madr by) place word = tt
+step_closes version (due.Bcr by madr) place word = tt
+step_closes version (due.Chcr by madr bcr) place word = tt
+
+behind_step : (version : ℕ) (step : Step) (on : Due → Captured) (bytes : List ℕ) → ClosesFinally step
+    → ((next : Due) → IsFinal (on next).ending) → IsFinal (after_step version step on bytes).ending
+behind_step version (Opens next) on bytes closes later = later next
+behind_step version (Gives e count next) on bytes closes later = later next
+behind_step version (Closes stop) on bytes closes later = closes
+
+-- ---- all words
+
+short_word : (place n : ℕ) → place % 4 ≡ 0 → n < 4 → limit ≤ place + n → nat_lt place limit ≡ true → ⊥
+short_word place n whole few le is =
+    let lt : place < limit = grind (arith, nat_tests, is) in omega (arith, whole, few, le, lt)
+
+-- where the bytes reach to the limit, they end there
+records_final : (bytes : List ℕ) (version : ℕ) (at : Due) (place : ℕ) → place % 4 ≡ 0 → limit ≤ place + length bytes
+    → IsFinal (records version at place bytes).ending
+records_final [] version at place whole le = elim (cases_Bool (nat_lt place limit)) [
+  | inl is ↦ absurd (short_word place 0 whole (omega arith) le is)
+  | inr is ↦ rw is tt
+]
+records_final (a ∷ []) version at place whole le = elim (cases_Bool (nat_lt place limit)) [
+  | inl is ↦ absurd (short_word place 1 whole (omega arith) le is)
+  | inr is ↦ rw is tt
+]
+records_final (a ∷ b ∷ []) version at place whole le = elim (cases_Bool (nat_lt place limit)) [
+  | inl is ↦ absurd (short_word place 2 whole (omega arith) le is)
+  | inr is ↦ rw is tt
+]
+records_final (a ∷ b ∷ c ∷ []) version at place whole le = elim (cases_Bool (nat_lt place limit)) [
+  | inl is ↦ absurd (short_word place 3 whole (omega arith) le is)
+  | inr is ↦ rw is tt
+]
+records_final (a ∷ b ∷ c ∷ d ∷ bytes) version at place whole le = elim (cases_Bool (nat_lt place limit)) [
+  | inl is ↦ rw is (behind_step version _ (λ next. records version next (place + 4) bytes) bytes
+      (step_closes version at place _)
+      (λ next. records_final bytes version next (place + 4) (omega (arith, whole)) (omega (arith, le))))
+  | inr is ↦ rw is tt
+]
+
+-- ---- the head
+
+by_head : (version : Result ℕ ℕ) (bytes : List ℕ) → limit ≤ 8 + length bytes → IsFinal (opened version bytes).ending
+by_head (Ok version) bytes le = records_final bytes version due.Tag 8 (omega arith) le
+by_head (Err place) bytes le = tt
+
+capture_final : (bytes : List ℕ) → limit ≤ length bytes → IsFinal (capture bytes).ending
+capture_final bytes le =
+    let long : nat_lt (length bytes) 8 ≡ false = grind (arith, nat_tests, le) in
+    rw long (by_head (head_version (take 8 bytes)) (drop 8 bytes)
+    (let e = length-drop 8 bytes in omega (arith, e, le)))
+
+-- ---- the bytes taken
+
+-- bytes of which the first so many end a capture are no more than so many
+no_more : (p : Progress) (taken : List ℕ) (n : ℕ) → AreNeeded p taken
+    → ((part : List ℕ) → length part ≡ n → IsFinal (capture_from p part).ending) → length taken ≤ n
+no_more p taken n needed final =
+    elim (cases_lt n (length taken)) [
+      | inl more ↦
+          let some : drop n taken ≡ [] → ⊥ = λ none.
+          let e = length-drop n taken in let z = ap length none in omega (arith, e, z, more) in
+          let short = needed (take n taken) (drop n taken) (sym (take-append-drop n taken)) some in
+          let P : Captured → Type 0 = λ c. IsFinal c.ending in
+          absurd (subst P short.is (final (take n taken) (length-take-le n taken (omega (arith, more)))))
+      | inr le ↦ le
+    ]
+
+few_all : (p : Progress) (taken : List ℕ) → IsStart p → AreNeeded p taken → length taken ≤ limit
+few_all p taken start needed =
+    no_more p taken limit needed
+    (λ part long. rw start.version (capture_final part (omega (arith, long))))
+
+few_rest : (p : Progress) (taken : List ℕ) → 1 ≤ p.version → p.place % 4 ≡ 0 → p.place ≤ limit → AreNeeded p taken
+    → p.place + length taken ≤ limit
+few_rest p taken started whole le needed =
+    let few = no_more p taken (limit - p.place) needed
+    (λ part long.
+    let on : nat_lt 0 p.version ≡ true = grind (arith, nat_tests, started) in
+    rw on (records_final part p.version p.due p.place whole (omega (arith, long, le)))) in
+    omega (arith, few, le)
+
+pub takes_few : TakesFew
+takes_few = record { all = few_all; rest = few_rest }

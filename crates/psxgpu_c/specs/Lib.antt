@@ -1,0 +1,7 @@
+pub mod Calls
+pub mod Codes
+pub mod Handle
+pub mod Memory
+pub mod Saved
+pub mod Shown
+pub mod Whole

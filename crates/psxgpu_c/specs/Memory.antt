@@ -1,0 +1,50 @@
+-- What the calls of C put into main memory, and which DMA channels they start.
+use Rattle.std.specs.Prelude.{◌≡◌, ◌+◌, ◌*◌, ◌%◌, ◌^◌, ◌==◌, ◌&&◌, ℕ, zero, suc, Bool, true, false, List, Option, Some, None}
+use Rattle.std.specs.Prelude.{Result, Err, if◌then◌else◌, length, nat_lt, slice_index}
+use Rattle.gpu_capture.specs.declared.event.Event.TheVariants.{Dma}
+use Rattle.ot_clear_dma.specs.Ram.{set}
+use Rattle.event_play.specs.PlayedWords.{number_behind}
+use Rattle.event_play.specs.RigState.{RigState}
+use Rattle.psxgpu_c.specs.Calls.{Plays}
+use Rattle.psxgpu_c.specs.Codes.{code_for}
+use Rattle.psxgpu_c.specs.declared.refusal.Refusal.{Refusal}
+use Rattle.psxgpu_c.specs.declared.refusal.Refusal.TheVariants as refusal
+
+-- ---- words that are put into main memory
+
+-- so many words lie in main memory from this address on
+abbrev pub lie_in_memory : (address count : ℕ) → Bool
+lie_in_memory address count = (address % 4 == 0) && nat_lt (address + 4 * count) (2 ^ 21 + 1)
+
+-- the first n of these words are put there, one after another
+abbrev pub put_first : List ℕ → (address : ℕ) → List ℕ → (n : ℕ) → List ℕ
+put_first ram address words zero = ram
+put_first ram address words (suc n) = set (put_first ram address words n) (address + 4 * n) (slice_index words n)
+
+-- all were put there, an event each; or main memory has no words there, and nothing changed
+abbrev pub FillsWhere : (inside : Bool) → (address : ℕ) → List ℕ → (was rig : RigState) → (code : ℕ) → Type 0
+FillsWhere true address words was rig code = (code ≡ 0) × (rig ≡ record was {
+  ram = put_first was.ram address words (length words);
+  played = number_behind was.played (length words);
+})
+FillsWhere false address words was rig code = (code ≡ code_for refusal.BadAddress) × (rig ≡ was)
+
+abbrev pub Fills : (address : ℕ) → List ℕ → (was rig : RigState) → (code : ℕ) → Type 0
+Fills address words was rig code = FillsWhere (lie_in_memory address (length words)) address words was rig code
+
+-- ---- channels
+
+-- nothing changed, for this cause, or for want of a machine
+abbrev pub Refuses : (before now : Option RigState) → Refusal → (Result (Option ℕ) Refusal → Type 0) → Type 0
+Refuses None now why Says = (now ≡ None) × Says (Err refusal.Closed)
+Refuses (Some was) now why Says = (now ≡ Some was) × Says (Err why)
+
+-- the channel of this number, if there is one
+abbrev pub channel_named : ℕ → Option ℕ
+channel_named number = if number == 2 then Some 2 else (if number == 6 then Some 6 else None)
+
+-- the event was played on the channel, if there is one
+abbrev pub Starts : (channel : Option ℕ) → (madr bcr chcr : ℕ) → (before now : Option RigState)
+    → (Result (Option ℕ) Refusal → Type 0) → Type 0
+Starts (Some channel) madr bcr chcr before now Says = Plays before now (Dma channel madr bcr chcr) Says
+Starts None madr bcr chcr before now Says = Refuses before now refusal.BadChannel Says

@@ -1,0 +1,90 @@
+-- What the calls of C show of a machine, in a room that the caller lends.
+use Rattle.std.specs.Prelude.{◌≡◌, ◌≤◌, ◌<◌, ◌&&◌, ℕ, Bool, true, false, List, Option, Some, None, Result, Ok}
+use Rattle.std.specs.Prelude.{Err, take, drop, length, nat_lt}
+use Rattle.gp1_status.specs.Shape.{shape_of}
+use Rattle.picture_out.specs.Picture.{picture}
+use Rattle.vram_store.specs.Vram.{at}
+use Rattle.event_play.specs.RigState.{RigState}
+use Rattle.psxgpu_c.specs.Codes.{code_for, code_of}
+use Rattle.psxgpu_c.specs.declared.refusal.Refusal.{Refusal}
+use Rattle.psxgpu_c.specs.declared.refusal.Refusal.TheVariants as refusal
+
+-- these values lie at the front, and the others stayed
+pub record StandsInFront {Value : Type 0} (due before now : List Value) : Type 0 where
+  pub fits : length due ≤ length before
+  pub front : take (length due) now ≡ due
+  pub behind : drop (length due) now ≡ drop (length due) before
+
+-- What was due was put in front, and its length is the answer; or nothing was put there: there is too little room, or
+-- memory ran out.
+abbrev pub Puts : (due before now : List ℕ) → Result ℕ Refusal → Type 0
+Puts due before now (Ok count) = StandsInFront due before now × (count ≡ length due)
+Puts due before now (Err refusal.NoRoom) = (now ≡ before) × (length before < length due)
+Puts due before now (Err refusal.NoMemory) = now ≡ before
+Puts due before now (Err other) = ⊥
+
+-- the same where there may be no picture
+abbrev pub PutsDue : (due : Option (List ℕ)) → (before now : List ℕ) → Result ℕ Refusal → Type 0
+PutsDue None before now answer = (answer ≡ Err refusal.NoPicture) × (now ≡ before)
+PutsDue (Some due) before now answer = Puts due before now answer
+
+-- the same of a handle
+abbrev pub Views : (held : Option RigState) → (RigState → Option (List ℕ)) → (before now : List ℕ)
+    → Result ℕ Refusal → Type 0
+Views None due before now answer = (answer ≡ Err refusal.Closed) × (now ≡ before)
+Views (Some rig) due before now answer = PutsDue (due rig) before now answer
+
+-- how many values an answer says were put
+abbrev pub count_of : Result ℕ Refusal → ℕ
+count_of (Ok count) = count
+count_of (Err why) = 0
+
+-- the code of an answer of which this holds
+pub record Answers (Holds : Result ℕ Refusal → Type 0) (code : ℕ) : Type 0 where
+  pub answer : Result ℕ Refusal
+  pub holds : Holds answer
+  pub is_code : code ≡ code_of answer
+
+-- the same with its count
+pub record Tells (Holds : Result ℕ Refusal → Type 0) (code written : ℕ) : Type 0 where
+  pub answer : Result ℕ Refusal
+  pub holds : Holds answer
+  pub is_code : code ≡ code_of answer
+  pub is_written : written ≡ count_of answer
+
+-- ---- pictures
+
+-- something where there is a pixel to show
+abbrev pub where_shown : {Value : Type 0} → Option (ℕ × ℕ) → Value → Option Value
+where_shown None value = None
+where_shown (Some shape) value = Some value
+
+-- the picture as PPM
+abbrev pub picture_due : RigState → Option (List ℕ)
+picture_due rig = where_shown (shape_of rig.gpu.parts.regs) (picture rig.gpu.parts.m rig.gpu.parts.regs)
+
+-- its width and height were put where the caller wants them
+abbrev pub ShowsShape : Option (ℕ × ℕ) → (before now : ℕ × ℕ) → (code : ℕ) → Type 0
+ShowsShape None before now code = (code ≡ code_for refusal.NoPicture) × (now ≡ before)
+ShowsShape (Some shape) before now code = (code ≡ 0) × (now ≡ shape)
+
+-- the same of a handle
+abbrev pub SeesShape : Option RigState → (before now : ℕ × ℕ) → (code : ℕ) → Type 0
+SeesShape None before now code = (code ≡ code_for refusal.Closed) × (now ≡ before)
+SeesShape (Some rig) before now code = ShowsShape (shape_of rig.gpu.parts.regs) before now code
+
+-- ---- cells
+
+-- whether video memory has a cell there
+abbrev pub has_cell : RigState → (x y : ℕ) → Bool
+has_cell rig x y = nat_lt x 1024 && nat_lt y rig.gpu.parts.regs.height
+
+-- its value was put where the caller wants it, if there is one
+abbrev pub ShowsCell : (found : Bool) → (value before now code : ℕ) → Type 0
+ShowsCell true value before now code = (code ≡ 0) × (now ≡ value)
+ShowsCell false value before now code = (code ≡ code_for refusal.NoCell) × (now ≡ before)
+
+-- the same of a handle
+abbrev pub SeesCell : Option RigState → (x y before now code : ℕ) → Type 0
+SeesCell None x y before now code = (code ≡ code_for refusal.Closed) × (now ≡ before)
+SeesCell (Some rig) x y before now code = ShowsCell (has_cell rig x y) (at rig.gpu.parts.m x y) before now code

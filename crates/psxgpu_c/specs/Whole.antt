@@ -1,0 +1,69 @@
+-- What playing a capture or a snapshot in memory does.
+use Rattle.std.specs.Prelude.{◌≡◌, ◌⊎◌, ◌/◌, ◌%◌, ◌^◌, ℕ, List, [], ◌∷◌, Option, Some, None, slice_get}
+use Rattle.std.specs.Prelude.{length}
+use Rattle.event_play.specs.Replay.{from_state}
+use Rattle.event_play.specs.Step.{first_machine}
+use Rattle.event_play.specs.Streams.{streams}
+use Rattle.event_play.specs.declared.ending.Ending.{Ending}
+use Rattle.event_play.specs.declared.ending.Ending.TheVariants as ending
+use Rattle.event_play.specs.declared.ending.Mode.{Mode}
+use Rattle.event_play.specs.declared.ending.Mode.TheVariants as mode
+use Rattle.event_play.specs.declared.ending.Moment.TheVariants as moment
+use Rattle.gpu_snapshot.specs.PlayAny.{EndsAny}
+use Rattle.gpu_snapshot.specs.declared.ending.AnyEnding.{AnyEnding}
+use Rattle.gpu_snapshot.specs.declared.ending.AnyEnding.TheVariants as any
+use Rattle.gpu_taps.specs.Tally.{Reading}
+use Rattle.px_num.specs.declared.shape.Cell.{Cell}
+use Rattle.psxgpu_c.specs.Codes.{at_fault, at_place, at_stop, numbers, refused}
+use Rattle.psxgpu_c.specs.Shown.{StandsInFront}
+use Rattle.psxgpu_c.specs.declared.ended.Ended.{Ended}
+use Rattle.psxgpu_c.specs.declared.refusal.Refusal.TheVariants as refusal
+
+-- a column in the low half of a word, and a row in the high half
+abbrev pub cell_in : ℕ → Cell
+cell_in word = record { x = word % 2 ^ 16; y = word / 2 ^ 16 }
+
+-- the modes in the order of their numbers; the cell is that of a pixel
+abbrev pub modes : Cell → List Mode
+modes cell =
+    mode.Play ∷ mode.Vram ∷ mode.Shot ∷ mode.List ∷ mode.Report ∷ mode.Frames moment.Flip ∷ mode.Frames moment.Mark
+    ∷ mode.Sums moment.Flip ∷ mode.Sums moment.Mark ∷ mode.Pixel cell ∷ []
+
+abbrev pub mode_named : (number cell : ℕ) → Option Mode
+mode_named number cell = slice_get (modes (cell_in cell)) number
+
+-- ---- endings
+
+abbrev pub at_ending : Ending → Ended
+at_ending ending.Done = numbers 0 0 0 0
+at_ending (ending.Stopped event stop) = at_stop event stop
+at_ending (ending.Faulted event fault) = at_fault event fault
+at_ending (ending.NoPicture event) = numbers 10 event 0 0
+at_ending (ending.WriteFailed event) = numbers 11 event 0 0
+
+abbrev pub at_end : AnyEnding → Ended
+at_end (any.Played ending) = at_ending ending
+at_end (any.BadSnapshot byte word) = at_place 12 1 byte word
+
+-- ---- playing
+
+-- A new machine played these bytes, with taps of which nothing more is said here than that they heard every note: what
+-- it wrote stands in front, and how it ended is told.
+pub record PlaysInto (m : Mode) (bytes before now : List ℕ) (told : Ended) : Type 0 where
+  pub first : List Reading
+  pub end : AnyEnding
+  pub left : List ℕ
+  pub held : List ℕ
+  pub heard : List Reading
+  pub steps : ℕ
+  pub steps_now : ℕ
+  pub ends : EndsAny m (from_state first_machine 0) (streams (Some bytes) (Some []) first steps)
+      (streams (Some left) (Some held) heard steps_now) end
+  pub front : StandsInFront held before now
+  pub is_told : told ≡ record (at_end end) { written = length held }
+
+-- nothing was played where there is no such mode, or where memory ran out
+abbrev pub PlaysMode : Option Mode → (bytes before now : List ℕ) → (told : Ended) → Type 0
+PlaysMode None bytes before now told = (told ≡ refused refusal.BadMode) × (now ≡ before)
+PlaysMode (Some m) bytes before now told =
+    PlaysInto m bytes before now told ⊎ ((told ≡ refused refusal.NoMemory) × (now ≡ before))

@@ -1,0 +1,169 @@
+// What is to be seen of the machine of a handle, which stays as it is.
+ghost use Rattle.std.specs.Prelude.{◌≡◌, ◌<◌, ◌^◌, IsTrue, Some};
+ghost use Rattle.gp1_status.specs.Words.{words_of};
+ghost use Rattle.picture_out.specs.Dump.{dump};
+ghost use Rattle.psxgpu_c.specs.Shown.{Answers, SeesCell, SeesShape, Tells, Views, has_cell, picture_due};
+
+use crate::ended::code_for;
+use crate::front::{code_of, put_words, tell};
+use crate::handle::Psxgpu;
+use crate::refusal::Refusal;
+use crate::views::{cell_of, put_picture, put_vram};
+use event_play::Rig;
+use picture_out::shape;
+use std::alloc::Global;
+
+/// Puts video memory in front of the caller's bytes: its cells row by row, each low byte first.
+#[unsafe(no_mangle)]
+pub extern "C" fn psxgpu_vram(
+    alloc: Global,
+    gpu: &mut Psxgpu,
+    out: &mut [u8],
+    written: &mut usize,
+) -> u32
+    ensures bytes { Tells (Views gpu.old.held.value (λ rig. Some (dump rig.gpu.parts.m)) out.old out.new)
+        result written.new }
+    ensures same { gpu.new.held.value ≡ gpu.old.held.value }
+{
+    tell(vram_of(alloc, gpu, out), written)
+}
+
+fn vram_of(alloc: Global, gpu: &mut Psxgpu, out: &mut [u8]) -> Result<usize, Refusal>
+    ensures bytes { Views gpu.old.held.value (λ rig. Some (dump rig.gpu.parts.m)) out.old out.new result }
+    ensures same { gpu.new.held.value ≡ gpu.old.held.value }
+{
+    match gpu.take(alloc) {
+        Some(rig) => {
+            let answer = put_vram(alloc, &rig, out);
+            gpu.put(rig);
+            answer
+        }
+        None => Err(Refusal::Closed),
+    }
+}
+
+/// Puts the shown picture in front of the caller's bytes, as PPM.
+#[unsafe(no_mangle)]
+pub extern "C" fn psxgpu_picture(
+    alloc: Global,
+    gpu: &mut Psxgpu,
+    out: &mut [u8],
+    written: &mut usize,
+) -> u32
+    ensures bytes { Tells (Views gpu.old.held.value picture_due out.old out.new) result written.new }
+    ensures same { gpu.new.held.value ≡ gpu.old.held.value }
+{
+    tell(picture_of(alloc, gpu, out), written)
+}
+
+fn picture_of(alloc: Global, gpu: &mut Psxgpu, out: &mut [u8]) -> Result<usize, Refusal>
+    ensures bytes { Views gpu.old.held.value picture_due out.old out.new result }
+    ensures same { gpu.new.held.value ≡ gpu.old.held.value }
+{
+    match gpu.take(alloc) {
+        Some(rig) => {
+            let answer = put_picture(alloc, &rig, out);
+            gpu.put(rig);
+            answer
+        }
+        None => Err(Refusal::Closed),
+    }
+}
+
+/// Tells the width and height of the shown picture.
+#[unsafe(no_mangle)]
+pub extern "C" fn psxgpu_shape(
+    alloc: Global,
+    gpu: &mut Psxgpu,
+    width: &mut u16,
+    height: &mut u16,
+) -> u32
+    ensures shape { SeesShape gpu.old.held.value (width.old, height.old) (width.new, height.new) result }
+    ensures same { gpu.new.held.value ≡ gpu.old.held.value }
+{
+    match gpu.take(alloc) {
+        Some(rig) => {
+            let found = shape(rig.gpu().regs());
+            gpu.put(rig);
+            match found {
+                Some((w, h)) => {
+                    *width = w;
+                    *height = h;
+                    0
+                }
+                None => code_for(Refusal::NoPicture),
+            }
+        }
+        None => code_for(Refusal::Closed),
+    }
+}
+
+/// Tells a cell.
+#[unsafe(no_mangle)]
+pub extern "C" fn psxgpu_cell(
+    alloc: Global,
+    gpu: &mut Psxgpu,
+    x: u32,
+    y: u32,
+    cell: &mut u16,
+) -> u32
+    ensures cell { SeesCell gpu.old.held.value x y cell.old cell.new result }
+    ensures same { gpu.new.held.value ≡ gpu.old.held.value }
+{
+    match gpu.take(alloc) {
+        Some(rig) => {
+            let code = see_cell(&rig, x, y, cell);
+            gpu.put(rig);
+            code
+        }
+        None => code_for(Refusal::Closed),
+    }
+}
+
+fn see_cell(rig: &Rig, x: u32, y: u32, cell: &mut u16) -> u32
+    ensures { SeesCell (Some rig.now) x y cell.old cell.new result }
+{
+    if has_cell(rig, x, y) {
+        *cell = cell_of(rig, x as u16, y as u16);
+        0
+    } else {
+        code_for(Refusal::NoCell)
+    }
+}
+
+// Whether video memory has a cell there.
+fn has_cell(rig: &Rig, x: u32, y: u32) -> bool
+    ensures value { result ≡ has_cell rig.now x y }
+    ensures in_row { IsTrue result → x < 1024 }
+    ensures in_height { IsTrue result → y < rig.now.gpu.parts.regs.height }
+    ensures high { rig.now.gpu.parts.regs.height < 2 ^ 16 }
+{
+    let height = rig.gpu().height();
+    let in_row = x < 1024;
+    let in_height = y < u32::from(height);
+    in_row && in_height
+}
+
+/// Puts the words of the registers in front of the caller's words.
+#[unsafe(no_mangle)]
+pub extern "C" fn psxgpu_registers(alloc: Global, gpu: &mut Psxgpu, words: &mut [u32]) -> u32
+    ensures words { Answers (Views gpu.old.held.value (λ rig. Some (words_of rig.gpu.parts.regs)) words.old words.new)
+        result }
+    ensures same { gpu.new.held.value ≡ gpu.old.held.value }
+{
+    code_of(registers_of(alloc, gpu, words))
+}
+
+fn registers_of(alloc: Global, gpu: &mut Psxgpu, words: &mut [u32]) -> Result<usize, Refusal>
+    ensures words { Views gpu.old.held.value (λ rig. Some (words_of rig.gpu.parts.regs)) words.old words.new result }
+    ensures same { gpu.new.held.value ≡ gpu.old.held.value }
+{
+    match gpu.take(alloc) {
+        Some(rig) => {
+            let answer = put_words(words, &rig.gpu().regs().to_words());
+            gpu.put(rig);
+            answer
+        }
+        None => Err(Refusal::Closed),
+    }
+}

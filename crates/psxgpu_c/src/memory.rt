@@ -1,0 +1,132 @@
+// Main memory and DMA.
+ghost use Rattle.std.specs.Prelude.{◌≡◌, Err};
+ghost use Rattle.psxgpu_c.specs.Calls.{Changes, Plays};
+ghost use Rattle.psxgpu_c.specs.Codes.{code_of, told_of};
+ghost use Rattle.psxgpu_c.specs.Memory.{Fills, Refuses, Starts, channel_named};
+
+use crate::ended::{Ended, code_for, numbers, of_refusal};
+use crate::fill::put_words;
+use crate::handle::Psxgpu;
+use crate::ports::{play_coded, play_held};
+use crate::refusal::Refusal;
+use gpu_capture::Event;
+use std::alloc::Global;
+
+/// Puts words into main memory, from an address on.
+#[unsafe(no_mangle)]
+pub extern "C" fn psxgpu_ram(alloc: Global, gpu: &mut Psxgpu, address: u32, words: &[u32]) -> u32
+    ensures { Changes gpu.old.held.value gpu.new.held.value result (Fills address words.now) }
+{
+    match gpu.take(alloc) {
+        Some(mut rig) => {
+            let code = put_words(&mut rig, address, words);
+            gpu.put(rig);
+            code
+        }
+        None => code_for(Refusal::Closed),
+    }
+}
+
+/// Starts DMA channel 2 or 6 and moves all that there is to move.
+#[unsafe(no_mangle)]
+pub extern "C" fn psxgpu_dma(
+    alloc: Global,
+    gpu: &mut Psxgpu,
+    channel: u32,
+    madr: u32,
+    bcr: u32,
+    chcr: u32,
+    ended: &mut Ended,
+) -> u32
+    ensures told { Starts (channel_named channel) madr bcr chcr gpu.old.held.value gpu.new.held.value
+        (λ answer. ended.new ≡ told_of answer) }
+    ensures code { result ≡ ended.new.code }
+{
+    *ended = told_of(start(alloc, gpu, channel_named(channel), madr, bcr, chcr));
+    ended.code
+}
+
+// The channel of this number, if there is one.
+fn channel_named(number: u32) -> Option<u8>
+    ensures { result ≡ channel_named number }
+{
+    match number {
+        2 => Some(2),
+        6 => Some(6),
+        _ => None,
+    }
+}
+
+// Starts a channel, if there is one.
+fn start(
+    alloc: Global,
+    gpu: &mut Psxgpu,
+    channel: Option<u8>,
+    madr: u32,
+    bcr: u32,
+    chcr: u32,
+) -> Result<Option<u32>, Refusal>
+    ensures { Starts channel madr bcr chcr gpu.old.held.value gpu.new.held.value (λ answer. answer ≡ result) }
+{
+    match channel {
+        Some(channel) => {
+            let event = Event::Dma {
+                channel,
+                madr,
+                bcr,
+                chcr,
+            };
+            play_held(alloc, gpu, &event)
+        }
+        None => Err(refused(alloc, gpu, Refusal::BadChannel)),
+    }
+}
+
+// Nothing is done, for this cause or for want of a machine.
+fn refused(alloc: Global, gpu: &mut Psxgpu, why: Refusal) -> Refusal
+    ensures { Refuses gpu.old.held.value gpu.new.held.value why (λ answer. answer ≡ Err result) }
+{
+    match gpu.take(alloc) {
+        Some(rig) => {
+            gpu.put(rig);
+            why
+        }
+        None => Refusal::Closed,
+    }
+}
+
+/// Starts DMA channel 2 and moves nothing before its first turn.
+#[unsafe(no_mangle)]
+pub extern "C" fn psxgpu_begin(
+    alloc: Global,
+    gpu: &mut Psxgpu,
+    madr: u32,
+    bcr: u32,
+    chcr: u32,
+    ended: &mut Ended,
+) -> u32
+    ensures told { Plays gpu.old.held.value gpu.new.held.value (Event.Begin madr bcr chcr)
+        (λ answer. ended.new ≡ told_of answer) }
+    ensures code { result ≡ ended.new.code }
+{
+    *ended = told_of(play_held(alloc, gpu, &Event::Begin { madr, bcr, chcr }));
+    ended.code
+}
+
+/// The running transfer moves its next block, or the words of its next node.
+#[unsafe(no_mangle)]
+pub extern "C" fn psxgpu_turn(alloc: Global, gpu: &mut Psxgpu) -> u32
+    ensures { Plays gpu.old.held.value gpu.new.held.value Event.Turn (λ answer. result ≡ code_of answer) }
+{
+    play_coded(alloc, gpu, &Event::Turn)
+}
+
+// What is told of an answer.
+fn told_of(answer: Result<Option<u32>, Refusal>) -> Ended
+    ensures { result ≡ told_of answer }
+{
+    match answer {
+        Ok(_) => numbers(0, 0, 0, 0),
+        Err(why) => of_refusal(why),
+    }
+}

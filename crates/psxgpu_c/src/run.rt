@@ -1,0 +1,106 @@
+// A run over bytes of a caller.
+ghost use Rattle.std.specs.Prelude.{◌≡◌, ◌<◌};
+ghost use Rattle.std.specs.Option.{MatchOption};
+ghost use Rattle.psxgpu_c.specs.Whole.{PlaysInto, at_end};
+
+use crate::ended::Ended;
+use crate::front::put_front;
+use crate::slice_source::SliceSource;
+use crate::whole::at_end;
+use dev_io::MemSink;
+use event_play::{Mode, Rig};
+use gpu_snapshot::{AnyEnding, play_any};
+use gpu_taps::{Counts, Cover, Listener, Tap, Trace};
+use std::alloc::Global;
+use std::marker::Brand;
+use std::sync::ledger::{Blank, Ledger};
+use vram_store::Steps;
+
+/// Plays a capture or a snapshot with a new machine, and puts what it writes in front. None where memory runs out.
+pub(crate) fn play_over(alloc: Global, mode: Mode, capture: &[u8], out: &mut [u8]) -> Option<Ended>
+    ensures { MatchOption result (out.new ≡ out.old) (λ told.
+        PlaysInto mode capture.now out.old out.new told) }
+{
+    play_report::<Brand>(alloc, mode, capture, out, Blank::new(1))
+}
+
+// The same with the taps of a report, and a count of store steps that is let go.
+fn play_report<L: Ledger>(
+    alloc: Global,
+    mode: Mode,
+    capture: &[u8],
+    out: &mut [u8],
+    blank: Blank,
+) -> Option<Ended>
+    requires name { blank.name ≡ L.name }
+    requires parts { blank.parts ≡ L.parts }
+    requires some { 0 < blank.parts }
+    ensures { MatchOption result (out.new ≡ out.old) (λ told.
+        PlaysInto mode capture.now out.old out.new told) }
+{
+    let mut steps = Steps::<L>::new(blank);
+    let Ok(trace) = Trace::new(alloc) else {
+        return None;
+    };
+    let Ok(first) = Box::new(alloc, Counts::new()) else {
+        return None;
+    };
+    let Ok(second) = Box::new(alloc, trace) else {
+        return None;
+    };
+    let Ok(third) = Box::new(alloc, Cover::new()) else {
+        return None;
+    };
+    let mut taps: Vec<Box<dyn Tap>> = Vec::new(alloc);
+    let Ok(()) = taps.push(first) else {
+        return None;
+    };
+    let Ok(()) = taps.push(second) else {
+        return None;
+    };
+    let Ok(()) = taps.push(third) else {
+        return None;
+    };
+    play_into(alloc, mode, capture, out, &mut taps, &mut steps)
+}
+
+// The same with any taps.
+fn play_into<T: Listener, L: Ledger>(
+    alloc: Global,
+    mode: Mode,
+    capture: &[u8],
+    out: &mut [u8],
+    taps: &mut Vec<T>,
+    steps: &mut Steps<L>,
+) -> Option<Ended>
+    ensures { MatchOption result (out.new ≡ out.old) (λ told.
+        PlaysInto mode capture.now out.old out.new told) }
+{
+    let Ok(rig) = Rig::new(alloc) else {
+        return None;
+    };
+    let Ok(mut sink) = MemSink::new(alloc, out.len()) else {
+        return None;
+    };
+    let mut source = SliceSource::new(capture);
+    let end = play_any(rig, &mut source, &mut sink, mode, taps, steps);
+    let bytes = sink.bytes();
+    match put_front(out, bytes) {
+        Ok(_) => Some(told(end, bytes.len())),
+        Err(_) => None,
+    }
+}
+
+// How playing ended, and how many bytes it wrote.
+fn told(end: AnyEnding, written: usize) -> Ended
+    ensures { result ≡ record (at_end end) { written = written } }
+{
+    let ended = at_end(end);
+    Ended {
+        written,
+        event: ended.event,
+        place: ended.place,
+        word: ended.word,
+        code: ended.code,
+    }
+}

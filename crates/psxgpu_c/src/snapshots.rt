@@ -1,0 +1,79 @@
+// The machine of a handle as a snapshot in memory, and back.
+ghost use Rattle.std.specs.Prelude.{◌≡◌, Some};
+ghost use Rattle.psxgpu_c.specs.Codes.{told_by};
+ghost use Rattle.psxgpu_c.specs.Saved.{LoadsHeld, TellsLoad, saved};
+ghost use Rattle.psxgpu_c.specs.Shown.{Tells, Views};
+
+use crate::ended::{Ended, numbers, of_refusal};
+use crate::front::tell;
+use crate::handle::Psxgpu;
+use crate::refusal::Refusal;
+use crate::state::{load, put_saved};
+use std::alloc::Global;
+
+/// Puts the machine in front of the caller's bytes, as a snapshot with no record behind its state.
+#[unsafe(no_mangle)]
+pub extern "C" fn psxgpu_save(
+    alloc: Global,
+    gpu: &mut Psxgpu,
+    out: &mut [u8],
+    written: &mut usize,
+) -> u32
+    ensures bytes { Tells (Views gpu.old.held.value (λ rig. Some (saved rig)) out.old out.new) result written.new }
+    ensures same { gpu.new.held.value ≡ gpu.old.held.value }
+{
+    tell(saved_of(alloc, gpu, out), written)
+}
+
+fn saved_of(alloc: Global, gpu: &mut Psxgpu, out: &mut [u8]) -> Result<usize, Refusal>
+    ensures bytes { Views gpu.old.held.value (λ rig. Some (saved rig)) out.old out.new result }
+    ensures same { gpu.new.held.value ≡ gpu.old.held.value }
+{
+    match gpu.take(alloc) {
+        Some(rig) => {
+            let answer = put_saved(alloc, &rig, out);
+            gpu.put(rig);
+            answer
+        }
+        None => Err(Refusal::Closed),
+    }
+}
+
+/// Makes the machine the state of a snapshot.
+#[unsafe(no_mangle)]
+pub extern "C" fn psxgpu_load(
+    alloc: Global,
+    gpu: &mut Psxgpu,
+    bytes: &[u8],
+    ended: &mut Ended,
+) -> u32
+    ensures told { TellsLoad gpu.old.held.value gpu.new.held.value bytes.now ended.new }
+    ensures code { result ≡ ended.new.code }
+{
+    *ended = told_by(load_held(alloc, gpu, bytes));
+    ended.code
+}
+
+// The same, and answers why it is not done.
+fn load_held(alloc: Global, gpu: &mut Psxgpu, bytes: &[u8]) -> Option<Refusal>
+    ensures { LoadsHeld gpu.old.held.value gpu.new.held.value bytes.now result }
+{
+    match gpu.take(alloc) {
+        Some(mut rig) => {
+            let why = load(alloc, &mut rig, bytes);
+            gpu.put(rig);
+            why
+        }
+        None => Some(Refusal::Closed),
+    }
+}
+
+// What is told where there may be a refusal.
+fn told_by(why: Option<Refusal>) -> Ended
+    ensures { result ≡ told_by why }
+{
+    match why {
+        None => numbers(0, 0, 0, 0),
+        Some(why) => of_refusal(why),
+    }
+}

@@ -1,0 +1,103 @@
+// What is seen of a rig: video memory and the shown picture, as bytes.
+ghost use Rattle.std.specs.Prelude.{◌≡◌, ◌<◌, ◌≤◌, Some};
+ghost use Rattle.picture_out.specs.Dump.{dump};
+ghost use Rattle.vram_store.specs.Vram.{at};
+ghost use Rattle.psxgpu_c.specs.Shown.{PutsDue, picture_due};
+
+use crate::front::put_front;
+use crate::refusal::Refusal;
+use dev_io::MemSink;
+use event_play::Rig;
+use picture_out::{shape, write_ppm, write_vram};
+use std::alloc::Global;
+use std::marker::Brand;
+use std::sync::ledger::{Blank, Ledger};
+use vram_store::Steps;
+
+/// How many bytes the head of a picture has, at most.
+const MOST_HEAD: usize = 32;
+
+/// Puts the bytes of video memory in front.
+pub(crate) fn put_vram(alloc: Global, rig: &Rig, out: &mut [u8]) -> Result<usize, Refusal>
+    ensures { PutsDue (Some (dump rig.now.gpu.parts.m)) out.old out.new result }
+{
+    put_dump::<Brand>(alloc, rig, out, Blank::new(1))
+}
+
+fn put_dump<L: Ledger>(
+    alloc: Global,
+    rig: &Rig,
+    out: &mut [u8],
+    blank: Blank,
+) -> Result<usize, Refusal>
+    requires name { blank.name ≡ L.name }
+    requires parts { blank.parts ≡ L.parts }
+    requires some { 0 < blank.parts }
+    ensures { PutsDue (Some (dump rig.now.gpu.parts.m)) out.old out.new result }
+{
+    let mut steps = Steps::<L>::new(blank);
+    let vram = rig.gpu().vram();
+    let Ok(mut sink) = MemSink::new(alloc, 2048 * vram.height() as usize) else {
+        return Err(Refusal::NoMemory);
+    };
+    match write_vram(vram, &mut sink, &mut steps) {
+        Ok(()) => put_front(out, sink.bytes()),
+        Err(_) => Err(Refusal::NoMemory),
+    }
+}
+
+/// Puts the shown picture in front, as PPM, if there is one.
+pub(crate) fn put_picture(alloc: Global, rig: &Rig, out: &mut [u8]) -> Result<usize, Refusal>
+    ensures { PutsDue (picture_due rig.now) out.old out.new result }
+{
+    put_ppm::<Brand>(alloc, rig, out, Blank::new(1))
+}
+
+fn put_ppm<L: Ledger>(
+    alloc: Global,
+    rig: &Rig,
+    out: &mut [u8],
+    blank: Blank,
+) -> Result<usize, Refusal>
+    requires name { blank.name ≡ L.name }
+    requires parts { blank.parts ≡ L.parts }
+    requires some { 0 < blank.parts }
+    ensures { PutsDue (picture_due rig.now) out.old out.new result }
+{
+    let mut steps = Steps::<L>::new(blank);
+    let gpu = rig.gpu();
+    let Some((width, lines)) = shape(gpu.regs()) else {
+        return Err(Refusal::NoPicture);
+    };
+    let Ok(mut sink) = MemSink::new(alloc, 3 * width as usize * lines as usize + MOST_HEAD) else {
+        return Err(Refusal::NoMemory);
+    };
+    match write_ppm(gpu.vram(), gpu.regs(), &mut sink, &mut steps) {
+        Ok(()) => put_front(out, sink.bytes()),
+        Err(_) => Err(Refusal::NoMemory),
+    }
+}
+
+/// A cell.
+pub(crate) fn cell_of(rig: &Rig, x: u16, y: u16) -> u16
+    requires in_row { x < 1024 }
+    requires in_height { y < rig.now.gpu.parts.regs.height }
+    ensures { result ≡ at rig.now.gpu.parts.m x y }
+{
+    get::<Brand>(rig, x, y, Blank::new(1))
+}
+
+fn get<L: Ledger>(rig: &Rig, x: u16, y: u16, blank: Blank) -> u16
+    requires name { blank.name ≡ L.name }
+    requires parts { blank.parts ≡ L.parts }
+    requires some { 0 < blank.parts }
+    requires in_row { x < 1024 }
+    requires in_height { y < rig.now.gpu.parts.regs.height }
+    ensures { result ≡ at rig.now.gpu.parts.m x y }
+{
+    let mut steps = Steps::<L>::new(blank);
+    let height = rig.gpu().height();
+    let vram = rig.gpu().vram();
+    let _ = height;
+    vram.get(x, y, &mut steps)
+}

@@ -1,0 +1,19 @@
+use Rattle.span_lanes.proofs.PartLemmas.{sample_stays}
+use Rattle.span_lanes.proofs.PlanLemmas.{coordinates_here}
+use Rattle.span_lanes.proofs.guarded.PlanChunks.draw_part.Goals as goal
+
+pub draw_guarded-requires-clause-at : goal.draw_guarded-requires-clause-at
+draw_guarded-requires-clause-at g c =
+    let span = c.args.span.now in
+    let part = c.args.part in
+    let at = c.track_lanes-at.ensures in
+    coordinates_here span.paint span.x span.y span.n part.first part.k c.args.self.now.track _ _
+    c.requires.serves.1.track c.requires.part.within c.requires.part.few at.across at.down at.u at.v
+
+pub returns-then-self-clause-serves : goal.returns-then-self-clause-serves
+returns-then-self-clause-serves g c =
+    (sample_stays c.requires.serves.0 c.draw_apart.ensures.long, c.requires.serves.1)
+
+pub returns-else-self-clause-serves : goal.returns-else-self-clause-serves
+returns-else-self-clause-serves g c =
+    (sample_stays c.requires.serves.0 c.draw_guarded.ensures.long, c.requires.serves.1)

@@ -1,0 +1,54 @@
+use Rattle.std.proofs.Common.{◌≡◌, ◌+◌, ◌&&◌, not, ℕ, ◌<◌, ◌∙◌, arith}
+use Rattle.span_lanes.proofs.ColorLemmas.{no_shift}
+use Rattle.span_lanes.proofs.SwatchLemmas.{swatches_kept}
+use Rattle.span_lanes.proofs.PlanLemmas.{apart_cost}
+use Rattle.span_lanes.proofs.PartLemmas.{sample_stays}
+use Rattle.span_lanes.proofs.texels.KeptChunks.draw_part.Goals as goal
+
+pub draw_fronts-requires-clause-free : goal.draw_fronts-requires-clause-free
+draw_fronts-requires-clause-free g c = c.requires.serves.suits.apart.free c.args.part.first c.args.part.k c.requires.part.within
+
+pub draw_fronts-requires-clause-texels : goal.draw_fronts-requires-clause-texels
+draw_fronts-requires-clause-texels g c = record {
+  long = c.drawn_at-drawn.ensures.long.0;
+  value = λ j lt.
+      let lane : j < 16 = omega arith in
+      c.drawn_at-drawn.ensures.texels j lane
+      ∙ c.requires.serves.entries.entry _ (c.read_indexes-index.ensures.indexes.low j lane)
+      ∙ c.read_indexes-index.ensures.indexes.entry j lt;
+}
+
+pub draw_fronts-requires-clause-front : goal.draw_fronts-requires-clause-front
+draw_fronts-requires-clause-front g c j lt =
+    let span = c.args.span.now in
+    let x : ℕ = span.x + c.args.part.first + j in
+    let lane : j < 16 = omega arith in
+    let same_x : span.x + (c.args.part.first + j) ≡ x = omega arith in
+    let hue = rw same_x at (c.requires.serves.hue c.args.part.first j lane (omega arith)) in
+    rw (← hue, no_shift (span.brush.dither && not c.args.self.now.texture.raw) x span.y c.requires.serves.suits.even)
+    (c.drawn_at-drawn.ensures.fronts j lane)
+
+pub returns-clause-drawn : goal.returns-clause-drawn
+returns-clause-drawn g c =
+    let cost = (rw c.requires.serves.suits.depth at
+    (apart_cost c.args.span.now c.args.self.now.texture c.args.part.first c.args.part.k c.requires.serves.suits.apart
+    c.requires.part.within c.requires.serves.sample.texture)) in
+    record {
+      cells = c.draw_fronts.ensures.cells;
+      long = c.draw_fronts.ensures.others.count;
+      cost = omega (arith, cost, c.read_indexes-index.ensures.cost, c.draw_fronts.ensures.cost);
+    }
+
+pub returns-clause-serves : goal.returns-clause-serves
+returns-clause-serves g c =
+    let is = c.requires.serves in
+    record {
+      sample = sample_stays is.sample c.draw_fronts.ensures.others.count;
+      suits = is.suits;
+      finds = is.finds;
+      hue = is.hue;
+      raw = is.raw;
+      colored = is.colored;
+      entries = swatches_kept c.args.self.now.texture (c.args.span.now.x + c.args.part.first) c.args.span.now.y
+          c.args.part.k _ _ _ c.draw_fronts.ensures.others (omega arith) is.suits.row is.entries;
+    }

@@ -1,0 +1,27 @@
+use Rattle.std.proofs.Common.{arith}
+use Rattle.span_lanes.proofs.CostLemmas.{plain_cost}
+use Rattle.span_lanes.proofs.PartLemmas.{draw_stays}
+use Rattle.span_lanes.proofs.untextured.TonedChunks.draw_part.Goals as goal
+
+pub store_part-requires-clause-free : goal.store_part-requires-clause-free
+store_part-requires-clause-free g c = λ h. rw c.requires.serves.plain at h
+
+pub returns-clause-drawn : goal.returns-clause-drawn
+returns-clause-drawn g c = record {
+  cells = c.store_part.ensures.cells;
+  long = c.store_part.ensures.others.count;
+  cost = omega (
+    arith,
+    plain_cost c.args.span.now c.args.part.first c.args.part.k c.requires.serves.plain,
+    c.collect_plain-lanes.ensures.cost,
+    c.store_part.ensures.cost,
+  );
+}
+
+pub returns-clause-serves : goal.returns-clause-serves
+returns-clause-serves g c = record {
+  can = draw_stays c.requires.serves.can c.store_part.ensures.others.count;
+  plain = c.requires.serves.plain;
+  colors = c.requires.serves.colors;
+  offsets = c.requires.serves.offsets;
+}

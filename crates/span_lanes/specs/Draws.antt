@@ -1,0 +1,43 @@
+-- What it is to draw a span, or a part of one.
+use Rattle.std.specs.Prelude.{ℕ, ◌≡◌, ◌≤◌, ◌+◌, ◌%◌, List, Some, length}
+use Rattle.vram_store.specs.Vram.{height_of}
+use Rattle.span_lanes.specs.declared.part.Part.{Part}
+use Rattle.span_lanes.specs.declared.span.Span.{Span}
+use Rattle.span_lanes.specs.declared.span.Texture.{Texture}
+use Rattle.span_lanes.specs.Cells.{Stage}
+use Rattle.span_lanes.specs.Chunk.{drawn_chunk}
+use Rattle.span_lanes.specs.Cost.{chunk_cost, span_cost}
+use Rattle.span_lanes.specs.Shade.{IsSpan, LiesIn, drawn_span, texture_of}
+
+-- video memory, and how many steps were taken
+abbrev pub at_stage : List ℕ → ℕ → Stage
+at_stage m steps = record { m = m; steps = steps }
+
+-- a span that can be drawn in video memory
+pub record CanDraw (s : Span) (m : List ℕ) : Type 0 where
+  pub span : IsSpan s
+  pub lies : LiesIn (height_of m) s
+
+-- one that takes its texels from a texture
+pub record CanSample (s : Span) (t : Texture) (m : List ℕ) : Type 0 where
+  pub can : CanDraw s m
+  pub texture : texture_of s.paint ≡ Some t
+
+-- one of the parts that a span is cut into from its left
+pub record IsPart (s : Span) (p : Part) : Type 0 where
+  pub some : 1 ≤ p.k
+  pub few : p.k ≤ 16
+  pub within : p.first + p.k ≤ s.n
+  pub cut : p.first % 16 ≡ 0
+
+-- the cells of a part were drawn, one after another; so many steps are spared
+pub record DrawsPart (s : Span) (p : Part) (spared : ℕ) (before after : Stage) : Type 0 where
+  pub cells : after.m ≡ drawn_chunk s p.first p.k before.m
+  pub long : length after.m ≡ length before.m
+  pub cost : after.steps + spared ≤ before.steps + chunk_cost s p.first p.k
+
+-- all cells of a span were, and so many steps are spared
+pub record DrawsSpan (s : Span) (spared : ℕ) (before after : Stage) : Type 0 where
+  pub cells : after.m ≡ drawn_span s s.n before.m
+  pub long : length after.m ≡ length before.m
+  pub cost : after.steps + spared ≤ before.steps + span_cost s

@@ -1,0 +1,40 @@
+-- Spans of texels, and what is known of them before they are drawn.
+use Rattle.std.specs.Prelude.{ℕ, ◌≡◌, ◌+◌, ◌<◌, List, slice_index}
+use Rattle.px_num.specs.Lanes.{EachLane}
+use Rattle.texture_page.specs.Page.{clut_place}
+use Rattle.span_lanes.specs.declared.part.Part.{Part}
+use Rattle.span_lanes.specs.declared.span.Span.{Span}
+use Rattle.span_lanes.specs.declared.span.Texture.{Texture}
+use Rattle.span_lanes.specs.declared.swatches.Swatches.{Swatches}
+use Rattle.span_lanes.specs.declared.hues.Hues.TheVariants.{One}
+use Rattle.span_lanes.specs.Draws.{CanSample}
+use Rattle.span_lanes.specs.Guard.{IsApart}
+use Rattle.span_lanes.specs.Hues.{AreHues}
+use Rattle.span_lanes.specs.Paints.{paint_u, paint_v}
+use Rattle.span_lanes.specs.Shade.{at_cell, texel}
+use Rattle.span_lanes.specs.Swatches.{AreColored, AreSwatches, SuitsPalette}
+use Rattle.span_lanes.specs.Table.{AreBytes}
+
+-- a span that takes its texels from a texture and reads nothing that it writes; that its texels can be found is given
+pub record CanTake (s : Span) (t : Texture) (found : Type 0) (m : List ℕ) : Type 0 where
+  pub sample : CanSample s t m
+  pub apart : IsApart s
+  pub finds : found
+
+-- one whose palette of sixteen entries is kept under its colour
+pub record CanKeep (s : Span) (t : Texture) (found : Type 0) (kept : Swatches) (m : List ℕ) : Type 0 where
+  pub sample : CanSample s t m
+  pub suits : SuitsPalette s t
+  pub finds : found
+  pub hue : AreHues s.paint s.x s.y s.n (One kept.color)
+  pub raw : kept.raw ≡ t.raw
+  pub colored : AreColored kept
+  pub entries : AreSwatches t m kept
+
+-- sixteen indexes of entries, the first ones those of the texels of a part
+pub record HasIndexes (s : Span) (t : Texture) (p : Part) (m lanes : List ℕ) : Type 0 where
+  pub bytes : AreBytes lanes
+  pub low : EachLane (λ i. slice_index lanes i < 16)
+  pub entry : (j : ℕ) → j < p.k → at_cell m (clut_place t.clut (slice_index lanes j))
+      ≡ texel t (paint_u s.paint (s.x + p.first + j) s.y (p.first + j))
+      (paint_v s.paint (s.x + p.first + j) s.y (p.first + j)) m

@@ -1,0 +1,83 @@
+// The loop over the parts of a span.
+ghost use Rattle.std.specs.Prelude.{ℕ, List};
+ghost use Rattle.span_lanes.specs.Draws.{CanDraw, DrawsPart, DrawsSpan, IsPart, at_stage};
+
+use crate::Span;
+use crate::part::Part;
+use crate::plainly::{is_plain, plain};
+use std::sync::ledger::Ledger;
+use vram_store::{Steps, Vram};
+
+// How the parts of a span are drawn, all in one way.
+pub(crate) trait Chunks {
+    ghost use Rattle.span_lanes.specs.declared.part.Part.{Part};
+    ghost use Rattle.span_lanes.specs.declared.span.Span.{Span};
+
+    // Holds where the way serves a span in video memory.
+    ghost serves: { Self → Span → List ℕ → Type 0 };
+
+    // How many steps each part spares: they pay for what was read once.
+    ghost spared: { Self → ℕ };
+
+    fn draw_part<L: Ledger>(&self, vram: &mut Vram, span: &Span, part: Part, steps: &mut Steps<L>)
+        requires serves { serves self.now span.now vram.old }
+        requires part { IsPart span.now part }
+        ensures drawn { DrawsPart span.now part (spared self.now)
+            (at_stage vram.old steps.old) (at_stage vram.new steps.new) }
+        ensures serves { serves self.now span.now vram.new };
+
+    // Only spans that can be drawn are served.
+    ghost can: { (c : Self) (s : Span) (m : List ℕ) → serves c s m → CanDraw s m };
+}
+
+// Draws a span part by part.
+#[inline(always)]
+pub(crate) fn draw_parts<C: Chunks, L: Ledger>(
+    vram: &mut Vram,
+    span: &Span,
+    chunks: &C,
+    steps: &mut Steps<L>,
+)
+    requires { C.serves chunks.now span.now vram.old }
+    ensures drawn { DrawsSpan span.now (C.spared chunks.now)
+        (at_stage vram.old steps.old) (at_stage vram.new steps.new) }
+    ensures serves { C.serves chunks.now span.now vram.new }
+{
+    let whole = span.n / 16;
+    for c in 0..whole {
+        let part = Part {
+            first: 16 * c,
+            k: 16,
+        };
+        chunks.draw_part(vram, span, part, steps);
+    }
+    let rest = span.n % 16;
+    if rest > 0 {
+        let part = Part {
+            first: 16 * whole,
+            k: rest as u8,
+        };
+        chunks.draw_part(vram, span, part, steps);
+    }
+}
+
+// The same by whether pixels are stored as they are.
+#[inline(always)]
+pub(crate) fn draw_by_brush<C: Chunks, L: Ledger>(
+    vram: &mut Vram,
+    span: &Span,
+    chunks: &C,
+    steps: &mut Steps<L>,
+)
+    requires { C.serves chunks.now span.now vram.old }
+    ensures drawn { DrawsSpan span.now (C.spared chunks.now)
+        (at_stage vram.old steps.old) (at_stage vram.new steps.new) }
+    ensures serves { C.serves chunks.now span.now vram.new }
+{
+    if is_plain(&span.brush) {
+        draw_parts(vram, &plain(span), chunks, steps);
+    } else {
+        let span = *span;
+        draw_parts(vram, &span, chunks, steps);
+    }
+}

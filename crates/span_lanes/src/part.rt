@@ -1,0 +1,10 @@
+// Parts of spans.
+
+// Up to sixteen cells of a span, from one of them on.
+#[derive(Clone, Copy)]
+pub(crate) struct Part {
+    // the number of the first cell
+    pub(crate) first: u16,
+    // how many
+    pub(crate) k: u8,
+}
