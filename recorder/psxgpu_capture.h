@@ -1,0 +1,310 @@
+/* psxgpu_capture.h: records what reaches a PlayStation's GPU, as a capture for psxgpu_tool. One header for C99 and
+   C++17, no dependencies, no globals. docs/RECORDING.md says where an emulator calls it, docs/CAPTURE.md has the
+   format.
+
+       static psxgpu_capture cap;                      64 KB, so not on a stack; where it is 0, nothing is open
+
+       psxgpu_capture_open(&cap, "game.capture");
+       psxgpu_capture_gp0(&cap, word);                 a write to 1F801810h, or a word that DMA brings there
+       psxgpu_capture_gp1(&cap, word);                 a write to 1F801814h
+       psxgpu_capture_read(&cap);                      a read of 1F801810h, or a word that DMA takes there
+       psxgpu_capture_skip(&cap, n);                   n such words, which `play` is not to print
+       psxgpu_capture_stat(&cap);                      a read of 1F801814h
+       psxgpu_capture_frame(&cap);                     a vertical blank
+       psxgpu_capture_close(&cap);
+
+   `open` and `close` answer 0, or an error number of errno.h. Every other call does nothing where no capture is open. A
+   failed write or want of memory closes the recording, the emulator goes on, and `close` tells. One thread at a time.
+
+   The file always ends behind a whole record, and all up to the last frame is in it. Where the emulator did not live to
+   close it, four bytes 0 make it whole. No file becomes longer than a player takes: where that is near, the recording
+   is closed with EFBIG. Who records for so long looks at `cap.bytes`, closes, opens the next file and begins it with
+   `psxgpu_capture_state`.
+
+   Who wants DMA itself in the capture, and main memory as it was, calls, before the transfer is done, and then neither
+   gp0 nor read for its words:
+
+       psxgpu_capture_dma(&cap, channel, madr, bcr, chcr, ram); */
+#ifndef PSXGPU_CAPTURE_H
+#define PSXGPU_CAPTURE_H
+#include <errno.h>
+#include <stdint.h>
+#include <stdio.h>
+#include <stdlib.h>
+#include <string.h>
+
+#ifndef PSXGPU_CAPTURE_MOST
+#define PSXGPU_CAPTURE_MOST 0x40000000u /* bytes of a file that a player takes */
+#endif
+
+/* Kinds of records, and sizes. */
+enum { PSXGPU_RAM = 1, PSXGPU_GP0, PSXGPU_GP1, PSXGPU_READ, PSXGPU_STAT, PSXGPU_DMA, PSXGPU_SKIP = 9 };
+enum { PSXGPU_ROOM = 65536, PSXGPU_MOST_READS = 262144, PSXGPU_RAM_WORDS = 524288 };
+
+typedef struct psxgpu_capture {
+    FILE *file;           /* NULL where nothing is recorded */
+    int error;            /* 0, or what ended the recording before `close` */
+    uint64_t bytes;       /* in the file, all of whole records */
+    uint32_t frames;      /* marked so far */
+    uint32_t *known;      /* main memory as a player will have it; NULL before the first start of DMA */
+    unsigned char *stale; /* 1 for each word of it that is not known */
+    uint32_t kind, count; /* of the last record in room; kind 0 where none may grow */
+    size_t tag, used;     /* where that record begins in room, and how many bytes wait there */
+    unsigned char room[PSXGPU_ROOM];
+} psxgpu_capture;
+
+static inline void psxgpu_put_(unsigned char *at, uint32_t word) {
+    at[0] = (unsigned char)word;
+    at[1] = (unsigned char)(word >> 8);
+    at[2] = (unsigned char)(word >> 16);
+    at[3] = (unsigned char)(word >> 24);
+}
+
+static inline uint32_t psxgpu_get_(const unsigned char *at) {
+    return (uint32_t)at[0] | (uint32_t)at[1] << 8 | (uint32_t)at[2] << 16 | (uint32_t)at[3] << 24;
+}
+
+/* Words of a record, its tag among them. */
+static inline size_t psxgpu_length_(uint32_t tag) {
+    switch (tag >> 24) {
+    case PSXGPU_RAM: return 2 + (tag & 0xFFFFFF);
+    case PSXGPU_GP0: return 1 + (tag & 0xFFFFFF);
+    case PSXGPU_GP1: return 2;
+    case PSXGPU_DMA: return 4;
+    default: return 1;
+    }
+}
+
+/* The bytes of whole records among the first `most` of room. */
+static inline size_t psxgpu_whole_(const psxgpu_capture *c, size_t most) {
+    size_t whole = 0, next = 0;
+    while (next <= most && next < c->used) {
+        whole = next;
+        next += 4 * psxgpu_length_(psxgpu_get_(c->room + next));
+    }
+    return next <= most ? next : whole;
+}
+
+static inline int psxgpu_errno_(void) { return errno ? errno : EIO; }
+
+/* Closes the file, of which the first `written` bytes of room are a part: behind the last whole record stands End, or
+   nothing, or fewer than four bytes 0 where there is no more space. */
+static inline void psxgpu_end_(psxgpu_capture *c, int error, size_t written) {
+    static const unsigned char end[4] = {0, 0, 0, 0};
+    size_t whole = psxgpu_whole_(c, written);
+    c->bytes += whole;
+    errno = 0;
+    if (whole == written || !fseek(c->file, (long)c->bytes, SEEK_SET)) {
+        if (fwrite(end, 1, 4, c->file) == 4) c->bytes += 4;
+        else if (!error) error = psxgpu_errno_();
+    }
+    if (fclose(c->file) && !error) error = psxgpu_errno_();
+    c->file = NULL;
+    c->error = error;
+    free(c->known);
+    c->known = NULL;
+    c->used = c->kind = 0;
+}
+
+/* Hands all that waits to the operating system. */
+static inline void psxgpu_capture_flush(psxgpu_capture *c) {
+    size_t most = c->used, written;
+    if (c->file) {
+        if (c->bytes + c->used + 4 > PSXGPU_CAPTURE_MOST)
+            most = psxgpu_whole_(c, (size_t)(PSXGPU_CAPTURE_MOST - 4 - c->bytes));
+        errno = 0;
+        written = most ? fwrite(c->room, 1, most, c->file) : 0;
+        if (written < most) psxgpu_end_(c, psxgpu_errno_(), written);
+        else if (most < c->used) psxgpu_end_(c, EFBIG, written);
+        else c->bytes += most;
+    }
+    c->used = c->kind = 0;
+}
+
+static inline int psxgpu_capture_open(psxgpu_capture *c, const char *path) {
+    memset(c, 0, sizeof *c);
+    errno = 0;
+    c->file = fopen(path, "wb");
+    if (!c->file) return c->error = psxgpu_errno_();
+    setvbuf(c->file, NULL, _IONBF, 0);
+    if (fwrite("PSXGPUC2", 1, 8, c->file) == 8) {
+        c->bytes = 8;
+        return 0;
+    }
+    c->error = psxgpu_errno_();
+    fclose(c->file);
+    c->file = NULL;
+    return c->error;
+}
+
+static inline int psxgpu_capture_close(psxgpu_capture *c) {
+    psxgpu_capture_flush(c);
+    if (c->file) psxgpu_end_(c, 0, 0);
+    return c->error;
+}
+
+static inline void psxgpu_add_(psxgpu_capture *c, uint32_t word) {
+    psxgpu_put_(c->room + c->used, word);
+    c->used += 4;
+}
+
+/* A new record, with room for its tag and `words` words behind it. */
+static inline void psxgpu_record_(psxgpu_capture *c, uint32_t kind, uint32_t count, size_t words) {
+    if (c->used + 4 + 4 * words > PSXGPU_ROOM) psxgpu_capture_flush(c);
+    c->tag = c->used;
+    c->kind = kind;
+    c->count = count;
+    psxgpu_add_(c, kind << 24 | count);
+}
+
+/* One more in the last record, with room for `words` words; answers 0 where that has to be a new one. */
+static inline int psxgpu_grow_(psxgpu_capture *c, uint32_t kind, size_t words) {
+    if (c->kind != kind || c->count == PSXGPU_MOST_READS || c->used + 4 * words > PSXGPU_ROOM) return 0;
+    psxgpu_put_(c->room + c->tag, kind << 24 | ++c->count);
+    return 1;
+}
+
+static inline void psxgpu_capture_gp0(psxgpu_capture *c, uint32_t word) {
+    if (!c->file) return;
+    if (!psxgpu_grow_(c, PSXGPU_GP0, 1)) psxgpu_record_(c, PSXGPU_GP0, 1, 1);
+    psxgpu_add_(c, word);
+}
+
+static inline void psxgpu_capture_gp1(psxgpu_capture *c, uint32_t word) {
+    if (!c->file) return;
+    psxgpu_record_(c, PSXGPU_GP1, 1, 1);
+    psxgpu_add_(c, word);
+}
+
+static inline void psxgpu_capture_read(psxgpu_capture *c) {
+    if (c->file && !psxgpu_grow_(c, PSXGPU_READ, 0)) psxgpu_record_(c, PSXGPU_READ, 1, 0);
+}
+
+/* n reads of the data port whose words `play` does not print. */
+static inline void psxgpu_capture_skip(psxgpu_capture *c, uint32_t n) {
+    for (; c->file && n; n--)
+        if (!psxgpu_grow_(c, PSXGPU_SKIP, 0)) psxgpu_record_(c, PSXGPU_SKIP, 1, 0);
+}
+
+static inline void psxgpu_capture_stat(psxgpu_capture *c) {
+    if (c->file) psxgpu_record_(c, PSXGPU_STAT, 1, 0);
+}
+
+/* The mark of a frame: the control word 3Fh, which has no effect, with the number of the frame. */
+static inline void psxgpu_capture_frame(psxgpu_capture *c) {
+    if (!c->file) return;
+    psxgpu_capture_gp1(c, 0x3F000000u | (++c->frames & 0xFFFFFF));
+    psxgpu_capture_flush(c);
+}
+
+/* The state of a machine that runs already, where a recording begins in its midst or a saved state is loaded: 512 rows
+   of 1024 cells, the values of E1h to E6h, and n words for GP1 (08h, 06h, 07h, 05h, 04h and 03h as they are in force).
+   Video memory goes in four loads of 512 by 256, since not every emulator takes one of 1024 by 512. */
+static inline void psxgpu_capture_state(psxgpu_capture *c, const uint16_t *cells, const uint32_t settings[6],
+                                        const uint32_t *gp1, size_t n) {
+    uint32_t part, x, y, k;
+    size_t i;
+    psxgpu_capture_gp1(c, 0);
+    for (part = 0; part < 4; part++) {
+        const uint32_t left = part % 2 * 512, top = part / 2 * 256;
+        psxgpu_capture_gp0(c, 0xA0000000u);
+        psxgpu_capture_gp0(c, top << 16 | left);
+        psxgpu_capture_gp0(c, 256u << 16 | 512);
+        for (y = top; y < top + 256; y++)
+            for (x = 1024 * y + left; x < 1024 * y + left + 512; x += 2)
+                psxgpu_capture_gp0(c, (uint32_t)cells[x] | (uint32_t)cells[x + 1] << 16);
+    }
+    for (k = 0; k < 6; k++) psxgpu_capture_gp0(c, (0xE1u + k) << 24 | (settings[k] & 0xFFFFFF));
+    for (i = 0; i < n; i++) psxgpu_capture_gp1(c, gp1[i]);
+}
+
+static inline uint32_t psxgpu_ram_(const unsigned char *ram, uint32_t word) {
+    return psxgpu_get_(ram + 4 * (size_t)word);
+}
+
+/* n words of main memory from this one on; what a player knows is left out. */
+static inline void psxgpu_sync_(psxgpu_capture *c, uint32_t word, uint32_t n, const unsigned char *ram) {
+    int follows = 0; /* the word before this one is the last in room */
+    for (word %= PSXGPU_RAM_WORDS; n && c->file; n--, word = (word + 1) % PSXGPU_RAM_WORDS) {
+        const uint32_t value = psxgpu_ram_(ram, word);
+        if (!c->stale[word] && c->known[word] == value) {
+            follows = 0;
+            continue;
+        }
+        if (!follows || !word || !psxgpu_grow_(c, PSXGPU_RAM, 1)) {
+            psxgpu_record_(c, PSXGPU_RAM, 1, 2);
+            psxgpu_add_(c, 4 * word);
+        }
+        psxgpu_add_(c, value);
+        c->known[word] = value;
+        c->stale[word] = 0;
+        follows = 1;
+    }
+}
+
+/* Main memory as a player has it at first: 0. */
+static inline int psxgpu_memory_(psxgpu_capture *c) {
+    if (!c->known) {
+        c->known = (uint32_t *)calloc(PSXGPU_RAM_WORDS, sizeof *c->known + 1);
+        if (c->known) c->stale = (unsigned char *)(c->known + PSXGPU_RAM_WORDS);
+        else psxgpu_capture_flush(c);
+        if (!c->known && c->file) psxgpu_end_(c, ENOMEM, 0);
+    }
+    return c->known != NULL;
+}
+
+/* Channel 6: n entries from this one down, each the address of the one below it. */
+static inline void psxgpu_table_(psxgpu_capture *c, uint32_t word, uint32_t n) {
+    for (; n; n--, word--) {
+        c->known[word % PSXGPU_RAM_WORDS] = n == 1 ? 0xFFFFFF : 4 * ((word - 1) % PSXGPU_RAM_WORDS);
+        c->stale[word % PSXGPU_RAM_WORDS] = 0;
+    }
+}
+
+/* The nodes of a list with the words behind them. Answers -1 where it does not end. */
+static inline int psxgpu_list_(psxgpu_capture *c, uint32_t madr, const unsigned char *ram) {
+    uint32_t at = madr, nodes = 0, word;
+    for (; !(at & 0x800000); at = psxgpu_ram_(ram, at / 4 % PSXGPU_RAM_WORDS))
+        if (nodes++ == PSXGPU_RAM_WORDS) return -1;
+    for (at = madr; !(at & 0x800000); at = psxgpu_ram_(ram, word)) {
+        word = at / 4 % PSXGPU_RAM_WORDS;
+        psxgpu_sync_(c, word, 1 + (psxgpu_ram_(ram, word) >> 24), ram);
+    }
+    return 0;
+}
+
+/* One block or several. Words that go to main memory are not known from then on. Answers -1 where they are too many. */
+static inline int psxgpu_blocks_(psxgpu_capture *c, uint32_t madr, uint32_t bcr, uint32_t chcr,
+                                 const unsigned char *ram) {
+    const uint32_t size = bcr & 0xFFFF ? bcr & 0xFFFF : 0x10000, blocks = bcr >> 16 ? bcr >> 16 : 0x10000;
+    const uint64_t all = chcr >> 9 & 1 ? (uint64_t)size * blocks : size;
+    const uint32_t n = (uint32_t)all, backward = chcr >> 1 & 1, word = madr / 4 - (backward ? n - 1 : 0);
+    uint32_t i;
+    if (all > PSXGPU_RAM_WORDS) return -1;
+    if (chcr & 1) psxgpu_sync_(c, word, n, ram);
+    else for (i = 0; i < n; i++) c->stale[(word + i) % PSXGPU_RAM_WORDS] = 1;
+    return 0;
+}
+
+/* A start of channel 2 or 6, with the values of its registers; `ram` is main memory, 2 MB as the console has it (least
+   significant byte first), before the transfer. What of it the transfer reads and a player does not know yet is written
+   before. Answers -1 where a player would refuse the start (a list that does not end or goes to main memory, mode 3,
+   more words than main memory has): then nothing is written, and the words that your emulator moves nevertheless are
+   for gp0 and read. */
+static inline int psxgpu_capture_dma(psxgpu_capture *c, uint32_t channel, uint32_t madr, uint32_t bcr, uint32_t chcr,
+                                     const void *ram) {
+    const unsigned char *bytes = (const unsigned char *)ram;
+    const uint32_t mode = chcr >> 9 & 3;
+    int refused = 0;
+    if (!c->file || !(chcr & 0x01000000) || (channel != 2 && channel != 6) || !psxgpu_memory_(c)) return 0;
+    if (channel == 6) psxgpu_table_(c, madr / 4, bcr & 0xFFFF ? bcr & 0xFFFF : 0x10000);
+    else if (mode < 2) refused = psxgpu_blocks_(c, madr, bcr, chcr, bytes);
+    else refused = mode == 3 || !(chcr & 1) ? -1 : psxgpu_list_(c, madr, bytes);
+    if (refused || !c->file) return refused;
+    psxgpu_record_(c, PSXGPU_DMA, channel, 3);
+    psxgpu_add_(c, madr);
+    psxgpu_add_(c, bcr);
+    psxgpu_add_(c, chcr);
+    return 0;
+}
+#endif
