@@ -1,0 +1,92 @@
+#!/usr/bin/env python3
+"""What leaves the page, and what comes beside it: files that are saved, links, a second dump.
+
+    python3 web/test/test_out.py
+"""
+import os
+import subprocess
+import sys
+import time
+import unittest
+
+from page import ROOT, program
+from reader import Reader, holding
+
+
+class Out(Reader):
+    def test_compare(self):
+        with open(self.file, 'rb') as file:
+            data = file.read()
+        own, other = os.path.join(self.folder, 'own.bin'), os.path.join(self.folder, 'other.bin')
+        dump = bytearray(program('vram', data=data)[0])
+        for path in (own, other):
+            with open(path, 'wb') as file:
+                file.write(dump)
+            dump[2 * (1024 * 140 + 150)] ^= 1
+            dump[2 * (1024 * 150 + 100)] ^= 1
+        self.page.press('End')
+        self.page.choose('#dump', own)
+        self.page.until('document.getElementById("compare").textContent.includes("are the same")')
+        self.page.choose('#dump', other)
+        self.page.until('document.getElementById("compare").textContent.includes("2 cells")')
+        self.page.press('2', '2')
+        seen = self.page.evaluate('[...probe.viewer.views.view.source.getContext("2d").getImageData(150, 140, 1, 1).data]')
+        self.assertEqual(seen, [255, 77, 109, 255])
+        told = self.page.evaluate('document.getElementById("compare").textContent')
+        tool = [sys.executable, os.path.join(ROOT, 'tools', 'compare.py'), own, other]
+        said = subprocess.run(tool, capture_output=True, text=True, check=False)
+        self.assertIn('their box100 140 150 150', told)
+        self.assertIn('100 140 150 150', said.stdout)
+        lines = program('list', data=data)[0].decode().splitlines()
+        self.assertIn('first drawn byevent %s: %s %s' % tuple(holding(lines, 150, 140)[0].split()[:3]), told)
+
+    def test_a_png_of_the_picture_is_the_picture(self):
+        self.page.press('End')
+        same = self.page.evaluate('''(async () => {
+            probe.viewer.views.choose('picture');
+            const blob = await new Promise(go => probe.viewer.views.view.source.toBlob(go));
+            const difference = new module_compare.Difference(await module_compare.readDump(blob), 'png');
+            difference.look(probe.app);
+            return [difference.view, difference.problem, difference.count]; })()''')
+        self.assertEqual(same, ['picture', None, 0])
+
+    def test_what_is_saved(self):
+        with open(self.file, 'rb') as file:
+            data = file.read()
+        self.page.call('Browser.setDownloadBehavior', behavior='allow', downloadPath=self.folder)
+        self.page.evaluate('probe.app.seek(1e12)')
+        self.assertEqual(self.saved('vram', 'textured-frame-2948.vram'), program('vram', data=data)[0])
+        self.assertEqual(self.saved('ppm', 'textured-frame-2948.ppm'), program('shot', data=data)[0])
+        self.assertEqual(self.saved('cut', 'textured-frame-2948.snapshot'), program('cut', '2948', data=data)[0])
+        self.assertEqual(self.saved('png', 'textured-frame-2948-memory.png')[:4], b'\x89PNG')
+
+    def saved(self, what, name):
+        """What a choice of Out leaves in the folder of downloads."""
+        self.page.press('2', '2')
+        self.page.evaluate('(() => { const out = document.getElementById("out"); out.value = "%s";'
+                           'out.dispatchEvent(new Event("change")); })()' % what)
+        path = os.path.join(self.folder, name)
+        for _ in range(500):
+            if os.path.exists(path):
+                break
+            time.sleep(0.02)
+        with open(path, 'rb') as file:
+            return file.read()
+
+    def test_links(self):
+        self.page.evaluate("location.hash = '#event=522&cell=12,34'")
+        self.page.until('probe.app.cell?.x === 12')
+        self.assertEqual(self.page.evaluate('[probe.app.cell.y, probe.app.recording.eventAt(probe.app.at)]'), [34, 522])
+        self.page.evaluate("history.replaceState(null, '', '#')")
+
+    def test_the_words_of_a_packet(self):
+        self.page.evaluate('probe.app.seekRow(18)')
+        words = self.page.evaluate('probe.app.recording.wordsOf(18)')
+        self.assertEqual(['%08x' % word for word in words[:3]], ['38602818', '00000000', '00502010'])
+        load = self.page.evaluate('probe.app.recording.rows.kind.indexOf(5)')
+        loaded = self.page.evaluate('probe.app.recording.wordsOf(%d)' % load)
+        self.assertEqual(len(loaded), 3 + 16 * 64 // 2)
+
+
+if __name__ == '__main__':
+    unittest.main()

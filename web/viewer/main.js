@@ -1,0 +1,116 @@
+// Begins: the machine, the panels, files that are chosen or dropped, the examples that the page brings along.
+
+import { App } from './app.js';
+import { ComparePanel } from './compare_panel.js';
+import { element, grouped, made } from './dom.js';
+import { Keys } from './keys.js';
+import { nameOf } from './names.js';
+import { ListPanel } from './list_panel.js';
+import { Out } from './out.js';
+import { PacketPanel } from './packet_panel.js';
+import { PixelPanel } from './pixel_panel.js';
+import { RegistersPanel } from './registers_panel.js';
+import { Timeline } from './timeline.js';
+import { Views } from './views.js';
+
+const bytesOfText = text => Uint8Array.from(atob(text), letter => letter.charCodeAt(0));
+
+function wireFiles(app) {
+    const examples = JSON.parse(element('example-files').textContent);
+    const open = async (blob, name, from) => { if (await app.open(blob, name, from)) element('list').focus(); };
+    const openExample = name => open(new Blob([bytesOfText(examples[name])]), `${name}.capture`, { example: name });
+    element('examples').append(...Object.keys(examples).map(name => new Option(name)));
+    element('examples').addEventListener('change', ({ target }) => { if (target.value) openExample(target.value); });
+    element('open').addEventListener('change', ({ target }) => {
+        const [file] = target.files;
+        if (file) open(file, file.name);
+        target.value = '';
+    });
+    addEventListener('dragover', event => { event.preventDefault(); document.body.classList.add('over'); });
+    addEventListener('dragleave', event => { if (!event.relatedTarget) document.body.classList.remove('over'); });
+    addEventListener('drop', event => {
+        event.preventDefault();
+        document.body.classList.remove('over');
+        const [file] = event.dataTransfer.files;
+        if (file) open(file, file.name);
+    });
+    const asked = new URLSearchParams(location.hash.slice(1)).get('example');
+    if (asked in examples) openExample(asked);
+}
+
+function wireSaid(app) {
+    app.on('said', () => {
+        const { text, choice } = app.said, line = element('said');
+        line.hidden = text === '';
+        line.replaceChildren(text);
+        if (choice) line.append(Object.assign(made('button', '', choice.text), { onclick: choice.does }));
+        if (text) line.append(Object.assign(made('button', '', 'Close'), { onclick: () => app.say('') }));
+    });
+    app.on('work', () => {
+        element('work').hidden = !app.working;
+        if (!app.working) return;
+        element('progress').value = app.working.part;
+        element('work-text').textContent = app.working.text;
+    });
+    element('stop').addEventListener('click', () => app.working?.stop?.());
+    app.on('opened', () => {
+        const { name, head, length, rows, flips, marks, isPart } = app.recording;
+        const counts = { steps: length, rows: rows.length, flips: flips.length, marks: marks.length };
+        const parts = [head, ...Object.entries(counts).map(([what, count]) => `${grouped(count)} ${what}`)];
+        element('file').textContent = `${name}${isPart ? ', up to its fault' : ''}: ${parts.join(', ')}`;
+        document.title = `${name}: Valerianpane`;
+        element('examples').value = app.recording.example ?? '';
+    });
+}
+
+// Where the reader is, for those who listen: when the place has stood still for a while.
+function wireSpoken(app, timeline) {
+    let timer = 0;
+    app.on('moved', () => {
+        clearTimeout(timer);
+        if (timeline.timer) return;
+        timer = setTimeout(() => {
+            const { recording, row, at } = app, { rows } = recording;
+            const name = row < 0 ? 'before the first packet' : nameOf(rows.kind[row], rows.head[row]);
+            element('spoken').textContent = `event ${recording.eventAt(at)}: ${name}`;
+        }, 300);
+    });
+}
+
+function wireFaults(app) {
+    addEventListener('error', event => app.say(`A fault of this page: ${event.message}`));
+    addEventListener('unhandledrejection', event => app.say(`A fault of this page: ${event.reason?.message}`));
+}
+
+function wireTheme() {
+    const root = document.documentElement;
+    element('theme').addEventListener('click', () => {
+        const now = root.dataset.theme ?? (matchMedia('(prefers-color-scheme: dark)').matches ? 'dark' : 'light');
+        root.dataset.theme = now === 'dark' ? 'light' : 'dark';
+    });
+}
+
+export async function main() {
+    const library = await psxgpu.load();
+    const app = new App(library);
+    const list = new ListPanel(app), views = new Views(app), pixel = new PixelPanel(app);
+    new PacketPanel(app);
+    new RegistersPanel(app);
+    new ComparePanel(app);
+    const timeline = new Timeline(app), out = new Out(app, views);
+    new Keys({ app, views, timeline });
+    wireFaults(app);
+    wireSaid(app);
+    wireSpoken(app, timeline);
+    wireTheme();
+    wireFiles(app);
+    app.warmUp();
+    return { app, list, views, pixel, timeline, out };
+}
+
+// Settled when the page can be used: the checks wait for it.
+window.viewer = main().catch(fault => {
+    element('said').hidden = false;
+    element('said').textContent = `This browser does not run the machine: ${fault.message}`;
+    throw fault;
+});
