@@ -1,0 +1,26 @@
+# Completion of psxgpu_tool for bash.
+_psxgpu_tool() {
+    local word=${COMP_WORDS[COMP_CWORD]}
+    local commands='play vram shot frames sums list pixel report flat slim cut demo --help --version'
+    if [ "$COMP_CWORD" -eq 1 ]; then
+        mapfile -t COMPREPLY < <(compgen -W "$commands" -- "$word")
+    elif [ "$COMP_CWORD" -eq 2 ] && [[ ${COMP_WORDS[1]} == @(frames|sums) ]]; then
+        mapfile -t COMPREPLY < <(compgen -W marks -- "$word"; compgen -f -- "$word")
+    else
+        mapfile -t COMPREPLY < <(compgen -f -- "$word")
+    fi
+}
+complete -o filenames -F _psxgpu_tool psxgpu_tool
+
+# Completion of psxgpu: its tools, and behind them files.
+_psxgpu() {
+    local word=${COMP_WORDS[COMP_CWORD]}
+    if [ "$COMP_CWORD" -eq 1 ]; then
+        mapfile -t COMPREPLY < <(compgen -W 'agree audit bisect check compare corpus first from-log join packets picture' -- "$word")
+    elif [ "$COMP_CWORD" -eq 2 ] && [ "${COMP_WORDS[1]}" = corpus ]; then
+        mapfile -t COMPREPLY < <(compgen -W 'record check join split glue' -- "$word")
+    else
+        mapfile -t COMPREPLY < <(compgen -f -- "$word")
+    fi
+}
+complete -o filenames -F _psxgpu psxgpu
