@@ -1,16 +1,19 @@
 #!/usr/bin/env python3
 """Measures players on the same captures.
 
-    python3 bench/run.py [--rotations N] [--scale F] [--only WORD] [NAME=PROGRAM ..]
+    python3 bench/run.py [--rotations N] [--scale F] [--only WORD] [--library] [--browser] [NAME=PROGRAM ..]
 
 Builds the program of this repository, makes the captures of bench/workloads.py, plays each as `PROGRAM vram < capture`
 by every player in turn, and prints a table: the speed of each, and ours in relation to the fastest of the others. What
 counts is the processor time of the child, the best of the rotations, without the time of a capture that has only what
 stands before the work (the start of the program, the textures, the dump). --scale makes the captures longer or
-shorter, --only takes the workloads whose names hold the word.
+shorter, --only takes the workloads whose names hold the word. --library has the library beside the program, with the
+words of a record in one call and in a call each. --browser has a second row for each workload: the module in Chromium,
+without what copies the words into its memory.
 """
 import argparse
 import os
+import shlex
 import subprocess
 import sys
 import tempfile
@@ -18,16 +21,17 @@ import tempfile
 ROOT = os.path.dirname(os.path.dirname(os.path.abspath(__file__)))
 sys.path.insert(0, os.path.join(ROOT, 'tools'))
 
+from bindings import browser_seconds, library_players  # noqa: E402
 from capture import Capture  # noqa: E402
 from workloads import UNITS, WORKLOADS  # noqa: E402
 
 OURS = 'crates/psxgpu_tool/out/psxgpu_tool'
 
 
-def seconds(program, path):
+def seconds(program, path, command=('vram',)):
     """The processor time of one run, user and system."""
     with open(path, 'rb') as capture, open(os.devnull, 'wb') as nowhere:
-        child = subprocess.Popen([program, 'vram'], stdin=capture, stdout=nowhere)
+        child = subprocess.Popen([*shlex.split(program), *command], stdin=capture, stdout=nowhere)
         _, status, usage = os.wait4(child.pid, 0)
         child.returncode = os.waitstatus_to_exitcode(status)
     if child.returncode:
@@ -38,7 +42,7 @@ def seconds(program, path):
 def megabytes(program, path):
     """The most memory that a run held until its dump begins, as Linux tells it."""
     with open(path, 'rb') as capture:
-        child = subprocess.Popen([program, 'vram'], stdin=capture, stdout=subprocess.PIPE)
+        child = subprocess.Popen([*shlex.split(program), 'vram'], stdin=capture, stdout=subprocess.PIPE)
     # The dump is longer than a pipe holds, so the child waits here.
     child.stdout.read(1)
     try:
@@ -82,16 +86,25 @@ def measure(players, jobs, rotations):
     return best
 
 
-def table(players, jobs, best, memory):
+def speed_text(workload, work, seconds):
+    speed = work / seconds / UNITS[workload.unit]
+    return '%.*f' % (0 if speed >= 100 else 1, speed)
+
+
+def table(players, jobs, best, memory, own=1, browser=()):
+    """The first `own` players are ours; `browser` has the module's seconds for each job but the first."""
     names = [name for name, _ in players]
-    rows = [['workload', 'unit'] + names + (['ours to best'] if len(names) > 1 else [])]
+    rivals = len(names) > own
+    rows = [['workload', 'unit'] + names + ['ours to best'] * rivals]
     for k, (workload, _, work) in enumerate(jobs):
         if workload:
-            speeds = [work / times[k] / UNITS[workload.unit] for times in best]
-            row = [workload.name, workload.unit] + ['%.*f' % (0 if speed >= 100 else 1, speed) for speed in speeds]
-            rows.append(row + (['%.2f' % (speeds[0] / max(speeds[1:]))] if len(names) > 1 else []))
-    rows.append(['empty capture', 'ms'] + ['%.1f' % (1e3 * times[0]) for times in best] + [''] * (len(names) > 1))
-    rows.append(['memory', 'MB'] + ['%.1f' % held for held in memory] + [''] * (len(names) > 1))
+            row = [workload.name, workload.unit] + [speed_text(workload, work, times[k]) for times in best]
+            rows.append(row + (['%.2f' % (min(times[k] for times in best[own:]) / best[0][k])] if rivals else []))
+            if browser:
+                speed = speed_text(workload, work, browser[k - 1])
+                rows.append([workload.name + ', in Chromium', workload.unit, speed] + [''] * (len(row) - 3 + rivals))
+    rows.append(['empty capture', 'ms'] + ['%.1f' % (1e3 * times[0]) for times in best] + [''] * rivals)
+    rows.append(['memory', 'MB'] + ['%.1f' % held for held in memory] + [''] * rivals)
     widths = [max(len(row[k]) for row in rows) for k in range(len(rows[0]))]
     rows.insert(1, ['-' * width for width in widths])
     for row in rows:
@@ -105,18 +118,23 @@ def main():
     parser.add_argument('--scale', type=float, default=1)
     parser.add_argument('--only', default='')
     parser.add_argument('--ours', help='a built program, in place of building one')
+    parser.add_argument('--library', action='store_true')
+    parser.add_argument('--browser', action='store_true')
     parser.add_argument('players', nargs='*', metavar='NAME=PROGRAM')
     args = parser.parse_args()
     if not args.ours:
         subprocess.run(['make', '-s', OURS], cwd=ROOT, check=True)
     players = [('ours', args.ours or os.path.join(ROOT, OURS))]
-    players += [tuple(player.split('=', 1)) for player in args.players]
     workloads = [workload for workload in WORKLOADS if args.only in workload.name]
     with tempfile.TemporaryDirectory() as folder:
+        players += library_players(folder) if args.library else []
+        own = len(players)
+        players += [tuple(player.split('=', 1)) for player in args.players]
         jobs = prepare(folder, workloads, args.scale)
         best = measure(players, jobs, args.rotations)
         memory = [megabytes(program, jobs[-1][1]) for _, program in players]
-        table(players, jobs, best, memory)
+        browser = browser_seconds(workloads, args.scale, args.rotations) if args.browser else ()
+        table(players, jobs, best, memory, own, browser)
 
 
 if __name__ == '__main__':

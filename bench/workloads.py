@@ -1,12 +1,19 @@
 """The workloads of the benchmark: lists of GP0 words, and what they move. `WORKLOADS` has them in the order of the
 table."""
+import functools
+import gzip
 import os
 import sys
 
+try:
+    import lzma
+except ImportError:
+    lzma = None
+
 sys.path.insert(0, os.path.join(os.path.dirname(os.path.abspath(__file__)), '..', 'tools'))
 
-from capture import (clut, copy, draw_mode, drawing_area, fill, line, load, polygon, rectangle,  # noqa: E402
-                     texture_page)
+from capture import (GP0, GP1, clut, copy, draw_mode, drawing_area, fill, line, load, polygon, records,  # noqa: E402
+                     rectangle, texture_page)
 
 PAGE4, PAGE8, PAGE15 = (texture_page(x, 256, depth) for x, depth in ((512, 0), (640, 1), (768, 2)))
 PALETTE = clut(0, 500)
@@ -41,6 +48,34 @@ class Workload:
         numbers, out = Numbers(), list(self.start)
         for k in range(count):
             out += self.piece(k, numbers)
+        return out
+
+
+class Recorded(Workload):
+    """A recording, its frames again and again: what stands between two writes of the display start."""
+
+    def __init__(self, name, count, file):
+        super().__init__('real: ' + name, 'frame/s', 1, count, None)
+        self.file = os.path.join(os.path.dirname(os.path.dirname(os.path.abspath(__file__))), file)
+
+    @functools.cached_property
+    def frames(self):
+        """The words of GP0 before the first write of the display start, and then those of each frame."""
+        with (gzip if self.file.endswith('.gz') else lzma).open(self.file) as file:
+            data = file.read()
+        out = [[]]
+        for kind, _, words in records(data)[1]:
+            if kind == GP0:
+                out[-1] += words
+            elif kind == GP1 and words[0] >> 24 & 0x3F == 5:
+                out.append([])
+        return out[:-1]
+
+    def words(self, count):
+        self.start, *frames = self.frames
+        out = list(self.start)
+        for k in range(count):
+            out += frames[k % len(frames)]
         return out
 
 
@@ -149,3 +184,10 @@ WORKLOADS = [
     Workload('mixed frame', FRAMES, 0.1, 1500, frame, TEXTURES),
     Workload('state words', WORDS, 1, 2000000, state),
 ]
+
+WORKLOADS += [Recorded('cube', 600, 'examples/cube.capture.gz')]
+if lzma:
+    WORKLOADS += [Recorded('valley', 300, 'bench/valley.capture.xz'),
+                  Recorded('busy second', 300, 'bench/busy-second.capture.xz')]
+else:
+    print('bench: no rows for the recordings in bench/: this Python has no lzma', file=sys.stderr)

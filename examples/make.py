@@ -78,6 +78,18 @@ def tall():
     return capture
 
 
+def flips():
+    """Three frames in two buffers: each is drawn in the one that is not shown, and then shown."""
+    capture = Capture()
+    capture.gp1(reset(), screen(0, 0, 256, 64))
+    for frame in range(3):
+        y = 256 * (1 - frame % 2)
+        capture.gp0(drawing_area(0, y, 255, y + 63), drawing_offset(0, y))
+        capture.gp0(fill(0x402010, 0, y, 256, 64), rectangle(0x20FF20, 8 + 40 * frame, 16, 32, 32))
+        capture.gp1(display_start(0, y))
+    return capture
+
+
 EXAMPLES = {
     'two-fills': two_fills,
     'textured-frame': textured_frame,
@@ -86,6 +98,7 @@ EXAMPLES = {
     'list-loop': list_loop,
     'turns': turns,
     'tall': tall,
+    'flips': flips,
 }
 
 if __name__ == '__main__':

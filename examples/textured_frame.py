@@ -60,11 +60,12 @@ def ground(x, z):
 
 
 def floor(table):
-    """Bricks up to the horizon, in rows of quads; each quad darker with the distance."""
+    """Bricks up to the horizon, in rows of quads as wide as the picture; each row darker with the distance."""
     depths = [48, 56, 68, 84, 108, 144, 208, 360]
     for row, (near, far) in enumerate(zip(depths, depths[1:])):
         gray = 0x70 - 12 * row
-        for column in range(-6, 6):
+        columns = -(-far // 48)
+        for column in range(-columns, columns):
             x1, x2 = 48 * column, 48 * (column + 1)
             corners = [ground(x1, far), ground(x2, far), ground(x1, near), ground(x2, near)]
             table.add(FLOOR, polygon(corners, 0x010101 * gray, texture=[(0, 0), (48, 0), (0, 48), (48, 48)],

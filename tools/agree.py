@@ -1,257 +1,112 @@
 #!/usr/bin/env python3
-"""Plays random captures by two players, class of commands by class, and says in how many the dumps agree.
+"""Plays random captures by two players, class by class, and says in how many the dumps agree.
 
-    python3 tools/agree.py OURS THEIRS [CAPTURES] [CLASS ..]
+    python3 tools/agree.py psxgpu_tool other_player
+    python3 tools/agree.py psxgpu_tool other_player 10 fills 'lines, sloped'
+    python3 tools/agree.py --classes
 
-OURS and THEIRS are programs that take `vram < capture` (a capture of version 1 without Ram and Dma records);
-CAPTURES is how many of each class, 100 if left out. Of the captures that differ the table has the share of the cells
-that either player changed. docs/EMULATORS.md says why each class stands here.
+A player is a program that takes `vram < capture` (a capture of version 1 without Ram and Dma records). Of the captures
+that differ the table has the share of the cells that either player changed. docs/EMULATORS.md says why each class is
+there. Status: 0 all agree, 1 some differ, 2 trouble, also where a player gave no dump.
 """
 import os
 import random
+import shutil
 import struct
 import subprocess
 import sys
 import tempfile
 
-from capture import (Capture, clut, copy, draw_mode, drawing_area, drawing_offset, fill, line, load, mask_setting,
-                     polygon, rectangle, texture_page, texture_window)
+from capture import Capture
+from command import DIFFERENT, SAME, TROUBLE, Trouble, decimal, main
+from random_packets import AREA, CLASSES, background
 
-WIDTH, HEIGHT = 320, 240      # what is drawn on: the top left of video memory
-AREA = drawing_area(0, 0, WIDTH - 1, HEIGHT - 1)
-
-
-def background(r):
-    """Random cells: on the part that is drawn on, and where pages and palettes lie."""
-    words = load(0, 0, 64, 64, [r.getrandbits(16) for _ in range(4096)])
-    for w in (64, 128, 256, 512):
-        words += copy(0, 0, w, 0, w, 64)
-    for h in (64, 128, 256):
-        words += copy(0, 0, 0, h, 1024, h)
-    return words
+PACKETS = 4         # of its class in each capture
+DUMP, ROW = 1048576, 2048
 
 
-def place(r, margin=0):
-    return r.randrange(-margin, WIDTH + margin), r.randrange(-margin, HEIGHT + margin)
-
-
-def color(r):
-    return r.getrandbits(24)
-
-
-def palette(r):
-    return clut(16 * r.randrange(40), 256 + r.randrange(256))
-
-
-def page(r, depths=(0, 1, 2), last=12):
-    return texture_page(64 * r.randrange(8, last), 256 * r.randrange(2), r.choice(depths), r.randrange(4))
-
-
-def fills(r):
-    return fill(color(r), r.randrange(1024), r.randrange(512), r.randrange(1024), r.randrange(512))
-
-
-def loads(r):
-    w, h = r.randrange(1, 40), r.randrange(1, 40)
-    return load(r.randrange(1024), r.randrange(512), w, h, [r.getrandbits(16) for _ in range(w * h)])
-
-
-def copies(r):
-    """Of rectangles that do not meet."""
-    source, target = (r.randrange(600), r.randrange(256)), (r.randrange(1024), 256 + r.randrange(256))
-    return copy(*source, *target, r.randrange(1, 300), r.randrange(1, 100))
-
-
-def copies_to_the_right(r):
-    x, y = r.randrange(500), r.randrange(256)
-    return copy(x, y, x + r.randrange(1, 100), y, r.randrange(128, 400), r.randrange(1, 60))
-
-
-def tiles(r, **settings):
-    return rectangle(color(r), *place(r, 30), r.randrange(1, 100), r.randrange(1, 100), **settings)
-
-
-def sprites(r, flip=False):
-    u = r.randrange(256)
-    return (draw_mode(page(r), flip_x=flip, flip_y=r.random() < 0.3)
-            + tiles(r, texture=(u | flip, r.randrange(256)), palette=palette(r), semi=r.random() < 0.4,
-                    raw=r.random() < 0.4))
-
-
-def flipped_even(r):
-    return (draw_mode(page(r), flip_x=True)
-            + tiles(r, texture=(2 * r.randrange(128), r.randrange(256)), palette=palette(r), raw=True))
-
-
-def corners(r, n):
-    return [place(r, 40) for _ in range(n)]
-
-
-def triangles(r):
-    return polygon(corners(r, 3), color(r), semi=r.random() < 0.3)
-
-
-def quads(r):
-    return polygon(corners(r, 4), color(r))
-
-
-def shaded(r):
-    return polygon(corners(r, 3), [color(r) for _ in range(3)])
-
-
-def one_to_one(r):
-    """A textured quad with a texel for each cell."""
-    (x, y), w, h = place(r), r.randrange(1, 120), r.randrange(1, 120)
-    u, v = r.randrange(256 - w), r.randrange(256 - h)
-    return polygon([(x, y), (x + w, y), (x, y + h), (x + w, y + h)], color(r), page=page(r), palette=palette(r),
-                   texture=[(u, v), (u + w, v), (u, v + h), (u + w, v + h)], semi=r.random() < 0.4,
-                   raw=r.random() < 0.4)
-
-
-def scaled(r):
-    texture = [(r.randrange(256), r.randrange(256)) for _ in range(3)]
-    return polygon(corners(r, 3), color(r), texture=texture, page=page(r), palette=palette(r), raw=r.random() < 0.5)
-
-
-def straight(r):
-    """Lines on the axes and on diagonals."""
-    (x, y), n, (dx, dy) = place(r, 30), r.randrange(200), r.choice(((1, 0), (0, 1), (1, 1), (1, -1)))
-    return line([(x, y), (x + n * dx, y + n * dy)], color(r), semi=r.random() < 0.3)
-
-
-def sloped(r):
-    return line(corners(r, 2), color(r))
-
-
-def dithered(piece):
-    """The same under dither, of one colour, so that the interpolation does not count."""
-    return lambda r: draw_mode(dither=True) + piece(r)
-
-
-def one_colour(r):
-    return polygon(corners(r, 3), [color(r)] * 3)
-
-
-def windows(r):
-    """Masks of whole powers of two."""
-    mask = [r.choice((0, 16, 24, 28, 30, 31)) for _ in range(2)]
-    return texture_window(*mask, r.randrange(32), r.randrange(32)) + sprites(r)
-
-
-def masked(r):
-    piece = r.choice((tiles, triangles, straight, sprites, copies, loads))
-    return mask_setting(r.random() < 0.5, r.random() < 0.5) + piece(r)
-
-
-def blended(r):
-    return draw_mode(r.randrange(4) << 5) + tiles(r, semi=True)
-
-
-def clipped(r):
-    x, y = place(r)
-    return (drawing_area(x, y, x + r.randrange(100), y + r.randrange(100))
-            + r.choice((tiles, triangles, straight, sprites))(r))
-
-
-def moved(r):
-    return drawing_offset(r.randrange(-200, 200), r.randrange(-200, 200)) + r.choice((tiles, triangles, straight))(r)
-
-
-def far(r):
-    """Sums of vertex and offset beyond eleven bits."""
-    place = r.randrange(700, 1023), r.randrange(HEIGHT)
-    return drawing_offset(r.randrange(900, 1023), 0) + rectangle(color(r), *place, 400, 20)
-
-
-def large(r):
-    """Triangles about the limits of the size rule."""
-    x, y = r.randrange(-600, 0), r.randrange(-300, 0)
-    right = (x + 1022 + r.randrange(3), y + r.randrange(100))
-    below = (x + r.randrange(100), y + 510 + r.randrange(3))
-    return polygon([(x, y), right, below], color(r))
-
-
-def wraps(r):
-    """Pages and palettes at the right edge of video memory."""
-    return (draw_mode(texture_page(64 * r.randrange(12, 16), 256 * r.randrange(2), r.randrange(4)))
-            + tiles(r, texture=(r.randrange(256), r.randrange(256)), raw=True,
-                    palette=clut(1008, r.randrange(256, 512))))
-
-
-CLASSES = {
-    'fills': fills,
-    'loads': loads,
-    'copies that do not overlap': copies,
-    'copies that overlap to the right': copies_to_the_right,
-    'rectangles, flat': tiles,
-    'rectangles, textured': sprites,
-    'rectangles, X flip with an odd U': lambda r: sprites(r, True),
-    'rectangles, X flip with an even U': flipped_even,
-    'triangles, flat': triangles,
-    'quads, flat': quads,
-    'triangles, gouraud': shaded,
-    'triangles of one colour, dithered': dithered(one_colour),
-    'quads, textured one to one': one_to_one,
-    'triangles, textured, scaled': scaled,
-    'lines on axes and diagonals': straight,
-    'lines, sloped': sloped,
-    'texture windows': windows,
-    'mask settings': masked,
-    'semi-transparency': blended,
-    'drawing area': clipped,
-    'offsets': moved,
-    'offsets beyond eleven bits': far,
-    'the size rule': large,
-    'pages and palettes at the edge': wraps,
-}
+def arguments(parser):
+    parser.add_argument('ours', nargs='?', help='a program')
+    parser.add_argument('theirs', nargs='?', help='another')
+    parser.add_argument('captures', nargs='?', type=decimal(1, 1000000), default=100,
+                        help='of each class, 100 if left out')
+    parser.add_argument('names', nargs='*', metavar='class', help='the classes, all if left out')
+    parser.add_argument('--classes', action='store_true', help='list the classes')
 
 
 def dump(program, path):
+    """None where the player gives none."""
     with open(path, 'rb') as capture:
-        done = subprocess.run([program, 'vram'], stdin=capture, stdout=subprocess.PIPE, stderr=subprocess.DEVNULL)
-    return done.stdout if done.returncode == 0 and len(done.stdout) == 1048576 else None
+        try:
+            done = subprocess.run([program, 'vram'], stdin=capture, stdout=subprocess.PIPE, stderr=subprocess.DEVNULL)
+        except OSError as error:
+            raise Trouble('%s: %s' % (program, error.strerror))
+    return done.stdout if done.returncode == 0 and len(done.stdout) == DUMP else None
 
 
-def cells(data):
-    return struct.unpack('<524288H', data)
+def rows(dumps):
+    """The rows in which dumps are not all alike, as cells."""
+    for at in range(0, DUMP, ROW):
+        parts = [data[at:at + ROW] for data in dumps]
+        if parts.count(parts[0]) < len(parts):
+            yield [struct.unpack('<1024H', part) for part in parts]
 
 
-def compare_class(name, programs, captures, path):
-    """How many agree, how many a player could not play, and the shares of cells where they do not agree."""
-    equal = lost = differing = changed = 0
-    for seed in range(captures):
-        r = random.Random('%s %d' % (name, seed))
+class Score:
+    """Of a class: captures that agree, that a player gave no dump of, and the cells of those that differ."""
+
+    def __init__(self, name, captures):
+        self.name, self.captures = name, captures
+        self.equal = self.lost = self.differing = self.changed = 0
+
+    def add(self, dumps, before):
+        for ours, theirs, at_first in rows([*dumps, before]):
+            self.differing += sum(a != b for a, b in zip(ours, theirs))
+            self.changed += sum(a != c or b != c for a, b, c in zip(ours, theirs, at_first))
+
+    def line(self):
+        share = '%.2f %%' % (100 * self.differing / self.changed) if self.changed else ''
+        lost = ' (%d without a dump)' % self.lost if self.lost else ''
+        return '| %s | %d | %d | %s%s |' % (self.name, self.captures, self.equal, share, lost)
+
+
+def compare_class(score, programs, path):
+    for seed in range(score.captures):
+        r = random.Random('%s %d' % (score.name, seed))
         start = background(r) + AREA
-        Capture().gp0(start, [CLASSES[name](r) for _ in range(4)]).save(path)
+        Capture().gp0(start, [CLASSES[score.name](r) for _ in range(PACKETS)]).save(path)
         dumps = [dump(program, path) for program in programs]
         if None in dumps:
-            lost += 1
+            score.lost += 1
         elif dumps[0] == dumps[1]:
-            equal += 1
+            score.equal += 1
         else:
             Capture().gp0(start).save(path)
-            before = cells(dump(programs[0], path))
-            ours, theirs = map(cells, dumps)
-            differing += sum(a != b for a, b in zip(ours, theirs))
-            changed += sum(a != c or b != c for a, b, c in zip(ours, theirs, before))
-    return equal, lost, differing, changed
+            score.add(dumps, dump(programs[0], path))
 
 
-def main(ours, theirs, captures='100', *names):
-    captures = int(captures)
+def run(words):
+    if words.classes:
+        print('\n'.join(CLASSES))
+        return SAME
+    if not words.theirs:
+        raise Trouble('two players are wanted')
+    unknown = [name for name in words.names if name not in CLASSES]
+    if unknown:
+        raise Trouble('%s: no class; --classes lists them' % unknown[0])
+    scores = []
     print('| class | captures | equal | cells that differ in the others |')
     print('|---|---|---|---|')
     with tempfile.TemporaryDirectory() as folder:
-        for name in names or CLASSES:
-            path = os.path.join(folder, 'capture')
-            equal, lost, differing, changed = compare_class(name, (ours, theirs), captures, path)
-            share = '%.2f %%' % (100 * differing / changed) if changed else ''
-            if lost:
-                share += ' (%d not played)' % lost
-            print('| %s | %d | %d | %s |' % (name, captures, equal, share))
+        for name in words.names or CLASSES:
+            scores.append(Score(name, words.captures))
+            programs = [shutil.which(program) or program for program in (words.ours, words.theirs)]
+            compare_class(scores[-1], programs, os.path.join(folder, 'capture'))
+            print(scores[-1].line(), flush=True)
+    if any(score.lost for score in scores):
+        return TROUBLE
+    return DIFFERENT if any(score.equal < score.captures for score in scores) else SAME
 
 
 if __name__ == '__main__':
-    if len(sys.argv) < 3:
-        sys.exit(__doc__)
-    main(*sys.argv[1:])
+    sys.exit(main(sys.modules[__name__]))

@@ -1,69 +1,59 @@
 #!/usr/bin/env python3
-"""Finds the first event after which two players' dumps of video memory differ.
+"""Finds the first packet after which two players' dumps of video memory differ.
 
-    python3 tools/bisect_capture.py CAPTURE 'crates/psxgpu_tool/out/psxgpu_tool vram' 'COMMAND OF ANOTHER PLAYER'
+    python3 tools/bisect_capture.py mine.capture 'psxgpu_tool vram' 'other_player vram'
+    python3 tools/bisect_capture.py mine.capture 'psxgpu_tool vram' 'other_player vram' --tolerance 1 \\
+        --ignore scaled --ignore sloped
 
-Each command reads a capture on standard input and writes a dump. The capture is cut by halves: the dumps are compared
-after the first n events. A difference that a later event heals is not seen, unless a cut falls into it; then the event
-that is named is still one before which the dumps agree and after which they differ. 0: found, 1: no difference.
+Each command reads a capture on standard input and writes a dump. It is given a flat capture of version 1 (3 for tall
+video memory): psxgpu_tool flattens one with DMA, and a read whose word is not shown becomes a plain read. The capture
+is cut by halves between packets. A difference that a later packet heals is not seen, unless a cut falls into it; then
+the packet that is named is still one before which the dumps agree and behind which they differ.
+
+With --ignore, a packet of that class is not given to the players: in its place stands a load of what psxgpu_tool draws.
+Classes are the names polygon, line, rectangle, copy, fill, and gouraud (a polygon of several colours), scaled (a
+textured polygon whose texels are not one for each cell), sloped (a line off axes and diagonals), shaded-line, smear (a
+copy that runs ahead of itself to the right), even-flip (X flip with an even U), far (vertex and offset beyond eleven
+bits).
+
+Status: 0 no difference, 1 one was found, 2 trouble.
 """
-import subprocess
+import contextlib
+import itertools
 import sys
+import tempfile
 
-from capture import GP0, KINDS, RAM, READ, SKIP, TURN, Capture, records
-from compare import Difference
-
-
-class Events:
-    """A capture that can be cut after any of its events."""
-
-    def __init__(self, data):
-        self.version, self.records = records(data)
-        self.ends, count = [], 0
-        for kind, n, _ in self.records:
-            count += n if kind in (RAM, GP0, READ, TURN, SKIP) else 1
-            self.ends.append(count)
-        self.count = count
-
-    def cut(self, n):
-        """The capture of the first n events."""
-        out, before = Capture(self.version), 0
-        for (kind, count, words), end in zip(self.records, self.ends):
-            if before >= n:
-                break
-            if end > n:
-                count = n - before
-                words = words[:count + (kind == RAM)]
-            out.record(kind, count, words)
-            before = end
-        return out.bytes()
-
-    def text(self, n):
-        """Event n, from 1, as a line."""
-        before = 0
-        for (kind, count, words), end in zip(self.records, self.ends):
-            if n <= end:
-                if kind == RAM:
-                    words = [words[0] + 4 * (n - before - 1), words[n - before]]
-                elif kind == GP0:
-                    words = words[n - before - 1:n - before]
-                return ' '.join([KINDS[kind]] + ['%08x' % word for word in words])
-            before = end
+import player
+from command import DIFFERENT, SAME, decimal, main, pour, reading, seekable, title
+from compare import compared
+from control_text import control
+from heal import Healer
+from known import CLASSES, NAMES
+from packet_fields import fields
+from packet_split import LOAD, Splitter
+from steps import Cutter, Steps
+from stream import GP0, GP1, KINDS, Stream, is_flat
+from two_players import Players
 
 
-def dump(command, data):
-    done = subprocess.run(command, shell=True, input=data, stdout=subprocess.PIPE)
-    if done.returncode:
-        sys.exit('bisect: status %d: %s' % (done.returncode, command))
-    return done.stdout
+def arguments(parser):
+    parser.add_argument('capture', help='a capture; - is standard input')
+    parser.add_argument('ours', help='a shell command: capture in, dump out')
+    parser.add_argument('theirs', help='another')
+    parser.add_argument('--tolerance', type=decimal(0, 31), default=0, metavar='N',
+                        help='cells whose channels are at most N steps apart count as equal')
+    parser.add_argument('--ignore', action='append', choices=sorted(CLASSES) + list(NAMES), default=[], metavar='CLASS',
+                        help='a class of packets whose differences are known')
+    player.argument(parser)
 
 
-def bisect(events, differs):
+def bisect(count, differs, narrow=lambda low, high: None):
     """The first n with `differs(n)`, if it stays so; None where `differs` is false at the end."""
-    if not differs(events.count):
+    if not differs(count):
         return None
-    low, high = 0, events.count
+    low, high = 0, count
     while low < high:
+        narrow(low - 1, high)
         middle = (low + high) // 2
         if differs(middle):
             high = middle
@@ -72,30 +62,85 @@ def bisect(events, differs):
     return low
 
 
-def main(path, ours, theirs):
-    with open(path, 'rb') as file:
-        events = Events(file.read())
+@contextlib.contextmanager
+def flattened(path, name, program):
+    """The path of a flat capture of the same words."""
+    if is_flat(path):
+        yield path
+        return
+    with tempfile.NamedTemporaryFile(prefix='psxgpu') as file:
+        with player.playing(program, ['flat'], path) as run:
+            pour(run.out, file)
+            run.expect_whole()
+        file.flush()
+        yield file.name
 
-    def dumps(n):
-        data = events.cut(n)
-        return dump(ours, data), dump(theirs, data)
 
-    def differs(n):
-        one, other = dumps(n)
-        return one != other
-    n = bisect(events, differs)
-    if n is None:
-        print('no difference after %d events' % events.count)
-        return 1
-    if n == 0:
-        print('they differ before the first event')
-        return 0
-    print('they differ from event %d of %d on: %s' % (n, events.count, events.text(n)))
-    print('\n'.join(Difference(*dumps(n)).lines()))
-    return 0
+def build(path, name, classes, program):
+    """The steps of a flat capture."""
+    with reading(path) as file:
+        stream = Stream(file, name)
+        steps = Steps(tempfile.NamedTemporaryFile(prefix='psxgpu'), stream.version == 3)
+        cutter = Cutter(steps.is_tall)
+        cut = Healer(path, name, program, classes).healed(cutter) if classes else cutter.steps(stream)
+        for step in cut:
+            steps.add(step, step.record(), cutter.splitter.changes)
+    steps.close()
+    return steps
+
+
+def packet_text(steps, k, path, program):
+    """The lines of `list` for step k, with the fields."""
+    splitter = Splitter(steps.is_tall)
+    splitter.registers = steps.registers_behind(k)
+    with player.playing(program, ['list'], path) as run:
+        listed = list(itertools.islice(run.out, steps.lines[k - 1], steps.lines[k]))
+    packets = splitter.push(steps.record(k)[2])
+    for line, (name, words, _) in itertools.zip_longest(listed, packets, fillvalue=(None, [], 0)):
+        yield line.decode().strip()
+        yield from ('    ' + text for text in fields(name, words, splitter.registers))
+
+
+def step_text(steps, k, path, program):
+    """What step k is: lines."""
+    kind, _, words = steps.record(k)
+    if steps.lines[k] > steps.lines[k - 1]:
+        return list(packet_text(steps, k, path, program))
+    before = max((j for j in range(k) if steps.lines[j] < steps.lines[k]), default=None)
+    lines = [] if before is None else list(packet_text(steps, before + 1, path, program))
+    if kind == GP1:
+        text = 'gp1 %08x: %s' % (words[0], control(words[0]))
+    elif kind != GP0:
+        text = KINDS[kind].lower()
+    elif lines and lines[0].split()[1] == LOAD:
+        return lines + ['    its data words, %d together' % len(words)]
+    else:
+        text = '%d words of a packet that is not whole' % len(words)
+    return lines + ['and then ' + text] if lines else [text]
+
+
+def search(words, path, name, program):
+    with flattened(path, name, program) as flat:
+        steps = build(flat, name, words.ignore, program)
+    players = Players(words, steps, program)
+    k = bisect(steps.count, players.differ, players.narrow)
+    if k is None:
+        print('no difference behind %d packets' % steps.lines[steps.count])
+        return SAME
+    if k == 0:
+        print('they differ before the first packet')
+        return DIFFERENT
+    print('they differ from here on, packet %d of %d:' % (steps.lines[k], steps.lines[steps.count]))
+    print('\n'.join(step_text(steps, k, path, program)))
+    print('\n'.join(compared(*players.dumps(k), words.tolerance).lines()))
+    return DIFFERENT
+
+
+def run(words):
+    program = player.find(words.player)
+    with seekable(words.capture) as path:
+        return search(words, path, title(words.capture), program)
 
 
 if __name__ == '__main__':
-    if len(sys.argv) != 4:
-        sys.exit(__doc__)
-    sys.exit(main(*sys.argv[1:]))
+    sys.exit(main(sys.modules[__name__]))

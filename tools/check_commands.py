@@ -1,12 +1,13 @@
 #!/usr/bin/env python3
 """Runs the command lines of documents and compares what they write.
 
-    python3 tools/check_commands.py PLAYER FILE ..
+    python3 tools/check_commands.py crates/psxgpu_tool/out/psxgpu_tool README.md docs/*.md
 
 A command stands in an indented block behind `$ ` (in a .txt file without the indent); the lines below it, up to a blank
 line or the next command, are what it writes, errors among it. It runs at the top of a copy of examples/, tools/, docs/
 and bench/, with PLAYER as psxgpu_tool. Of a .md file the links to files are checked as well, and that each name behind
-a `crate/folder/File: name, name` stands in that file. The last line is `N passed, M failed`.
+a `crate/folder/File: name, name` stands in that file. The last line is `N passed, M failed`. Status: 0 all passed, 1
+some failed, 2 trouble.
 """
 import os
 import re
@@ -14,6 +15,8 @@ import shutil
 import subprocess
 import sys
 import tempfile
+
+from command import DIFFERENT, SAME, main
 
 ROOT = os.path.dirname(os.path.dirname(os.path.abspath(__file__)))
 SECONDS = 120
@@ -51,7 +54,7 @@ def stand_in(folder, player):
     os.symlink(os.path.abspath(player), os.path.join(folder, 'bin', 'psxgpu_tool'))
 
 
-def run(folder, command):
+def run_command(folder, command):
     path = os.path.join(folder, 'bin') + os.pathsep + os.environ['PATH']
     try:
         done = subprocess.run(['sh', '-c', command], cwd=folder, env=dict(os.environ, PATH=path),
@@ -91,30 +94,39 @@ def references(path):
                 yield 'no %s in crates/%s' % (word, name)
 
 
-def main(player, paths):
+def check_file(folder, path):
+    """How many commands and references of a file passed and failed; what failed is printed."""
+    short = os.path.relpath(path, ROOT)
     passed = failed = 0
+    for at, command, want in commands(path):
+        got = run_command(folder, command)
+        if got == want:
+            passed += 1
+            continue
+        failed += 1
+        print('%s:%d: %s' % (short, at, command))
+        print('  line %d: %r, want %r' % first_difference(got, want))
+    if path.endswith('.md'):
+        wrong = sorted(set(references(path)))
+        passed, failed = passed + (not wrong), failed + len(wrong)
+        for text in wrong:
+            print('%s: %s' % (short, text))
+    return passed, failed
+
+
+def arguments(parser):
+    parser.add_argument('player', help='the built psxgpu_tool')
+    parser.add_argument('files', nargs='+', help='documents')
+
+
+def run(words):
     with tempfile.TemporaryDirectory() as folder:
-        stand_in(folder, player)
-        for path in paths:
-            short = os.path.relpath(path, ROOT)
-            for at, command, want in commands(path):
-                got = run(folder, command)
-                if got == want:
-                    passed += 1
-                    continue
-                failed += 1
-                print('%s:%d: %s' % (short, at, command))
-                print('  line %d: %r, want %r' % first_difference(got, want))
-            if path.endswith('.md'):
-                wrong = sorted(set(references(path)))
-                passed, failed = passed + (not wrong), failed + len(wrong)
-                for text in wrong:
-                    print('%s: %s' % (short, text))
+        stand_in(folder, words.player)
+        counts = [check_file(folder, path) for path in words.files]
+    passed, failed = map(sum, zip(*counts))
     print('%d passed, %d failed' % (passed, failed))
-    return 1 if failed else 0
+    return DIFFERENT if failed else SAME
 
 
 if __name__ == '__main__':
-    if len(sys.argv) < 3:
-        sys.exit(__doc__)
-    sys.exit(main(sys.argv[1], sys.argv[2:]))
+    sys.exit(main(sys.modules[__name__]))

@@ -1,55 +1,69 @@
 #!/usr/bin/env python3
-"""Turns what a player writes into a PNG: a dump of video memory (vram) or a picture (shot).
+"""Turns a dump of video memory or a PPM into a PNG.
 
+    psxgpu_tool vram < mine.capture > vram.bin
     python3 tools/picture.py vram.bin vram.png
+    python3 tools/picture.py vram.bin page.png --bits 4 --palette 0 480 --box 640 0 64 256
+
+A dump is drawn as cells of 15 bits, or as texels of 4 or 8 bits (four or two a cell): in gray, or by a palette that
+stands in the same dump. A target that ends in .ppm is written as PPM.
 """
-import struct
 import sys
-import zlib
 
-WIDTH = 1024
-
-
-def chunk(kind, data):
-    return struct.pack('>I', len(data)) + kind + data + struct.pack('>I', zlib.crc32(kind + data))
+from command import Trouble, decimal, main
+from image import WIDTH, Image, about, cells_of, load_file, read_picture, shown, wide, write_image
 
 
-def png(width, height, pixels):
-    """pixels: three bytes a pixel, rows from the top."""
-    rows = b''.join(b'\0' + pixels[3 * width * y:3 * width * (y + 1)] for y in range(height))
-    head = struct.pack('>IIBBBBB', width, height, 8, 2, 0, 0, 0)
-    return b'\x89PNG\r\n\x1a\n' + chunk(b'IHDR', head) + chunk(b'IDAT', zlib.compress(rows, 9)) + chunk(b'IEND', b'')
+def arguments(parser):
+    parser.add_argument('source', help='a dump, a PPM or a PNG; - is standard input')
+    parser.add_argument('target', help='the picture to write')
+    parser.add_argument('--bits', type=int, choices=(4, 8, 15), default=15, help='bits of a texel of the dump')
+    parser.add_argument('--palette', type=decimal(0, 1023), nargs=2, metavar=('X', 'Y'),
+                        help='the first cell of the palette')
+    parser.add_argument('--box', type=decimal(0, 1024), nargs=4, metavar=('X', 'Y', 'W', 'H'),
+                        help='the cells to draw, all if left out')
 
 
-def wide(cell):
-    """The three bytes of a cell, as `shot` makes them."""
-    channels = (cell & 31, cell >> 5 & 31, cell >> 10 & 31)
-    return bytes(8 * channel + channel // 4 for channel in channels)
+def palette_of(cells, bits, place):
+    """The three bytes of each index."""
+    if place is None:
+        return [bytes([index * 255 // ((1 << bits) - 1)] * 3) for index in range(1 << bits)]
+    x, y = place
+    row = cells[WIDTH * y:WIDTH * (y + 1)]
+    if not row:
+        raise Trouble('palette y: %d, the dump has %d rows' % (y, len(cells) // WIDTH))
+    return [wide(row[(x + index) % WIDTH]) for index in range(1 << bits)]
 
 
-def read_picture(data):
-    """Width, height and pixels of a dump or a PPM."""
-    if data[:2] == b'P6':
-        kind, size, most, pixels = data.split(b'\n', 3)
-        width, height = map(int, size.split())
+def texels(cells, bits, palette):
+    """The three bytes of each texel of these cells."""
+    shifts = range(0, 16, bits)
+    table = {cell: b''.join(palette[cell >> shift & (1 << bits) - 1] for shift in shifts) for cell in set(cells)}
+    return b''.join(map(table.__getitem__, cells))
+
+
+def draw(cells, words):
+    """The picture of a dump."""
+    height = len(cells) // WIDTH
+    x, y, w, h = words.box or (0, 0, WIDTH, height)
+    if not (w and h and x + w <= WIDTH and y + h <= height):
+        raise Trouble('box: %d %d %d %d is not within %d by %d' % (x, y, w, h, WIDTH, height))
+    part = [cell for row in range(y, y + h) for cell in cells[WIDTH * row + x:WIDTH * row + x + w]]
+    if words.bits == 15:
+        return Image(w, h, shown(part))
+    return Image(w * 16 // words.bits, h, texels(part, words.bits, palette_of(cells, words.bits, words.palette)))
+
+
+def run(words):
+    data, is_picture = load_file(words.source)
+    if is_picture:
+        if words.box or words.palette or words.bits != 15:
+            raise Trouble('%s: a picture, and --bits, --palette and --box are for dumps' % words.source)
+        image = about(words.source, read_picture, data)
     else:
-        width, height = WIDTH, len(data) // (2 * WIDTH)
-        cells = struct.unpack('<%dH' % (width * height), data)
-        table = {cell: wide(cell) for cell in set(cells)}
-        pixels = b''.join(table[cell] for cell in cells)
-    if len(pixels) != 3 * width * height:
-        raise ValueError('not a dump and not a PPM')
-    return width, height, pixels
-
-
-def main(source, target):
-    with open(source, 'rb') as file:
-        picture = png(*read_picture(file.read()))
-    with open(target, 'wb') as file:
-        file.write(picture)
+        image = draw(about(words.source, cells_of, data), words)
+    write_image(words.target, image)
 
 
 if __name__ == '__main__':
-    if len(sys.argv) != 3:
-        sys.exit(__doc__)
-    main(*sys.argv[1:])
+    sys.exit(main(sys.modules[__name__]))

@@ -1,0 +1,136 @@
+#!/usr/bin/env python3
+"""Lets each call of a player's run fail in turn: its growths of memory, its reads and its writes.
+
+    python3 tools/faults.py PLAYER CAPTURE .. [-- COMMAND ..]
+
+For each capture (or snapshot) and each command (play, if none is given; `cut 3` is one word), the run is tried as it
+is, and then once for each growth of memory that is refused, for each read and each write that fails, and with reads and
+writes of one byte each. What must come: without memory status 5, nothing read and nothing on standard output, or, where
+a smaller growth serves as well and is asked for next, all as it was; where a read fails status 3, where a write fails
+status 4, and in both cases a part of what is written otherwise; where standard error fails, or the pieces are short,
+the same status and the same output. The calls are made to fail by tools/faults.c, which gcc makes a library of that is
+loaded before the player. The last line is `N passed, M failed`. Without gcc the exit status is 77.
+"""
+import os
+import shutil
+import subprocess
+import sys
+import tempfile
+
+HERE = os.path.dirname(os.path.abspath(__file__))
+SECONDS = 120
+KINDS = ('memory', 'read', 'write', 'error')
+
+
+class Run:
+    """One run of a player: its status, what it wrote, and how many calls of each kind it made."""
+
+    def __init__(self, library, folder, words, capture, kind='', at=0):
+        counts = os.path.join(folder, 'counts')
+        env = dict(os.environ, LD_PRELOAD=library, FAULT_COUNTS=counts, FAULT_KIND=kind, FAULT_AT=str(at))
+        with open(capture, 'rb') as source:
+            done = subprocess.run(words, stdin=source, stdout=subprocess.PIPE, stderr=subprocess.PIPE, env=env,
+                                  timeout=SECONDS)
+        self.status, self.out, self.err = done.returncode, done.stdout, done.stderr
+        with open(counts) as file:
+            self.calls = dict(zip(KINDS, map(int, file.read().split())))
+
+
+def is_part(part, whole):
+    return len(part) < len(whole) and whole.startswith(part)
+
+
+def as_it_was(was, now):
+    same = (now.status, now.out, now.err) == (was.status, was.out, was.err)
+    return '' if same else 'status %d, err %r' % (now.status, now.err[:60])
+
+
+def without_memory(was, now):
+    if now.calls['memory'] > was.calls['memory'] and not as_it_was(was, now):
+        return ''
+    if now.status != 5 or now.err != b'psxgpu: memory\n':
+        return 'status %d, err %r' % (now.status, now.err[:60])
+    return 'it read or wrote' if now.out or now.calls['read'] else ''
+
+
+def without_read(was, now):
+    if now.status != 3 or not now.err.startswith(b'psxgpu: read-fault at event '):
+        return 'status %d, err %r' % (now.status, now.err[:60])
+    return '' if was.out.startswith(now.out) else 'out is not a part of what is written else'
+
+
+def without_write(was, now):
+    if now.status != 4 or not now.err.startswith(b'psxgpu: write-fault at event '):
+        return 'status %d, err %r' % (now.status, now.err[:60])
+    return '' if is_part(now.out, was.out) else 'out is no proper part of what is written else'
+
+
+def without_error(was, now):
+    return '' if (now.status, now.out) == (was.status, was.out) else 'status %d' % now.status
+
+
+JUDGES = {'memory': without_memory, 'read': without_read, 'write': without_write, 'error': without_error}
+
+
+def trials(was):
+    """What is tried after the run as it is: the kind, the number of the call, and who judges."""
+    for kind, judge in JUDGES.items():
+        for at in range(1, was.calls[kind] + 1):
+            yield kind, at, judge
+    yield 'short', 0, as_it_was
+
+
+def tried(library, folder, player, capture, command):
+    """How many runs of a command on a capture did what they must, and how many not."""
+    words = [player] + command.split()
+    was = Run(library, folder, words, capture)
+    passed = failed = 0
+    for kind, at, judge in trials(was):
+        wrong = judge(was, Run(library, folder, words, capture, kind, at))
+        passed, failed = passed + (not wrong), failed + bool(wrong)
+        if wrong:
+            print('%s, %s: %s %d: %s' % (capture, command, kind, at, wrong))
+    return passed, failed
+
+
+def built(folder):
+    """The library that lets calls fail; None without gcc."""
+    if not shutil.which('gcc'):
+        return None
+    library = os.path.join(folder, 'faults.so')
+    subprocess.run(['gcc', '-O2', '-shared', '-fPIC', '-o', library, os.path.join(HERE, 'faults.c')], check=True)
+    return library
+
+
+def main(player, captures, commands):
+    passed = failed = 0
+    with tempfile.TemporaryDirectory() as folder:
+        library = built(folder)
+        if library is None:
+            print('skipped: gcc is not on this machine')
+            return 77
+        player = shutil.which(player) or os.path.abspath(player)
+        for capture in captures:
+            for command in commands:
+                good, bad = tried(library, folder, player, capture, command)
+                passed, failed = passed + good, failed + bad
+    print('%d passed, %d failed' % (passed, failed))
+    return 1 if failed else 0
+
+
+def words_of(args):
+    """The player, the captures and the commands of a command line; None where it is none."""
+    cut = args.index('--') if '--' in args else len(args)
+    if cut < 2 or not all(os.path.isfile(it) for it in args[1:cut]):
+        return None
+    return args[0], args[1:cut], args[cut + 1:] or ['play']
+
+
+if __name__ == '__main__':
+    given = words_of(sys.argv[1:])
+    if given is None:
+        sys.exit(__doc__)
+    try:
+        sys.exit(main(*given))
+    except (OSError, subprocess.SubprocessError) as error:
+        sys.exit('faults.py: %s' % error)

@@ -1,0 +1,120 @@
+"""Cuts the words of GP0 into packets, as docs/CAPTURE.md has them, and keeps what E1h to E6h set."""
+
+FILL, POLYGON, LINE, RECTANGLE, COPY, LOAD, STORE, ENVIRONMENT, NOP, IRQ, FINISH = (
+    'fill', 'polygon', 'line', 'rectangle', 'copy', 'load', 'store', 'environment', 'nop', 'irq', 'finish')
+TRANSFERS = {4: (COPY, 4), 5: (LOAD, 3), 6: (STORE, 3)}
+SHADED, POLYLINE, QUAD, TEXTURED, SEMI, RAW = 0x10, 0x08, 0x08, 0x04, 0x02, 0x01
+RESETS = (0, 1)         # opcodes of GP1 that end what is unfinished
+# The bits that E1h to E6h keep, in video memory of 512 and of 1024 rows.
+KEPT = {False: (0x37FF, 0xFFFFF, 0x7FFFF, 0x7FFFF, 0x3FFFFF, 3),
+        True: (0x3FFF, 0xFFFFF, 0xFFFFF, 0xFFFFF, 0x3FFFFF, 3)}
+PAGE = {False: 0x1FF, True: 0x9FF}      # the bits of E1h that a textured polygon sets
+
+
+def name_and_length(word):
+    """The name of the packet that a word begins, as `list` has it, and its words; of a polyline those up to its second
+    vertex."""
+    opcode = word >> 24
+    kind = opcode >> 5
+    if kind == 0:
+        return {0x02: (FILL, 3), 0x1F: (IRQ, 1)}.get(opcode, (NOP, 1))
+    if kind == 1:
+        points, extra = (4 if opcode & QUAD else 3), 1 + bool(opcode & TEXTURED) + bool(opcode & SHADED)
+        return POLYGON, points * extra + (not opcode & SHADED)
+    if kind == 2:
+        return LINE, 4 if opcode & SHADED else 3
+    if kind == 3:
+        return RECTANGLE, 2 + bool(opcode & TEXTURED) + (opcode & 0x18 == 0)
+    if kind == 7:
+        return (ENVIRONMENT if 0xE1 <= opcode <= 0xE6 else NOP), 1
+    return TRANSFERS[kind]
+
+
+def cells_of(size):
+    """The cells of a copy, load or store: a size of 0 stands for the greatest."""
+    return (((size & 0xFFFF) - 1 & 0x3FF) + 1, ((size >> 16) - 1 & 0x1FF) + 1)
+
+
+def data_words(size):
+    """How many words a transfer of this size has."""
+    w, h = cells_of(size)
+    return (w * h + 1) // 2
+
+
+class Splitter:
+    """Takes words as they come. `push` gives the packets that they complete: (name, words, how many words of this push
+    were taken with it). A joint of a polyline is a packet of the command, the colour and vertex that it goes on from,
+    and its own colour and vertex."""
+
+    def __init__(self, is_tall=False):
+        self.kept, self.page = dict(zip(range(0xE1, 0xE7), KEPT[is_tall])), PAGE[is_tall]
+        self.registers = dict.fromkeys(range(0xE1, 0xE7), 0)
+        self.changes = 0        # how often a register was set
+        self.clear()
+
+    def clear(self):
+        """What is unfinished is dropped, as by GP1(00h) and GP1(01h)."""
+        self.words, self.wanted, self.name = [], 0, None
+        self.pixels = 0         # data words that an open load still takes
+        self.last = None        # the words of the last vertex of an open polyline: (colour, vertex)
+
+    def is_idle(self):
+        return not (self.words or self.pixels or self.last)
+
+    def control(self, word):
+        if word >> 24 & 0x3F in RESETS:
+            self.clear()
+        if not word >> 24 & 0x3F:
+            self.registers = dict.fromkeys(self.registers, 0)
+            self.changes += 1
+
+    def push(self, words):
+        at, end = 0, len(words)
+        while at < end:
+            if self.pixels:
+                taken = min(self.pixels, end - at)
+                self.pixels -= taken
+                at += taken
+                continue
+            if self.last:
+                at += 1
+                packet = self.joint(words[at - 1])
+            else:
+                if not self.words:
+                    self.name, self.wanted = name_and_length(words[at])
+                taken = min(self.wanted - len(self.words), end - at)
+                self.words.extend(words[at:at + taken])
+                at += taken
+                packet = self.whole() if len(self.words) == self.wanted else None
+            if packet:
+                yield (*packet, at)
+
+    def whole(self):
+        """The packet whose words are all there."""
+        words, self.words = self.words, []
+        opcode = words[0] >> 24
+        if self.name == ENVIRONMENT:
+            self.changes += 1
+            self.registers[opcode] = words[0] & self.kept[opcode]
+        elif self.name == POLYGON and opcode & TEXTURED:
+            self.changes += 1
+            attribute = words[5 if opcode & SHADED else 4] >> 16
+            self.registers[0xE1] = self.registers[0xE1] & ~self.page | attribute & self.page
+        elif self.name == LOAD:
+            self.pixels = data_words(words[2])
+        elif self.name == LINE and opcode & POLYLINE:
+            self.command, self.last = words[0], words[-2:] if opcode & SHADED else (words[0], words[-1])
+        return self.name, words
+
+    def joint(self, word):
+        """A word behind a vertex of a polyline."""
+        is_shaded = self.command >> 24 & SHADED
+        if not self.words and word & 0xF000F000 == 0x50005000:
+            self.last = None
+            return FINISH, [word]
+        self.words.append(word)
+        if len(self.words) < (2 if is_shaded else 1):
+            return None
+        before, self.last = self.last, tuple(self.words) if is_shaded else (self.last[0], word)
+        self.words = []
+        return LINE, [self.command, *before, *self.last]
