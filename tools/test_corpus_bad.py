@@ -60,13 +60,13 @@ class Bad(Corpus):
         self.write('in/a.capture', 'good\n')
         self.write('in/hang.capture', 'hang\n')
         child = subprocess.Popen([sys.executable, os.path.join(for_tests.HERE, 'corpus.py'), 'record', 'in',
-                                  '--golden', 'golden', '--player', './moody', '--limit', '10'],
+                                  '--golden', 'golden', '--player', './moody', '--limit', '25'],
                                  cwd=self.folder, text=True, stdout=subprocess.PIPE, stderr=subprocess.PIPE)
         until = time.monotonic() + 60
         while time.monotonic() < until and not self.has_a_row():
             time.sleep(0.05)
         child.send_signal(signal.SIGINT)
-        out, err = child.communicate(timeout=40)
+        out, err = child.communicate(timeout=90)
         self.assertEqual((child.returncode, out), (2, ''))
         self.assertRegex(err, 'interrupted; 1 of 2 captures are kept in golden.part: run it again to go on')
 
