@@ -69,8 +69,8 @@ typedef struct psxgpu_ended {
 
 /* ---- a machine
  *
- * Every call but those that only look is an event, or several: the machine numbers them from 1 on, in its notes and its
- * snapshots, as a capture's events are numbered. */
+ * Every call but those that only look is an event, or several: the machine numbers them from 1 on, in its refusals
+ * and its snapshots, as a capture's events are numbered. */
 
 /* Makes a machine in its first state: memories of zeros, the registers after a reset, no event played.
  * OPEN, NO_MEMORY. */
