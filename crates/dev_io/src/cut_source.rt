@@ -103,6 +103,12 @@ impl Source for CutSource {
         }
         Ok(n)
     }
+
+    fn ready(&self) -> usize
+        ensures { result ≡ length self.now.left }
+    {
+        self.bytes.len() - self.at
+    }
 }
 
 /// How many bytes a call may give.

@@ -1,5 +1,5 @@
 // Sources and sinks: the bytes that they tell of, and a count of faults that never falls.
-ghost use Rattle.std.specs.Prelude.{◌≡◌, ◌≤◌, ◌<◌, List, ℕ, Option, length, IfOk, OnErr};
+ghost use Rattle.std.specs.Prelude.{◌≡◌, ◌≤◌, ◌<◌, List, ℕ, Option, length, IfOk, IfSome, OnErr};
 ghost use Rattle.dev_io.specs.Device.{Rose, Gives, IsAtEnd, Accepts};
 
 /// A source or a sink failed. It comes only where the count of faults rose, and then nothing was taken or appended.
@@ -22,6 +22,10 @@ pub trait Source {
         ensures failed { OnErr result (left self.new ≡ left self.old) }
         ensures cause { OnErr result (Rose (faults self.old) (faults self.new)) }
         ensures faults { faults self.old ≤ faults self.new };
+
+    /// How many bytes it can give without waiting for any: of those that are left, where they are told.
+    fn ready(&self) -> usize
+        ensures { IfSome (left self.now) (λ bytes. result ≤ length bytes) };
 }
 
 /// Where bytes go.

@@ -55,6 +55,10 @@ impl<R: Read> Source for ReadEdge<R> {
         self.start += n;
         Ok(n)
     }
+
+    fn ready(&self) -> usize {
+        self.end - self.start
+    }
 }
 
 /// A writer of std as a sink. Every error of the writer is a fault, and so is a write that takes nothing of a piece

@@ -55,4 +55,10 @@ impl Source for MemSource {
         self.at += n;
         Ok(n)
     }
+
+    fn ready(&self) -> usize
+        ensures { result ≡ length self.now }
+    {
+        self.bytes.len() - self.at
+    }
 }

@@ -2,6 +2,7 @@ pub mod Capture
 pub mod Head
 pub mod Limit
 pub mod Reader
+pub mod Reading
 pub mod Record
 pub mod State
 pub mod Whole

@@ -1,5 +1,5 @@
 // The events of a capture, one after another, and the stop that a reader has answered.
-ghost use Rattle.std.specs.Prelude.{◌≡◌, ◌≤◌, ◌<◌, ◌+◌, ◌%◌, ◌^◌, [], ◌∷◌, None, Some, IfSome, IfOk, IfErr, OnOk, Err};
+ghost use Rattle.std.specs.Prelude.{◌≡◌, ◌≤◌, ◌<◌, ◌+◌, ◌%◌, ◌^◌, [], ◌∷◌, false, None, Some, IfSome, IfOk, IfErr, OnOk, Err};
 ghost use Rattle.dev_io.specs.Device.{Rose};
 ghost use Rattle.gpu_capture.specs.Record.{IsEvent};
 ghost use Rattle.gpu_capture.specs.Reader.{StopsAt, Takes, IsReadFault, IsStart, work_left, tag_due};
@@ -11,8 +11,12 @@ use crate::block::WordBlock;
 use crate::event::{Event, Stop};
 use crate::progress::{Progress, advance, at_tag};
 use crate::record::Due;
+use crate::write::RECORD_MOST;
 use dev_io::Source;
 use std::marker::Model;
+
+/// So many bytes are taken at most while a sink waits for what is gathered for it.
+const FEW: u32 = 4096;
 
 /// The events of a capture, one after another.
 ///
@@ -77,6 +81,22 @@ impl EventReader {
         ensures known { result ≤ 3 }
     {
         self.progress.version
+    }
+
+    /// The place of the next byte.
+    pub fn place(&self) -> u32
+        ensures { result ≡ self.now.progress.place }
+    {
+        self.progress.place
+    }
+
+    /// Whether what is gathered for a sink should be written before the next event is asked for: since the source may
+    /// have to wait for that event, or since 4,096 bytes or more were taken behind this place.
+    pub fn pauses<S: Source>(&self, source: &S, since: u32) -> bool
+        ensures { result ≡ false → self.now.progress.place < since + 4096 }
+    {
+        let waits = self.progress.left == 0 && source.ready() < RECORD_MOST;
+        waits || self.progress.place >= since.saturating_add(FEW)
     }
 
     /// The next event. It takes no byte past those that the event or the stop needs. After a stop it answers the same
