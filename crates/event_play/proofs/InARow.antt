@@ -21,15 +21,16 @@ use Rattle.gpu_taps.specs.Tally.{Reading}
 use Rattle.event_play.specs.Lines.{lines_cost}
 use Rattle.event_play.specs.Out.{lines_of}
 use Rattle.event_play.specs.PlayedWords.{after_word, after_words, IsTold, AreQuiet}
-use Rattle.event_play.specs.Playing.{AreAllNeeded, IsShort}
-use Rattle.event_play.specs.Replay.{Tale, Played, after_event, replayed, next_number}
+use Rattle.event_play.specs.Playing.{AreAllNeeded, IsShort, Follows, plays}
+use Rattle.event_play.specs.Replay.{Tale, Script, after_event, replayed, next_number}
 use Rattle.event_play.specs.RigState.{RigState}
 use Rattle.event_play.specs.Step.{event_step, event_cost, event_box_cost}
 use Rattle.event_play.specs.Streams.{Outlets, Streams, streams, without_sink}
 use Rattle.event_play.specs.declared.ending.Mode.{Mode}
 use Rattle.event_play.specs.declared.ending.Mode.TheVariants.{Vram, Shot, Report, Frames, Sums, Pixel}
 use Rattle.event_play.specs.declared.ending.Mode.TheVariants.{List as Listing, Play as Words}
-use Rattle.event_play.proofs.Awaiting.{Reaches, GoesOn, Awaits, goes_past, reads, events_left}
+use Rattle.event_play.proofs.Awaiting.{Reaches, GoesOn, PlaysOn, Awaits, goes_past, reads, events_left}
+use Rattle.event_play.proofs.Following.{follows_none, follows_on, follows_all, read_words}
 use Rattle.event_play.proofs.Reaching.{goes_on}
 
 -- ---- tales
@@ -61,25 +62,33 @@ words_are t (word ∷ words) c =
     goes_on t (after_word t word) (Gp0 word) (then_events (word_events words) c) (word_is t word)
     ∙ words_are (after_word t word) words c
 
+-- their events lead to that tale
+words_follow : (t : Tale) (words : List ℕ) → Follows t (word_events words) (after_words t words)
+words_follow t [] = record { replays = λ more stop rest. refl }
+words_follow t (word ∷ words) =
+    let one = follows_on t t (after_word t word) [] (Gp0 word) (follows_none t) (word_is t word) in
+    follows_all t (after_word t word) (after_words (after_word t word) words) (Gp0 word ∷ []) (word_events words) one
+    (words_follow (after_word t word) words)
+
 -- ---- the bytes of words
 
 words_short : (t : Tale) (words : List ℕ) (version byte : ℕ)
     → IsShort (replayed t (then_events (word_events words) (ended version (Truncated byte) []))).ending
 words_short t words version byte = rw (words_are t words (ended version (Truncated byte) [])) tt
 
-all_needed : (by_bytes : List ℕ → Played) (t : Tale) (old new : Progress) (before now : Option (List ℕ))
+all_needed : (script : List ℕ → Script) (t : Tale) (old new : Progress) (before now : Option (List ℕ))
     (xs words : List ℕ)
-    → GoesOn by_bytes old t xs
-    → AreAllNeeded by_bytes xs → (takes : TakesWords old new before now words)
-    → AreAllNeeded by_bytes (xs ++ takes.taken)
-all_needed by_bytes t old new before now xs words goes was takes part more is some =
+    → PlaysOn script old t xs
+    → AreAllNeeded (plays script) xs → (takes : TakesWords old new before now words)
+    → AreAllNeeded (plays script) (xs ++ takes.taken)
+all_needed script t old new before now xs words goes was takes part more is some =
     elim (split xs takes.taken part more is) [
       | inl behind ↦
           let short = takes.needed behind.0 more behind.2 some in
           let fewer = take short.count words in
-          let e : by_bytes part
+          let e : plays script part
           ≡ replayed t (then_events (word_events fewer) (ended short.version (Truncated short.byte) [])) =
-          ap by_bytes behind.1 ∙ goes behind.0 ∙ ap (replayed t) short.is in
+          ap (plays script) behind.1 ∙ goes behind.0 ∙ ap (replayed t) short.is in
           rw e (words_short t fewer short.version short.byte)
       | inr inside ↦ was part inside.0 inside.1 inside.2
     ]
@@ -117,15 +126,15 @@ same_running : (t : Tale) (words : List ℕ) → (after_words t words).state.run
 same_running t [] = refl
 same_running t (word ∷ words) = same_running (after_word t word) words
 
-module _ (mode : Mode) (by_bytes : List ℕ → Played) (before : Streams) (left after held : Option (List ℕ))
+module _ (mode : Mode) (script : List ℕ → Script) (before : Streams) (left after held : Option (List ℕ))
     (heard heard_now : List Reading) (steps steps_now : ℕ) (was rig : RigState) (p q : Progress) (words : List ℕ)
-    (reached : Reaches mode by_bytes before (streams left held heard steps) was (GoesOn by_bytes p))
+    (reached : Reaches mode script before (streams left held heard steps) was (GoesOn script p))
     (quiet : AreQuiet mode words) (ram : rig.ram ≡ was.ram) (running : rig.running ≡ was.running)
     (tells : (t : Tale) (first : Outlets) → IsTold t first (without_sink heard steps) was.gpu was.played
     → IsTold (after_words t words) first (without_sink heard_now steps_now) rig.gpu rig.played) where
   -- words were taken and played
   pub words_play : TakesWords p q left after words
-      → Reaches mode by_bytes before (streams after held heard_now steps_now) rig (GoesOn by_bytes q)
+      → Reaches mode script before (streams after held heard_now steps_now) rig (GoesOn script q)
   words_play takes =
       let t = reached.tale in
       let spent = lines_cost mode t.frames t.strokes in
@@ -138,13 +147,18 @@ module _ (mode : Mode) (by_bytes : List ℕ → Played) (before : Streams) (left
       record {
         taken = reached.taken ++ takes.taken;
         bytes = taken_on before.left left after reached.taken takes.taken reached.bytes takes.bytes;
-        needed = all_needed by_bytes t p q left after reached.taken words reached.says reached.needed takes;
+        needed = all_needed script t p q left after reached.taken words reached.says.plays_on reached.needed takes;
+        events = reached.events ++ word_events words;
         tale = after_words t words;
-        says = λ rest.
-            goes_past by_bytes t p reached.taken takes.taken rest
-            (then_events (word_events words) (capture_from q rest))
-            reached.says (takes.says rest)
-            ∙ words_are t words (capture_from q rest);
+        says = record {
+          plays_on = λ rest.
+              goes_past script t p reached.taken takes.taken rest
+              (then_events (word_events words) (capture_from q rest))
+              reached.says.plays_on (takes.says rest)
+              ∙ words_are t words (capture_from q rest);
+          read = read_words script p q left after t (after_words t words) reached.taken words reached.events
+              reached.says.read takes (words_follow t words);
+        };
         stands = record {
           state = record {
             gpu = told.state;
@@ -159,18 +173,18 @@ module _ (mode : Mode) (by_bytes : List ℕ → Played) (before : Streams) (left
       }
 
 -- words were taken and played, and then the reader stopped
-module _ (mode : Mode) (by_bytes : List ℕ → Played) (before : Streams) (left after held : Option (List ℕ))
+module _ (mode : Mode) (script : List ℕ → Script) (before : Streams) (left after held : Option (List ℕ))
     (heard heard_now : List Reading) (steps steps_now : ℕ) (was rig : RigState) (p q : Progress) (words : List ℕ)
     (stop : Stop)
-    (reached : Reaches mode by_bytes before (streams left held heard steps) was (GoesOn by_bytes p))
+    (reached : Reaches mode script before (streams left held heard steps) was (GoesOn script p))
     (quiet : AreQuiet mode words) (ram : rig.ram ≡ was.ram) (running : rig.running ≡ was.running)
     (tells : (t : Tale) (first : Outlets) → IsTold t first (without_sink heard steps) was.gpu was.played
     → IsTold (after_words t words) first (without_sink heard_now steps_now) rig.gpu rig.played) where
   pub words_stop : StopsBehind p q left after words stop
-      → Awaits mode by_bytes before (streams after held heard_now steps_now) rig q (Err stop)
+      → Awaits mode script before (streams after held heard_now steps_now) rig q (Err stop)
   words_stop behind =
-      reads mode by_bytes before (streams behind.left held heard_now steps_now) rig behind.mid q after
-      (words_play mode by_bytes before left behind.left held heard heard_now steps steps_now was rig p behind.mid words
+      reads mode script before (streams behind.left held heard_now steps_now) rig behind.mid q after
+      (words_play mode script before left behind.left held heard heard_now steps steps_now was rig p behind.mid words
       reached quiet ram running tells behind.takes)
       (Err stop) tt behind.stops
 

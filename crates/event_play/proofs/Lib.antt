@@ -11,6 +11,7 @@ pub mod Reaching
 pub mod Reports
 pub mod Turns
 pub mod Firsts
+pub mod Following
 pub mod InARow
 pub mod OwnWords
 pub mod AlikeStates

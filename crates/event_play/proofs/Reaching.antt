@@ -19,8 +19,8 @@ use Rattle.event_play.specs.Feeding.{fed_lines}
 use Rattle.event_play.specs.Lines.{lines_for, WritesBehind}
 use Rattle.event_play.specs.Out.{lines_of, tale_cost, final_bytes, final_cost, ending_under, lacks_picture, out_bytes}
 use Rattle.event_play.specs.Out.{out_cost}
-use Rattle.event_play.specs.Playing.{SaysEnding, EndsPlay, IsLast, DueIn, whole}
-use Rattle.event_play.specs.Replay.{Tale, Played, part_fed, after_event, go_on, played_events, replayed, next_number}
+use Rattle.event_play.specs.Playing.{SaysEnding, EndsPlay, IsLast, DueIn, plays, whole}
+use Rattle.event_play.specs.Replay.{Tale, Script, part_fed, after_event, go_on, played_events, replayed, next_number}
 use Rattle.event_play.specs.RigState.{RigState, StandsFor}
 use Rattle.event_play.specs.Step.{Machine, event_cost}
 use Rattle.event_play.specs.Streams.{Outlets, Streams, streams}
@@ -35,6 +35,7 @@ use Rattle.event_play.specs.declared.fault.EventFault.{EventFault}
 use Rattle.event_play.proofs.Awaiting.{Reaches, GoesOn, Awaits, SaysNext}
 use Rattle.event_play.proofs.BoxCosts.{AreSmall, within_boxes}
 use Rattle.event_play.proofs.Feeds.{told-append}
+use Rattle.event_play.proofs.Following.{read_to, read_played}
 use Rattle.event_play.proofs.Grows.{lines-append, lines_cost-append, tale_on, after-event, out_grows, cost_within}
 use Rattle.event_play.proofs.Parts.{event_feeds, no_frames, due_inside, part_held, part_lines, part_cost}
 use Rattle.event_play.proofs.Parts.{lines_fed_on}
@@ -101,11 +102,11 @@ due_behind Report t last event behind is = absurd behind
 abbrev pub beside : Option (List ℕ) → Outlets → Streams
 beside left at = streams left at.held at.heard at.steps
 
-module _ (mode : Mode) (by_bytes : List ℕ → Played) (before : Streams) (left : Option (List ℕ)) (mid now : Outlets)
+module _ (mode : Mode) (script : List ℕ → Script) (before : Streams) (left : Option (List ℕ)) (mid now : Outlets)
     (was rig : RigState) (p : Progress) (event : Event)
-    (reached : Awaits mode by_bytes before (beside left mid) was p (Ok event)) where
+    (reached : Awaits mode script before (beside left mid) was p (Ok event)) where
   pub plays_on : PlaysEvent mode reached.tale event mid now rig
-      → Reaches mode by_bytes before (beside left now) rig (GoesOn by_bytes p)
+      → Reaches mode script before (beside left now) rig (GoesOn script p)
   plays_on plays =
       let t = reached.tale in
       let next = tale_on t event plays.step.machine plays.shown plays.step.notes in
@@ -114,8 +115,12 @@ module _ (mode : Mode) (by_bytes : List ℕ → Played) (before : Streams) (left
         taken = reached.taken;
         bytes = reached.bytes;
         needed = reached.needed;
+        events = reached.events ++ event ∷ [];
         tale = next;
-        says = λ rest. reached.says.says rest ∙ goes_on t next event (capture_from p rest) is;
+        says = record {
+          plays_on = λ rest. reached.says.says rest ∙ goes_on t next event (capture_from p rest) is;
+          read = read_played script p t next reached.taken reached.events event reached.says.read is;
+        };
         stands = record { state = plays.step.stands; played = sym plays.played };
         held = held_on mode before.held mid.held now.held t event plays.step.machine plays.shown plays.step.notes
             reached.held plays.held;
@@ -126,13 +131,13 @@ module _ (mode : Mode) (by_bytes : List ℕ → Played) (before : Streams) (left
 
   -- ---- an event that ends playing
 
-  module _ (is_small : AreSmall by_bytes) where
+  module _ (is_small : AreSmall (plays script)) where
     -- an ending, by what it says, where the steps are those of a tale from which the replay goes on
-    ends_at : (t last : Tale) (ending : Ending) → SaysEnding mode by_bytes t last reached.taken before
+    ends_at : (t last : Tale) (ending : Ending) → SaysEnding mode script t last reached.taken before
         (beside left now) ending → IsLast t last ending
         → StandsFor rig last → now.heard ≡ told_notes last.notes before.heard
-        → ((rest : List ℕ) → now.steps ≤ before.steps + out_cost mode (by_bytes (reached.taken ++ rest)))
-        → EndsPlay mode by_bytes before (beside left now) rig ending
+        → ((rest : List ℕ) → now.steps ≤ before.steps + out_cost mode (plays script (reached.taken ++ rest)))
+        → EndsPlay mode script before (beside left now) rig ending
     ends_at t last ending says is_last stands heard cost = record {
       taken = reached.taken;
       bytes = reached.bytes;
@@ -144,12 +149,13 @@ module _ (mode : Mode) (by_bytes : List ℕ → Played) (before : Streams) (left
       stands = stands;
       heard = heard;
       cost = cost;
-      box_cost = λ rest. within_boxes mode by_bytes (reached.taken ++ rest) before.steps now.steps is_small (cost rest);
+      box_cost = λ rest.
+          within_boxes mode (plays script) (reached.taken ++ rest) before.steps now.steps is_small (cost rest);
     }
 
     fault_ends : (number : ℕ) (fault : EventFault) → number ≡ next_number reached.tale.played
         → FaultsEvent reached.tale event fault mid now was rig
-        → EndsPlay mode by_bytes before (beside left now) rig (Faulted number fault)
+        → EndsPlay mode script before (beside left now) rig (Faulted number fault)
     fault_ends number fault at faults =
         let t = reached.tale in
         let says = reached.says.says in
@@ -163,7 +169,7 @@ module _ (mode : Mode) (by_bytes : List ℕ → Played) (before : Streams) (left
         (says rest) (omega (arith, reached.cost, steps)))
 
     shows_ends : (number : ℕ) → number ≡ next_number reached.tale.played → ShowsPart mode reached.tale event mid now rig
-        → EndsPlay mode by_bytes before (beside left now) rig (WriteFailed number)
+        → EndsPlay mode script before (beside left now) rig (WriteFailed number)
     shows_ends number at parts =
         let t = reached.tale in
         let next = tale_on t event parts.step.machine parts.shown parts.step.notes in
@@ -175,8 +181,9 @@ module _ (mode : Mode) (by_bytes : List ℕ → Played) (before : Streams) (left
           number_is = at;
           start = t;
           place = inl (record {
+            before = reached.events;
             event = event;
-            comes = λ rest. (capture_from p rest, reached.says.says rest);
+            is_read = read_to script p t reached.taken reached.events event reached.says.read;
             inside = due_behind mode t next event parts.mode_is is;
             lines = lines_more mode t event parts.step.machine parts.shown parts.step.notes;
           });
@@ -200,7 +207,7 @@ module _ (mode : Mode) (by_bytes : List ℕ → Played) (before : Streams) (left
         reached.cost parts.step.cost parts.spent))
 
     feeds_ends : (number : ℕ) → number ≡ next_number reached.tale.played → FeedsPart mode reached.tale event mid now rig
-        → EndsPlay mode by_bytes before (beside left now) rig (WriteFailed number)
+        → EndsPlay mode script before (beside left now) rig (WriteFailed number)
     feeds_ends number at parts =
         let t = reached.tale in
         let stop = parts.feeding in
@@ -216,8 +223,9 @@ module _ (mode : Mode) (by_bytes : List ℕ → Played) (before : Streams) (left
           number_is = at;
           start = part_fed t stop.before;
           place = inl (record {
+            before = reached.events;
             event = event;
-            comes = λ rest. (capture_from p rest, reached.says.says rest);
+            is_read = read_to script p t reached.taken reached.events event reached.says.read;
             inside = due_inside _ _ _ _ _ _ _ _ _ _ mode stop
                 (record {
                   before = stop.before;
@@ -262,7 +270,7 @@ module _ (mode : Mode) (by_bytes : List ℕ → Played) (before : Streams) (left
         (event_cost t.state event) mid.steps now.steps feeds.cost stop.cost))))
 
     pub event_ends : (ending : Ending) → EndsEvent mode reached.tale event mid now was rig ending
-        → EndsPlay mode by_bytes before (beside left now) rig ending
+        → EndsPlay mode script before (beside left now) rig ending
     event_ends (Faulted number fault) ends = fault_ends number fault ends.0 ends.1
     event_ends (WriteFailed number) (at, inl parts) = feeds_ends number at parts
     event_ends (WriteFailed number) (at, inr parts) = shows_ends number at parts
@@ -285,16 +293,16 @@ lacking_ends : (mode : Mode) (t : Tale) → lacks_picture mode t.state.gpu.parts
     → ending_under mode (whole t []) ≡ NoPicture (next_number t.played)
 lacking_ends mode t lacks = rw lacks refl
 
-module _ (mode : Mode) (by_bytes : List ℕ → Played) (before : Streams) (left : Option (List ℕ)) (mid now : Outlets)
+module _ (mode : Mode) (script : List ℕ → Script) (before : Streams) (left : Option (List ℕ)) (mid now : Outlets)
     (rig : RigState) (p : Progress) (stop : Stop)
-    (reached : Awaits mode by_bytes before (beside left mid) rig p (Err stop)) (is_small : AreSmall by_bytes)
+    (reached : Awaits mode script before (beside left mid) rig p (Err stop)) (is_small : AreSmall (plays script))
     (same : now.heard ≡ mid.heard) where
   -- an ending behind the last event, by what it says and what was spent on the output
-  ends_behind : (ending : Ending) → SaysEnding mode by_bytes reached.tale reached.tale reached.taken before
+  ends_behind : (ending : Ending) → SaysEnding mode script reached.tale reached.tale reached.taken before
       (beside left now) ending
       → IsLast reached.tale reached.tale ending
-      → ((rest : List ℕ) → now.steps ≤ before.steps + out_cost mode (by_bytes (reached.taken ++ rest)))
-      → EndsPlay mode by_bytes before (beside left now) rig ending
+      → ((rest : List ℕ) → now.steps ≤ before.steps + out_cost mode (plays script (reached.taken ++ rest)))
+      → EndsPlay mode script before (beside left now) rig ending
   ends_behind ending says is_last cost = record {
     taken = reached.taken;
     bytes = reached.bytes;
@@ -306,36 +314,37 @@ module _ (mode : Mode) (by_bytes : List ℕ → Played) (before : Streams) (left
     stands = reached.stands;
     heard = same ∙ reached.heard;
     cost = cost;
-    box_cost = λ rest. within_boxes mode by_bytes (reached.taken ++ rest) before.steps now.steps is_small (cost rest);
+    box_cost = λ rest.
+        within_boxes mode (plays script) (reached.taken ++ rest) before.steps now.steps is_small (cost rest);
   }
 
   -- nothing was spent since the last event
   stop_costs : now.steps ≡ mid.steps → (rest : List ℕ) → now.steps ≤ before.steps + out_cost mode
-      (by_bytes (reached.taken ++ rest))
+      (plays script (reached.taken ++ rest))
   stop_costs steps rest = let grows = reached.says.costs rest in omega (arith, reached.cost, grows, steps)
 
 -- the end of the capture
-module _ (mode : Mode) (by_bytes : List ℕ → Played) (before : Streams) (left : Option (List ℕ)) (mid now : Outlets)
+module _ (mode : Mode) (script : List ℕ → Script) (before : Streams) (left : Option (List ℕ)) (mid now : Outlets)
     (rig : RigState) (p : Progress)
-    (reached : Awaits mode by_bytes before (beside left mid) rig p (Err End)) (is_small : AreSmall by_bytes)
+    (reached : Awaits mode script before (beside left mid) rig p (Err End)) (is_small : AreSmall (plays script))
     (same : now.heard ≡ mid.heard) where
   end_costs : lacks_picture mode reached.tale.state.gpu.parts.regs ≡ false
       → now.steps ≤ mid.steps + final_cost mode reached.tale.state.gpu
-      → (rest : List ℕ) → now.steps ≤ before.steps + out_cost mode (by_bytes (reached.taken ++ rest))
+      → (rest : List ℕ) → now.steps ≤ before.steps + out_cost mode (plays script (reached.taken ++ rest))
   end_costs shows spent rest =
       rw (reached.says.says rest, shows)
       (spent_on before.steps mid.steps now.steps (tale_cost mode reached.tale)
       (final_cost mode reached.tale.state.gpu) reached.cost spent)
 
   done_ends : WritesEnd mode reached.tale.state.gpu (next_number rig.played) mid now
-      → EndsPlay mode by_bytes before (beside left now) rig Done
+      → EndsPlay mode script before (beside left now) rig Done
   done_ends wrote =
       let t = reached.tale in
       let Q : ℕ → Type 0 = λ number. WritesEnd mode t.state.gpu number mid now in
       let writes = subst Q (number_of rig t reached.stands) wrote in
       let due = final_bytes mode mid.heard (next_number t.played) t.state.gpu in
       let heard : mid.heard ≡ told_notes t.notes before.heard = reached.heard in
-      ends_behind mode by_bytes before left mid now rig p End reached is_small same Done (
+      ends_behind mode script before left mid now rig p End reached is_small same Done (
         reached.says.says,
         shown_ends mode t writes.shows,
         writes.held ∙ ap (λ xs. appended xs due) reached.held
@@ -347,13 +356,13 @@ module _ (mode : Mode) (by_bytes : List ℕ → Played) (before : Streams) (left
 
   finals_end : (number : ℕ) → number ≡ next_number rig.played
       → WritesEndPart mode reached.tale.state.gpu (next_number rig.played) mid now
-      → EndsPlay mode by_bytes before (beside left now) rig (WriteFailed number)
+      → EndsPlay mode script before (beside left now) rig (WriteFailed number)
   finals_end number at wrote =
       let t = reached.tale in
       let Q : ℕ → Type 0 = λ number. WritesEndPart mode t.state.gpu number mid now in
       let writes = subst Q (number_of rig t reached.stands) wrote in
       let due = final_bytes mode mid.heard (next_number t.played) t.state.gpu in
-      ends_behind mode by_bytes before left mid now rig p End reached is_small same (WriteFailed number)
+      ends_behind mode script before left mid now rig p End reached is_small same (WriteFailed number)
       (record {
         number_is = at ∙ number_of rig t reached.stands;
         start = t;
@@ -377,24 +386,24 @@ module _ (mode : Mode) (by_bytes : List ℕ → Played) (before : Streams) (left
 
   lacks_end : (number : ℕ) → number ≡ next_number rig.played
       → lacks_picture mode reached.tale.state.gpu.parts.regs ≡ true → now ≡ mid
-      → EndsPlay mode by_bytes before (beside left now) rig (NoPicture number)
+      → EndsPlay mode script before (beside left now) rig (NoPicture number)
   lacks_end number at lacks unchanged =
       let t = reached.tale in
       let held : now.held ≡ mid.held = ap (λ (at : Outlets). at.held) unchanged in
       let steps : now.steps ≡ mid.steps = ap (λ (at : Outlets). at.steps) unchanged in
-      ends_behind mode by_bytes before left mid now rig p End reached is_small same (NoPicture number) (
+      ends_behind mode script before left mid now rig p End reached is_small same (NoPicture number) (
         reached.says.says,
         lacking_ends mode t lacks ∙ ap NoPicture (sym (at ∙ number_of rig t reached.stands)),
         held
             ∙ reached.held,
       )
-      refl (stop_costs mode by_bytes before left mid now rig p End reached is_small same steps)
+      refl (stop_costs mode script before left mid now rig p End reached is_small same steps)
 
-module _ (mode : Mode) (by_bytes : List ℕ → Played) (before : Streams) (left : Option (List ℕ)) (mid now : Outlets)
+module _ (mode : Mode) (script : List ℕ → Script) (before : Streams) (left : Option (List ℕ)) (mid now : Outlets)
     (rig : RigState) (p : Progress) where
-  stopped_says : (stop : Stop) (t : Tale) (taken : List ℕ) → SaysNext by_bytes p left (Err stop) t taken → IsNotEnd stop
+  stopped_says : (stop : Stop) (t : Tale) (taken : List ℕ) → SaysNext script p left (Err stop) t taken → IsNotEnd stop
       → now.held ≡ appended before.held (lines_of mode t)
-      → SaysEnding mode by_bytes t t taken before (beside left now) (Stopped (next_number t.played) stop)
+      → SaysEnding mode script t t taken before (beside left now) (Stopped (next_number t.played) stop)
   stopped_says End t taken says not held = absurd not
   stopped_says (ReadFault byte) t taken says not held = (says, held)
   stopped_says (Truncated byte) t taken says not held = (says.0, held, says.1)
@@ -402,38 +411,38 @@ module _ (mode : Mode) (by_bytes : List ℕ → Played) (before : Streams) (left
   stopped_says (BadRecord byte word) t taken says not held = (says, held)
   stopped_says (TooLong byte) t taken says not held = (says, held)
 
-  pub stop_ends : (stop : Stop) (reached : Awaits mode by_bytes before (beside left mid) rig p (Err stop))
-      → AreSmall by_bytes → now.heard ≡ mid.heard
+  pub stop_ends : (stop : Stop) (reached : Awaits mode script before (beside left mid) rig p (Err stop))
+      → AreSmall (plays script) → now.heard ≡ mid.heard
       → (ending : Ending) → EndsAt mode reached.tale.state.gpu (next_number rig.played) stop mid now ending
-      → EndsPlay mode by_bytes before (beside left now) rig ending
+      → EndsPlay mode script before (beside left now) rig ending
   stop_ends stop reached is_small same Done (is, writes) =
-      let P : Stop → Type 0 = λ stop. (reached : Awaits mode by_bytes before (beside left mid) rig p (Err stop))
+      let P : Stop → Type 0 = λ stop. (reached : Awaits mode script before (beside left mid) rig p (Err stop))
       → WritesEnd mode reached.tale.state.gpu (next_number rig.played) mid now
-      → EndsPlay mode by_bytes before (beside left now) rig Done in
-      subst P (sym is) (λ reached writes. done_ends mode by_bytes before left mid now rig p reached is_small same
+      → EndsPlay mode script before (beside left now) rig Done in
+      subst P (sym is) (λ reached writes. done_ends mode script before left mid now rig p reached is_small same
       writes) reached writes
   stop_ends stop reached is_small same (WriteFailed number) (is, at, writes) =
-      let P : Stop → Type 0 = λ stop. (reached : Awaits mode by_bytes before (beside left mid) rig p (Err stop))
+      let P : Stop → Type 0 = λ stop. (reached : Awaits mode script before (beside left mid) rig p (Err stop))
       → WritesEndPart mode reached.tale.state.gpu (next_number rig.played) mid now
-      → EndsPlay mode by_bytes before (beside left now) rig (WriteFailed number) in
-      subst P (sym is) (λ reached writes. finals_end mode by_bytes before left mid now rig p reached is_small same
+      → EndsPlay mode script before (beside left now) rig (WriteFailed number) in
+      subst P (sym is) (λ reached writes. finals_end mode script before left mid now rig p reached is_small same
       number at writes) reached writes
   stop_ends stop reached is_small same (NoPicture number) (is, at, lacks, unchanged) =
-      let P : Stop → Type 0 = λ stop. (reached : Awaits mode by_bytes before (beside left mid) rig p (Err stop))
+      let P : Stop → Type 0 = λ stop. (reached : Awaits mode script before (beside left mid) rig p (Err stop))
       → lacks_picture mode reached.tale.state.gpu.parts.regs ≡ true
-      → EndsPlay mode by_bytes before (beside left now) rig (NoPicture number) in
-      subst P (sym is) (λ reached lacks. lacks_end mode by_bytes before left mid now rig p reached is_small same
+      → EndsPlay mode script before (beside left now) rig (NoPicture number) in
+      subst P (sym is) (λ reached lacks. lacks_end mode script before left mid now rig p reached is_small same
       number at lacks unchanged) reached lacks
   stop_ends stop reached is_small same (Stopped number told) (at, is, not, unchanged) =
       let t = reached.tale in
-      let Q : Ending → Type 0 = λ ending. EndsPlay mode by_bytes before (beside left now) rig ending in
+      let Q : Ending → Type 0 = λ ending. EndsPlay mode script before (beside left now) rig ending in
       let e : Stopped (next_number t.played) stop ≡ Stopped number told =
       ap (λ n. Stopped n stop) (sym (at ∙ number_of rig t reached.stands)) ∙ ap (Stopped number) (sym is) in
       let held : now.held ≡ mid.held = ap (λ (at : Outlets). at.held) unchanged in
       let steps : now.steps ≡ mid.steps = ap (λ (at : Outlets). at.steps) unchanged in
       subst Q e
-      (ends_behind mode by_bytes before left mid now rig p stop reached is_small same
+      (ends_behind mode script before left mid now rig p stop reached is_small same
       (Stopped (next_number t.played) stop)
       (stopped_says stop t reached.taken reached.says.says not (held ∙ reached.held)) refl
-      (stop_costs mode by_bytes before left mid now rig p stop reached is_small same steps))
+      (stop_costs mode script before left mid now rig p stop reached is_small same steps))
   stop_ends stop reached is_small same (Faulted number fault) ends = absurd ends

@@ -104,6 +104,14 @@ replayed t captured = played_events t captured.events captured.ending captured.r
 
 -- ---- whole captures
 
+-- what bytes give to play: the tale from which it goes on, and what a capture says
+pub record Script : Type 0 where
+  pub first : Tale
+  pub captured : Captured
+
+abbrev pub played_script : Script → Played
+played_script script = replayed script.first script.captured
+
 -- the version whose captures are played in the tall profile
 abbrev pub tall_version : ℕ
 tall_version = 3
@@ -115,13 +123,22 @@ tall_tale t = record t { state = tall_machine t.state }
 abbrev pub raised : Tale → (version : ℕ) → Tale
 raised t version = if version == tall_version then tall_tale t else t
 
+abbrev pub script_from : Tale → Captured → Script
+script_from first captured = record { first = raised first captured.version; captured = captured }
+
 abbrev pub played_from : Tale → Captured → Played
-played_from first captured = replayed (raised first captured.version) captured
+played_from first captured = played_script (script_from first captured)
 
 -- a whole capture; it is whole where no event has a fault and it ends with End, which is the ending Done
+abbrev pub script_of : Tale → List ℕ → Script
+script_of first bytes = script_from first (capture bytes)
+
 abbrev pub played_capture : Tale → List ℕ → Played
-played_capture first bytes = played_from first (capture bytes)
+played_capture first bytes = played_script (script_of first bytes)
 
 -- the bytes that a reader has still to take, from its place on; with a new reader this is Play
+abbrev pub script_behind : Tale → Progress → List ℕ → Script
+script_behind first progress bytes = script_from first (capture_from progress bytes)
+
 abbrev pub played_behind : Tale → Progress → List ℕ → Played
-played_behind first progress bytes = played_from first (capture_from progress bytes)
+played_behind first progress bytes = played_script (script_behind first progress bytes)

@@ -9,7 +9,7 @@ ghost use Rattle.event_play.specs.Causes.{MayReadFault, MayWriteFault, IsEnding}
 ghost use Rattle.event_play.specs.Ends.{PlaysOrEnds, EndsAt};
 ghost use Rattle.event_play.specs.PlayedWords.{IsTold, AreQuiet, after_words};
 ghost use Rattle.event_play.specs.Playing.{EndsPlay};
-ghost use Rattle.event_play.specs.Replay.{Tale, played_capture, played_behind, from_state, next_number, raised};
+ghost use Rattle.event_play.specs.Replay.{Tale, script_of, script_behind, from_state, next_number, raised};
 ghost use Rattle.event_play.specs.RigState.{Stands, StandsFor};
 ghost use Rattle.event_play.specs.Step.{Machine};
 ghost use Rattle.event_play.specs.Streams.{Outlets, outlets, streams, without_sink};
@@ -44,7 +44,7 @@ impl Rig {
         steps: &mut Steps<L>,
     ) -> Ending
         // For every state for which the rig stood, this is how playing the capture from it ends.
-        ensures ends { (s : Machine) → Stands self.old s → EndsPlay mode (played_capture (from_state s self.old.played))
+        ensures ends { (s : Machine) → Stands self.old s → EndsPlay mode (script_of (from_state s self.old.played))
             (streams (S.left source.old) (K.held out.old) (map T.heard taps.old.items) steps.old)
             (streams (S.left source.new) (K.held out.new) (map T.heard taps.new.items) steps.new) self.new result }
         ensures known { IsEnding result }
@@ -71,7 +71,7 @@ impl Rig {
         requires { reader.old.stop ≡ None }
         // For every state for which the rig stood, this is how playing ends from it and from the reader's place.
         ensures ends { (s : Machine) → Stands self.old s
-            → EndsPlay mode (played_behind (from_state s self.old.played) reader.old.progress)
+            → EndsPlay mode (script_behind (from_state s self.old.played) reader.old.progress)
             (streams (S.left source.old) (K.held out.old) (map T.heard taps.old.items) steps.old)
             (streams (S.left source.new) (K.held out.new) (map T.heard taps.new.items) steps.new) self.new result }
         ensures known { IsEnding result }

@@ -19,7 +19,7 @@ use Rattle.px_num.specs.Zeros.{zeros}
 use Rattle.vram_store.specs.Vram.{tall}
 use Rattle.event_play.specs.AlikeStates.{StandAlike, PlayAlike}
 use Rattle.event_play.specs.Out.{lines_of, out_bytes}
-use Rattle.event_play.specs.Replay.{Tale, Played, played_events, from_state, raised, played_from}
+use Rattle.event_play.specs.Replay.{Tale, Played, played_events, played_script, from_state, raised, played_from}
 use Rattle.event_play.specs.Splits.{alone, with_past}
 use Rattle.event_play.specs.Step.{Machine, tall_machine}
 use Rattle.event_play.specs.Told.{told_notes}
@@ -36,7 +36,7 @@ use Rattle.gpu_snapshot.specs.CutFiles.{WritesOn}
 use Rattle.gpu_snapshot.specs.CutFiles.{EndsOn, CutLaw}
 use Rattle.gpu_snapshot.specs.Laws.{snapshot_of, spelled, IsSpelledWhole}
 use Rattle.gpu_snapshot.specs.Opened.{Restored, opened, behind_head, opened_state}
-use Rattle.gpu_snapshot.specs.PlayAny.{played_file, played_opened, played_restored}
+use Rattle.gpu_snapshot.specs.PlayAny.{played_file, script_file, script_opened, played_restored}
 use Rattle.gpu_snapshot.specs.Restored.{machine_in, version_behind, first_place}
 use Rattle.gpu_snapshot.proofs.Heads.{head_of_snapshot}
 use Rattle.gpu_snapshot.proofs.Openings.{opened_behind}
@@ -62,8 +62,9 @@ spelled_opens s rest is =
 
 spelled_plays : (start : Tale) (s : Snapshot) (rest : List ℕ) → IsSpelledWhole s
     → played_file start (spelled s ++ rest) ≡ played_restored s (behind s) rest
-unfolding played_file
-spelled_plays start s rest is = ap (played_opened start (spelled s ++ rest)) (spelled_opens s rest is)
+unfolding script_file
+spelled_plays start s rest is =
+    ap played_script (ap (script_opened start (spelled s ++ rest)) (spelled_opens s rest is))
 
 -- the words that a snapshot keeps leave what those of its machine leave
 pub restored_alike : (s : Machine) (played : ℕ) → IsSpelledWhole (snapshot_of s played)

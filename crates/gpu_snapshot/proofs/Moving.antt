@@ -1,29 +1,47 @@
 -- How playing ends, where bytes were taken before it that lead to it.
-use Rattle.std.proofs.Common.{◌≡◌, ◌≤◌, ◌++◌, List, ℕ, Option, refl, ap, ◌∙◌, arith, inl, inr}
+use Rattle.std.proofs.Common.{◌≡◌, ◌≤◌, ◌++◌, List, [], ◌∷◌, ℕ, Option, refl, ap, ◌∙◌, arith, inl, inr}
 use Rattle.std.proofs.Common.{append_assoc}
 use Rattle.dev_io.specs.Device.{prepended}
 use Rattle.dev_io.proofs.Parts.{taken_on}
+use Rattle.gpu_capture.specs.Capture.{Captured, ended}
+use Rattle.gpu_capture.specs.Reading.{AreNeeded, IsCutShort}
+use Rattle.gpu_capture.specs.declared.event.Event.{Event}
 use Rattle.gpu_capture.specs.declared.event.Stop.TheVariants.{End, NotCapture, BadRecord, TooLong, Truncated, ReadFault}
 use Rattle.gpu_capture.proofs.Steps.{split}
 use Rattle.gpu_taps.specs.Tally.{Reading}
 use Rattle.event_play.specs.Out.{out_bytes}
-use Rattle.event_play.specs.Playing.{AreAllNeeded, DueAtEvent, DueAtEnd, LacksBytes, SaysEnding, EndsPlay}
-use Rattle.event_play.specs.Replay.{Tale, Played}
+use Rattle.event_play.specs.Playing.{AreAllNeeded, IsShort, IsReadTo, DueAtEvent, DueAtEnd, LacksBytes, SaysEnding}
+use Rattle.event_play.specs.Playing.{EndsPlay, plays, reads}
+use Rattle.event_play.specs.Replay.{Tale, Played, Script, played_script}
 use Rattle.event_play.specs.RigState.{RigState}
 use Rattle.event_play.specs.Streams.{Streams, streams}
 use Rattle.event_play.specs.declared.ending.Ending.{Ending}
 use Rattle.event_play.specs.declared.ending.Ending.TheVariants.{Done, Stopped, Faulted, NoPicture, WriteFailed}
 use Rattle.event_play.specs.declared.ending.Mode.{Mode}
 
+abbrev captured_of : Script → Captured
+captured_of script = script.captured
+
+-- these bytes give no event, and are cut short
+pub record SaysNothing (script : List ℕ → Script) (bytes : List ℕ) : Type 0 where
+  pub version : ℕ
+  pub byte : ℕ
+  pub is : reads script bytes ≡ ended version (Truncated byte) []
+
+-- a proper part of these bytes gives no event, and is cut short
+abbrev pub StopsShort : (List ℕ → Script) → List ℕ → Type 0
+StopsShort script front =
+    (part more : List ℕ) → front ≡ part ++ more → (more ≡ [] → ⊥) → SaysNothing script part
+
 -- an ending of playing, in which these bytes were taken first
-pub record EndsBehind (mode : Mode) (by_bytes : List ℕ → Played) (front : List ℕ) (before now : Streams)
+pub record EndsBehind (mode : Mode) (script : List ℕ → Script) (front : List ℕ) (before now : Streams)
     (rig : RigState) (ending : Ending) : Type 0 where
-  pub plays : EndsPlay mode by_bytes before now rig ending
+  pub plays : EndsPlay mode script before now rig ending
   pub more : List ℕ
   pub taken_is : plays.taken ≡ front ++ more
 
-module _ (mode : Mode) (by_bytes inner : List ℕ → Played) (front : List ℕ)
-    (leads : (bytes : List ℕ) → by_bytes (front ++ bytes) ≡ inner bytes)
+module _ (mode : Mode) (script inner : List ℕ → Script) (front : List ℕ)
+    (leads : (bytes : List ℕ) → script (front ++ bytes) ≡ inner bytes)
     (left mid held : Option (List ℕ)) (heard : List Reading) (steps steps_mid : ℕ) (now : Streams) where
   abbrev old : Streams
   old = streams mid held heard steps_mid
@@ -31,20 +49,71 @@ module _ (mode : Mode) (by_bytes inner : List ℕ → Played) (front : List ℕ)
   abbrev new : Streams
   new = streams left held heard steps
 
-  move : (taken rest : List ℕ) → by_bytes ((front ++ taken) ++ rest) ≡ inner (taken ++ rest)
-  move taken rest = ap by_bytes (append_assoc front taken rest) ∙ leads (taken ++ rest)
+  same : (taken rest : List ℕ) → script ((front ++ taken) ++ rest) ≡ inner (taken ++ rest)
+  same taken rest = ap script (append_assoc front taken rest) ∙ leads (taken ++ rest)
 
-  event_moved : (t start last : Tale) (taken due : List ℕ) → DueAtEvent mode inner t start last taken due
-      → DueAtEvent mode by_bytes t start last (front ++ taken) due
-  event_moved t start last taken due was = record {
+  move : (taken rest : List ℕ) → plays script ((front ++ taken) ++ rest) ≡ plays inner (taken ++ rest)
+  move taken rest = ap played_script (same taken rest)
+
+  -- a proper part of the bytes in front is short of every event
+  read_needed : (events : List Event) (event : Event) (taken : List ℕ) → StopsShort script front
+      → AreNeeded (reads inner) (events ++ event ∷ []) taken
+      → AreNeeded (reads script) (events ++ event ∷ []) (front ++ taken)
+  read_needed events event taken first next part more is some =
+      elim (split front taken part more is) [
+        | inl behind ↦
+            let short = next behind.0 more behind.2 some in (
+              short.0,
+              short.1,
+              record {
+                version = short.2.version;
+                byte = short.2.byte;
+                fewer = short.2.fewer;
+                are = short.2.are;
+                is = ap (reads script) behind.1 ∙ ap captured_of (leads behind.0) ∙ short.2.is;
+              },
+            )
+        | inr inside ↦ none_of events event part (first part inside.0 inside.1 inside.2)
+      ]
+    where
+      none_of : (events : List Event) (event : Event) (part : List ℕ) → SaysNothing script part
+          → (event_more : Event) × (missing : List Event)
+          × IsCutShort (reads script) (events ++ event ∷ []) part (event_more ∷ missing)
+      none_of [] event part none = (
+        event,
+        [],
+        record { version = none.version; byte = none.byte; fewer = []; are = refl; is = none.is },
+      )
+      none_of (e ∷ es) event part none = (
+        e,
+        es ++ event ∷ [],
+        record { version = none.version; byte = none.byte; fewer = []; are = refl; is = none.is },
+      )
+
+  read_moved : (t : Tale) (taken : List ℕ) (events : List Event) (event : Event) → StopsShort script front
+      → IsReadTo inner t taken events event → IsReadTo script t (front ++ taken) events event
+  read_moved t taken events event first was = record {
+    first = was.first;
+    version = was.version;
+    begins = λ rest. ap (λ (s : Script). s.first) (same taken rest) ∙ was.begins rest;
+    says = λ rest. let come = was.says rest in (come.0, ap captured_of (same taken rest) ∙ come.1, come.2);
+    needed = read_needed events event taken first was.needed;
+    follows = was.follows;
+  }
+
+  event_moved : (t start last : Tale) (taken due : List ℕ) → StopsShort script front
+      → DueAtEvent mode inner t start last taken due
+      → DueAtEvent mode script t start last (front ++ taken) due
+  event_moved t start last taken due first was = record {
+    before = was.before;
     event = was.event;
-    comes = λ rest. let come = was.comes rest in (come.0, move taken rest ∙ come.1);
+    is_read = read_moved t taken was.before was.event first was.is_read;
     inside = was.inside;
     lines = was.lines;
   }
 
   end_moved : (t start last : Tale) (taken due : List ℕ) → DueAtEnd mode heard inner t start last taken due
-      → DueAtEnd mode heard by_bytes t start last (front ++ taken) due
+      → DueAtEnd mode heard script t start last (front ++ taken) due
   end_moved t start last taken due was = record {
     comes = λ rest. move taken rest ∙ was.comes rest;
     ends = was.ends;
@@ -53,56 +122,66 @@ module _ (mode : Mode) (by_bytes inner : List ℕ → Played) (front : List ℕ)
     bytes = was.bytes;
   }
 
-  lacks_moved : (t last : Tale) (taken : List ℕ) (number : ℕ) → LacksBytes mode inner t last taken number old now
-      → LacksBytes mode by_bytes t last (front ++ taken) number new now
-  lacks_moved t last taken number was = record {
+  lacks_moved : (t last : Tale) (taken : List ℕ) (number : ℕ) → StopsShort script front
+      → LacksBytes mode inner t last taken number old now
+      → LacksBytes mode script t last (front ++ taken) number new now
+  lacks_moved t last taken number first was = record {
     number_is = was.number_is;
     start = was.start;
     due = was.due;
     place = elim was.place [
-      | inl event ↦ inl (event_moved t was.start last taken was.due event)
+      | inl event ↦ inl (event_moved t was.start last taken was.due first event)
       | inr end ↦ inr (end_moved t was.start last taken was.due end)
     ];
     held = was.held;
     prefix = λ rest. let p = was.prefix rest in (p.0, ap (out_bytes mode heard) (move taken rest) ∙ p.1);
   }
 
-  says_moved : (t last : Tale) (taken : List ℕ) (ending : Ending) → SaysEnding mode inner t last taken old now ending
-      → SaysEnding mode by_bytes t last (front ++ taken) new now ending
-  says_moved t last taken Done says = (λ rest. move taken rest ∙ says.0 rest, says.1, says.2)
-  says_moved t last taken (NoPicture number) says = (λ rest. move taken rest ∙ says.0 rest, says.1, says.2)
-  says_moved t last taken (Stopped number (ReadFault byte)) says = (leads taken ∙ says.0, says.1)
-  says_moved t last taken (Stopped number (Truncated byte)) says = (leads taken ∙ says.0, says.1, says.2)
-  says_moved t last taken (Stopped number End) says = (λ rest. move taken rest ∙ says.0 rest, says.1)
-  says_moved t last taken (Stopped number (NotCapture byte)) says = (λ rest. move taken rest ∙ says.0 rest, says.1)
-  says_moved t last taken (Stopped number (BadRecord byte word)) says = (λ rest. move taken rest ∙ says.0 rest, says.1)
-  says_moved t last taken (Stopped number (TooLong byte)) says = (λ rest. move taken rest ∙ says.0 rest, says.1)
-  says_moved t last taken (Faulted number fault) says = (
+  says_moved : (t last : Tale) (taken : List ℕ) (ending : Ending) → StopsShort script front
+      → SaysEnding mode inner t last taken old now ending
+      → SaysEnding mode script t last (front ++ taken) new now ending
+  says_moved t last taken Done first says = (λ rest. move taken rest ∙ says.0 rest, says.1, says.2)
+  says_moved t last taken (NoPicture number) first says = (λ rest. move taken rest ∙ says.0 rest, says.1, says.2)
+  says_moved t last taken (Stopped number (ReadFault byte)) first says =
+      (ap played_script (leads taken) ∙ says.0, says.1)
+  says_moved t last taken (Stopped number (Truncated byte)) first says =
+      (ap played_script (leads taken) ∙ says.0, says.1, says.2)
+  says_moved t last taken (Stopped number End) first says = (λ rest. move taken rest ∙ says.0 rest, says.1)
+  says_moved t last taken (Stopped number (NotCapture byte)) first says =
+      (λ rest. move taken rest ∙ says.0 rest, says.1)
+  says_moved t last taken (Stopped number (BadRecord byte word)) first says =
+      (λ rest. move taken rest ∙ says.0 rest, says.1)
+  says_moved t last taken (Stopped number (TooLong byte)) first says = (λ rest. move taken rest ∙ says.0 rest, says.1)
+  says_moved t last taken (Faulted number fault) first says = (
     λ rest. let s = says.0 rest in
         (ap (λ (r : Played). r.tale) (move taken rest) ∙ s.0, ap (λ (r : Played). r.ending) (move taken rest) ∙ s.1),
     says.1,
   )
-  says_moved t last taken (WriteFailed number) says = lacks_moved t last taken number says
+  says_moved t last taken (WriteFailed number) first says = lacks_moved t last taken number first says
 
-  needed_moved : (taken : List ℕ) → AreAllNeeded by_bytes front → AreAllNeeded inner taken
-      → AreAllNeeded by_bytes (front ++ taken)
+  stops : (part : List ℕ) → SaysNothing script part → IsShort (plays script part).ending
+  stops part none = rw none.is tt
+
+  needed_moved : (taken : List ℕ) → StopsShort script front → AreAllNeeded (plays inner) taken
+      → AreAllNeeded (plays script) (front ++ taken)
   needed_moved taken first next part more is some =
       elim (split front taken part more is) [
         | inl behind ↦
-            let e : by_bytes part ≡ inner behind.0 = ap by_bytes behind.1 ∙ leads behind.0 in
+            let e : plays script part ≡ plays inner behind.0 =
+            ap (plays script) behind.1 ∙ ap played_script (leads behind.0) in
             rw e (next behind.0 more behind.2 some)
-        | inr inside ↦ first part inside.0 inside.1 inside.2
+        | inr inside ↦ let none = first part inside.0 inside.1 inside.2 in stops part none
       ]
 
-  abbrev moved : (rig : RigState) (ending : Ending) → left ≡ prepended front mid → AreAllNeeded by_bytes front
-      → steps_mid ≤ steps → EndsPlay mode inner old now rig ending → EndsPlay mode by_bytes new now rig ending
+  abbrev moved : (rig : RigState) (ending : Ending) → left ≡ prepended front mid → StopsShort script front
+      → steps_mid ≤ steps → EndsPlay mode inner old now rig ending → EndsPlay mode script new now rig ending
   moved rig ending bytes needed few ends = record {
     taken = front ++ ends.taken;
     bytes = taken_on left mid now.left front ends.taken bytes ends.bytes;
     needed = needed_moved ends.taken needed ends.needed;
     tale = ends.tale;
     last = ends.last;
-    says = says_moved ends.tale ends.last ends.taken ending ends.says;
+    says = says_moved ends.tale ends.last ends.taken ending needed ends.says;
     is_last = ends.is_last;
     stands = ends.stands;
     heard = ends.heard;
@@ -110,8 +189,8 @@ module _ (mode : Mode) (by_bytes inner : List ℕ → Played) (front : List ℕ)
     box_cost = λ rest. rw (move ends.taken rest) (let c = ends.box_cost rest in omega (arith, c, few));
   }
 
-  pub ends_moved : (rig : RigState) (ending : Ending) → left ≡ prepended front mid → AreAllNeeded by_bytes front
+  pub ends_moved : (rig : RigState) (ending : Ending) → left ≡ prepended front mid → StopsShort script front
       → steps_mid ≤ steps → EndsPlay mode inner old now rig ending
-      → EndsBehind mode by_bytes front new now rig ending
+      → EndsBehind mode script front new now rig ending
   ends_moved rig ending bytes needed few ends =
       record { plays = moved rig ending bytes needed few ends; more = ends.taken; taken_is = refl }

@@ -5,7 +5,7 @@ use Rattle.std.proofs.Common.{append_assoc, append-nil}
 use Rattle.std.proofs.lemmas.Bool.{cases_Bool}
 use Rattle.dev_io.specs.Device.{appended}
 use Rattle.dev_io.proofs.Appended.{appended-nil}
-use Rattle.gpu_capture.specs.Capture.{capture, records}
+use Rattle.gpu_capture.specs.Capture.{Captured, capture, records}
 use Rattle.gpu_capture.specs.Reader.{tag_due, capture_from}
 use Rattle.gpu_capture.specs.State.{ReaderState}
 use Rattle.gpu_capture.specs.declared.progress.Progress.{Progress}
@@ -16,8 +16,8 @@ use Rattle.gpu_capture.proofs.Steps.{at_word}
 use Rattle.gpu_capture.proofs.Versions.{version_from}
 use Rattle.gpu_taps.specs.Tally.{Reading}
 use Rattle.event_play.specs.Out.{lines_of}
-use Rattle.event_play.specs.Playing.{IsShort, AreAllNeeded, SaysEnding, EndsPlay}
-use Rattle.event_play.specs.Replay.{Tale, played_behind, played_from, replayed, raised, from_state}
+use Rattle.event_play.specs.Playing.{AreAllNeeded, SaysEnding, EndsPlay}
+use Rattle.event_play.specs.Replay.{Tale, Script, script_behind, script_from, played_script, raised, from_state}
 use Rattle.event_play.specs.Replay.{tall_version}
 use Rattle.event_play.specs.RigState.{RigState, first_rig, Stands}
 use Rattle.event_play.specs.Step.{Machine}
@@ -35,33 +35,41 @@ use Rattle.gpu_snapshot.specs.Opened.{Opened, Captured as IsCapture, Restored, U
 use Rattle.gpu_snapshot.specs.Opened.{behind_head}
 use Rattle.gpu_snapshot.specs.Opened.{opened_state}
 use Rattle.gpu_snapshot.specs.Opening.{OpensCapture, OpensState, Refuses, AreNeeded, IsTooShort, opening_cost}
-use Rattle.gpu_snapshot.specs.PlayAny.{played_file, played_opened, EndsAny, PlaysAny, IsGood, HasNoBadWord}
+use Rattle.gpu_snapshot.specs.PlayAny.{played_file, script_file, script_opened, EndsAny, PlaysAny, IsGood, HasNoBadWord}
 use Rattle.gpu_snapshot.specs.PlayAny.{FindsBadWord, any_ending_of}
 use Rattle.gpu_snapshot.specs.Restored.{machine_in, version_behind}
 use Rattle.gpu_snapshot.specs.declared.head.FileHead.{FileHead}
 use Rattle.gpu_snapshot.specs.declared.head.FileHead.TheVariants as head
 use Rattle.gpu_snapshot.proofs.Heads.{capture_is}
-use Rattle.gpu_snapshot.proofs.Moving.{ends_moved}
+use Rattle.gpu_snapshot.proofs.Moving.{SaysNothing, StopsShort, ends_moved}
 use Rattle.gpu_snapshot.proofs.Profiles.{tall_twice}
 
 -- ---- by what is opened
 
 play_by : (first : Tale) (bytes : List ℕ) (found : Opened) → opened bytes ≡ found
-    → played_file first bytes ≡ played_opened first bytes found
-unfolding played_file
-play_by first bytes found is = ap (played_opened first bytes) is
+    → script_file first bytes ≡ script_opened first bytes found
+unfolding script_file
+play_by first bytes found is = ap (script_opened first bytes) is
 
-short_play : (first : Tale) (bytes : List ℕ) (found : Opened) → IsTooShort found
-    → IsShort (played_opened first bytes found).ending
-short_play first bytes (BreaksOff place) short = tt
-short_play first bytes (IsCapture version rest) short = absurd short
-short_play first bytes (Restored s place rest) short = absurd short
-short_play first bytes (Unknown place rest) short = absurd short
-short_play first bytes (BadWord place word) short = absurd short
+short_play : (first : Tale) (bytes : List ℕ) (found : Opened) → IsTooShort found → opened bytes ≡ found
+    → SaysNothing (script_file first) bytes
+short_play first bytes (BreaksOff place) short is = record {
+  version = 0;
+  byte = place;
+  is = ap (λ (s : Script). s.captured) (play_by first bytes (BreaksOff place) is);
+}
+short_play first bytes (IsCapture version rest) short is = absurd short
+short_play first bytes (Restored s place rest) short is = absurd short
+short_play first bytes (Unknown place rest) short is = absurd short
+short_play first bytes (BadWord place word) short is = absurd short
+
+stops_short : (first : Tale) (taken : List ℕ) → AreNeeded taken → StopsShort (script_file first) taken
+stops_short first taken needed part more is some =
+    short_play first part (opened part) (needed part more is some) refl
 
 pub all_needed : (first : Tale) (taken : List ℕ) → AreNeeded taken → AreAllNeeded (played_file first) taken
 all_needed first taken needed part more is some =
-    rw (play_by first part (opened part) refl) (short_play first part (opened part) (needed part more is some))
+    let none = stops_short first taken needed part more is some in rw none.is tt
 
 pub good_all : (ending : Ending) (taken : List ℕ) → ((rest : List ℕ) → HasNoBadWord (opened (taken ++ rest)))
     → IsGood ending taken
@@ -112,45 +120,48 @@ raised_twice s version = elim (cases_Bool (version == tall_version)) [
   | inr is ↦ rw is refl
 ]
 
+abbrev starting : Tale → Captured → Script
+starting t c = record { first = t; captured = c }
+
 pub capture_leads : (s : Machine) (version : ℕ) (front bytes : List ℕ) → 1 ≤ version
     → ((rest : List ℕ) → opened (front ++ rest) ≡ IsCapture version rest)
-    → played_file (from_state s 0) (front ++ bytes)
-    ≡ played_behind (from_state (raised (from_state s 0) version).state 0) (tag_due version 8) bytes
+    → script_file (from_state s 0) (front ++ bytes)
+    ≡ script_behind (from_state (raised (from_state s 0) version).state 0) (tag_due version 8) bytes
 capture_leads s version front bytes known says =
     let first = from_state s 0 in
     let c = capture_from (tag_due version 8) bytes in
     let is : c.version ≡ version = version_from (tag_due version 8) bytes known in
     play_by first (front ++ bytes) (IsCapture version bytes) (says bytes)
-    ∙ ap (played_from first) (captured_is (front ++ bytes) version bytes (says bytes)
+    ∙ ap (script_from first) (captured_is (front ++ bytes) version bytes (says bytes)
     ∙ sym (from_tag version bytes known))
-    ∙ ap (λ v. replayed (raised first v) c) is
-    ∙ ap (λ t. replayed t c) (sym (raised_twice s version))
-    ∙ ap (λ v. replayed (raised (from_state (raised first version).state 0) v) c) (sym is)
+    ∙ ap (λ v. starting (raised first v) c) is
+    ∙ ap (λ t. starting t c) (sym (raised_twice s version))
+    ∙ ap (λ v. starting (raised (from_state (raised first version).state 0) v) c) (sym is)
 
 pub plays_capture : (mode : Mode) (s : Machine) (left mid held : Option (List ℕ)) (heard : List Reading)
     (steps steps_mid : ℕ) (now : Streams) (opened_rig rig : RigState) (reader : ReaderState) (ending : Ending)
     → OpensCapture (intake left steps) (intake mid steps_mid) opened_rig reader → Stands first_rig s
     → ((t : Machine) → Stands opened_rig t
-    → EndsPlay mode (played_behind (from_state t opened_rig.played) reader.progress)
+    → EndsPlay mode (script_behind (from_state t opened_rig.played) reader.progress)
     (streams mid held heard steps_mid) now rig ending)
     → PlaysAny mode (from_state s 0) (streams left held heard steps) now ending
 plays_capture mode s left mid held heard steps steps_mid now opened_rig rig reader ending opens stands plays =
     let first = from_state s 0 in
     let m : Machine = (raised first opens.version).state in
     let for_all = opens.stands first (record { state = stands; played = refl }) in
-    let ByPlayed : ℕ → Type 0 = λ p. EndsPlay mode (played_behind (from_state m p) reader.progress)
+    let ByPlayed : ℕ → Type 0 = λ p. EndsPlay mode (script_behind (from_state m p) reader.progress)
     (streams mid held heard steps_mid) now rig ending in
-    let ByReader : Progress → Type 0 = λ p. EndsPlay mode (played_behind (from_state m 0) p)
+    let ByReader : Progress → Type 0 = λ p. EndsPlay mode (script_behind (from_state m 0) p)
     (streams mid held heard steps_mid) now rig ending in
-    let ends : EndsPlay mode (played_behind (from_state m 0) (tag_due opens.version 8))
+    let ends : EndsPlay mode (script_behind (from_state m 0) (tag_due opens.version 8))
     (streams mid held heard steps_mid) now rig ending =
     subst ByReader (ap (λ (r : ReaderState). r.progress) opens.reader_is)
     (subst ByPlayed opens.played (plays m for_all.state)) in
-    let moved = ends_moved mode (played_file first)
-    (played_behind (from_state m 0) (tag_due opens.version 8)) opens.taken
+    let moved = ends_moved mode (script_file first)
+    (script_behind (from_state m 0) (tag_due opens.version 8)) opens.taken
     (λ bytes. capture_leads s opens.version opens.taken bytes opens.known.0 opens.says)
     left mid held heard (steps + 0) steps_mid now rig ending opens.bytes
-    (all_needed first opens.taken opens.needed) (let c = opens.cost in omega (arith, c)) ends in
+    (stops_short first opens.taken opens.needed) (let c = opens.cost in omega (arith, c)) ends in
     let Good : List ℕ → Type 0 = λ taken. IsGood ending taken in
     record {
       rig = rig;
@@ -167,7 +178,7 @@ pub plays_state : (mode : Mode) (s : Machine) (left mid held : Option (List ℕ)
     (steps steps_mid : ℕ) (now : Streams) (opened_rig rig : RigState) (reader : ReaderState) (ending : Ending)
     → OpensState (intake left steps) (intake mid steps_mid) opened_rig reader
     → ((t : Machine) → Stands opened_rig t
-    → EndsPlay mode (played_behind (from_state t opened_rig.played) reader.progress)
+    → EndsPlay mode (script_behind (from_state t opened_rig.played) reader.progress)
     (streams mid held heard steps_mid) now rig ending)
     → PlaysAny mode (from_state s 0) (streams left held heard steps) now ending
 plays_state mode s left mid held heard steps steps_mid now opened_rig rig reader ending opens plays =
@@ -175,18 +186,18 @@ plays_state mode s left mid held heard steps steps_mid now opened_rig rig reader
     let m : Machine = machine_in opens.snapshot in
     let o = opens.snapshot.outline in
     let tag : Progress = tag_due (version_behind o.regs.height) opens.place in
-    let ByPlayed : ℕ → Type 0 = λ p. EndsPlay mode (played_behind (from_state m p) reader.progress)
+    let ByPlayed : ℕ → Type 0 = λ p. EndsPlay mode (script_behind (from_state m p) reader.progress)
     (streams mid held heard steps_mid) now rig ending in
-    let ByReader : Progress → Type 0 = λ p. EndsPlay mode (played_behind (from_state m o.played) p)
+    let ByReader : Progress → Type 0 = λ p. EndsPlay mode (script_behind (from_state m o.played) p)
     (streams mid held heard steps_mid) now rig ending in
-    let ends : EndsPlay mode (played_behind (from_state m o.played) tag)
+    let ends : EndsPlay mode (script_behind (from_state m o.played) tag)
     (streams mid held heard steps_mid) now rig ending =
     subst ByReader (ap (λ (r : ReaderState). r.progress) opens.reader_is)
     (subst ByPlayed (ap (λ (r : RigState). r.played) opens.rig_is) (plays m opens.stands)) in
-    let moved = ends_moved mode (played_file first) (played_behind (from_state m o.played) tag) opens.taken
+    let moved = ends_moved mode (script_file first) (script_behind (from_state m o.played) tag) opens.taken
     (λ bytes. play_by first (opens.taken ++ bytes) (Restored opens.snapshot opens.place bytes) (opens.says bytes))
     left mid held heard (steps + 64 * o.regs.height) steps_mid now rig ending opens.bytes
-    (all_needed first opens.taken opens.needed) opens.cost ends in
+    (stops_short first opens.taken opens.needed) opens.cost ends in
     let Good : List ℕ → Type 0 = λ taken. IsGood ending taken in
     record {
       rig = rig;
@@ -218,7 +229,7 @@ module _ (mode : Mode) (s : Machine) (left mid held : Option (List ℕ)) (heard 
   now = streams mid held heard steps_mid
 
   unplayed_ends : (stop : Stop) (refuses : Refuses (intake left steps) (intake mid steps_mid) (fault.Stop stop))
-      → SaysEnding mode (played_file start) start start refuses.taken before now (Stopped 1 stop)
+      → SaysEnding mode (script_file start) start start refuses.taken before now (Stopped 1 stop)
       → IsGood (Stopped 1 stop) refuses.taken → PlaysAny mode start before now (Stopped 1 stop)
   unplayed_ends stop refuses says good = record {
     rig = first_rig;
@@ -255,16 +266,18 @@ module _ (mode : Mode) (s : Machine) (left mid held : Option (List ℕ)) (heard 
     cost = refuses.cost;
   }
   refuses_any (fault.Stop (NotCapture byte)) refuses =
-      unplayed_ends (NotCapture byte) refuses
-      (λ rest. play_by start (refuses.taken ++ rest) (Unknown byte rest) (refuses.says rest), same_held)
+      unplayed_ends (NotCapture byte) refuses (
+        λ rest. ap played_script (play_by start (refuses.taken ++ rest) (Unknown byte rest) (refuses.says rest)),
+        same_held,
+      )
       (λ rest. rw (refuses.says rest) tt)
   refuses_any (fault.Stop (Truncated byte)) refuses =
       unplayed_ends (Truncated byte) refuses
-      (play_by start refuses.taken (BreaksOff byte) refuses.says.0, same_held, refuses.says.1)
+      (ap played_script (play_by start refuses.taken (BreaksOff byte) refuses.says.0), same_held, refuses.says.1)
       (rw refuses.says.0 tt)
   refuses_any (fault.Stop (ReadFault byte)) refuses =
       unplayed_ends (ReadFault byte) refuses
-      (play_by start refuses.taken (BreaksOff byte) refuses.says, same_held) (rw refuses.says tt)
+      (ap played_script (play_by start refuses.taken (BreaksOff byte) refuses.says), same_held) (rw refuses.says tt)
   refuses_any (fault.Stop End) refuses = absurd refuses.says
   refuses_any (fault.Stop (BadRecord byte word)) refuses = absurd refuses.says
   refuses_any (fault.Stop (TooLong byte)) refuses = absurd refuses.says

@@ -1,13 +1,15 @@
 -- How a capture or a snapshot is played (our own rule).
 use Rattle.std.specs.Prelude.{◌≡◌, ◌≤◌, ℕ, ◌+◌, List, [], ◌++◌}
 use Rattle.dev_io.specs.Device.{prepended}
+use Rattle.gpu_capture.specs.Capture.{ended}
 use Rattle.gpu_capture.specs.Reader.{tag_due}
 use Rattle.gpu_capture.specs.declared.event.Stop.{Stop}
 use Rattle.gpu_capture.specs.declared.event.Stop.TheVariants.{NotCapture, Truncated, BadRecord, ReadFault}
 use Rattle.event_play.specs.Causes.{MayReadFault, MayWriteFault, IsEnding}
 use Rattle.event_play.specs.Out.{ending_under}
 use Rattle.event_play.specs.Playing.{EndsPlay}
-use Rattle.event_play.specs.Replay.{Tale, Played, played_capture, played_behind, from_state, next_number}
+use Rattle.event_play.specs.Replay.{Tale, Played, Script, played_script, script_from, script_of, script_behind}
+use Rattle.event_play.specs.Replay.{from_state}
 use Rattle.event_play.specs.RigState.{RigState}
 use Rattle.event_play.specs.Streams.{Streams}
 use Rattle.event_play.specs.declared.ending.Ending.{Ending}
@@ -27,27 +29,32 @@ abbrev pub restored_tale : Snapshot → Tale
 restored_tale s = from_state (machine_in s) s.outline.played
 
 -- the records behind a state that ends at a place, played from it
-abbrev pub played_restored : Snapshot → (place : ℕ) → List ℕ → Played
-played_restored s place rest = played_behind (restored_tale s) (tag_due (version_behind s.outline.regs.height) place)
+abbrev pub script_restored : Snapshot → (place : ℕ) → List ℕ → Script
+script_restored s place rest = script_behind (restored_tale s) (tag_due (version_behind s.outline.regs.height) place)
     rest
 
--- nothing is played, and it ends with this stop
-abbrev pub unplayed : Tale → Stop → List ℕ → Played
-unplayed first stop rest =
-    record { tale = first; ending = Stopped (next_number first.played) stop; rest = rest }
+abbrev pub played_restored : Snapshot → (place : ℕ) → List ℕ → Played
+played_restored s place rest = played_script (script_restored s place rest)
 
-abbrev pub played_opened : Tale → (bytes : List ℕ) → Opened → Played
-played_opened first bytes (Captured version rest) = played_capture first bytes
-played_opened first bytes (Restored s place rest) = played_restored s place rest
-played_opened first bytes (Unknown place rest) = unplayed first (NotCapture place) rest
-played_opened first bytes (BreaksOff place) = unplayed first (Truncated place) []
-played_opened first bytes (BadWord place word) = unplayed first (BadRecord place word) []
+-- nothing is played, and it ends with this stop
+abbrev pub unplayed : Tale → Stop → List ℕ → Script
+unplayed first stop rest = script_from first (ended 0 stop rest)
+
+abbrev pub script_opened : Tale → (bytes : List ℕ) → Opened → Script
+script_opened first bytes (Captured version rest) = script_of first bytes
+script_opened first bytes (Restored s place rest) = script_restored s place rest
+script_opened first bytes (Unknown place rest) = unplayed first (NotCapture place) rest
+script_opened first bytes (BreaksOff place) = unplayed first (Truncated place) []
+script_opened first bytes (BadWord place word) = unplayed first (BadRecord place word) []
 
 -- A capture is played from a tale; a snapshot from its own state, with the records behind it. Other bytes have no
 -- event. Those in which a word of a state may not stand at its place end as if it were that of a record;
 -- `any_ending_under` tells them apart.
-unfoldable pub played_file : Tale → List ℕ → Played
-played_file first bytes = played_opened first bytes (opened bytes)
+unfoldable pub script_file : Tale → List ℕ → Script
+script_file first bytes = script_opened first bytes (opened bytes)
+
+abbrev pub played_file : Tale → List ℕ → Played
+played_file first bytes = played_script (script_file first bytes)
 
 -- ---- endings
 
@@ -98,7 +105,7 @@ spent before more = record before { steps = before.steps + more }
 pub record PlaysAny (mode : Mode) (first : Tale) (before now : Streams) (ending : Ending) : Type 0 where
   pub rig : RigState
   pub opening : ℕ
-  pub plays : EndsPlay mode (played_file first) (spent before opening) now rig ending
+  pub plays : EndsPlay mode (script_file first) (spent before opening) now rig ending
   pub good : IsGood ending plays.taken
   pub cost : (rest : List ℕ) → opening ≤ opening_cost (plays.taken ++ rest)
 

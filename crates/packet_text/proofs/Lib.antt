@@ -1,1 +1,2 @@
 pub mod TapLemmas
+mod Fits

@@ -1,10 +1,11 @@
 // The lines of words, of the status and of notes.
-ghost use Rattle.std.specs.Prelude.{◌≡◌, ◌≤◌, None, Some};
+ghost use Rattle.std.specs.Prelude.{◌≡◌, ◌≤◌, None, Some, length};
 ghost use Rattle.dev_io.specs.Device.{Writes};
 ghost use Rattle.packet_text.specs.Line.{word_line, status_line, note_name, note_line, change_line};
 
 use crate::number::{cell_digits, decimal_text, hex_digits, signed_text};
-use dev_io::{Failed, Sink, write_pieces};
+use crate::text::{LineText, line_text};
+use dev_io::{Failed, Sink, write_all, write_pieces};
 use gp0_packets::Note;
 use itoa::Buffer;
 use px_num::{Box2, bits};
@@ -25,21 +26,44 @@ pub fn write_status<K: Sink>(out: &mut K, word: u32) -> Result<(), Failed>
     write_pieces(out, &[b"status ", &hex_digits(word), b"\n"])
 }
 
-/// Writes the line of a note: its event, its name, its head in eight hexadecimal digits, and the corners of its area,
-/// or a dash where it has none.
+/// The line of a note: its event, its name, its head in eight hexadecimal digits, and the corners of its area, or a
+/// dash where it has none.
+pub fn note_text(note: &Note) -> LineText
+    requires { note.now.class ≤ 9 }
+    ensures { result.items ≡ note_line note.now }
+{
+    match &note.area {
+        None => bare_text(note),
+        Some(area) => text_with_area(note, area),
+    }
+}
+
+/// The line of what an item changed of a cell: its event, its name, its head in eight hexadecimal digits, and the cell
+/// before and behind it in four.
+#[tactic(auto, unfolding(crate::specs::Line::change_line))]
+pub fn change_text(note: &Note, before: u16, after: u16) -> LineText
+    ensures { result.items ≡ change_line note.now before after }
+{
+    let mut number = Buffer::new();
+    let event = decimal_text(&mut number, note.event);
+    let name = name_of(note.class, note.head);
+    let head = hex_digits(note.head);
+    let old = cell_digits(before);
+    let new = cell_digits(after);
+    line_text(&[
+        event, b" ", name, b" ", &head, b" ", &old, b" ", &new, b"\n",
+    ])
+}
+
+/// Writes the line of a note.
 pub fn write_note<K: Sink>(out: &mut K, note: &Note) -> Result<(), Failed>
     requires { note.now.class ≤ 9 }
     ensures { Writes K.held K.faults out.old out.new (note_line note.now) result }
 {
-    match &note.area {
-        None => write_bare(out, note),
-        Some(area) => write_with_area(out, note, area),
-    }
+    write_all(out, note_text(note).as_slice())
 }
 
-/// Writes the line of what an item changed of a cell: its event, its name, its head in eight hexadecimal digits, and the
-/// cell before and behind it in four.
-#[tactic(auto, unfolding(crate::specs::Line::change_line))]
+/// Writes the line of what an item changed of a cell.
 pub fn write_change<K: Sink>(
     out: &mut K,
     note: &Note,
@@ -48,23 +72,13 @@ pub fn write_change<K: Sink>(
 ) -> Result<(), Failed>
     ensures { Writes K.held K.faults out.old out.new (change_line note.now before after) result }
 {
-    let mut number = Buffer::new();
-    let event = decimal_text(&mut number, note.event);
-    let name = name_of(note.class, note.head);
-    let head = hex_digits(note.head);
-    let old = cell_digits(before);
-    let new = cell_digits(after);
-    write_pieces(
-        out,
-        &[
-            event, b" ", name, b" ", &head, b" ", &old, b" ", &new, b"\n",
-        ],
-    )
+    write_all(out, change_text(note, before, after).as_slice())
 }
 
 // The name of a note.
 fn name_of(class: u8, head: u32) -> &'static [u8]
-    ensures { result.now ≡ note_name class head }
+    ensures name { result.now ≡ note_name class head }
+    ensures fits { length result.now ≤ 11 }
 {
     let opcode = bits(head, 24, 8);
     match class {
@@ -88,22 +102,22 @@ fn name_of(class: u8, head: u32) -> &'static [u8]
 
 // The line of a note without an area.
 #[tactic(auto, unfolding(crate::specs::Line::note_line))]
-fn write_bare<K: Sink>(out: &mut K, note: &Note) -> Result<(), Failed>
+fn bare_text(note: &Note) -> LineText
     requires { note.now.area ≡ None }
-    ensures { Writes K.held K.faults out.old out.new (note_line note.now) result }
+    ensures { result.items ≡ note_line note.now }
 {
     let mut number = Buffer::new();
     let event = decimal_text(&mut number, note.event);
     let name = name_of(note.class, note.head);
     let head = hex_digits(note.head);
-    write_pieces(out, &[event, b" ", name, b" ", &head, b" -", b"\n"])
+    line_text(&[event, b" ", name, b" ", &head, b" -", b"\n"])
 }
 
 // The line of a note with this area.
 #[tactic(auto, unfolding(crate::specs::Line::note_line))]
-fn write_with_area<K: Sink>(out: &mut K, note: &Note, area: &Box2) -> Result<(), Failed>
+fn text_with_area(note: &Note, area: &Box2) -> LineText
     requires { note.now.area ≡ Some area.now }
-    ensures { Writes K.held K.faults out.old out.new (note_line note.now) result }
+    ensures { result.items ≡ note_line note.now }
 {
     let mut number = Buffer::new();
     let event = decimal_text(&mut number, note.event);
@@ -117,10 +131,7 @@ fn write_with_area<K: Sink>(out: &mut K, note: &Note, area: &Box2) -> Result<(),
     let x2 = signed_text(&mut right, &area.x2);
     let mut bottom = Buffer::new();
     let y2 = signed_text(&mut bottom, &area.y2);
-    write_pieces(
-        out,
-        &[
-            event, b" ", name, b" ", &head, b" ", x1, b" ", y1, b" ", x2, b" ", y2, b"\n",
-        ],
-    )
+    line_text(&[
+        event, b" ", name, b" ", &head, b" ", x1, b" ", y1, b" ", x2, b" ", y2, b"\n",
+    ])
 }

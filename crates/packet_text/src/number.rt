@@ -1,5 +1,5 @@
 // Numbers as text.
-ghost use Rattle.std.specs.Prelude.{◌≡◌, ◌<◌, decimal};
+ghost use Rattle.std.specs.Prelude.{◌≡◌, ◌<◌, ◌≤◌, decimal, length};
 ghost use Rattle.std.specs.Fmt.{signed_decimal};
 ghost use Rattle.packet_text.specs.Number.{word_text, cell_text, address_text, hex_digit};
 
@@ -60,14 +60,16 @@ fn digit(n: u32) -> u8
 
 /// A number in decimal digits, in a buffer of the caller's.
 pub fn decimal_text(buffer: &mut Buffer, n: u64) -> &[u8]
-    ensures { result.now ≡ decimal n }
+    ensures text { result.now ≡ decimal n }
+    ensures fits { length result.now ≤ 20 }
 {
     buffer.format(n).as_bytes()
 }
 
 /// A signed number in decimal digits, in a buffer of the caller's.
 pub(crate) fn signed_text<'a>(buffer: &'a mut Buffer, n: &i32) -> &'a [u8]
-    ensures { result.now ≡ signed_decimal n.now }
+    ensures text { result.now ≡ signed_decimal n.now }
+    ensures fits { length result.now ≤ 11 }
 {
     buffer.format(*n).as_bytes()
 }

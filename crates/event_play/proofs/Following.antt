@@ -1,0 +1,241 @@
+-- What the bytes taken say in events, that none of them is one too many, and the tale to which the events lead.
+use Rattle.std.proofs.Common.{◌≡◌, ◌<◌, inl, inr, ◌+◌, ◌++◌, ℕ, zero, suc, List, [], ◌∷◌, Option, Ok, refl, ap, sym}
+use Rattle.std.proofs.Common.{◌∙◌, append_assoc, append-nil, take, length, subst, arith}
+use Rattle.gpu_capture.specs.Capture.{Captured, ended, then_events}
+use Rattle.gpu_capture.specs.Reader.{AreNeeded as ReaderNeeds, capture_from}
+use Rattle.gpu_capture.specs.Reading.{AreNeeded, IsCutShort}
+use Rattle.gpu_capture.specs.Words.{TakesWords, word_events}
+use Rattle.gpu_capture.specs.declared.event.Event.{Event}
+use Rattle.gpu_capture.specs.declared.event.Event.TheVariants.{Gp0}
+use Rattle.gpu_capture.specs.declared.event.Stop.TheVariants.{Truncated}
+use Rattle.gpu_capture.specs.declared.progress.Progress.{Progress}
+use Rattle.gpu_capture.proofs.Steps.{split}
+use Rattle.event_play.specs.Playing.{Follows, IsReadTo, reads}
+use Rattle.event_play.specs.Replay.{Tale, Script, after_event, go_on, played_events, next_number}
+use Rattle.event_play.specs.declared.ending.Ending.TheVariants.{Faulted}
+
+-- ---- tales
+
+pub follows_none : (first : Tale) → Follows first [] first
+follows_none first = record { replays = λ more stop rest. refl }
+
+-- one event more
+pub follows_on : (first t next : Tale) (events : List Event) (event : Event) → Follows first events t
+    → after_event t event ≡ Ok next → Follows first (events ++ event ∷ []) next
+follows_on first t next events event was is = record {
+  replays = λ more stop rest.
+      ap (λ (es : List Event). played_events first es stop rest) (append_assoc events (event ∷ []) more)
+      ∙ was.replays (event ∷ more) stop rest
+      ∙ ap (λ r. go_on r (λ next. played_events next more stop rest)
+      (λ fault. record { tale = t; ending = Faulted (next_number t.played) fault; rest = rest })) is;
+}
+
+-- more events, that lead on from the tale
+pub follows_all : (first t next : Tale) (events others : List Event) → Follows first events t
+    → Follows t others next → Follows first (events ++ others) next
+follows_all first t next events others was behind = record {
+  replays = λ more stop rest.
+      ap (λ (es : List Event). played_events first es stop rest) (append_assoc events others more)
+      ∙ was.replays (others ++ more) stop rest ∙ behind.replays more stop rest;
+}
+
+-- ---- the bytes taken
+
+abbrev cut_at : ℕ → ℕ → List Event → Captured
+cut_at version byte events = record { version = version; events = events; ending = Truncated byte; rest = [] }
+
+-- a proper part of these bytes says fewer than these events, whether or not it reaches into the bytes of the last ones
+abbrev pub IsShortOf : (List ℕ → Captured) → List Event → List ℕ → Type 0
+IsShortOf read events part = (event : Event) × (missing : List Event) × IsCutShort read events part (event ∷ missing)
+
+-- it is short of more events too
+short_on : (read : List ℕ → Captured) (events others : List Event) (part : List ℕ) → IsShortOf read events part
+    → IsShortOf read (events ++ others) part
+short_on read events others part short = (
+  short.0,
+  short.1 ++ others,
+  record {
+    version = short.2.version;
+    byte = short.2.byte;
+    fewer = short.2.fewer;
+    are = ap (λ (all : List Event). all ++ others) short.2.are
+        ∙ append_assoc short.2.fewer (short.0 ∷ short.1) others;
+    is = short.2.is;
+  },
+)
+
+-- behind these events it says the first words of others, and no more
+word_short : (read : List ℕ → Captured) (events : List Event) (words part : List ℕ) (count version byte : ℕ)
+    → count < length words
+    → read part ≡ then_events events (then_events (word_events (take count words)) (ended version (Truncated byte) []))
+    → IsShortOf read (events ++ word_events words) part
+word_short read events [] part count version byte fewer is = absurd (omega (arith, fewer))
+word_short read events (word ∷ words) part zero version byte fewer is = (
+  Gp0 word,
+  word_events words,
+  record {
+    version = version;
+    byte = byte;
+    fewer = events;
+    are = refl;
+    is = is ∙ ap (cut_at version byte) (append-nil events);
+  },
+)
+word_short read events (word ∷ words) part (suc count) version byte fewer is =
+    let later = word_short read (events ++ Gp0 word ∷ []) words part count version byte (omega (arith, fewer))
+    (is ∙ ap (cut_at version byte)
+    (sym (append_assoc events (Gp0 word ∷ []) (word_events (take count words) ++ [])))) in
+    subst (λ (all : List Event). IsShortOf read all part)
+    (append_assoc events (Gp0 word ∷ []) (word_events words)) later
+
+-- The bytes taken say these events, and then what the format says of the rest from the reader's place on; none of them
+-- is one too many for the last one. The first of the events lead to the tale.
+pub record ReadsTo (script : List ℕ → Script) (p : Progress) (t : Tale) (taken : List ℕ) (events behind : List Event)
+    : Type 0 where
+  pub first : Tale
+  pub version : ℕ
+  pub begins : (rest : List ℕ) → (script (taken ++ rest)).first ≡ first
+  pub says : (rest : List ℕ) → reads script (taken ++ rest) ≡ then_events (events ++ behind) (capture_from p rest)
+  pub version_is : (rest : List ℕ) → (capture_from p rest).version ≡ version
+  pub needed : AreNeeded (reads script) (events ++ behind) taken
+  pub follows : Follows first events t
+
+-- an event that was read and not played yet
+pub read_to : (script : List ℕ → Script) (p : Progress) (t : Tale) (taken : List ℕ) (events : List Event)
+    (event : Event) → ReadsTo script p t taken events (event ∷ []) → IsReadTo script t taken events event
+read_to script p t taken events event read = record {
+  first = read.first;
+  version = read.version;
+  begins = read.begins;
+  says = λ rest. (capture_from p rest, read.says rest, read.version_is rest);
+  needed = read.needed;
+  follows = read.follows;
+}
+
+-- it was played
+pub read_played : (script : List ℕ → Script) (p : Progress) (t next : Tale) (taken : List ℕ) (events : List Event)
+    (event : Event) → ReadsTo script p t taken events (event ∷ []) → after_event t event ≡ Ok next
+    → ReadsTo script p next taken (events ++ event ∷ []) []
+read_played script p t next taken events event read is = record {
+  first = read.first;
+  version = read.version;
+  begins = read.begins;
+  says = rw (append-nil (events ++ event ∷ [])) read.says;
+  version_is = read.version_is;
+  needed = rw (append-nil (events ++ event ∷ [])) read.needed;
+  follows = follows_on read.first t next events event read.follows is;
+}
+
+then_both : (events others : List Event) (c : Captured) → then_events events (then_events others c)
+    ≡ then_events (events ++ others) c
+then_both events others c =
+    ap (λ (all : List Event). record { version = c.version; events = all; ending = c.ending; rest = c.rest })
+    (sym (append_assoc events others c.events))
+
+module _ (script : List ℕ → Script) (old new : Progress) (t : Tale) (xs ys : List ℕ) (events others : List Event)
+    (read : ReadsTo script old t xs events [])
+    (says : (rest : List ℕ) → capture_from old (ys ++ rest) ≡ then_events others (capture_from new rest)) where
+  says_so_far : (rest : List ℕ) → reads script (xs ++ rest) ≡ then_events events (capture_from old rest)
+  says_so_far rest = read.says rest
+      ∙ ap (λ (all : List Event). then_events all (capture_from old rest)) (append-nil events)
+
+  -- a proper part of all bytes reaches into the later ones, or not
+  both_needed : ((part more : List ℕ) → ys ≡ part ++ more → (more ≡ [] → ⊥)
+      → (whole : List ℕ) → reads script whole ≡ then_events events (capture_from old part)
+      → IsShortOf (reads script) (events ++ others) whole)
+      → AreNeeded (reads script) (events ++ others) (xs ++ ys)
+  both_needed later part more is some =
+      elim (split xs ys part more is) [
+        | inl behind ↦ later behind.0 more behind.2 some part (ap (reads script) behind.1 ∙ says_so_far behind.0)
+        | inr inside ↦
+            short_on (reads script) events others part
+            (rw (append-nil events) at (read.needed part inside.0 inside.1 inside.2))
+      ]
+
+  says_both : (rest : List ℕ) → reads script ((xs ++ ys) ++ rest)
+      ≡ then_events (events ++ others) (capture_from new rest)
+  says_both rest =
+      ap (reads script) (append_assoc xs ys rest) ∙ says_so_far (ys ++ rest) ∙ ap (then_events events) (says rest)
+      ∙ then_both events others (capture_from new rest)
+
+  version_both : (rest : List ℕ) → (capture_from new rest).version ≡ read.version
+  version_both rest = sym (ap (λ (c : Captured). c.version) (says rest)) ∙ read.version_is (ys ++ rest)
+
+  begins_both : (rest : List ℕ) → (script ((xs ++ ys) ++ rest)).first ≡ read.first
+  begins_both rest = ap (λ bytes. (script bytes).first) (append_assoc xs ys rest) ∙ read.begins (ys ++ rest)
+
+-- one event more was read
+pub read_on : (script : List ℕ → Script) (old new : Progress) (t : Tale) (xs ys : List ℕ) (events : List Event)
+    (event : Event)
+    → ReadsTo script old t xs events [] → ReaderNeeds old ys
+    → ((rest : List ℕ) → capture_from old (ys ++ rest) ≡ then_events (event ∷ []) (capture_from new rest))
+    → ReadsTo script new t (xs ++ ys) events (event ∷ [])
+read_on script old new t xs ys events event read needed says = record {
+  first = read.first;
+  version = read.version;
+  begins = begins_both script old new t xs ys events (event ∷ []) read says;
+  says = says_both script old new t xs ys events (event ∷ []) read says;
+  version_is = version_both script old new t xs ys events (event ∷ []) read says;
+  needed = both_needed script old new t xs ys events (event ∷ []) read says
+      (λ part more is some whole said.
+      let short = needed part more is some in (
+        event,
+        [],
+        record {
+          version = short.version;
+          byte = short.byte;
+          fewer = events;
+          are = refl;
+          is = said ∙ ap (then_events events) short.is ∙ ap (cut_at short.version short.byte) (append-nil events);
+        },
+      ));
+  follows = read.follows;
+}
+
+-- words were read and played, an event each
+pub read_words : (script : List ℕ → Script) (old new : Progress) (before now : Option (List ℕ)) (t next : Tale)
+    (xs words : List ℕ) (events : List Event)
+    → ReadsTo script old t xs events [] → (takes : TakesWords old new before now words)
+    → Follows t (word_events words) next
+    → ReadsTo script new next (xs ++ takes.taken) (events ++ word_events words) []
+read_words script old new before now t next xs words events read takes behind =
+    let others = word_events words in
+    let ys = takes.taken in
+    record {
+      first = read.first;
+      version = read.version;
+      begins = begins_both script old new t xs ys events others read takes.says;
+      says = rw (append-nil (events ++ others)) (says_both script old new t xs ys events others read takes.says);
+      version_is = version_both script old new t xs ys events others read takes.says;
+      needed = rw (append-nil (events ++ others))
+          (both_needed script old new t xs ys events others read takes.says
+          (λ part more is some whole said.
+          let short = takes.needed part more is some in
+          word_short (reads script) events words whole short.count short.version short.byte short.fewer
+          (said ∙ ap (then_events events) short.is)));
+      follows = follows_all read.first t next events others read.follows behind;
+    }
+
+-- the first answer of a reader
+pub read_first : (script : List ℕ → Script) (start new : Progress) (first : Tale) (taken : List ℕ) (event : Event)
+    (version : ℕ)
+    → ((bytes : List ℕ) → reads script bytes ≡ capture_from start bytes)
+    → ((rest : List ℕ) → (script (taken ++ rest)).first ≡ first)
+    → ReaderNeeds start taken
+    → ((rest : List ℕ) → capture_from start (taken ++ rest) ≡ then_events (event ∷ []) (capture_from new rest))
+    → ((rest : List ℕ) → (capture_from new rest).version ≡ version)
+    → ReadsTo script new first taken [] (event ∷ [])
+read_first script start new first taken event version same begins needed says version_is = record {
+  first = first;
+  version = version;
+  begins = begins;
+  says = λ rest. same (taken ++ rest) ∙ says rest;
+  version_is = version_is;
+  needed = λ part more is some.
+      let short = needed part more is some in (
+        event,
+        [],
+        record { version = short.version; byte = short.byte; fewer = []; are = refl; is = same part ∙ short.is },
+      );
+  follows = follows_none first;
+}
