@@ -1,9 +1,13 @@
 -- How far flattening a capture has come, where the reader has answered an event that is not played yet, or a stop.
-use Rattle.std.proofs.Common.{◌≡◌, ◌≤◌, inl, inr, ◌==◌, ℕ, List, [], ◌∷◌, Option, Result, Ok, Err, OnOk, IfOk}
-use Rattle.std.proofs.Common.{IfErr, refl, sym, ◌∙◌, arith}
+use Rattle.std.proofs.Common.{◌≡◌, ◌≤◌, ◌<◌, ◌+◌, inl, inr, ◌==◌, ℕ, List, [], ◌∷◌, Option, Result, Ok, Err, OnOk, IfOk}
+use Rattle.std.proofs.Common.{IfErr, refl, ap, sym, subst, ◌∙◌, append-nil, length, arith}
 use Rattle.std.proofs.lemmas.Bool.{cases_Bool}
+use Rattle.dev_io.specs.Device.{appended}
 use Rattle.dev_io.proofs.Appended.{appended-nil}
 use Rattle.dev_io.proofs.Parts.{prepended-nil}
+use Rattle.gathered_out.specs.Pieces.{Piece}
+use Rattle.gathered_out.proofs.Gathers.{Gathers, gathers_none, gathers_written}
+use Rattle.gpu_capture.proofs.Taken.{taken_count}
 use Rattle.gpu_capture.specs.Reader.{Takes, StopsAt, IsStart}
 use Rattle.gpu_capture.specs.declared.event.Event.{Event}
 use Rattle.gpu_capture.specs.declared.event.Stop.{Stop}
@@ -14,7 +18,11 @@ use Rattle.event_play.specs.RigState.{RigState, StandsFor}
 use Rattle.event_play.specs.Step.{Machine}
 use Rattle.event_play.specs.Streams.{Streams, streams}
 use Rattle.event_play.proofs.Firsts.{IsFirst, from_first, raised_first}
+use Rattle.capture_flat.specs.OneEvent.{Pauses}
 use Rattle.capture_flat.specs.Out.{begun}
+use Rattle.capture_flat.specs.declared.file.Draft.{Draft}
+use Rattle.capture_flat.specs.declared.file.FlatFile.{FlatFile}
+use Rattle.capture_flat.proofs.Lacking.{WasDue}
 use Rattle.capture_flat.proofs.Following.{Passes, follows_none}
 use Rattle.capture_flat.proofs.Needed.{none_needed, takes_version, stops_version}
 
@@ -23,11 +31,12 @@ abbrev pub Answers : (old new : Progress) (before now : Option (List ℕ)) → R
 Answers old new before now (Ok event) = Takes old new before now (event ∷ []) × (1 ≤ new.version)
 Answers old new before now (Err stop) = StopsAt old new before now stop
 
-pub record Awaits (start : Tale) (version : ℕ) (before now : Streams) (rig : RigState) (new : Progress) (size : ℕ)
-    (next : Result Event Stop) : Type 0 where
+pub record Awaits (start : Tale) (version : ℕ) (before now : Streams) (rig : RigState) (new : Progress)
+    (draft : Draft) (since : ℕ) (next : Result Event Stop) : Type 0 where
   pub left : Option (List ℕ)
   pub old : Progress
-  pub was : Passes (raised start version) version before (streams left now.held now.heard now.steps) rig old size
+  pub was : Passes (raised start version) version before (streams left now.held now.heard now.steps) rig old draft since
+  pub near : old.place < since + 4096
   pub same : version ≡ new.version
   pub answer : Answers old new left now.left next
 
@@ -55,16 +64,23 @@ answers old new before now (Ok event) takes known stops = (takes, known)
 answers old new before now (Err stop) takes known stops = stops
 
 pub starts : (s : Machine) (left left_now held : Option (List ℕ)) (heard : List Reading) (steps : ℕ) (rig : RigState)
-    (first new : Progress) (version : ℕ)
-    (next : Result Event Stop) → IsStart first → StandsFor rig (raised (from_state s 0) version) → version ≡ new.version
+    (first new : Progress) (version : ℕ) (draft : Draft)
+    (next : Result Event Stop) → IsStart first → draft.file ≡ record { version = version; size = 0 }
+    → draft.gathered ≡ [] → StandsFor rig (raised (from_state s 0) version) → version ≡ new.version
     → IfOk next (λ event. Takes first new left left_now (event ∷ [])) → OnOk next (1 ≤ new.version)
     → IfErr next (λ stop. StopsAt first new left left_now stop)
-    → Awaits (from_state s 0) version (streams left held heard steps) (streams left_now held heard steps) rig new 0 next
-starts s left left_now held heard steps rig first new version next is stands same takes known stops =
+    → Awaits (from_state s 0) version (streams left held heard steps) (streams left_now held heard steps) rig new draft 0
+    next
+starts s left left_now held heard steps rig first new version draft next is file empty stands same takes known stops =
     let start = raised (from_state s 0) version in
     let none : IsFirst start = raised_first (from_state s 0) version (from_first s 0) in
     let unplayed : start.played ≡ 0 = raised_played (from_state s 0) version in
     let nothing : begun version start.played [] ≡ [] = rw unplayed refl in
+    let size : draft.file.size ≡ 0 = ap (λ (f : FlatFile). f.size) file in
+    let due = WasDue start version [] [] [] in
+    let Q : List Piece → Type 0 = λ ps. Gathers due held (begun version start.played []) held ps in
+    let P : List ℕ → Type 0 = λ bs. held ≡ appended held bs in
+    let place = is.place in
     record {
       left = left;
       old = first;
@@ -78,37 +94,114 @@ starts s left left_now held heard steps rig first new version next is stands sam
         flat = [];
         follows = follows_none start;
         stands = stands;
-        held = rw nothing (sym (appended-nil held));
-        size_is = rw nothing refl;
-        fits = omega arith;
+        reading = inl (is, refl, refl);
+        version_is = ap (λ (f : FlatFile). f.version) file;
+        size_is = size ∙ ap length (sym nothing);
+        fits = omega (arith, size);
+        flushed = [];
+        behind = [];
+        taken_is = refl;
+        since_is = omega arith;
+        gathers = subst Q (sym empty)
+            (gathers_none due held (begun version start.played []) held
+            (subst P (sym nothing) (sym (appended-nil held))));
         heard = rw none.notes refl;
         cost = omega arith;
         small = omega (arith, none.cost);
       };
+      near = omega (arith, place);
       same = same;
       answer = answers first new left left_now next takes known stops;
     }
 
 -- ---- the next answer
 
-pub reads : (start : Tale) (version : ℕ) (before now : Streams) (rig : RigState) (old new : Progress) (size : ℕ)
-    (left : Option (List ℕ))
-    (next : Result Event Stop) → Passes (raised start version) version before now rig old size → version ≡ old.version
-    → 1 ≤ old.version
+pub reads : (start : Tale) (version : ℕ) (before now : Streams) (rig : RigState) (old new : Progress) (draft : Draft)
+    (since : ℕ) (left : Option (List ℕ))
+    (next : Result Event Stop) → Passes (raised start version) version before now rig old draft since
+    → old.place < since + 4096 → version ≡ old.version → 1 ≤ old.version
     → IfOk next (λ event. Takes old new now.left left (event ∷ [])) → OnOk next (1 ≤ new.version)
     → IfErr next (λ stop. StopsAt old new now.left left stop)
-    → Awaits start version before (streams left now.held now.heard now.steps) rig new size next
-reads start version before now rig old new size left (Ok event) was same was_known takes known stops = record {
+    → Awaits start version before (streams left now.held now.heard now.steps) rig new draft since next
+reads start version before now rig old new draft since left (Ok event) was near same was_known takes known stops = record {
   left = now.left;
   old = old;
   was = was;
+  near = near;
   same = same ∙ takes_version old new now.left left (event ∷ []) takes was_known known;
   answer = (takes, known);
 }
-reads start version before now rig old new size left (Err stop) was same was_known takes known stops = record {
+reads start version before now rig old new draft since left (Err stop) was near same was_known takes known stops = record {
   left = now.left;
   old = old;
   was = was;
+  near = near;
   same = same ∙ stops_version old new.version stop stops.taken left stops.says was_known;
   answer = stops;
 }
+
+-- ---- a pause
+
+-- it goes on where all was written, or where few bytes were taken since
+pub record Paused (first : Tale) (version : ℕ) (before now : Streams) (rig : RigState) (progress : Progress)
+    (draft : Draft) (since : ℕ) : Type 0 where
+  pub passes : Passes first version before now rig progress draft since
+  pub near : progress.place < since + 4096
+
+paused_on : (first : Tale) (version : ℕ) (before now : Streams) (rig : RigState) (progress : Progress)
+    (draft : Draft) (since at : ℕ) (new : List Piece) (held : Option (List ℕ)) → 1 ≤ progress.version
+    → Passes first version before now rig progress draft since
+    → Pauses progress.place since draft.gathered new now.held held at
+    → Paused first version before (streams now.left held now.heard now.steps) rig progress
+    (record { file = draft.file; gathered = new }) at
+paused_on first version before now rig progress draft since at new held known was (inl on) = record {
+  passes = rw (on.0, on.2, on.3) was;
+  near = let e = on.0 in let lt = on.1 in omega (arith, e, lt);
+}
+paused_on first version before now rig progress draft since at new held known was (inr written) =
+    let all = begun version was.tale.played was.flat in
+    let due = WasDue first version was.events was.taken was.taken in
+    let Q : List Piece → Type 0 = λ ps. Gathers due before.held all held ps in
+    let count = taken_count progress was.events was.taken known was.says in
+    let e = written.0 in
+    record {
+      passes = record {
+        taken = was.taken;
+        bytes = was.bytes;
+        events = was.events;
+        reading = was.reading;
+        says = was.says;
+        needed = was.needed;
+        tale = was.tale;
+        flat = was.flat;
+        follows = was.follows;
+        stands = was.stands;
+        version_is = was.version_is;
+        size_is = was.size_is;
+        fits = was.fits;
+        flushed = was.taken;
+        behind = [];
+        taken_is = sym (append-nil was.taken);
+        since_is = omega (arith, count, e);
+        gathers = subst Q (sym written.1)
+            (gathers_none due before.held all held
+            (gathers_written (WasDue first version was.events was.flushed was.taken) before.held all now.held held
+            draft.gathered was.gathers written.2));
+        heard = was.heard;
+        cost = was.cost;
+        small = was.small;
+      };
+      near = omega (arith, e);
+    }
+
+-- the same, of the file that stands there
+pub pauses_on : (first : Tale) (version : ℕ) (before now : Streams) (rig : RigState) (progress : Progress)
+    (draft is : Draft) (since at : ℕ) (held : Option (List ℕ)) → 1 ≤ progress.version → is.file ≡ draft.file
+    → Passes first version before now rig progress draft since
+    → Pauses progress.place since draft.gathered is.gathered now.held held at
+    → Paused first version before (streams now.left held now.heard now.steps) rig progress is at
+pauses_on first version before now rig progress draft is since at held known file was pauses =
+    let on = paused_on first version before now rig progress draft since at is.gathered held known was pauses in
+    let P : FlatFile → Type 0 = λ f. Paused first version before (streams now.left held now.heard now.steps) rig progress
+    (record { file = f; gathered = is.gathered }) at in
+    subst P (sym file) on

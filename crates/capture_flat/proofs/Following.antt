@@ -1,21 +1,26 @@
 -- Events, one after another, and what was written of them.
-use Rattle.std.proofs.Common.{◌≡◌, ◌≤◌, inl, ◌+◌, ◌++◌, ℕ, List, [], ◌∷◌, Option, Ok, length, length-append, refl, ap}
+use Rattle.std.proofs.Common.{◌≡◌, ◌≤◌, ◌<◌, ◌⊎◌, inl, inr, ◌+◌, ◌++◌, ℕ, List, [], ◌∷◌, Option, Ok, length, min}
+use Rattle.std.proofs.Common.{length-append, refl, ap}
 use Rattle.std.proofs.Common.{sym, subst, ◌∙◌, append_assoc, append-nil, arith}
-use Rattle.dev_io.specs.Device.{prepended, appended, AppendsPart}
+use Rattle.dev_io.specs.Device.{prepended}
 use Rattle.dev_io.proofs.Parts.{taken_on}
 use Rattle.gp0_packets.specs.declared.note.Note.{Note}
 use Rattle.gpu_capture.specs.Capture.{Captured, capture, then_events, limit}
-use Rattle.gpu_capture.specs.Reader.{Takes, capture_from}
+use Rattle.gpu_capture.specs.Reader.{AreNeeded as ReaderNeeds, IsStart, Takes, capture_from}
 use Rattle.gpu_capture.specs.Written.{written, AllowsAll}
 use Rattle.gpu_capture.specs.declared.event.Event.{Event}
 use Rattle.gpu_capture.specs.declared.progress.Progress.{Progress}
+use Rattle.gpu_capture.proofs.Taken.{few_at_first, few_at_once, taken_count}
 use Rattle.gpu_capture.proofs.Versions.{version_from}
+use Rattle.gathered_out.specs.Puts.{BreaksPut, BreaksWriting, IsPut, IsWritten}
+use Rattle.gathered_out.proofs.Gathers.{BreaksDue, Gathers, breaks_put, gathers_more, gathers_off, gathers_on}
+use Rattle.gathered_out.proofs.Gathers.{gathers_written}
 use Rattle.gpu_taps.specs.Tally.{Reading}
 use Rattle.event_play.specs.Ends.{FaultsEvent}
 use Rattle.event_play.specs.Replay.{Tale, played_events, after_event, go_on, next_number, raised}
 use Rattle.event_play.specs.RigState.{RigState, StandsFor}
 use Rattle.event_play.specs.Step.{event_cost, event_box_cost}
-use Rattle.event_play.specs.Streams.{Outlets, Streams}
+use Rattle.event_play.specs.Streams.{Outlets, Streams, streams}
 use Rattle.event_play.specs.Told.{told_notes}
 use Rattle.event_play.specs.declared.ending.Ending.TheVariants.{Faulted as FaultedPlay}
 use Rattle.event_play.specs.declared.fault.EventFault.{EventFault}
@@ -24,35 +29,66 @@ use Rattle.event_play.proofs.Feeds.{told-append}
 use Rattle.event_play.proofs.Grows.{tale_on, after-event}
 use Rattle.event_play.proofs.Reaching.{beside}
 use Rattle.capture_flat.specs.Flat.{flat_events, flat_replay, then_flat}
-use Rattle.capture_flat.specs.OneEvent.{PlaysFlat, PassesEvent, IsTooLong, LacksRecords, EndsEvent}
+use Rattle.capture_flat.specs.OneEvent.{EndsBehind, EndsEvent, IsTooLong, LacksPut, PassesEvent, PlaysFlat}
 use Rattle.capture_flat.specs.Out.{due_at, begun, flat_version, flat_file}
-use Rattle.capture_flat.specs.Passing.{Way, Follows, AreNeeded, IsLast, EndsFlat}
+use Rattle.capture_flat.specs.Passing.{Way, Follows, AreNeeded, IsLast, EndsFlat, most_behind}
 use Rattle.capture_flat.specs.declared.ending.FlatEnding.{FlatEnding}
 use Rattle.capture_flat.specs.declared.ending.FlatEnding.TheVariants.{Done, Stopped, Faulted, TooLong, WriteFailed}
-use Rattle.capture_flat.specs.declared.file.FlatFile.{FlatFile}
+use Rattle.capture_flat.specs.declared.file.Draft.{Draft}
 use Rattle.capture_flat.proofs.Allows.{allows_append}
+use Rattle.capture_flat.proofs.Lacking.{WasDue, due_here, due_more, lacks_records}
 use Rattle.capture_flat.proofs.Needed.{needed_on, says_on}
 use Rattle.capture_flat.proofs.Output.{begun_on, written_length, written_fits}
-use Rattle.capture_flat.proofs.Pieces.{wrote_on}
 
--- so many events were read and played, and their records were written
+-- a reader is at its start, or behind the head
+abbrev pub IsReading : Progress → List ℕ → List Event → Type 0
+IsReading p taken events = (IsStart p × (taken ≡ []) × (events ≡ [])) ⊎ (1 ≤ p.version)
+
+-- So many events were read and played, and their records were put. All was last written where the reader stood at this
+-- place.
 pub record Passes (first : Tale) (version : ℕ) (before now : Streams) (rig : RigState) (progress : Progress)
-    (size : ℕ) : Type 0 where
+    (draft : Draft) (since : ℕ) : Type 0 where
   pub taken : List ℕ
   pub bytes : before.left ≡ prepended taken now.left
   pub events : List Event
+  pub reading : IsReading progress taken events
   pub says : (rest : List ℕ) → capture (taken ++ rest) ≡ then_events events (capture_from progress rest)
   pub needed : AreNeeded events taken
   pub tale : Tale
   pub flat : List Event
   pub follows : Follows first events tale flat
   pub stands : StandsFor rig tale
-  pub held : now.held ≡ appended before.held (begun version tale.played flat)
-  pub size_is : size ≡ length (begun version tale.played flat)
-  pub fits : size + 4 ≤ limit
+  pub version_is : draft.file.version ≡ version
+  pub size_is : draft.file.size ≡ length (begun version tale.played flat)
+  pub fits : draft.file.size + 4 ≤ limit
+  pub flushed : List ℕ
+  pub behind : List ℕ
+  pub taken_is : taken ≡ flushed ++ behind
+  pub since_is : length flushed ≡ min since limit
+  pub gathers : Gathers (WasDue first version events flushed taken) before.held (begun version tale.played flat) now.held
+      draft.gathered
   pub heard : now.heard ≡ told_notes tale.notes before.heard
   pub cost : now.steps ≤ before.steps + tale.cost
   pub small : tale.cost ≤ tale.box_cost
+
+-- few bytes more were taken, wherever the reader stood near the place where all was last written
+pub few_behind : (p : Progress) (events : List Event) (taken more flushed : List ℕ) (since : ℕ)
+    → IsReading p taken events
+    → ((rest : List ℕ) → capture (taken ++ rest) ≡ then_events events (capture_from p rest))
+    → length flushed ≡ min since limit → p.place < since + 4096 → ReaderNeeds p more
+    → length (taken ++ more) ≤ length flushed + most_behind
+few_behind p events taken more flushed since reading says since_is near needed = elim reading [
+  | inl start ↦
+      let all = length-append taken more in
+      let none = ap length start.1 in
+      let few = few_at_first p more start.0 needed in
+      omega (arith, all, none, few)
+  | inr known ↦
+      let all = length-append taken more in
+      let count = taken_count p events taken known says in
+      let few = few_at_once p more known needed in
+      omega (arith, all, count, few, since_is, near)
+]
 
 -- ---- events that follow
 
@@ -86,9 +122,10 @@ all_flat first tale events flat follows =
     ap (flat_replay first) (sym (append-nil events)) ∙ follows.flats [] ∙ append-nil flat
 
 -- the whole file of the events so far is not too long
-pub file_fits : (first : Tale) (version : ℕ) (before now : Streams) (rig : RigState) (progress : Progress) (size : ℕ)
-    → (was : Passes first version before now rig progress size) → length (flat_file first version was.events) ≤ limit
-file_fits first version before now rig progress size was =
+pub file_fits : (first : Tale) (version : ℕ) (before now : Streams) (rig : RigState) (progress : Progress)
+    (draft : Draft) (since : ℕ) (was : Passes first version before now rig progress draft since)
+    → length (flat_file first version was.events) ≤ limit
+file_fits first version before now rig progress draft since was =
     let size_is = was.size_is in
     let fits = was.fits in
     let room : length (begun version was.tale.played was.flat) + 4 ≤ limit = omega (arith, size_is, fits) in
@@ -110,18 +147,22 @@ spent_within before now a b within small = omega arith
 both_small : (a b c d : ℕ) → a ≤ c → b ≤ d → a + b ≤ c + d
 both_small a b c d first next = omega arith
 
+-- events in two parts
+split_events : (xs ys : List Event) (c : Captured) → then_events (xs ++ ys) c ≡ then_events xs (then_events ys c)
+split_events xs ys c =
+    ap (λ (all : List Event). record { version = c.version; events = all; ending = c.ending; rest = c.rest })
+    (append_assoc xs ys c.events)
+
 -- ---- one event more
 
 module _ (start : Tale) (version : ℕ) (before : Streams) (left_mid left : Option (List ℕ)) (mid now : Outlets)
-    (was_rig rig : RigState) (old new : Progress)
-    (size : ℕ) (was : Passes (raised start version) version before (beside left_mid mid) was_rig old size)
+    (was_rig rig : RigState) (old new : Progress) (draft : Draft) (since : ℕ)
+    (was : Passes (raised start version) version before (beside left_mid mid) was_rig old draft since)
+    (near : old.place < since + 4096)
     (given : Event) (takes : Takes old new left_mid left (given ∷ [])) (same : version ≡ new.version)
     (known : 1 ≤ new.version) where
   abbrev first : Tale
   first = raised start version
-
-  abbrev file : FlatFile
-  file = record { version = version; size = size }
 
   -- the tale with that event
   abbrev next : PlaysFlat was.tale given mid now rig → Tale
@@ -190,7 +231,8 @@ module _ (start : Tale) (version : ℕ) (before : Streams) (left_mid left : Opti
   after_it = begun_on version was.tale.played was.flat (flat_events was.tale.state given) was.follows.fresh
 
   whole_length : (plays : PlaysFlat was.tale given mid now rig)
-      → length (flat_file first version (was.events ++ given ∷ [])) ≡ size + length (due_at version was.tale given) + 4
+      → length (flat_file first version (was.events ++ given ∷ []))
+      ≡ draft.file.size + length (due_at version was.tale given) + 4
   whole_length plays =
       let flat = was.flat ++ flat_events was.tale.state given in
       let due = due_at version was.tale given in
@@ -200,8 +242,28 @@ module _ (start : Tale) (version : ℕ) (before : Streams) (left_mid left : Opti
       let d = length-append (begun version was.tale.played was.flat) due in
       let size_is = was.size_is in
       let sum : length (written (flat_version version) flat)
-      ≡ size + length due + 4 = omega (arith, a, b, d, size_is) in
+      ≡ draft.file.size + length due + 4 = omega (arith, a, b, d, size_is) in
       rw all sum
+
+  -- what is due by the version of the file
+  due_same : due_at draft.file.version was.tale given ≡ due_at version was.tale given
+  due_same = ap (λ (v : ℕ). due_at v was.tale given) was.version_is
+
+  -- what may be said of each event, with this one
+  more_due : (events : List Event) → events ≡ was.events ++ given ∷ [] → (number : ℕ) (before due : List ℕ)
+      → WasDue first version was.events was.flushed was.taken number before due
+      → WasDue first version events was.flushed taken number before due
+  more_due events are = due_more first version was.events (given ∷ []) events was.flushed was.taken takes.taken are
+
+  here : length (flat_file first version (was.events ++ given ∷ [])) ≤ limit
+      → WasDue first version (was.events ++ given ∷ []) was.flushed taken (next_number was.tale.played)
+      (begun version was.tale.played was.flat) (due_at version was.tale given)
+  here fits = due_here first was.tale version was.events was.flat given was.flushed was.behind was.taken takes.taken
+      was.follows fits was.taken_is needs
+
+  few : length taken ≤ length was.flushed + most_behind
+  few = few_behind old was.events was.taken takes.taken was.flushed since was.reading was.says was.since_is near
+      takes.needed
 
   abbrev last : (plays : PlaysFlat was.tale given mid now rig) (number : ℕ) → number ≡ next_number was.tale.played
       → IsLast start (way plays) number
@@ -217,28 +279,50 @@ module _ (start : Tale) (version : ℕ) (before : Streams) (left_mid left : Opti
     says = says_first;
   }
 
-  pub passes_on : (size_now : ℕ) → PassesEvent file was.tale given mid now rig size_now
-      → Passes first version before (beside left now) rig new size_now
-  passes_on size_now passes =
+  pub passes_on : (is : Draft) → PassesEvent draft is was.tale given mid now rig
+      → Passes first version before (beside left now) rig new is since
+  passes_on is passes =
       let due = due_at version was.tale given in
+      let P : List ℕ → Type 0 = λ bs. IsPut (next_number was.tale.played) bs mid.held now.held draft.gathered is.gathered in
+      let put : IsPut (next_number was.tale.played) due mid.held now.held draft.gathered is.gathered =
+      subst P due_same passes.put in
+      let long = length-append (begun version was.tale.played was.flat) due in
+      let e = ap length after_it in
+      let adds : is.file.size ≡ draft.file.size + length due = passes.size_is
+      ∙ ap (λ (bs : List ℕ). draft.file.size + length bs) due_same in
+      let size_is = was.size_is in
+      let size_now : is.file.size ≡ length (begun version (next_number was.tale.played)
+      (was.flat ++ flat_events was.tale.state given)) = omega (arith, adds, size_is, long, e) in
+      let fits = passes.fits in
+      let length_now = whole_length passes.plays in
+      let file_fits : length (flat_file first version (was.events ++ given ∷ [])) ≤ limit =
+      omega (arith, length_now, adds, fits) in
+      let Q : List ℕ → Type 0 = λ bs. Gathers (WasDue first version (was.events ++ given ∷ []) was.flushed taken)
+      before.held bs now.held is.gathered in
       record {
         taken = taken;
         bytes = bytes;
         events = was.events ++ given ∷ [];
+        reading = inr known;
         says = says;
         needed = needs;
         tale = next passes.plays;
         flat = was.flat ++ flat_events was.tale.state given;
         follows = follows passes.plays;
         stands = stands passes.plays;
-        held = wrote_on before.held mid.held now.held (begun version was.tale.played was.flat) due was.held passes.held
-            ∙ ap (appended before.held) (sym after_it);
-        size_is = let long = length-append (begun version was.tale.played was.flat) due in
-            let e = ap length after_it in
-            let adds = passes.size_is in
-            let size_is = was.size_is in
-            omega (arith, adds, size_is, long, e);
-        fits = passes.fits;
+        version_is = passes.version ∙ was.version_is;
+        size_is = size_now;
+        fits = fits;
+        flushed = was.flushed;
+        behind = was.behind ++ takes.taken;
+        taken_is = ap (λ bs. bs ++ takes.taken) was.taken_is ∙ append_assoc was.flushed was.behind takes.taken;
+        since_is = was.since_is;
+        gathers = subst Q (sym after_it)
+            (gathers_on (WasDue first version was.events was.flushed was.taken)
+            (WasDue first version (was.events ++ given ∷ []) was.flushed taken) before.held
+            (begun version was.tale.played was.flat) mid.held draft.gathered was.gathers
+            (more_due (was.events ++ given ∷ []) refl) (next_number was.tale.played) due (here file_fits)
+            now.held is.gathered put);
         heard = heard passes.plays;
         cost = cost passes.plays;
         small = small;
@@ -246,11 +330,19 @@ module _ (start : Tale) (version : ℕ) (before : Streams) (left_mid left : Opti
 
   -- ---- an event that ends it
 
-  fault_ends : (number : ℕ) (fault : EventFault) → number ≡ next_number was.tale.played
-      → FaultsEvent was.tale given fault mid now was_rig rig
-      → EndsFlat start before (beside left now) rig (Faulted number fault)
-  fault_ends number fault at faults =
-      let held : now.held ≡ mid.held = ap (λ (at : Outlets). at.held) faults.unchanged in
+  -- a failed write, behind this event
+  lacks_on : (plays : PlaysFlat was.tale given mid now rig) (held : Option (List ℕ)) (number : ℕ)
+      → BreaksDue (WasDue first version (was.events ++ given ∷ []) was.flushed taken) before.held held number
+      → EndsFlat start before (streams left held now.heard now.steps) rig (WriteFailed number)
+  lacks_on plays held number breaks =
+      lacks_records start before (streams left held now.heard now.steps) rig (way plays) was.flushed number bytes
+      (follows plays) says_first breaks few (stands plays) (heard plays) (cost plays) (box_cost plays)
+
+  -- what is gathered is written before
+  fault_ends : (number : ℕ) (fault : EventFault) (held : Option (List ℕ)) → number ≡ next_number was.tale.played
+      → FaultsEvent was.tale given fault mid now was_rig rig → IsWritten mid.held held draft.gathered
+      → EndsFlat start before (streams left held now.heard now.steps) rig (Faulted number fault)
+  fault_ends number fault held at faults written =
       let heard : now.heard ≡ mid.heard = ap (λ (at : Outlets). at.heard) faults.unchanged in
       let steps : now.steps ≡ mid.steps = ap (λ (at : Outlets). at.steps) faults.unchanged in
       let cost : now.steps ≤ before.steps + was.tale.cost = let spent = was.cost in omega (arith, spent, steps) in
@@ -264,56 +356,129 @@ module _ (start : Tale) (version : ℕ) (before : Streams) (left_mid left : Opti
           needed = needs;
           says = says_first;
           fault_is = rw at faults.is;
-          held = held ∙ was.held;
+          held = gathers_written (WasDue first version was.events was.flushed was.taken) before.held
+              (begun version was.tale.played was.flat) mid.held held draft.gathered was.gathers written;
         };
-        fits = file_fits first version before (beside left_mid mid) was_rig old size was;
+        fits = file_fits first version before (beside left_mid mid) was_rig old draft since was;
         stands = rw faults.stands was.stands;
         heard = heard ∙ was.heard;
         cost = cost;
         box_cost = spent_within before.steps now.steps _ _ cost was.small;
       }
 
-  long_ends : (number : ℕ) → number ≡ next_number was.tale.played → IsTooLong file was.tale given mid now rig
-      → EndsFlat start before (beside left now) rig (TooLong number)
-  long_ends number at long = record {
-    way = way long.plays;
-    bytes = bytes;
-    follows = follows long.plays;
-    says = record {
-      last = last long.plays number at;
-      held = long.held ∙ was.held;
-      fits = file_fits first version before (beside left_mid mid) was_rig old size was;
-      long = rw (whole_length long.plays) long.long;
-    };
-    fits = tt;
-    stands = stands long.plays;
-    heard = heard long.plays;
-    cost = cost long.plays;
-    box_cost = box_cost long.plays;
-  }
+  says_before : (rest : List ℕ)
+      → (more : Captured) × (capture (taken ++ rest) ≡ then_events was.events more) × (more.version ≡ version)
+  says_before rest =
+      let more = then_events (given ∷ []) (capture_from new rest) in (
+        more,
+        says rest ∙ split_events was.events (given ∷ []) (capture_from new rest),
+        version_from new rest known ∙ sym same,
+      )
 
-  lacks_ends : (number : ℕ) → number ≡ next_number was.tale.played → LacksRecords file was.tale given mid now rig
-      → EndsFlat start before (beside left now) rig (WriteFailed number)
-  lacks_ends number at lacks =
-      let P : Option (List ℕ) → Type 0 = λ held. AppendsPart held now.held (due_at version was.tale given) in
-      let fits : length (flat_file first version (was.events ++ given ∷ [])) ≤ limit = rw (whole_length lacks.plays)
-      lacks.fits in
+  fault_lacks : (number : ℕ) (fault : EventFault) (held : Option (List ℕ)) (lacking : ℕ)
+      → FaultsEvent was.tale given fault mid now was_rig rig → BreaksWriting mid.held held draft.gathered lacking
+      → EndsFlat start before (streams left held now.heard now.steps) rig (WriteFailed lacking)
+  fault_lacks number fault held lacking faults breaks =
+      let heard : now.heard ≡ mid.heard = ap (λ (at : Outlets). at.heard) faults.unchanged in
+      let steps : now.steps ≡ mid.steps = ap (λ (at : Outlets). at.steps) faults.unchanged in
+      let cost : now.steps ≤ before.steps + was.tale.cost = let spent = was.cost in omega (arith, spent, steps) in
+      lacks_records start before (streams left held now.heard now.steps) rig way_before was.flushed lacking bytes
+      was.follows says_before
+      (gathers_off (WasDue first version was.events was.flushed taken) before.held
+      (begun version was.tale.played was.flat) mid.held held draft.gathered lacking
+      (gathers_more (WasDue first version was.events was.flushed was.taken)
+      (WasDue first version was.events was.flushed taken) before.held (begun version was.tale.played was.flat) mid.held
+      draft.gathered
+      (due_more first version was.events [] was.events was.flushed was.taken takes.taken (sym (append-nil was.events)))
+      was.gathers) breaks)
+      few (rw faults.stands was.stands) (heard ∙ was.heard) cost
+      (spent_within before.steps now.steps _ _ cost was.small)
+
+  long_ends : (number : ℕ) (is : Draft) (held : Option (List ℕ)) → number ≡ next_number was.tale.played
+      → IsTooLong draft is was.tale given mid now rig → IsWritten mid.held held draft.gathered
+      → EndsFlat start before (streams left held now.heard now.steps) rig (TooLong number)
+  long_ends number is held at long written =
+      let size : length (due_at draft.file.version was.tale given) ≡ length (due_at version was.tale given) =
+      ap length due_same in
+      let more = long.long in
+      let sum : limit < draft.file.size + length (due_at version was.tale given) + 4 = omega (arith, more, size) in
       record {
-        way = way lacks.plays;
+        way = way long.plays;
         bytes = bytes;
-        follows = follows lacks.plays;
-        says = inl (record { last = last lacks.plays number at; held = subst P was.held lacks.held; fits = fits });
-        fits = fits;
-        stands = stands lacks.plays;
-        heard = heard lacks.plays;
-        cost = cost lacks.plays;
-        box_cost = box_cost lacks.plays;
+        follows = follows long.plays;
+        says = record {
+          last = last long.plays number at;
+          held = gathers_written (WasDue first version was.events was.flushed was.taken) before.held
+              (begun version was.tale.played was.flat) mid.held held draft.gathered was.gathers written;
+          fits = file_fits first version before (beside left_mid mid) was_rig old draft since was;
+          long = rw (whole_length long.plays) sum;
+        };
+        fits = tt;
+        stands = stands long.plays;
+        heard = heard long.plays;
+        cost = cost long.plays;
+        box_cost = box_cost long.plays;
       }
 
-  pub event_ends : (ending : FlatEnding) → EndsEvent file was.tale given mid now was_rig rig ending
-      → EndsFlat start before (beside left now) rig ending
-  event_ends (Faulted number fault) ends = fault_ends number fault ends.0 ends.1
-  event_ends (TooLong number) ends = long_ends number ends.0 ends.1
-  event_ends (WriteFailed number) ends = lacks_ends number ends.0 ends.1
-  event_ends Done ends = absurd ends
-  event_ends (Stopped number stop) ends = absurd ends
+  long_lacks : (is : Draft) (held : Option (List ℕ)) (lacking : ℕ) → IsTooLong draft is was.tale given mid now rig
+      → BreaksWriting mid.held held draft.gathered lacking
+      → EndsFlat start before (streams left held now.heard now.steps) rig (WriteFailed lacking)
+  long_lacks is held lacking long breaks =
+      lacks_on long.plays held lacking
+      (gathers_off (WasDue first version (was.events ++ given ∷ []) was.flushed taken) before.held
+      (begun version was.tale.played was.flat) mid.held held draft.gathered lacking
+      (gathers_more (WasDue first version was.events was.flushed was.taken)
+      (WasDue first version (was.events ++ given ∷ []) was.flushed taken) before.held
+      (begun version was.tale.played was.flat) mid.held draft.gathered
+      (more_due (was.events ++ given ∷ []) refl) was.gathers) breaks)
+
+  put_lacks : (lacking : ℕ) → LacksPut draft was.tale given mid now rig lacking
+      → EndsFlat start before (beside left now) rig (WriteFailed lacking)
+  put_lacks lacking lacks =
+      let due = due_at version was.tale given in
+      let P : List ℕ → Type 0 = λ bs. BreaksPut (next_number was.tale.played) bs mid.held now.held draft.gathered lacking in
+      let size : length (due_at draft.file.version was.tale given) ≡ length due = ap length due_same in
+      let fits = lacks.fits in
+      let length_now = whole_length lacks.plays in
+      let file_fits : length (flat_file first version (was.events ++ given ∷ [])) ≤ limit =
+      omega (arith, length_now, size, fits) in
+      lacks_on lacks.plays now.held lacking
+      (breaks_put (WasDue first version was.events was.flushed was.taken)
+      (WasDue first version (was.events ++ given ∷ []) was.flushed taken) before.held
+      (begun version was.tale.played was.flat) mid.held draft.gathered was.gathers
+      (more_due (was.events ++ given ∷ []) refl) (next_number was.tale.played) due (here file_fits)
+      now.held lacking (subst P due_same lacks.breaks))
+
+  -- what is gathered is written at a pause behind it, and that fails
+  pub pause_lacks : (is : Draft) (held : Option (List ℕ)) (lacking : ℕ) → PassesEvent draft is was.tale given mid now rig
+      → BreaksWriting now.held held is.gathered lacking
+      → EndsFlat start before (streams left held now.heard now.steps) rig (WriteFailed lacking)
+  unfolding passes_on
+  pause_lacks is held lacking passes breaks =
+      let on = passes_on is passes in
+      lacks_on passes.plays held lacking
+      (gathers_off (WasDue first version (was.events ++ given ∷ []) was.flushed taken) before.held
+      (begun version (next_number was.tale.played) (was.flat ++ flat_events was.tale.state given)) now.held held
+      is.gathered lacking on.gathers breaks)
+
+  pub event_ends : (is : Draft) (held : Option (List ℕ)) (ending result : FlatEnding)
+      → EndsEvent draft is was.tale given mid now was_rig rig ending
+      → EndsBehind ending is.gathered now.held held result
+      → EndsFlat start before (streams left held now.heard now.steps) rig result
+  event_ends is held (Faulted number fault) result ends (inl written) =
+      let unput : is.gathered ≡ draft.gathered = ap (λ (d : Draft). d.gathered) ends.2 in
+      let same : now.held ≡ mid.held = ap (λ (at : Outlets). at.held) ends.1.unchanged in
+      rw written.0 (fault_ends number fault held ends.0 ends.1 (rw (unput, same) at written.1))
+  event_ends is held (Faulted number fault) result ends (inr breaks) =
+      let unput : is.gathered ≡ draft.gathered = ap (λ (d : Draft). d.gathered) ends.2 in
+      let same : now.held ≡ mid.held = ap (λ (at : Outlets). at.held) ends.1.unchanged in
+      rw breaks.1 (fault_lacks number fault held breaks.0 ends.1 (rw (unput, same) at breaks.2))
+  event_ends is held (TooLong number) result ends (inl written) =
+      let unput : is.gathered ≡ draft.gathered = ap (λ (d : Draft). d.gathered) ends.1.unput in
+      rw written.0 (long_ends number is held ends.0 ends.1 (rw (unput, ends.1.held) at written.1))
+  event_ends is held (TooLong number) result ends (inr breaks) =
+      let unput : is.gathered ≡ draft.gathered = ap (λ (d : Draft). d.gathered) ends.1.unput in
+      rw breaks.1 (long_lacks is held breaks.0 ends.1 (rw (unput, ends.1.held) at breaks.2))
+  event_ends is held (WriteFailed number) result ends behind = rw (behind.0, behind.1) (put_lacks number ends)
+  event_ends is held Done result ends behind = absurd ends
+  event_ends is held (Stopped number stop) result ends behind = absurd ends

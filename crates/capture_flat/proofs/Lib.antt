@@ -4,6 +4,7 @@ pub mod Awaiting
 pub mod Controls
 pub mod Counts
 pub mod Following
+pub mod Lacking
 pub mod Needed
 pub mod Output
 pub mod Passes

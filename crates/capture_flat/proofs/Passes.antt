@@ -1,5 +1,7 @@
 -- One event that is played and written.
 use Rattle.std.proofs.Common.{◌≡◌, ◌<◌, ◌≤◌, ◌+◌, ◌++◌, ℕ, List, Option, Result, Ok, Err, length, refl, ap, sym, ◌∙◌}
+use Rattle.gathered_out.specs.Pieces.{Piece}
+use Rattle.gathered_out.specs.Puts.{BreaksPut, IsPut}
 use Rattle.gpu_capture.specs.Capture.{limit}
 use Rattle.gpu_capture.specs.Written.{AllowsAll}
 use Rattle.gpu_capture.specs.declared.event.Event.{Event}
@@ -123,3 +125,12 @@ too_long size bytes xs ys count same long = rw (← same, ← count) long
 pub not_long : (size bytes : ℕ) (xs ys : List ℕ) → bytes ≡ length xs → xs ≡ ys → size + bytes + 4 ≤ limit
     → size + length ys + 4 ≤ limit
 not_long size bytes xs ys count same few = rw (← same, ← count) few
+
+-- the same bytes under the same number
+pub put_same : (n m : ℕ) (xs ys : List ℕ) (before now : Option (List ℕ)) (old new : List Piece) → n ≡ m → xs ≡ ys
+    → IsPut n xs before now old new → IsPut m ys before now old new
+put_same n m xs ys before now old new number same put = rw (← number, ← same) put
+
+pub breaks_same : (n m : ℕ) (xs ys : List ℕ) (before now : Option (List ℕ)) (old : List Piece) (lacking : ℕ) → n ≡ m
+    → xs ≡ ys → BreaksPut n xs before now old lacking → BreaksPut m ys before now old lacking
+breaks_same n m xs ys before now old lacking number same put = rw (← number, ← same) put

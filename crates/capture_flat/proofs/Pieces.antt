@@ -1,9 +1,9 @@
 -- Records that are written, part by part.
 use Rattle.std.proofs.Common.{◌≡◌, ◌<◌, ◌≤◌, ◌+◌, ◌-◌, ◌++◌, ℕ, suc, List, [], ◌∷◌, Option, map, replicate, ap, ◌∙◌}
 use Rattle.std.proofs.Common.{append-nil}
-use Rattle.std.proofs.Common.{append_assoc, arith}
+use Rattle.std.proofs.Common.{append_assoc, arith, sym}
 use Rattle.std.proofs.lemmas.Grind.{flat_map-append}
-use Rattle.std.proofs.lemmas.List.{map-append}
+use Rattle.std.proofs.lemmas.List.{map-append, replicate-append-replicate}
 use Rattle.dev_io.specs.Device.{appended}
 use Rattle.dev_io.proofs.Appended.{appended-appended}
 use Rattle.gpu_capture.specs.Written.{spelled}
@@ -26,15 +26,19 @@ spell-append xs ys = flat_map-append spelled xs ys
 pub spell_words-append : (xs ys : List ℕ) → spell_words (xs ++ ys) ≡ spell_words xs ++ spell_words ys
 spell_words-append xs ys = ap spell (map-append Gp0 xs ys) ∙ spell-append (map Gp0 xs) (map Gp0 ys)
 
--- a read that is left, and those behind it
-pub skips_next : (i n : ℕ) → i < n
-    → spell (replicate (n - i) Skip) ≡ spelled Skip ++ spell (replicate (n - (i + 1)) Skip)
-skips_next i n lt =
-    let e : n - i ≡ suc (n - (i + 1)) = omega arith in ap (λ m. spell (replicate m Skip)) e
+-- reads, and one more
+pub skips_more : (i : ℕ) → spell (replicate (i + 1) Skip) ≡ spell (replicate i Skip) ++ spelled Skip
+skips_more i =
+    ap spell (sym (replicate-append-replicate i 1 Skip)) ∙ spell-append (replicate i Skip) (Skip ∷ [])
+    ∙ ap (λ bytes. spell (replicate i Skip) ++ bytes) (append-nil (spelled Skip))
 
--- no read is left
-pub skips_end : (i n : ℕ) → n ≤ i → spell (replicate (n - i) Skip) ≡ []
-skips_end i n le = let e : n - i ≡ 0 = omega arith in ap (λ m. spell (replicate m Skip)) e
+-- reads, one of them, and those behind it
+pub skips_split : (i n : ℕ) → i < n
+    → spell (replicate n Skip) ≡ spell (replicate i Skip) ++ (spelled Skip ++ spell (replicate (n - (i + 1)) Skip))
+skips_split i n lt =
+    let e : n ≡ i + suc (n - (i + 1)) = omega arith in
+    ap (λ m. spell (replicate m Skip)) e ∙ ap spell (sym (replicate-append-replicate i (suc (n - (i + 1))) Skip))
+    ∙ spell-append (replicate i Skip) (replicate (suc (n - (i + 1))) Skip)
 
 -- words, and one more
 pub words_more : (all words : List ℕ) (word : ℕ) → all ≡ words ++ word ∷ []

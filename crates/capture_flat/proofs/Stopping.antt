@@ -1,10 +1,13 @@
 -- The end of a capture, and the file that was written of it.
-use Rattle.std.proofs.Common.{◌≡◌, ◌≤◌, ◌==◌, inr, ◌+◌, ◌++◌, ℕ, List, [], Option, length, refl, ap, sym, subst}
-use Rattle.std.proofs.Common.{◌∙◌, append-nil, arith}
+use Rattle.std.proofs.Common.{◌≡◌, ◌≤◌, ◌<◌, ◌==◌, inl, inr, ◌+◌, ◌++◌, ℕ, List, [], ◌∷◌, Option, length, refl, ap}
+use Rattle.std.proofs.Common.{sym, subst, ◌∙◌, append_assoc, append-nil, arith}
 use Rattle.dev_io.specs.Device.{prepended, appended, AppendsPart}
 use Rattle.dev_io.proofs.Parts.{taken_on}
 use Rattle.gpu_capture.specs.Capture.{capture, limit}
-use Rattle.gpu_capture.specs.Reader.{StopsAt}
+use Rattle.gathered_out.specs.Puts.{BreaksWriting}
+use Rattle.gathered_out.proofs.Gathers.{gathers_more, gathers_off, gathers_written}
+use Rattle.gpu_capture.specs.Reader.{StopsAt, capture_from}
+use Rattle.gpu_capture.proofs.Versions.{version_from}
 use Rattle.gpu_capture.specs.Written.{written, spelled_end, AllowsAll}
 use Rattle.gpu_capture.specs.declared.event.Event.{Event}
 use Rattle.gpu_capture.specs.declared.event.Stop.{Stop}
@@ -21,15 +24,17 @@ use Rattle.event_play.specs.Streams.{Streams, streams}
 use Rattle.event_play.specs.declared.ending.Ending.TheVariants.{Done as PlayedWhole}
 use Rattle.capture_flat.specs.Flat.{flat_replay}
 use Rattle.event_play.specs.Alike.{AreAlike}
-use Rattle.capture_flat.specs.OneEvent.{EndsAt}
+use Rattle.capture_flat.specs.OneEvent.{EndsAt, EndsReading}
 use Rattle.capture_flat.specs.Out.{head_due, begun, flat_version, flat_file}
-use Rattle.capture_flat.specs.Passing.{Way, Follows, AreNeededToEnd, SaysStop, IsFlatCapture, EndsFlat}
+use Rattle.capture_flat.specs.Passing.{Way, Follows, AreNeededToEnd, SaysFirst, SaysStop, IsFlatCapture, EndsFlat}
 use Rattle.capture_flat.specs.declared.ending.FlatEnding.{FlatEnding}
+use Rattle.capture_flat.specs.declared.file.Draft.{Draft}
 use Rattle.capture_flat.specs.declared.ending.FlatEnding.TheVariants.{Done, Stopped, Faulted, TooLong, WriteFailed}
 use Rattle.capture_flat.proofs.Alike.{flat_alike, rest_same}
 use Rattle.capture_flat.proofs.Allows.{later_allows}
-use Rattle.capture_flat.proofs.Following.{Passes, all_flat, file_fits, spent_within}
-use Rattle.capture_flat.proofs.Needed.{needed_end, stop_says}
+use Rattle.capture_flat.proofs.Following.{Passes, all_flat, few_behind, file_fits, spent_within}
+use Rattle.capture_flat.proofs.Lacking.{WasDue, due_more, lacks_records}
+use Rattle.capture_flat.proofs.Needed.{needed_end, stop_says, stops_version}
 use Rattle.capture_flat.proofs.Output.{begun_end}
 use Rattle.capture_flat.proofs.Pieces.{wrote_on}
 use Rattle.capture_flat.proofs.Ports.{all_ports}
@@ -86,10 +91,11 @@ module _ (start t : Tale) (version : ℕ) (events flat : List Event)
 
 -- ---- a stop of the reader
 
-module _ (start : Tale) (version : ℕ) (before : Streams) (left_mid left held_mid held : Option (List ℕ))
+module _ (start : Tale) (version : ℕ) (before : Streams) (left_mid left held_old held_mid held : Option (List ℕ))
     (heard : List Reading) (steps : ℕ)
-    (rig : RigState) (old new : Progress) (size : ℕ)
-    (was : Passes (raised start version) version before (streams left_mid held_mid heard steps) rig old size)
+    (rig : RigState) (old new : Progress) (draft : Draft) (since : ℕ)
+    (was : Passes (raised start version) version before (streams left_mid held_old heard steps) rig old draft since)
+    (stood : held_mid ≡ appended before.held (begun version was.tale.played was.flat))
     (same : version ≡ new.version) where
   abbrev first_tale : Tale
   first_tale = raised start version
@@ -117,7 +123,7 @@ module _ (start : Tale) (version : ℕ) (before : Streams) (left_mid left held_m
   says stop stops = stop_says old (way stop stops) was.taken stops.taken left stop refl was.says (rw same stops.says)
 
   fits : length (flat_file first_tale version was.events) ≤ limit
-  fits = file_fits first_tale version before (streams left_mid held_mid heard steps) rig old size was
+  fits = file_fits first_tale version before (streams left_mid held_old heard steps) rig old draft since was
 
   box_cost : steps ≤ before.steps + was.tale.box_cost
   box_cost = spent_within before.steps steps was.tale.cost was.tale.box_cost was.cost was.small
@@ -137,7 +143,7 @@ module _ (start : Tale) (version : ℕ) (before : Streams) (left_mid left held_m
           needed = needs End stops;
           plays = λ rest. ap (played_from start) (says_end rest)
               ∙ replayed_to start was.tale version was.events was.flat was.follows rest;
-          held = wrote_on before.held held_mid held (begun version was.tale.played was.flat) due was.held wrote
+          held = wrote_on before.held held_mid held (begun version was.tale.played was.flat) due stood wrote
               ∙ ap (appended before.held) (begun_end version was.tale.played was.flat was.follows.fresh)
               ∙ ap (λ flat. appended before.held (written (flat_version version) flat))
               (sym (all_flat first_tale was.tale was.events was.flat was.follows));
@@ -164,10 +170,11 @@ module _ (start : Tale) (version : ℕ) (before : Streams) (left_mid left held_m
           number_is = at;
           needed = needs End stops;
           says = says End stops;
-          held = subst Q was.held
+          held = subst Q stood
               part;
+          fits = fits;
         });
-        fits = fits;
+        fits = tt;
         stands = was.stands;
         heard = was.heard;
         cost = was.cost;
@@ -183,7 +190,7 @@ module _ (start : Tale) (version : ℕ) (before : Streams) (left_mid left held_m
     bytes = bytes stop stops;
     follows = was.follows;
     says = (
-      record { number_is = at; says = says stop stops; needed = needs stop stops; held = unwritten ∙ was.held },
+      record { number_is = at; says = says stop stops; needed = needs stop stops; held = unwritten ∙ stood },
       other,
     );
     fits = fits;
@@ -208,11 +215,71 @@ module _ (start : Tale) (version : ℕ) (before : Streams) (left_mid left held_m
   stop_ends stop (Faulted number fault) stops low ends = absurd ends
   stop_ends stop (TooLong number) stops low ends = absurd ends
 
-  -- the same, by the number of events that the rig has counted
-  pub stop_ends_at : (played : ℕ) (stop : Stop) (ending : FlatEnding) → StopsAt old new left_mid left stop
+-- ---- the same, behind what is gathered
+
+no_event : (events earlier later : List Event) (event : Event) → events ≡ [] → events ≡ earlier ++ event ∷ later → ⊥
+no_event events [] later event none are = cc
+no_event events (e ∷ earlier) later event none are = cc
+
+module _ (start : Tale) (version : ℕ) (before : Streams) (left_mid left held_mid held : Option (List ℕ))
+    (heard : List Reading) (steps : ℕ)
+    (rig : RigState) (old new : Progress) (draft : Draft) (since : ℕ)
+    (was : Passes (raised start version) version before (streams left_mid held_mid heard steps) rig old draft since)
+    (near : old.place < since + 4096)
+    (same : version ≡ new.version) where
+  abbrev way_here : (stop : Stop) → StopsAt old new left_mid left stop → Way
+  way_here stop stops = record {
+    version = version;
+    taken = was.taken ++ stops.taken;
+    events = was.events;
+    flat = was.flat;
+    tale = was.tale;
+  }
+
+  -- the bytes taken say the events, if there are some
+  says_events : (stop : Stop) (stops : StopsAt old new left_mid left stop) → 1 ≤ old.version
+      → SaysFirst (way_here stop stops) was.events
+  says_events stop stops known = λ rest. (
+    capture_from old (stops.taken ++ rest),
+    ap capture (append_assoc was.taken stops.taken rest) ∙ was.says (stops.taken ++ rest),
+    version_from old (stops.taken ++ rest) known ∙ stops_version old new.version stop stops.taken left stops.says known
+        ∙ sym same,
+  )
+
+  gathered_lacks : (stop : Stop) (lacking : ℕ) → StopsAt old new left_mid left stop → 1 ≤ old.version
+      → BreaksWriting held_mid held draft.gathered lacking
+      → EndsFlat start before (streams left held heard steps) rig (WriteFailed lacking)
+  gathered_lacks stop lacking stops known breaks =
+      let first = raised start version in
+      let taken = was.taken ++ stops.taken in
+      let all = begun version was.tale.played was.flat in
+      lacks_records start before (streams left held heard steps) rig (way_here stop stops) was.flushed lacking
+      (taken_on before.left left_mid left was.taken stops.taken was.bytes stops.bytes)
+      was.follows (says_events stop stops known)
+      (gathers_off (WasDue first version was.events was.flushed taken) before.held all held_mid held draft.gathered lacking
+      (gathers_more (WasDue first version was.events was.flushed was.taken)
+      (WasDue first version was.events was.flushed taken) before.held all held_mid draft.gathered
+      (due_more first version was.events [] was.events was.flushed was.taken stops.taken (sym (append-nil was.events)))
+      was.gathers) breaks)
+      (few_behind old was.events was.taken stops.taken was.flushed since was.reading was.says was.since_is near
+      stops.needed)
+      was.stands was.heard was.cost (spent_within before.steps steps was.tale.cost was.tale.box_cost was.cost was.small)
+
+  -- by the number of events that the rig has counted
+  pub reading_ends : (played : ℕ) (stop : Stop) (ending : FlatEnding) → StopsAt old new left_mid left stop
       → version ≤ 3 → played ≡ rig.played
-      → EndsAt version played stop held_mid held ending
+      → EndsReading draft played stop held_mid held ending
       → EndsFlat start before (streams left held heard steps) rig ending
-  stop_ends_at played stop ending stops low counted ends =
+  reading_ends played stop ending stops low counted (inl ends) =
       let at : played ≡ was.tale.played = counted ∙ sym was.stands.played in
-      stop_ends stop ending stops low (rw at at ends)
+      let stood = gathers_written (WasDue (raised start version) version was.events was.flushed was.taken) before.held
+      (begun version was.tale.played was.flat) held_mid ends.0 draft.gathered was.gathers ends.1 in
+      stop_ends start version before left_mid left held_mid ends.0 held heard steps rig old new draft since was stood same
+      stop ending stops low (rw (at, was.version_is) at ends.2)
+  reading_ends played stop ending stops low counted (inr breaks) =
+      let off = gathers_off (WasDue (raised start version) version was.events was.flushed was.taken) before.held
+      (begun version was.tale.played was.flat) held_mid held draft.gathered breaks.0 was.gathers breaks.2 in
+      rw breaks.1 (elim was.reading [
+        | inl none ↦ absurd (no_event was.events off.is.earlier off.is.later off.is.event none.2 off.is.are)
+        | inr known ↦ gathered_lacks stop breaks.0 stops known breaks.2
+      ])

@@ -1,11 +1,13 @@
 -- A flat capture that is written as the events come (our own rule).
 use Rattle.std.specs.Prelude.{◌≡◌, ◌≤◌, ◌<◌, ◌⊎◌, ℕ, List, [], ◌∷◌, ◌++◌, ◌+◌, Option, Err, length}
-use Rattle.dev_io.specs.Device.{prepended, appended, AppendsPart, IsAtEnd}
-use Rattle.gpu_capture.specs.Capture.{Captured, capture, then_events, limit}
+use Rattle.dev_io.specs.Device.{prepended, appended, AppendsPart}
+use Rattle.gpu_capture.specs.Capture.{capture, limit}
+use Rattle.gpu_capture.specs.Reading.{AreFewBehind, AreNeeded as Needs, AreNeededToEnd as NeedsToEnd}
+use Rattle.gpu_capture.specs.Reading.{SaysFirst as SaysThese, SaysStop as Stops}
 use Rattle.gpu_capture.specs.Written.{spelled_end, AllowsAll}
 use Rattle.gpu_capture.specs.declared.event.Event.{Event}
 use Rattle.gpu_capture.specs.declared.event.Stop.{Stop}
-use Rattle.gpu_capture.specs.declared.event.Stop.TheVariants.{End, Truncated, ReadFault}
+use Rattle.gpu_capture.specs.declared.event.Stop.TheVariants.{End, ReadFault}
 use Rattle.event_play.specs.Ends.{IsNotEnd}
 use Rattle.event_play.specs.Playing.{whole}
 use Rattle.event_play.specs.Replay.{Tale, played_events, played_capture, next_number, raised}
@@ -42,39 +44,25 @@ pub record Follows (first : Tale) (events : List Event) (tale : Tale) (flat : Li
 
 -- ---- the bytes taken
 
--- these bytes are cut short: they say the first of these events, and no more
-pub record IsCutShort (events : List Event) (part : List ℕ) (missing : List Event) : Type 0 where
-  pub version : ℕ
-  pub byte : ℕ
-  pub fewer : List Event
-  pub are : events ≡ fewer ++ missing
-  pub is : capture part ≡ record { version = version; events = fewer; ending = Truncated byte; rest = [] }
-
 -- none of these bytes is one too many for the last of these events: a proper part of them is cut short before it
 abbrev pub AreNeeded : List Event → List ℕ → Type 0
-AreNeeded events taken = (part more : List ℕ) → taken ≡ part ++ more → (more ≡ [] → ⊥)
-    → (event : Event) × (missing : List Event) × IsCutShort events part (event ∷ missing)
+AreNeeded events taken = Needs capture events taken
 
 -- none of them is one too many to see how the capture ends behind these events: a proper part of them is cut short
 abbrev pub AreNeededToEnd : List Event → List ℕ → Type 0
-AreNeededToEnd events taken = (part more : List ℕ) → taken ≡ part ++ more → (more ≡ [] → ⊥)
-    → (missing : List Event) × IsCutShort events part missing
+AreNeededToEnd events taken = NeedsToEnd capture events taken
 
 -- the bytes taken say these events first, in a capture of the version of the way
 abbrev pub SaysFirst : Way → List Event → Type 0
-SaysFirst way events = (rest : List ℕ)
-    → (more : Captured) × (capture (way.taken ++ rest) ≡ then_events events more) × (more.version ≡ way.version)
+SaysFirst way events = SaysThese capture way.version way.taken events
 
 -- what a capture of the bytes taken says where the reader stopped behind the events of the way
 abbrev pub SaysStop : Way → Stop → (left : Option (List ℕ)) → Type 0
-SaysStop way (ReadFault byte) left =
-    capture way.taken ≡ record { version = way.version; events = way.events; ending = Truncated byte; rest = [] }
-SaysStop way (Truncated byte) left =
-    (capture way.taken ≡ record { version = way.version; events = way.events; ending = Truncated byte; rest = [] })
-    × IsAtEnd left
-SaysStop way stop left =
-    (rest : List ℕ) → capture (way.taken ++ rest)
-    ≡ record { version = way.version; events = way.events; ending = stop; rest = rest }
+SaysStop way stop left = Stops capture way.version way.taken way.events stop left
+
+-- So many bytes at most are taken while records are gathered: 4,096, and those of one answer of the reader.
+abbrev pub most_behind : ℕ
+most_behind = 4112
 
 -- ---- the endings
 
@@ -133,20 +121,31 @@ pub record IsLong (first : Tale) (way : Way) (number : ℕ) (before now : Stream
   pub fits : length (flat_file (raised first way.version) way.version last.before) ≤ limit
   pub long : limit < length (flat_file (raised first way.version) way.version way.events)
 
--- a proper part of the records of the last event was written behind all that was due before
-pub record LacksLast (first : Tale) (way : Way) (number : ℕ) (before now : Streams) : Type 0 where
-  pub last : IsLast first way number
-  pub held : AppendsPart (appended before.held (begun way.version last.tale.played last.flat)) now.held
-      (due_at way.version last.tale last.event)
-  pub fits : length (flat_file (raised first way.version) way.version way.events) ≤ limit
+-- A proper part of the records of this event was written, behind all that was due before it. The events of the way behind
+-- it were read and played while its records were gathered, and few bytes were taken behind it.
+pub record LacksRecords (first : Tale) (way : Way) (number : ℕ) (before now : Streams) : Type 0 where
+  pub earlier : List Event
+  pub event : Event
+  pub later : List Event
+  pub tale : Tale
+  pub flat : List Event
+  pub are : way.events ≡ earlier ++ event ∷ later
+  pub follows : Follows (raised first way.version) earlier tale flat
+  pub number_is : number ≡ next_number tale.played
+  pub says : SaysFirst way way.events
+  pub few : AreFewBehind capture (earlier ++ event ∷ []) way.taken most_behind
+  pub held : AppendsPart (appended before.held (begun way.version tale.played flat)) now.held
+      (due_at way.version tale event)
+  pub fits : length (flat_file (raised first way.version) way.version (earlier ++ event ∷ [])) ≤ limit
 
--- the same of the End record
-pub record LacksEnd (way : Way) (number : ℕ) (before now : Streams) : Type 0 where
+-- a proper part of the End record was written
+pub record LacksEnd (first : Tale) (way : Way) (number : ℕ) (before now : Streams) : Type 0 where
   pub number_is : number ≡ next_number way.tale.played
   pub needed : AreNeededToEnd way.events way.taken
   pub says : SaysStop way End now.left
   pub held : AppendsPart (appended before.held (begun way.version way.tale.played way.flat)) now.held
       (head_due way.version way.tale.played ++ spelled_end)
+  pub fits : length (flat_file (raised first way.version) way.version way.events) ≤ limit
 
 abbrev pub SaysEnding : (first : Tale) (way : Way) (before now : Streams) → FlatEnding → Type 0
 SaysEnding first way before now Done = IsWhole first way before now
@@ -154,15 +153,17 @@ SaysEnding first way before now (Stopped number stop) = IsStopped way number sto
 SaysEnding first way before now (Faulted number fault) = HasFault way number fault before now
 SaysEnding first way before now (TooLong number) = IsLong first way number before now
 SaysEnding first way before now (WriteFailed number) =
-    LacksLast first way number before now ⊎ LacksEnd way number before now
+    LacksRecords first way number before now ⊎ LacksEnd first way number before now
 
--- wherever the ending is not that it is too long, the whole file of the events played is not
+-- Wherever the ending is not that it is too long, the whole file of the events played is not. What a failed write says of
+-- it stands beside the event.
 abbrev pub Fits : (first : Tale) (way : Way) → FlatEnding → Type 0
 Fits first way (TooLong number) = Unit {0}
+Fits first way (WriteFailed number) = Unit {0}
 Fits first way ending = length (flat_file (raised first way.version) way.version way.events) ≤ limit
 
--- How a flat capture ends. The events of the way are all that come before the ending, and the last one too where its
--- records were refused or not written whole. The rig and the taps are as they are after these events, and the store
+-- How a flat capture ends. The events of the way are all that were played before the ending, and the last one too where
+-- its records were refused or not written whole. The rig and the taps are as they are after these events, and the store
 -- steps are theirs by both counts.
 pub record EndsFlat (first : Tale) (before now : Streams) (rig : RigState) (ending : FlatEnding) : Type 0 where
   pub way : Way

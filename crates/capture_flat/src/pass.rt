@@ -1,7 +1,8 @@
-// Events are played, and their flat records written.
-ghost use Rattle.std.specs.Prelude.{◌≡◌, ◌≤◌, ◌<◌, ℕ, ◌+◌, ◌^◌, ◌++◌, length, map, OnOk, OnErr, IfOk, IfErr};
+// Events are played, and their flat records gathered.
+ghost use Rattle.std.specs.Prelude.{◌≡◌, ◌≤◌, ◌<◌, ◌⊎◌, ℕ, ◌+◌, ◌^◌, ◌++◌, length, map, OnOk, OnErr, IfErr};
 ghost use Rattle.dev_io.specs.Device.{Rose, Writes};
-ghost use Rattle.gpu_capture.specs.Capture.{limit};
+ghost use Rattle.gathered_out.specs.Puts.{Puts};
+ghost use Rattle.gpu_capture.specs.Capture.{head_of, limit};
 ghost use Rattle.gpu_capture.specs.Reader.{IsReadFault};
 ghost use Rattle.gpu_capture.specs.Written.{spelled_end};
 ghost use Rattle.event_play.specs.Replay.{Tale, next_number};
@@ -10,17 +11,18 @@ ghost use Rattle.event_play.specs.Streams.{outlets};
 ghost use Rattle.event_play.specs.Work.{IsWork};
 ghost use Rattle.capture_flat.specs.Flat.{flat_work};
 ghost use Rattle.capture_flat.specs.Out.{spell, head_due, flat_version};
-ghost use Rattle.capture_flat.specs.OneEvent.{PassesEvent, EndsEvent, EndsAt};
+ghost use Rattle.capture_flat.specs.OneEvent.{PassesEvent, EndsEvent, EndsAt, EndsBehind, EndsReading};
 ghost use Rattle.capture_flat.specs.Passing.{MayReadFault, MayWriteFault, IsEnding};
 
 use crate::allowed::allowed;
 use crate::count::count_work;
 use crate::ending::FlatEnding;
-use crate::file::FlatFile;
+use crate::file::Draft;
 use crate::spell::spell_work;
 use dev_io::{Failed, Sink};
 use event_play::{Rig, Work};
-use gpu_capture::{Event, Stop, write_end, write_start};
+use gathered_out::Gathered;
+use gpu_capture::{Event, Stop, head_bytes, write_end, write_start};
 use gpu_taps::Listener;
 use ot_clear_dma::Ram;
 use std::sync::ledger::Ledger;
@@ -29,23 +31,25 @@ use vram_store::Steps;
 /// A written file has no more bytes.
 const LIMIT: u32 = 1 << 30;
 
-/// Plays one event, and then writes its records behind the file so far. The answer is how many bytes stand then.
-/// Playing touches the rig, the taps and the steps, and writing the sink, so that each of them is handed in.
+/// Plays one event, and then puts its records behind the file so far. Where it has a fault, or its records are too many,
+/// nothing is put or written.
+/// Playing touches the rig, the taps and the steps, and putting the file and the sink, so that each of them is handed in.
 pub(crate) fn pass_event<K: Sink, T: Listener, L: Ledger>(
     rig: &mut Rig,
     event: &Event,
-    file: FlatFile,
+    draft: &mut Draft,
     out: &mut K,
     taps: &mut Vec<T>,
     steps: &mut Steps<L>,
-) -> Result<u32, FlatEnding>
-    requires version { file.version ≤ 3 }
-    requires size { file.size ≤ 2 ^ 30 }
-    ensures ok { (t : Tale) → StandsFor rig.old t → IfOk result (λ size. PassesEvent file t event.now
+) -> Result<(), FlatEnding>
+    requires version { draft.old.file.version ≤ 3 }
+    requires size { draft.old.file.size ≤ 2 ^ 30 }
+    ensures ok { (t : Tale) → StandsFor rig.old t → OnOk result (PassesEvent draft.old draft.new t event.now
         (outlets (K.held out.old) (K.faults out.old) (map T.heard taps.old.items) steps.old)
-        (outlets (K.held out.new) (K.faults out.new) (map T.heard taps.new.items) steps.new) rig.new size) }
-    ensures few { IfOk result (λ size. size + 4 ≤ 2 ^ 30) }
-    ensures ends { (t : Tale) → StandsFor rig.old t → IfErr result (EndsEvent file t event.now
+        (outlets (K.held out.new) (K.faults out.new) (map T.heard taps.new.items) steps.new) rig.new) }
+    ensures few { OnOk result (draft.new.file.size + 4 ≤ 2 ^ 30) }
+    ensures version { OnOk result (draft.new.file.version ≡ draft.old.file.version) }
+    ensures ends { (t : Tale) → StandsFor rig.old t → IfErr result (EndsEvent draft.old draft.new t event.now
         (outlets (K.held out.old) (K.faults out.old) (map T.heard taps.old.items) steps.old)
         (outlets (K.held out.new) (K.faults out.new) (map T.heard taps.new.items) steps.new) rig.old rig.new) }
     ensures known { IfErr result (λ ending. IsEnding ending × (MayReadFault ending → ⊥)) }
@@ -67,13 +71,16 @@ pub(crate) fn pass_event<K: Sink, T: Listener, L: Ledger>(
             Ok(_) => {
                 let ram = rig.ram();
                 allowed(ram, work);
-                let after = file.size + due_size(ram, work, played);
+                let after = draft.file.size + due_size(ram, work, played);
                 if after + 4 > LIMIT {
                     return Err(FlatEnding::TooLong { event: number });
                 }
-                match write_due(out, file.version, played, ram, work) {
-                    Ok(()) => Ok(after),
-                    Err(_) => Err(FlatEnding::WriteFailed { event: number }),
+                match put_due(draft, out, played, ram, work) {
+                    Ok(()) => {
+                        draft.file.size = after;
+                        Ok(())
+                    }
+                    Err(event) => Err(FlatEnding::WriteFailed { event }),
                 }
             }
         },
@@ -90,24 +97,56 @@ fn due_size(ram: &Ram, work: Work, played: u64) -> u32
     if played == 0 { records + 8 } else { records }
 }
 
-// Writes what is due at an event that asks for this work, behind so many events.
-fn write_due<K: Sink>(
+// Puts what is due at an event that asks for this work, behind so many events.
+fn put_due<K: Sink>(
+    draft: &mut Draft,
     out: &mut K,
-    version: u8,
     played: u64,
     ram: &Ram,
     work: Work,
-) -> Result<(), Failed>
-    requires version { version ≤ 3 }
+) -> Result<(), u64>
+    requires version { draft.old.file.version ≤ 3 }
     requires work { IsWork work }
-    ensures { Writes K.held K.faults out.old out.new
-        (head_due version played ++ spell (flat_work ram.now work)) result }
+    ensures puts { Puts K.held K.faults (next_number played)
+        (head_due draft.old.file.version played ++ spell (flat_work ram.now work)) out.old out.new
+        draft.old.gathered draft.new.gathered result }
+    ensures file { draft.new.file ≡ draft.old.file }
 {
-    write_head(out, version, played)?;
-    spell_work(out, ram, work)
+    let number = played.saturating_add(1);
+    let version = draft.file.version;
+    match put_head(&mut draft.gathered, out, version, played) {
+        Ok(()) => spell_work(number, &mut draft.gathered, out, ram, work),
+        Err(lacking) => Err(lacking),
+    }
 }
 
-// Writes the head, if no event was played yet.
+// The head that is written for a version.
+fn head(version: u8) -> [u8; 8]
+    requires { version ≤ 3 }
+    ensures { result ≡ head_of (flat_version version) }
+{
+    head_bytes(version.max(2))
+}
+
+// Puts the head, if no event was played yet.
+fn put_head<K: Sink>(
+    gathered: &mut Gathered,
+    out: &mut K,
+    version: u8,
+    played: u64,
+) -> Result<(), u64>
+    requires { version ≤ 3 }
+    ensures { Puts K.held K.faults (next_number played) (head_due version played) out.old out.new gathered.old
+        gathered.new result }
+{
+    if played == 0 {
+        gathered.put(1, &head(version), out)
+    } else {
+        Ok(())
+    }
+}
+
+// Writes the head, if no event was played.
 fn write_head<K: Sink>(out: &mut K, version: u8, played: u64) -> Result<(), Failed>
     requires { version ≤ 3 }
     ensures { Writes K.held K.faults out.old out.new (head_due version played) result }
@@ -119,8 +158,49 @@ fn write_head<K: Sink>(out: &mut K, version: u8, played: u64) -> Result<(), Fail
     }
 }
 
-/// Ends at a stop of the reader, behind so many events.
-pub(crate) fn finish<K: Sink>(stop: Stop, version: u8, played: u64, out: &mut K) -> FlatEnding
+/// Ends so, behind what is gathered: that is written before, unless a write has failed already.
+pub(crate) fn end_behind<K: Sink>(
+    ending: FlatEnding,
+    gathered: &mut Gathered,
+    out: &mut K,
+) -> FlatEnding
+    requires { IsEnding ending × (MayReadFault ending → ⊥) }
+    ensures ends { EndsBehind ending gathered.old (K.held out.old) (K.held out.new) result }
+    ensures known { IsEnding result × (MayReadFault result → ⊥) }
+    ensures cause { MayWriteFault result → MayWriteFault ending ⊎ Rose (K.faults out.old) (K.faults out.new) }
+    ensures faults { K.faults out.old ≤ K.faults out.new }
+{
+    match ending {
+        FlatEnding::WriteFailed { .. } => ending,
+        _ => match gathered.write(out) {
+            Ok(()) => ending,
+            Err(event) => FlatEnding::WriteFailed { event },
+        },
+    }
+}
+
+/// Ends at a stop of the reader, behind so many events: what is gathered is written before.
+pub(crate) fn end_reading<K: Sink>(
+    stop: Stop,
+    draft: &mut Draft,
+    played: u64,
+    out: &mut K,
+) -> FlatEnding
+    requires { draft.old.file.version ≤ 3 }
+    ensures ends { EndsReading draft.old played stop (K.held out.old) (K.held out.new) result }
+    ensures known { IsEnding result }
+    ensures stopped { MayReadFault result → IsReadFault stop }
+    ensures cause { MayWriteFault result → Rose (K.faults out.old) (K.faults out.new) }
+    ensures faults { K.faults out.old ≤ K.faults out.new }
+{
+    match draft.gathered.write(out) {
+        Ok(()) => finish(stop, draft.file.version, played, out),
+        Err(event) => FlatEnding::WriteFailed { event },
+    }
+}
+
+// Ends at a stop of the reader, behind so many events, where nothing is gathered.
+fn finish<K: Sink>(stop: Stop, version: u8, played: u64, out: &mut K) -> FlatEnding
     requires { version ≤ 3 }
     ensures ends { EndsAt version played stop (K.held out.old) (K.held out.new) result }
     ensures known { IsEnding result }

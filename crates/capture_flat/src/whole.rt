@@ -1,5 +1,5 @@
 // A whole capture is read, played and written.
-ghost use Rattle.std.specs.Prelude.{◌≡◌, ◌≤◌, map};
+ghost use Rattle.std.specs.Prelude.{◌≡◌, ◌≤◌, [], map};
 ghost use Rattle.dev_io.specs.Device.{Rose};
 ghost use Rattle.event_play.specs.Replay.{Tale, from_state, raised};
 ghost use Rattle.event_play.specs.RigState.{Stands, StandsFor};
@@ -8,10 +8,12 @@ ghost use Rattle.event_play.specs.Streams.{streams};
 ghost use Rattle.capture_flat.specs.Passing.{EndsFlat, MayReadFault, MayWriteFault, IsEnding};
 
 use crate::ending::FlatEnding;
-use crate::file::FlatFile;
-use crate::pass::{finish, pass_event};
+use crate::file::{Draft, FlatFile};
+use crate::pass::{end_behind, end_reading, pass_event};
+use crate::pause::write_at_pause;
 use dev_io::{Sink, Source};
 use event_play::Rig;
+use gathered_out::Gathered;
 use gpu_capture::EventReader;
 use gpu_taps::Listener;
 use std::sync::ledger::Ledger;
@@ -21,7 +23,11 @@ use vram_store::Steps;
 const TALL_VERSION: u8 = 3;
 
 /// Plays a capture on a new rig, and writes the capture of its flat events: of version 3 where the capture's is 3, else
-/// of version 2. An event is played first, and then its records are judged and written. It takes no memory.
+/// of version 2. An event is played first, and then its records are judged and put behind those before. It takes no memory.
+///
+/// Records are gathered, up to 4,096 bytes, and written together: where there is no room for one more, before a read that
+/// may have to wait, and before every ending. So a write that fails may show at a later event, and is still that of the
+/// event whose records lack a byte. At most 4,112 bytes of the capture are taken behind that event.
 ///
 /// After every ending all that was due before it stands. The head is due at the first event, or with the End record
 /// where there is none. After Done the file is whole: read as a capture it uses the ports alone, shows the same words,
@@ -48,19 +54,34 @@ pub fn flat<S: Source, K: Sink, T: Listener, L: Ledger>(
     let mut next = reader.next(source);
     let version = reader.version();
     raise(rig, version);
-    let mut size = 0;
+    let mut draft = first_draft(version);
+    let mut since = 0;
     'events: loop {
         match next {
             Ok(event) => {
-                let file = FlatFile { version, size };
-                match pass_event(rig, &event, file, out, taps, steps) {
-                    Ok(now) => size = now,
-                    Err(ending) => return ending,
+                match pass_event(rig, &event, &mut draft, out, taps, steps) {
+                    Ok(()) => {}
+                    Err(ending) => return end_behind(ending, &mut draft.gathered, out),
+                }
+                match write_at_pause(&reader, source, since, &mut draft.gathered, out) {
+                    Ok(place) => since = place,
+                    Err(event) => return FlatEnding::WriteFailed { event },
                 }
                 next = reader.next(source);
             }
-            Err(stop) => return finish(stop, version, rig.played(), out),
+            Err(stop) => return end_reading(stop, &mut draft, rig.played(), out),
         }
+    }
+}
+
+// The file of a capture of this version, of which nothing is gathered yet.
+fn first_draft(version: u8) -> Draft
+    ensures file { result.file ≡ record { version = version; size = 0 } }
+    ensures gathered { result.gathered ≡ [] }
+{
+    Draft {
+        file: FlatFile { version, size: 0 },
+        gathered: Gathered::new(),
     }
 }
 

@@ -118,7 +118,7 @@ breaks_off (e ∷ extents) bytes taken before now is lt took =
 
 -- ---- pieces that are out, but for those that are gathered
 
-bytes_append : (xs ys : List Piece) → bytes_of (xs ++ ys) ≡ bytes_of xs ++ bytes_of ys
+pub bytes_append : (xs ys : List Piece) → bytes_of (xs ++ ys) ≡ bytes_of xs ++ bytes_of ys
 bytes_append [] ys = refl
 bytes_append (x ∷ xs) ys =
     ap (λ bs. x.bytes ++ bs) (bytes_append xs ys) ∙ sym (append_assoc x.bytes (bytes_of xs) (bytes_of ys))

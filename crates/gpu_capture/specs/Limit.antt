@@ -1,7 +1,8 @@
 -- How many bytes of a capture are taken (our own rule).
-use Rattle.std.specs.Prelude.{◌≡◌, ◌≤◌, ◌+◌, ◌%◌, ℕ, List, length}
-use Rattle.gpu_capture.specs.Capture.{limit}
-use Rattle.gpu_capture.specs.Reader.{AreNeeded, IsStart}
+use Rattle.std.specs.Prelude.{◌≡◌, ◌≤◌, ◌+◌, ◌%◌, ◌++◌, ℕ, List, length, min}
+use Rattle.gpu_capture.specs.Capture.{capture, limit, then_events}
+use Rattle.gpu_capture.specs.Reader.{AreNeeded, IsStart, capture_from}
+use Rattle.gpu_capture.specs.declared.event.Event.{Event}
 use Rattle.gpu_capture.specs.declared.progress.Progress.{Progress}
 
 -- Where none of the bytes taken is one too many, no more than 2^30 of a capture are taken, from its beginning on and from
@@ -10,3 +11,12 @@ pub record TakesFew : Type 0 where
   pub all : (p : Progress) (taken : List ℕ) → IsStart p → AreNeeded p taken → length taken ≤ limit
   pub rest : (p : Progress) (taken : List ℕ) → 1 ≤ p.version → p.place % 4 ≡ 0 → p.place ≤ limit → AreNeeded p taken
       → p.place + length taken ≤ limit
+
+-- One answer of a reader takes at most 16 bytes, and with the head 24. Behind the head as many bytes were taken in all as
+-- the reader's place says, up to 2^30.
+pub record TakesFewAtOnce : Type 0 where
+  pub first : (p : Progress) (taken : List ℕ) → IsStart p → AreNeeded p taken → length taken ≤ 24
+  pub once : (p : Progress) (taken : List ℕ) → 1 ≤ p.version → AreNeeded p taken → length taken ≤ 16
+  pub all : (p : Progress) (events : List Event) (taken : List ℕ) → 1 ≤ p.version
+      → ((rest : List ℕ) → capture (taken ++ rest) ≡ then_events events (capture_from p rest))
+      → length taken ≡ min p.place limit

@@ -1,5 +1,5 @@
 //! Laws of captures, each of them the contract of a function that does nothing.
-ghost use Rattle.gpu_capture.specs.Limit.{TakesFew};
+ghost use Rattle.gpu_capture.specs.Limit.{TakesFew, TakesFewAtOnce};
 ghost use Rattle.gpu_capture.specs.Whole.{RecordsAreRead};
 ghost use Rattle.gpu_capture.specs.Written.{WrittenIsRead};
 
@@ -18,4 +18,9 @@ pub fn records_are_read()
 /// Of a capture no more than 2^30 bytes are taken: what the reader's calls promise of the bytes taken says so.
 pub fn few_bytes_are_taken()
     ensures { TakesFew }
+{}
+
+/// One answer of a reader takes at most 16 bytes, and with the head 24; and as many bytes were taken as its place says.
+pub fn answers_take_few()
+    ensures { TakesFewAtOnce }
 {}

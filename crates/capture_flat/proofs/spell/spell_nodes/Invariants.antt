@@ -1,5 +1,5 @@
 use Rattle.std.proofs.Common.{◌-◌, ℕ, List, flat_map}
-use Rattle.dev_io.proofs.Writing.{Wrote}
+use Rattle.gathered_out.proofs.Puts.{HasPut}
 use Rattle.list_dma.specs.Node.{node_words}
 use Rattle.list_dma.specs.Walk.{chain}
 use Rattle.event_play.proofs.Nodes.{OnWay}
@@ -10,5 +10,6 @@ abbrev pub invariant-nodes : goal.invariant-nodes
 invariant-nodes g l = record {
   done : List ℕ;
   way : OnWay l.ram (flat_map (node_words l.ram) (chain l.ram l.start l.limit)) l.next (l.limit - l.k) done;
-  wrote : Wrote g.K.Sink.held g.K.Sink.faults l.initial.out l.out (spell_words done);
+  put : HasPut g.K.Sink.held g.K.Sink.faults l.number (spell_words done) l.initial.out l.out l.initial.gathered
+      l.gathered;
 }

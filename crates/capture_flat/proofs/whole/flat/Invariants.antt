@@ -15,8 +15,9 @@ invariant-events g l = record {
       (streams (g.S.Source.left l.fn.source) (g.K.Sink.held l.fn.out) (map g.T.Listener.heard l.fn.taps.items)
       l.fn.steps)
       (streams (g.S.Source.left l.source) (g.K.Sink.held l.out) (map g.T.Listener.heard l.taps.items) l.steps)
-      l.rig l.reader.progress l.size l.next;
-  few : l.size ≤ 2 ^ 30;
+      l.rig l.reader.progress l.draft l.since l.next;
+  few : l.draft.file.size ≤ 2 ^ 30;
+  version : l.draft.file.version ≡ l.version;
   running : OnOk l.next (l.reader.stop ≡ None);
   read_cause : IfErr l.next (λ stop. IsReadFault stop → Rose (g.S.Source.faults l.fn.source)
       (g.S.Source.faults l.source));
