@@ -73,11 +73,15 @@ ending_line (WriteFailed event) = event_line (codes "write-fault") event
 
 -- ---- the exit status
 
+-- that of a stop of the reader
+abbrev pub status_of_stop : Stop → ℕ
+status_of_stop (ReadFault byte) = 3
+status_of_stop stop = 2
+
 -- the exit status of an ending
 abbrev pub status_of : Ending → ℕ
 status_of Done = 0
-status_of (Stopped event (ReadFault byte)) = 3
-status_of (Stopped event stop) = 2
+status_of (Stopped event stop) = status_of_stop stop
 status_of (Faulted event fault) = 2
 status_of (NoPicture event) = 2
 status_of (WriteFailed event) = 4
@@ -88,9 +92,12 @@ status_of (WriteFailed event) = 4
 abbrev pub last_items : (status : ℕ) → List Reading → List ℕ
 last_items status heard = if status == 2 then flat_map last_lines heard else []
 
--- all that is told of an ending, by what the taps say then
+-- all that is told of an ending, by its line, its status, and what the taps say then
+abbrev pub told : (line : List ℕ) → (status : ℕ) → List Reading → List ℕ
+told line status heard = line ++ last_items status heard
+
 abbrev pub ending_text : Ending → List Reading → List ℕ
-ending_text ending heard = ending_line ending ++ last_items (status_of ending) heard
+ending_text ending heard = told (ending_line ending) (status_of ending) heard
 
 -- ---- the same for a capture or a snapshot
 
@@ -103,7 +110,7 @@ any_status (any.Played ending) = status_of ending
 any_status (any.BadSnapshot byte word) = 2
 
 abbrev pub any_text : AnyEnding → List Reading → List ℕ
-any_text ending heard = any_line ending ++ last_items (any_status ending) heard
+any_text ending heard = told (any_line ending) (any_status ending) heard
 
 -- ---- the same for a flat capture
 
@@ -116,14 +123,13 @@ flat_line (flat.WriteFailed event) = event_line (codes "write-fault") event
 
 abbrev pub flat_status : FlatEnding → ℕ
 flat_status flat.Done = 0
-flat_status (flat.Stopped event (ReadFault byte)) = 3
-flat_status (flat.Stopped event stop) = 2
+flat_status (flat.Stopped event stop) = status_of_stop stop
 flat_status (flat.Faulted event fault) = 2
 flat_status (flat.TooLong event) = 2
 flat_status (flat.WriteFailed event) = 4
 
 abbrev pub flat_text : FlatEnding → List Reading → List ℕ
-flat_text ending heard = flat_line ending ++ last_items (flat_status ending) heard
+flat_text ending heard = told (flat_line ending) (flat_status ending) heard
 
 -- ---- the same for a capture without dead drawing
 
@@ -136,14 +142,13 @@ slim_line (slim.WriteFailed event) = event_line (codes "write-fault") event
 
 abbrev pub slim_status : SlimEnding → ℕ
 slim_status slim.Done = 0
-slim_status (slim.Stopped event (ReadFault byte)) = 3
-slim_status (slim.Stopped event stop) = 2
+slim_status (slim.Stopped event stop) = status_of_stop stop
 slim_status (slim.NotFlat event) = 2
 slim_status (slim.TooLong event) = 2
 slim_status (slim.WriteFailed event) = 4
 
 abbrev pub slim_text : SlimEnding → List Reading → List ℕ
-slim_text ending heard = slim_line ending ++ last_items (slim_status ending) heard
+slim_text ending heard = told (slim_line ending) (slim_status ending) heard
 
 -- ---- the same for a capture that is cut
 
@@ -157,12 +162,11 @@ cut_line (cut.WriteFailed event) = event_line (codes "write-fault") event
 
 abbrev pub cut_status : CutEnding → ℕ
 cut_status cut.Done = 0
-cut_status (cut.Stopped event (ReadFault byte)) = 3
-cut_status (cut.Stopped event stop) = 2
+cut_status (cut.Stopped event stop) = status_of_stop stop
 cut_status (cut.PastEnd event) = 2
 cut_status (cut.Faulted event fault) = 2
 cut_status (cut.TooLong event) = 2
 cut_status (cut.WriteFailed event) = 4
 
 abbrev pub cut_text : CutEnding → List Reading → List ℕ
-cut_text ending heard = cut_line ending ++ last_items (cut_status ending) heard
+cut_text ending heard = told (cut_line ending) (cut_status ending) heard

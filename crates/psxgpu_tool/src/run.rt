@@ -7,7 +7,7 @@ ghost use Rattle.psxgpu_tool.specs.Run.{CommandRun, Runs};
 
 use crate::command::{Command, read_command};
 use crate::demo::{play_demo, tell_demo};
-use crate::line::{end, end_any, end_cut, end_flat, end_slim, tell};
+use crate::ending::{end, tell};
 use crate::texts::{HELP, VERSION};
 use capture_flat::flat;
 use capture_slim::Slim;
@@ -73,7 +73,7 @@ fn run_command<S: Source, K: Sink, E: Sink, L: Ledger>(
         Command::Plays { mode } => match Rig::new(alloc) {
             Ok(rig) => {
                 let ending = play_any(rig, source, out, mode, &mut taps, steps);
-                end_any(err, ending, &taps)
+                end(err, ending, &taps)
             }
             Err(_) => tell_no_memory(err),
         },
@@ -88,21 +88,21 @@ fn run_command<S: Source, K: Sink, E: Sink, L: Ledger>(
         Command::Flat => match Rig::new(alloc) {
             Ok(mut rig) => {
                 let ending = flat(&mut rig, source, out, &mut taps, steps);
-                end_flat(err, ending, &taps)
+                end(err, ending, &taps)
             }
             Err(_) => tell_no_memory(err),
         },
         Command::Cut { events } => match Rig::new(alloc) {
             Ok(mut rig) => {
                 let ending = cut(&mut rig, events, source, out, &mut taps, steps);
-                end_cut(err, ending, &taps)
+                end(err, ending, &taps)
             }
             Err(_) => tell_no_memory(err),
         },
         Command::Slim => match Slim::new(alloc) {
             Ok(mut slim) => {
                 let ending = slim.pass(source, out);
-                end_slim(err, ending, &taps)
+                end(err, ending, &taps)
             }
             Err(_) => tell_no_memory(err),
         },

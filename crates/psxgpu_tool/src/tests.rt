@@ -8,6 +8,7 @@ mod dumps;
 mod film;
 mod flat;
 mod lines;
+mod memory;
 mod pictures;
 mod slim;
 mod told;

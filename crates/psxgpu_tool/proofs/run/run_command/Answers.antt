@@ -8,9 +8,9 @@ use Rattle.psxgpu_tool.proofs.run.run_command.Goals as goal
 
 pub returns-in-Ok : goal.returns-in-Ok
 returns-in-Ok g c =
-    rw (c.in-Plays.is, c.end_any.ensures.status)
-    (plays_runs _ _ _ _ _ c.end_any.ensures.says
-    (λ zero. c.end_any.ensures.silent (c.end_any.ensures.status ∙ zero)) c.in-Plays.mode
+    rw (c.in-Plays.is, c.end-in-Ok.ensures.status)
+    (plays_runs _ _ _ _ _ c.end-in-Ok.ensures.says
+    (λ zero. c.end-in-Ok.ensures.silent (c.end-in-Ok.ensures.status ∙ zero)) c.in-Plays.mode
     (c.play_any-ending.ensures.ends first_machine (first_stands _ refl))
     c.play_any-ending.ensures.read_cause c.play_any-ending.ensures.write_cause)
 
@@ -25,25 +25,25 @@ returns-in-Ok-new g c =
 
 pub returns-in-Ok-new-2 : goal.returns-in-Ok-new-2
 returns-in-Ok-new-2 g c =
-    rw (c.in-Flat.is, c.end_flat.ensures.status)
-    (flat_runs _ _ _ _ _ c.end_flat.ensures.says
-    (λ zero. c.end_flat.ensures.silent (c.end_flat.ensures.status ∙ zero)) c.flat-ending.new.rig
+    rw (c.in-Flat.is, c.end-in-Ok-new-2.ensures.status)
+    (flat_runs _ _ _ _ _ c.end-in-Ok-new-2.ensures.says
+    (λ zero. c.end-in-Ok-new-2.ensures.silent (c.end-in-Ok-new-2.ensures.status ∙ zero)) c.flat-ending.new.rig
     (c.flat-ending.ensures.ends first_machine (first_stands _ c.in-Ok-new-2.ensures)) c.flat-ending.ensures.known
     c.flat-ending.ensures.read_cause c.flat-ending.ensures.write_cause)
 
 pub returns-in-Ok-new-3 : goal.returns-in-Ok-new-3
 returns-in-Ok-new-3 g c =
     let most = (subst IsCommand c.in-Cut.is c.requires).1 in
-    rw (c.in-Cut.is, c.end_cut.ensures.status)
-    (cut_runs c.in-Cut.events most _ _ _ _ _ c.end_cut.ensures.says
-    (λ zero. c.end_cut.ensures.silent (c.end_cut.ensures.status ∙ zero)) c.cut-ending.new.rig
+    rw (c.in-Cut.is, c.end-in-Ok-new-3.ensures.status)
+    (cut_runs c.in-Cut.events most _ _ _ _ _ c.end-in-Ok-new-3.ensures.says
+    (λ zero. c.end-in-Ok-new-3.ensures.silent (c.end-in-Ok-new-3.ensures.status ∙ zero)) c.cut-ending.new.rig
     (c.cut-ending.ensures.ends first_machine (first_stands _ c.in-Ok-new-3.ensures)) c.cut-ending.ensures.known
     c.cut-ending.ensures.read_cause c.cut-ending.ensures.write_cause)
 
 pub returns-in-Ok-new-4 : goal.returns-in-Ok-new-4
 returns-in-Ok-new-4 g c =
-    rw (c.in-Slim.is, c.end_slim.ensures.status)
-    (slim_runs _ _ _ _ c.end_slim.ensures.says
-    (λ zero. c.end_slim.ensures.silent (c.end_slim.ensures.status ∙ zero))
+    rw (c.in-Slim.is, c.end-in-Ok-new-4.ensures.status)
+    (slim_runs _ _ _ _ c.end-in-Ok-new-4.ensures.says
+    (λ zero. c.end-in-Ok-new-4.ensures.silent (c.end-in-Ok-new-4.ensures.status ∙ zero))
     c.pass-ending.ensures.ends c.pass-ending.ensures.known
     c.pass-ending.ensures.read_cause c.pass-ending.ensures.write_cause refl)

@@ -1,7 +1,7 @@
 use Rattle.std.proofs.Common.{drop, map, flat_map}
 use Rattle.dev_io.proofs.Writing.{IsUnderway}
 use Rattle.packet_text.specs.Tap.{last_lines}
-use Rattle.psxgpu_tool.proofs.line.write_lasts.Given as goal
+use Rattle.psxgpu_tool.proofs.ending.write_lasts.Given as goal
 
 abbrev pub invariant-loop-i : goal.invariant-loop-i
 invariant-loop-i g l =

@@ -3,7 +3,7 @@ use Rattle.std.proofs.lemmas.Result.{err_from_is_err_and}
 use Rattle.dev_io.proofs.Writing.{underway_start, underway_on, underway_fails, underway_end}
 use Rattle.packet_text.specs.Tap.{last_lines}
 use Rattle.psxgpu_tool.proofs.Lines.{lines_next, lines_end}
-use Rattle.psxgpu_tool.proofs.line.write_lasts.Goals as goal
+use Rattle.psxgpu_tool.proofs.ending.write_lasts.Goals as goal
 
 pub loop-i-init : goal.loop-i-init
 loop-i-init g c = underway_start _ _ _ _

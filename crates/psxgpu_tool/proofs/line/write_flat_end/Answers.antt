@@ -1,8 +1,0 @@
-use Rattle.std.proofs.Common.{refl}
-use Rattle.dev_io.proofs.Writing.{underway_start, underway_on, underway_last}
-use Rattle.psxgpu_tool.proofs.line.write_flat_end.Goals as goal
-
-pub returns : goal.returns
-returns g c =
-    let line = underway_on _ _ _ _ _ _ _ _ _ _ (underway_start _ _ _ _) refl c.in_ok-write_flat_ending.ensures in
-    rw (c.flat_status.ensures) at (underway_last _ _ _ _ _ _ _ _ line c.write_last_items.ensures)

@@ -1,0 +1,85 @@
+// How a run ends: its exit status, and what is said of a fault.
+ghost use Rattle.std.specs.Prelude.{◌≡◌, flat_map, map, ℕ, List, []};
+ghost use Rattle.dev_io.specs.Device.{Writes};
+ghost use Rattle.packet_text.specs.Tap.{last_lines};
+ghost use Rattle.psxgpu_tool.specs.Line.{last_items, told};
+ghost use Rattle.psxgpu_tool.specs.Outside.{sink_side, Says};
+
+use dev_io::{Failed, Sink, write_all};
+use gpu_taps::Listener;
+use packet_text::write_last;
+
+/// An ending of a command: what it means for who started the run.
+pub trait Ended: Copy {
+    /// The exit status.
+    ghost exit: { Self → ℕ };
+
+    /// The line that says why, which an ending that is no fault does not have.
+    ghost line: { Self → List ℕ };
+
+    /// The exit status, which is 0 only where there is nothing to say.
+    fn status(self) -> u8
+        ensures exit { result ≡ exit self }
+        ensures silent { result ≡ 0 → line self ≡ [] };
+
+    /// Writes the line.
+    fn write_line<E: Sink>(self, err: &mut E) -> Result<(), Failed>
+        ensures { Writes E.held E.faults err.old err.new (line self) result };
+}
+
+/// Says why a run ended so, if that is a fault, and answers its exit status. What becomes of the text changes nothing
+/// else.
+pub fn end<N: Ended, E: Sink, T: Listener>(err: &mut E, ending: N, taps: &Vec<T>) -> u8
+    ensures status { result ≡ N.exit ending }
+    ensures says { Says (sink_side (E.held err.old) (E.faults err.old)) (sink_side (E.held err.new) (E.faults err.new))
+        (told (N.line ending) (N.exit ending) (map T.heard taps.now.items)) }
+    ensures silent { result ≡ 0 → sink_side (E.held err.new) (E.faults err.new)
+        ≡ sink_side (E.held err.old) (E.faults err.old) }
+{
+    let status = ending.status();
+    if status != 0 {
+        let _ = write_told(err, ending, taps);
+    }
+    status
+}
+
+// Writes the line of an ending, and behind that of a refusal the last items.
+fn write_told<N: Ended, E: Sink, T: Listener>(err: &mut E, ending: N, taps: &Vec<T>) -> Result<(), Failed>
+    ensures { Writes E.held E.faults err.old err.new
+        (told (N.line ending) (N.exit ending) (map T.heard taps.now.items)) result }
+{
+    ending.write_line(err)?;
+    write_last_items(err, ending.status(), taps)
+}
+
+// Writes the last items of every tap that keeps them, where the status is that of a refusal.
+fn write_last_items<E: Sink, T: Listener>(
+    err: &mut E,
+    status: u8,
+    taps: &Vec<T>,
+) -> Result<(), Failed>
+    ensures { Writes E.held E.faults err.old err.new (last_items status (map T.heard taps.now.items)) result }
+{
+    if status == 2 {
+        write_lasts(err, taps)
+    } else {
+        Ok(())
+    }
+}
+
+fn write_lasts<E: Sink, T: Listener>(err: &mut E, taps: &Vec<T>) -> Result<(), Failed>
+    ensures { Writes E.held E.faults err.old err.new (flat_map last_lines (map T.heard taps.now.items)) result }
+{
+    for i in 0..taps.len() {
+        write_last(err, &taps[i])?;
+    }
+    Ok(())
+}
+
+/// Writes a line. What becomes of it changes nothing else.
+pub fn tell<E: Sink>(err: &mut E, line: &[u8])
+    ensures { Says (sink_side (E.held err.old) (E.faults err.old))
+        (sink_side (E.held err.new) (E.faults err.new)) line.now }
+{
+    let _ = write_all(err, line);
+}
