@@ -4,8 +4,8 @@
     python3 bench/text.py [--rotations N] [--millions N] [--ours PROGRAM]
 
 Makes a capture of so many million words of GP0, small flat triangles, in records of many words and again with a record for
-each word, as `flat` writes them. Each command plays both in turn; what counts is the processor time, user and system, the
-best of the rotations.
+each word, as `flat` writes them. Each command plays both in turn into a file; what counts is the processor time, user and
+system, the best of the rotations.
 """
 import argparse
 import os
@@ -17,7 +17,7 @@ ROOT = os.path.dirname(os.path.dirname(os.path.abspath(__file__)))
 sys.path.insert(0, os.path.join(ROOT, 'tools'))
 
 from capture import Capture, drawing_area  # noqa: E402
-from run import OURS, seconds  # noqa: E402
+from run import OURS  # noqa: E402
 from workloads import Numbers, triangle  # noqa: E402
 
 COMMANDS = (['report'], ['list'], ['flat'], ['cut', '1'], ['slim'])
@@ -33,6 +33,17 @@ def capture_of(millions, single):
         for piece in ([[word] for word in words] if single else [words]):
             capture.gp0(piece)
     return capture
+
+
+def seconds(program, path, command, out):
+    """The processor time of one run that writes a file."""
+    with open(path, 'rb') as capture, open(out, 'wb') as file:
+        child = subprocess.Popen([program, *command], stdin=capture, stdout=file)
+        _, status, usage = os.wait4(child.pid, 0)
+        child.returncode = os.waitstatus_to_exitcode(status)
+    if child.returncode:
+        sys.exit('%s %s ended with status %d' % (program, command[0], child.returncode))
+    return usage.ru_utime + usage.ru_stime
 
 
 def main():
@@ -53,7 +64,7 @@ def main():
             best = [float('inf')] * len(COMMANDS)
             for _ in range(args.rotations):
                 for k, command in enumerate(COMMANDS):
-                    best[k] = min(best[k], seconds(program, path, command))
+                    best[k] = min(best[k], seconds(program, path, command, os.path.join(folder, 'out')))
             print('| %s | %.1f | %s |' % (name, os.path.getsize(path) / 1e6, ' | '.join('%.2f' % time for time in best)))
 
 

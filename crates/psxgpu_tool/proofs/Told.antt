@@ -7,7 +7,7 @@ use Rattle.gpu_taps.specs.Tally.{Reading}
 use Rattle.event_play.specs.Causes.{MayReadFault, MayWriteFault}
 use Rattle.event_play.specs.Out.{lines_of, unless_lacking, ending_under, finals_at, out_bytes, out_cost, out_box_cost}
 use Rattle.event_play.specs.Playing.{EndsPlay, whole}
-use Rattle.event_play.specs.Replay.{Tale, Played, next_number}
+use Rattle.event_play.specs.Replay.{Tale, Played, played_script, next_number}
 use Rattle.event_play.specs.RigState.{RigState}
 use Rattle.event_play.specs.Told.{told_notes}
 use Rattle.event_play.specs.declared.ending.Ending.{Ending}
@@ -15,14 +15,14 @@ use Rattle.event_play.specs.declared.ending.Ending.TheVariants.{Done, Stopped, F
 use Rattle.event_play.specs.declared.ending.Mode.{Mode}
 use Rattle.gpu_snapshot.specs.Opened.{Opened, Captured, Restored, Unknown, BreaksOff, BadWord, opened}
 use Rattle.gpu_snapshot.specs.Opening.{opening_cost}
-use Rattle.gpu_snapshot.specs.PlayAny.{played_file, FindsBadWord, HasNoBadWord, IsGood, any_ending, played_opened}
+use Rattle.gpu_snapshot.specs.PlayAny.{script_file, FindsBadWord, HasNoBadWord, IsGood, any_ending, script_opened}
 use Rattle.gpu_snapshot.specs.PlayAny.{spent}
 use Rattle.gpu_snapshot.specs.declared.ending.AnyEnding.{AnyEnding}
 use Rattle.gpu_snapshot.proofs.Played.{finds_needed}
 use Rattle.gpu_snapshot.specs.declared.ending.AnyEnding.TheVariants as any
 use Rattle.dev_io.proofs.Appended.{appended-nil}
 use Rattle.event_play.proofs.Grows.{lines-none}
-use Rattle.psxgpu_tool.specs.First.{file_ending, first, play_file, seen}
+use Rattle.psxgpu_tool.specs.First.{file_ending, file_script, first, play_file, seen}
 use Rattle.psxgpu_tool.specs.Line.{status_of, ending_line, ending_text, any_status, any_text}
 use Rattle.psxgpu_tool.specs.Outside.{Outside, Says}
 use Rattle.psxgpu_tool.specs.PlayRun.{WholeRun, RefusedRun, StarvedRun, BlockedRun}
@@ -189,7 +189,7 @@ pub record EndsFile (mode : Mode) (bytes : List ℕ) (ending : Ending) (taken re
 module _ (mode : Mode) (heard heard_now : List Reading) (before now : Outside) (opening : ℕ) (rig : RigState)
     (bytes : List ℕ) (told : before.source.left ≡ Some bytes) where
   abbrev Ends : Ending → Type 0
-  Ends ending = EndsPlay mode play_file (spent (seen heard before) opening) (seen heard_now now) rig ending
+  Ends ending = EndsPlay mode file_script (spent (seen heard before) opening) (seen heard_now now) rig ending
 
   taken_of : (ending : Ending) (ends : Ends ending) → IsCut bytes ends.taken now.source.left
   taken_of ending ends = cut bytes ends.taken now.source.left (sym told ∙ ends.bytes)
@@ -488,9 +488,9 @@ module _ (mode : Mode) (heard heard_now : List Reading) (before now : Outside) (
   bad_ending xs found = ap (λ (found : Opened). any_ending found (ending_under mode (play_file xs))) found
 
   -- nothing was played
-  bad_played : play_file bytes ≡ played_opened first bytes (BadWord byte word)
-  unfolding played_file
-  bad_played = ap (played_opened first bytes) bad_found
+  bad_played : play_file bytes ≡ played_script (script_opened first bytes (BadWord byte word))
+  unfolding script_file
+  bad_played = ap (λ (found : Opened). played_script (script_opened first bytes found)) bad_found
 
   bad_nothing : out_bytes mode heard (play_file bytes) ≡ []
   bad_nothing =

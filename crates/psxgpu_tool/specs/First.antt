@@ -1,11 +1,11 @@
 -- A capture on a new machine.
 use Rattle.std.specs.Prelude.{ℕ, List}
 use Rattle.gpu_taps.specs.Tally.{Reading}
-use Rattle.event_play.specs.Replay.{Tale, Played, played_capture, from_state}
+use Rattle.event_play.specs.Replay.{Tale, Played, Script, played_capture, from_state}
 use Rattle.event_play.specs.Step.{first_machine}
 use Rattle.event_play.specs.Streams.{Streams, streams}
 use Rattle.event_play.specs.declared.ending.Mode.{Mode}
-use Rattle.gpu_snapshot.specs.PlayAny.{played_file, any_ending_under}
+use Rattle.gpu_snapshot.specs.PlayAny.{script_file, played_file, any_ending_under}
 use Rattle.gpu_snapshot.specs.declared.ending.AnyEnding.{AnyEnding}
 use Rattle.psxgpu_tool.specs.Outside.{Outside}
 
@@ -16,7 +16,10 @@ first = from_state first_machine 0
 abbrev pub play_of : List ℕ → Played
 play_of bytes = played_capture first bytes
 
--- a file: a whole capture, or a snapshot and what is recorded behind it
+-- a file: a whole capture, or a snapshot and what is recorded behind it; what it gives to play, and how that is played
+abbrev pub file_script : List ℕ → Script
+file_script bytes = script_file first bytes
+
 abbrev pub play_file : List ℕ → Played
 play_file bytes = played_file first bytes
 

@@ -10,7 +10,7 @@ use Rattle.event_play.specs.Replay.{Tale}
 use Rattle.event_play.specs.Told.{told_notes}
 use Rattle.event_play.specs.declared.ending.Ending.TheVariants.{Done, Stopped, WriteFailed}
 use Rattle.event_play.specs.declared.ending.Mode.{Mode}
-use Rattle.psxgpu_tool.specs.First.{file_ending, play_file, seen}
+use Rattle.psxgpu_tool.specs.First.{file_ending, file_script, play_file, seen}
 use Rattle.gpu_snapshot.specs.Opening.{opening_cost}
 use Rattle.gpu_snapshot.specs.declared.ending.AnyEnding.TheVariants.{Played}
 use Rattle.psxgpu_tool.specs.Line.{ending_line, any_status, any_text}
@@ -67,7 +67,7 @@ Starved mode heard before now =
     (λ bytes. StarvedRun mode heard bytes before now)
 
 -- status 4: out failed. What was written begins all that there is to write, and lacks a byte that is due at the event
--- on the line.
+-- on the line. None of the bytes taken is one too many for that event, or for the End behind which it was due.
 pub record BlockedRun (mode : Mode) (heard : List Reading) (bytes : List ℕ) (before now : Outside) : Type 0 where
   pub taken : List ℕ
   pub rest : List ℕ
@@ -76,7 +76,7 @@ pub record BlockedRun (mode : Mode) (heard : List Reading) (bytes : List ℕ) (b
   pub event : ℕ
   pub tale : Tale
   pub last : Tale
-  pub lacks : LacksBytes mode play_file tale last taken event (seen heard before) (seen heard now)
+  pub lacks : LacksBytes mode file_script tale last taken event (seen heard before) (seen heard now)
   pub says : Says before.err now.err (ending_line (WriteFailed event))
 
 abbrev pub Blocked : Mode → List Reading → (before now : Outside) → Type 0
