@@ -1,3 +1,4 @@
+pub mod Coming
 pub mod Cutting
 pub mod Early
 pub mod Fitting

@@ -1,8 +1,13 @@
 -- The records of the events that are not played, one after another.
-use Rattle.std.proofs.Common.{◌≡◌, ◌≤◌, inl, inr, ◌+◌, ◌++◌, ◌==◌, true, ℕ, List, [], ◌∷◌, Option, Ok, Err}
+use Rattle.std.proofs.Common.{◌≡◌, ◌≤◌, ◌<◌, inl, inr, ◌+◌, ◌++◌, ◌==◌, true, ℕ, List, [], ◌∷◌, Option, Ok, Err}
 use Rattle.std.proofs.Common.{length, length-append, refl, ap, sym, subst, ◌∙◌, append_assoc, append-nil, arith}
 use Rattle.dev_io.specs.Device.{appended, prepended, AppendsPart}
-use Rattle.gpu_capture.specs.Reader.{Takes, StopsAt}
+use Rattle.gathered_out.specs.Puts.{BreaksWriting}
+use Rattle.gathered_out.proofs.Gathers.{BreaksDue, Gathers, breaks_put, gathers_more, gathers_off, gathers_on}
+use Rattle.gathered_out.proofs.Gathers.{gathers_written}
+use Rattle.gpu_capture.specs.Capture.{capture, limit}
+use Rattle.gpu_capture.specs.Reader.{AreNeeded as ReaderNeeds, Takes, StopsAt, capture_from}
+use Rattle.gpu_capture.proofs.Versions.{version_from}
 use Rattle.gpu_capture.specs.Written.{spelled, spelled_end, tag_of, Allows}
 use Rattle.gpu_capture.specs.declared.event.Event.{Event}
 use Rattle.gpu_capture.specs.declared.event.Stop.{Stop}
@@ -12,14 +17,18 @@ use Rattle.event_play.specs.Replay.{Tale}
 use Rattle.event_play.specs.RigState.{RigState}
 use Rattle.event_play.specs.Streams.{Streams, streams}
 use Rattle.capture_flat.specs.Out.{spell}
+use Rattle.capture_flat.specs.Passing.{SaysFirst, most_behind}
 use Rattle.capture_flat.proofs.Allows.{allows_append}
+use Rattle.capture_flat.proofs.Following.{few_behind}
 use Rattle.capture_flat.proofs.Pieces.{spell-append, wrote_on}
-use Rattle.capture_cut.specs.Came.{Came, HasRead, WritesRecord, EndsRecord, EndsAt}
-use Rattle.capture_cut.specs.Cut.{Way, EndsCut, IsLast, SaysEnding, StopsBehind, events_of}
+use Rattle.capture_cut.specs.Came.{EndsAt, EndsReading, EndsRecord, EndsTooLong, HasRead, PutsRecord}
+use Rattle.capture_cut.specs.Cut.{Way, EndsCut, IsLast, ReadsTo, SaysEnding, StopsBehind, events_of, read_of}
 use Rattle.capture_cut.specs.File.{snapshot, begun, cut_file}
 use Rattle.capture_cut.specs.declared.ending.CutEnding.{CutEnding}
 use Rattle.capture_cut.specs.declared.ending.CutEnding.TheVariants.{Done, PastEnd, Stopped, Faulted, TooLong}
 use Rattle.capture_cut.specs.declared.ending.CutEnding.TheVariants.{WriteFailed}
+use Rattle.capture_cut.specs.declared.file.Draft.{Draft}
+use Rattle.capture_cut.proofs.Coming.{Comes, WasDue, due_here, due_more}
 use Rattle.capture_cut.proofs.Reading.{read_on, reads_to, stops_behind, stops_bytes, version_on}
 
 -- ---- bytes
@@ -58,8 +67,8 @@ spent_within before now a b more within small = omega arith
 
 -- ---- an event more
 
-module _ (n : ℕ) (start : Tale) (before now : Streams) (rig : RigState) (old new : Progress) (size count : ℕ)
-    (at : Came n start before now rig old size count) (left held : Option (List ℕ)) where
+module _ (n : ℕ) (start : Tale) (before now : Streams) (rig : RigState) (old : Progress) (draft : Draft)
+    (since count : ℕ) (at : Comes n start before now rig old draft since count) (left held : Option (List ℕ)) where
   abbrev after : Streams
   after = streams left held now.heard now.steps
 
@@ -73,6 +82,9 @@ module _ (n : ℕ) (start : Tale) (before now : Streams) (rig : RigState) (old n
     later = later;
   }
 
+  abbrev all : List ℕ
+  all = begun at.way.tale at.way.later
+
   ends : (taken : List ℕ) (later : List Event) (ending : CutEnding) → before.left ≡ prepended taken left
       → SaysEnding n (way taken later) before after ending → EndsCut n start before after rig ending
   ends taken later ending bytes says = record {
@@ -85,130 +97,242 @@ module _ (n : ℕ) (start : Tale) (before now : Streams) (rig : RigState) (old n
     box_cost = spent_within before.steps now.steps at.way.tale.cost at.way.tale.box_cost _ at.cost at.small;
   }
 
-  module _ (event : Event) (takes : Takes old new now.left left (event ∷ [])) (known : 1 ≤ new.version) where
-    abbrev taken : List ℕ
-    taken = at.way.taken ++ takes.taken
+  -- a failed write of what is gathered
+  lacks : (taken : List ℕ) (later : List Event) (number : ℕ) → before.left ≡ prepended taken left
+      → SaysFirst (read_of (way taken later)) (events_of (way taken later))
+      → length taken ≤ length at.flushed + most_behind
+      → BreaksDue (WasDue at.way.tale at.way.played later at.flushed taken) before.held held number
+      → EndsCut n start before after rig (WriteFailed number)
+  lacks taken later number bytes says few breaks =
+      let is = breaks.is in
+      ends taken later (WriteFailed number) bytes (inr (inl (record {
+        all = at.all;
+        earlier = is.earlier;
+        event = is.event;
+        rest = is.later;
+        are = is.are;
+        number_is = is.number_is;
+        says = says;
+        few = record {
+          needed = at.flushed ++ is.between;
+          later = is.rest;
+          are = is.taken_is;
+          are_needed = is.needed;
+          few = let a = ap length is.taken_is in
+              let b = length-append (at.flushed ++ is.between) is.rest in
+              let d = length-append at.flushed is.between in
+              omega (arith, a, b, d, few);
+        };
+        held = rw (is.was_is, is.due_is) at breaks.held;
+        fits = is.fits;
+      })))
 
-    abbrev later : List Event
-    later = at.way.later ++ event ∷ []
+  -- at a pause, where no more was taken
+  pub pause_lacks : (lacking : ℕ) → before.left ≡ prepended at.way.taken left
+      → BreaksWriting now.held held draft.gathered lacking → EndsCut n start before after rig (WriteFailed lacking)
+  pause_lacks lacking bytes breaks =
+      lacks at.way.taken at.way.later lacking bytes
+      (reads_to before.left now.left old (events_of at.way) (way at.way.taken at.way.later) at.reads at.known at.same).says
+      at.close
+      (gathers_off (WasDue at.way.tale at.way.played at.way.later at.flushed at.way.taken) before.held all now.held held
+      draft.gathered lacking at.gathers breaks)
 
-    same : at.way.version ≡ new.version
-    same = at.same ∙ version_on old new now.left left (Ok event) (takes, known) at.known
+  -- ---- the next answer of the reader
 
-    has_read : HasRead before.left left new taken (at.way.played ++ later)
-    has_read =
-        let P : List Event → Type 0 = λ events. HasRead before.left left new taken events in
-        subst P (sym (more_events at.way.played at.way.later event))
-        (read_on before.left now.left left old new at.way.taken (events_of at.way) event at.reads takes)
+  module _ (new : Progress) (near : old.place < since + 4096) where
+    -- few bytes are taken with these
+    few : (further : List ℕ) → ReaderNeeds old further
+        → length (at.way.taken ++ further) ≤ length at.flushed + most_behind
+    few further needed =
+        few_behind old (events_of at.way) at.way.taken further at.flushed since (inr at.known) at.reads.says at.since_is
+        near needed
 
-    count_on : count + 1 ≡ length (at.way.played ++ later)
-    count_on =
-        let a = length-append (events_of at.way) (event ∷ []) in
-        let b = ap length (more_events at.way.played at.way.later event) in
-        omega (arith, a, b, at.count_is)
+    module _ (event : Event) (takes : Takes old new now.left left (event ∷ [])) (known : 1 ≤ new.version) where
+      abbrev taken : List ℕ
+      taken = at.way.taken ++ takes.taken
 
-    pub came_on : (size_now : ℕ) → WritesRecord size event now.held held size_now → Allows 2 event
-        → Came n start before after rig new size_now (count + 1)
-    came_on size_now writes allows = record {
-      way = way taken later;
-      all = at.all;
-      count_is = count_on;
-      same = same;
-      known = known;
-      reads = has_read;
-      plays = at.plays;
-      held = wrote_on before.held now.held held (begun at.way.tale at.way.later) (spelled event) at.held writes.held
-          ∙ ap (appended before.held) (sym (begun_on at.way.tale at.way.later event));
-      size_is = let a = ap length (begun_on at.way.tale at.way.later event) in
-          let b = length-append (begun at.way.tale at.way.later) (spelled event) in
-          omega (arith, a, b, at.size_is, writes.size_is);
-      fits = writes.fits;
-      cost = at.cost;
-      small = at.small;
-      writable = at.writable;
-      allowed = allows_append 2 at.way.later (event ∷ []) at.allowed (allows, tt);
-    }
+      abbrev later : List Event
+      later = at.way.later ++ event ∷ []
 
-    last : (number : ℕ) → number ≡ count + 1 → IsLast n (way taken later) number at.way.later event
-    last number is = record {
-      all = at.all;
-      number_is = is ∙ count_on;
-      are = refl;
-      reads = reads_to before.left left new (at.way.played ++ later) (way taken later) has_read known same;
-    }
+      same : at.way.version ≡ new.version
+      same = at.same ∙ version_on old new now.left left (Ok event) (takes, known) at.known
 
-    pub record_ends : (number : ℕ) (ending : CutEnding) → number ≡ count + 1
-        → EndsRecord size number event now.held held ending → EndsCut n start before after rig ending
-    record_ends number (TooLong told) is end =
-        ends taken later (TooLong told) has_read.bytes (record {
-          earlier = at.way.later;
-          event = event;
-          last = last told (end.0 ∙ is);
-          held = end.1 ∙ at.held;
-          fits = let a = file_length at.way.tale at.way.later in omega (arith, a, at.size_is, at.fits);
-          long = rw (longer at.way.tale at.way.later event size at.size_is) end.2;
-        })
-    record_ends number (WriteFailed told) is end =
-        let P : Option (List ℕ) → Type 0 = λ base. AppendsPart base held (spelled event) in
-        ends taken later (WriteFailed told) has_read.bytes (inr (inl (record {
-          earlier = at.way.later;
-          event = event;
-          last = last told (end.0 ∙ is);
-          held = subst P at.held end.1;
-          fits = rw (longer at.way.tale at.way.later event size at.size_is) end.2;
-        })))
-    record_ends number Done is end = absurd end
-    record_ends number (PastEnd told) is end = absurd end
-    record_ends number (Stopped told stop) is end = absurd end
-    record_ends number (Faulted told fault) is end = absurd end
+      has_read : HasRead before.left left new taken (at.way.played ++ later)
+      has_read =
+          let P : List Event → Type 0 = λ events. HasRead before.left left new taken events in
+          subst P (sym (more_events at.way.played at.way.later event))
+          (read_on before.left now.left left old new at.way.taken (events_of at.way) event at.reads takes)
 
-  -- ---- the reader stops
+      reads : ReadsTo (way taken later) (at.way.played ++ later)
+      reads = reads_to before.left left new (at.way.played ++ later) (way taken later) has_read known same
 
-  module _ (stop : Stop) (stops : StopsAt old new now.left left stop) where
-    abbrev bytes_taken : List ℕ
-    bytes_taken = at.way.taken ++ stops.taken
+      count_on : count + 1 ≡ length (at.way.played ++ later)
+      count_on =
+          let a = length-append (events_of at.way) (event ∷ []) in
+          let b = ap length (more_events at.way.played at.way.later event) in
+          omega (arith, a, b, at.count_is)
 
-    bytes : before.left ≡ prepended bytes_taken left
-    bytes = stops_bytes before.left now.left left old new at.way.taken (events_of at.way) stop at.reads stops
+      more_due : (number : ℕ) (was due : List ℕ)
+          → WasDue at.way.tale at.way.played at.way.later at.flushed at.way.taken number was due
+          → WasDue at.way.tale at.way.played later at.flushed taken number was due
+      more_due = due_more at.way.tale at.way.played at.way.later (event ∷ []) later at.flushed at.way.taken takes.taken refl
 
-    behind : StopsBehind (way bytes_taken at.way.later) stop left
-    behind = stops_behind before.left now.left left old new at.way.taken stop (way bytes_taken at.way.later) at.reads
-        stops (at.same ∙ version_on old new now.left left (Err stop) stops at.known) refl
+      here : (number : ℕ) → number ≡ count + 1 → length (cut_file at.way.tale later) ≤ limit
+          → WasDue at.way.tale at.way.played later at.flushed taken number all (spelled event)
+      here number is fits =
+          let count_is = at.count_is in
+          due_here at.way.tale at.way.played at.way.later event at.flushed at.behind at.way.taken takes.taken number
+          (is ∙ ap (λ k. k + 1) count_is) fits at.taken_is has_read.needed
 
-    stopped_number : (number told : ℕ) → told ≡ number → number ≡ count + 1 → told ≡ length (events_of at.way) + 1
-    stopped_number number told same is = omega (arith, same, is, at.count_is)
+      pub came_on : (number : ℕ) (is : Draft) → number ≡ count + 1 → PutsRecord draft is number event now.held held
+          → Allows 2 event → Comes n start before after rig new is since number
+      came_on number is number_is puts allows =
+          let size = longer at.way.tale at.way.later event draft.size at.size_is in
+          let adds = puts.size_is in
+          let room = puts.fits in
+          let fits : length (cut_file at.way.tale later) ≤ limit = omega (arith, size, adds, room) in
+          let Q : List ℕ → Type 0 = λ bs. Gathers (WasDue at.way.tale at.way.played later at.flushed taken) before.held bs
+          held is.gathered in
+          record {
+            way = way taken later;
+            all = at.all;
+            count_is = number_is ∙ count_on;
+            same = same;
+            known = known;
+            reads = has_read;
+            plays = at.plays;
+            size_is = let a = ap length (begun_on at.way.tale at.way.later event) in
+                let b = length-append (begun at.way.tale at.way.later) (spelled event) in
+                omega (arith, a, b, at.size_is, adds);
+            fits = room;
+            flushed = at.flushed;
+            close = few takes.taken takes.needed;
+            behind = at.behind ++ takes.taken;
+            taken_is = ap (λ bs. bs ++ takes.taken) at.taken_is ∙ append_assoc at.flushed at.behind takes.taken;
+            since_is = at.since_is;
+            gathers = subst Q (sym (begun_on at.way.tale at.way.later event))
+                (gathers_on (WasDue at.way.tale at.way.played at.way.later at.flushed at.way.taken)
+                (WasDue at.way.tale at.way.played later at.flushed taken) before.held all now.held draft.gathered at.gathers
+                more_due number (spelled event) (here number number_is fits) held is.gathered puts.put);
+            cost = at.cost;
+            small = at.small;
+            writable = at.writable;
+            allowed = allows_append 2 at.way.later (event ∷ []) at.allowed (allows, tt);
+          }
 
-    pub stop_ends : (number : ℕ) (ending : CutEnding) → number ≡ count + 1
-        → EndsAt number stop now.held held ending → EndsCut n start before after rig ending
-    stop_ends number Done is end =
-        let P : Stop → Type 0 = λ s. StopsBehind (way bytes_taken at.way.later) s left in
-        ends bytes_taken at.way.later Done bytes (record {
-          all = at.all;
-          stops = subst P end.0 behind;
-          held = wrote_on before.held now.held held (begun at.way.tale at.way.later) spelled_end at.held end.1;
-          writable = at.writable;
-          allowed = at.allowed;
-          fits = let a = file_length at.way.tale at.way.later in omega (arith, a, at.size_is, at.fits);
-        })
-    stop_ends number (WriteFailed told) is end =
-        let P : Stop → Type 0 = λ s. StopsBehind (way bytes_taken at.way.later) s left in
-        let Q : Option (List ℕ) → Type 0 = λ base. AppendsPart base held spelled_end in
-        ends bytes_taken at.way.later (WriteFailed told) bytes (inr (inr (record {
-          all = at.all;
-          number_is = stopped_number number told end.1 is;
-          stops = subst P end.0 behind;
-          held = subst Q at.held end.2;
-        })))
-    stop_ends number (Stopped told given) is end =
-        let P : Stop → Type 0 = λ s. EndsCut n start before after rig (Stopped told s) in
-        let whole : (length at.way.played == n) ≡ true = rw at.all (is_whole n) in
-        subst P (sym end.1)
-        (ends bytes_taken at.way.later (Stopped told stop) bytes (record {
-          number_is = stopped_number number told end.0 is;
-          stops = behind;
-          other = end.2;
-          held = rw whole (end.3 ∙ at.held);
-        }))
-    stop_ends number (PastEnd told) is end = absurd end
-    stop_ends number (Faulted told fault) is end = absurd end
-    stop_ends number (TooLong told) is end = absurd end
+      last : (number : ℕ) → number ≡ count + 1 → IsLast n (way taken later) number at.way.later event
+      last number is = record { all = at.all; number_is = is ∙ count_on; are = refl; reads = reads }
+
+      long_ends : (number : ℕ) (ending : CutEnding) → number ≡ count + 1
+          → limit < draft.size + length (spelled event) + 4 → EndsTooLong number draft.gathered now.held held ending
+          → EndsCut n start before after rig ending
+      long_ends number (TooLong told) is long end =
+          ends taken later (TooLong told) has_read.bytes (record {
+            earlier = at.way.later;
+            event = event;
+            last = last told (end.0 ∙ is);
+            held = gathers_written (WasDue at.way.tale at.way.played at.way.later at.flushed at.way.taken) before.held all
+                now.held held draft.gathered at.gathers end.1;
+            fits = let a = file_length at.way.tale at.way.later in omega (arith, a, at.size_is, at.fits);
+            long = rw (longer at.way.tale at.way.later event draft.size at.size_is) long;
+          })
+      long_ends number (WriteFailed told) is long end =
+          lacks taken later told has_read.bytes reads.says (few takes.taken takes.needed)
+          (gathers_off (WasDue at.way.tale at.way.played later at.flushed taken) before.held all now.held held
+          draft.gathered told
+          (gathers_more (WasDue at.way.tale at.way.played at.way.later at.flushed at.way.taken)
+          (WasDue at.way.tale at.way.played later at.flushed taken) before.held all now.held draft.gathered more_due
+          at.gathers) end)
+      long_ends number Done is long end = absurd end
+      long_ends number (PastEnd told) is long end = absurd end
+      long_ends number (Stopped told stop) is long end = absurd end
+      long_ends number (Faulted told fault) is long end = absurd end
+
+      pub record_ends : (number : ℕ) (ending : CutEnding) → number ≡ count + 1
+          → EndsRecord draft number event now.held held ending → EndsCut n start before after rig ending
+      record_ends number ending is (inl long) = long_ends number ending is long.0 long.1
+      record_ends number ending is (inr breaks) =
+          let size = longer at.way.tale at.way.later event draft.size at.size_is in
+          let room = breaks.0 in
+          let fits : length (cut_file at.way.tale later) ≤ limit = omega (arith, size, room) in
+          rw breaks.2 (lacks taken later breaks.1 has_read.bytes reads.says (few takes.taken takes.needed)
+          (breaks_put (WasDue at.way.tale at.way.played at.way.later at.flushed at.way.taken)
+          (WasDue at.way.tale at.way.played later at.flushed taken) before.held all now.held draft.gathered at.gathers
+          more_due number (spelled event) (here number is fits) held breaks.1 breaks.3))
+
+    -- ---- the reader stops
+
+    module _ (stop : Stop) (stops : StopsAt old new now.left left stop) where
+      abbrev bytes_taken : List ℕ
+      bytes_taken = at.way.taken ++ stops.taken
+
+      bytes : before.left ≡ prepended bytes_taken left
+      bytes = stops_bytes before.left now.left left old new at.way.taken (events_of at.way) stop at.reads stops
+
+      version_is : at.way.version ≡ new.version
+      version_is = at.same ∙ version_on old new now.left left (Err stop) stops at.known
+
+      behind : StopsBehind (way bytes_taken at.way.later) stop left
+      behind = stops_behind before.left now.left left old new at.way.taken stop (way bytes_taken at.way.later) at.reads
+          stops version_is refl
+
+      says_events : SaysFirst (read_of (way bytes_taken at.way.later)) (events_of at.way)
+      says_events = λ rest. (
+        capture_from old (stops.taken ++ rest),
+        ap capture (append_assoc at.way.taken stops.taken rest) ∙ at.reads.says (stops.taken ++ rest),
+        version_from old (stops.taken ++ rest) at.known ∙ sym at.same,
+      )
+
+      stopped_number : (number told : ℕ) → told ≡ number → number ≡ count + 1 → told ≡ length (events_of at.way) + 1
+      stopped_number number told same is = omega (arith, same, is, at.count_is)
+
+      stop_ends : (number : ℕ) (ending : CutEnding) (mid : Option (List ℕ)) → number ≡ count + 1
+          → mid ≡ appended before.held all
+          → EndsAt number stop mid held ending → EndsCut n start before after rig ending
+      stop_ends number Done mid is stood end =
+          let P : Stop → Type 0 = λ s. StopsBehind (way bytes_taken at.way.later) s left in
+          ends bytes_taken at.way.later Done bytes (record {
+            all = at.all;
+            stops = subst P end.0 behind;
+            held = wrote_on before.held mid held all spelled_end stood end.1;
+            writable = at.writable;
+            allowed = at.allowed;
+            fits = let a = file_length at.way.tale at.way.later in omega (arith, a, at.size_is, at.fits);
+          })
+      stop_ends number (WriteFailed told) mid is stood end =
+          let P : Stop → Type 0 = λ s. StopsBehind (way bytes_taken at.way.later) s left in
+          let Q : Option (List ℕ) → Type 0 = λ base. AppendsPart base held spelled_end in
+          ends bytes_taken at.way.later (WriteFailed told) bytes (inr (inr (record {
+            all = at.all;
+            number_is = stopped_number number told end.1 is;
+            stops = subst P end.0 behind;
+            held = subst Q stood end.2;
+          })))
+      stop_ends number (Stopped told given) mid is stood end =
+          let P : Stop → Type 0 = λ s. EndsCut n start before after rig (Stopped told s) in
+          let whole : (length at.way.played == n) ≡ true = rw at.all (is_whole n) in
+          subst P (sym end.1)
+          (ends bytes_taken at.way.later (Stopped told stop) bytes (record {
+            number_is = stopped_number number told end.0 is;
+            stops = behind;
+            other = end.2;
+            held = rw whole (end.3 ∙ stood);
+          }))
+      stop_ends number (PastEnd told) mid is stood end = absurd end
+      stop_ends number (Faulted told fault) mid is stood end = absurd end
+      stop_ends number (TooLong told) mid is stood end = absurd end
+
+      pub reading_ends : (number : ℕ) (ending : CutEnding) → number ≡ count + 1
+          → EndsReading number stop draft.gathered now.held held ending → EndsCut n start before after rig ending
+      reading_ends number ending is (inl end) =
+          stop_ends number ending end.0 is
+          (gathers_written (WasDue at.way.tale at.way.played at.way.later at.flushed at.way.taken) before.held all now.held
+          end.0 draft.gathered at.gathers end.1) end.2
+      reading_ends number ending is (inr breaks) =
+          let due = WasDue at.way.tale at.way.played at.way.later at.flushed at.way.taken in
+          let more = WasDue at.way.tale at.way.played at.way.later at.flushed bytes_taken in
+          rw breaks.1 (lacks bytes_taken at.way.later breaks.0 bytes says_events (few stops.taken stops.needed)
+          (gathers_off more before.held all now.held held draft.gathered breaks.0
+          (gathers_more due more before.held all now.held draft.gathered
+          (due_more at.way.tale at.way.played at.way.later [] at.way.later at.flushed at.way.taken stops.taken
+          (sym (append-nil at.way.later))) at.gathers) breaks.2))

@@ -1,6 +1,8 @@
 -- How far cutting a capture has come, between its steps.
-use Rattle.std.specs.Prelude.{◌≡◌, ◌≤◌, ◌<◌, ℕ, List, ◌++◌, ◌+◌, Option, Result, Ok, Err, length}
+use Rattle.std.specs.Prelude.{◌≡◌, ◌≤◌, ◌<◌, ◌⊎◌, ℕ, List, ◌++◌, ◌+◌, Option, Result, Ok, Err, length}
 use Rattle.dev_io.specs.Device.{prepended, appended, AppendsPart}
+use Rattle.gathered_out.specs.Pieces.{Piece}
+use Rattle.gathered_out.specs.Puts.{BreaksPut, BreaksWriting, IsPut, IsWritten}
 use Rattle.gpu_capture.specs.Capture.{capture, then_events, limit}
 use Rattle.gpu_capture.specs.Reader.{IsReadFault, capture_from}
 use Rattle.gpu_capture.specs.Written.{spelled, spelled_end, AllowsAll}
@@ -20,6 +22,7 @@ use Rattle.capture_cut.specs.File.{begun, rig_of, IsWritable}
 use Rattle.capture_cut.specs.declared.ending.CutEnding.{CutEnding}
 use Rattle.capture_cut.specs.declared.ending.CutEnding.TheVariants.{Done, PastEnd, Stopped, Faulted, TooLong}
 use Rattle.capture_cut.specs.declared.ending.CutEnding.TheVariants.{WriteFailed}
+use Rattle.capture_cut.specs.declared.file.Draft.{Draft}
 
 -- ---- one event that is played
 
@@ -97,19 +100,24 @@ pub record Came (n : ℕ) (start : Tale) (before now : Streams) (rig : RigState)
   pub writable : IsWritable (rig_of way.tale)
   pub allowed : AllowsAll 2 way.later
 
--- the record of an event was written behind so many bytes, with room for an End record
-pub record WritesRecord (size : ℕ) (event : Event) (before now : Option (List ℕ)) (size_now : ℕ) : Type 0 where
-  pub held : now ≡ appended before (spelled event)
-  pub size_is : size_now ≡ size + length (spelled event)
-  pub fits : size_now + 4 ≤ limit
+-- the record of the event of this number was put behind the file so far, with room for an End record
+pub record PutsRecord (was is : Draft) (number : ℕ) (event : Event) (before now : Option (List ℕ)) : Type 0 where
+  pub put : IsPut number (spelled event) before now was.gathered is.gathered
+  pub size_is : is.size ≡ was.size + length (spelled event)
+  pub fits : is.size + 4 ≤ limit
 
--- it would be too much, and was not written; or a proper part of it was
-abbrev pub EndsRecord : (size number : ℕ) → Event → (before now : Option (List ℕ)) → CutEnding → Type 0
-EndsRecord size number event before now (TooLong at) =
-    (at ≡ number) × (now ≡ before) × (limit < size + length (spelled event) + 4)
-EndsRecord size number event before now (WriteFailed at) =
-    (at ≡ number) × AppendsPart before now (spelled event) × (size + length (spelled event) + 4 ≤ limit)
-EndsRecord size number event before now ending = ⊥
+-- what is gathered was written at a record that would be too much, or that failed
+abbrev pub EndsTooLong : (number : ℕ) → List Piece → (before now : Option (List ℕ)) → CutEnding → Type 0
+EndsTooLong number gathered before now (TooLong at) = (at ≡ number) × IsWritten before now gathered
+EndsTooLong number gathered before now (WriteFailed at) = BreaksWriting before now gathered at
+EndsTooLong number gathered before now ending = ⊥
+
+-- it would be too much, and was not put; or there was room for it, and the writing failed
+abbrev pub EndsRecord : (was : Draft) (number : ℕ) → Event → (before now : Option (List ℕ)) → CutEnding → Type 0
+EndsRecord was number event before now ending =
+    ((limit < was.size + length (spelled event) + 4) × EndsTooLong number was.gathered before now ending)
+    ⊎ ((was.size + length (spelled event) + 4 ≤ limit) × (lacking : ℕ) × (ending ≡ WriteFailed lacking)
+    × BreaksPut number (spelled event) before now was.gathered lacking)
 
 -- how a stop of the reader ends it, where the next event would have this number
 abbrev pub EndsAt : (number : ℕ) → Stop → (before now : Option (List ℕ)) → CutEnding → Type 0
@@ -117,3 +125,9 @@ EndsAt number stop before now Done = (stop ≡ End) × (now ≡ appended before 
 EndsAt number stop before now (WriteFailed at) = (stop ≡ End) × (at ≡ number) × AppendsPart before now spelled_end
 EndsAt number stop before now (Stopped at told) = (at ≡ number) × (told ≡ stop) × IsNotEnd stop × (now ≡ before)
 EndsAt number stop before now ending = ⊥
+
+-- the same, behind what is gathered
+abbrev pub EndsReading : (number : ℕ) → Stop → List Piece → (before now : Option (List ℕ)) → CutEnding → Type 0
+EndsReading number stop gathered before now ending =
+    ((mid : Option (List ℕ)) × IsWritten before mid gathered × EndsAt number stop mid now ending)
+    ⊎ ((lacking : ℕ) × (ending ≡ WriteFailed lacking) × BreaksWriting before now gathered lacking)

@@ -2,7 +2,8 @@
 use Rattle.std.specs.Prelude.{◌≡◌, ◌≤◌, ◌<◌, ◌⊎◌, ◌==◌, ℕ, List, [], ◌∷◌, ◌++◌, ◌+◌, Option, Err, length}
 use Rattle.std.specs.Prelude.{if◌then◌else◌}
 use Rattle.dev_io.specs.Device.{prepended, appended, AppendsPart}
-use Rattle.gpu_capture.specs.Capture.{limit}
+use Rattle.gpu_capture.specs.Capture.{capture, limit}
+use Rattle.gpu_capture.specs.Reading.{AreFewBehind}
 use Rattle.gpu_capture.specs.Written.{spelled, spelled_end, AllowsAll}
 use Rattle.gpu_capture.specs.declared.event.Event.{Event}
 use Rattle.gpu_capture.specs.declared.event.Stop.{Stop}
@@ -16,7 +17,7 @@ use Rattle.event_play.specs.Step.{event_step}
 use Rattle.event_play.specs.Streams.{Streams}
 use Rattle.event_play.specs.Told.{told_notes}
 use Rattle.event_play.specs.declared.fault.EventFault.{EventFault}
-use Rattle.capture_flat.specs.Passing.{Way as Read, AreNeeded, AreNeededToEnd, SaysFirst, SaysStop}
+use Rattle.capture_flat.specs.Passing.{Way as Read, AreNeeded, AreNeededToEnd, SaysFirst, SaysStop, most_behind}
 use Rattle.capture_cut.specs.File.{snapshot, begun, cut_file, rig_of, IsWritable}
 use Rattle.capture_cut.specs.declared.ending.CutEnding.{CutEnding}
 use Rattle.capture_cut.specs.declared.ending.CutEnding.TheVariants.{Done, PastEnd, Stopped, Faulted, TooLong}
@@ -130,13 +131,19 @@ pub record LacksState (n : ℕ) (way : Way) (number : ℕ) (before now : Streams
   pub reads : ReadsTo way way.played
   pub held : AppendsPart before.held now.held (snapshot way.tale)
 
--- a proper part of the record of the last event was written, for which there was room
+-- A proper part of the record of this event was written, behind all that was due before it. The events behind it were
+-- read while it was gathered, and few bytes were taken behind it.
 pub record LacksRecord (n : ℕ) (way : Way) (number : ℕ) (before now : Streams) : Type 0 where
+  pub all : length way.played ≡ n
   pub earlier : List Event
   pub event : Event
-  pub last : IsLast n way number earlier event
+  pub rest : List Event
+  pub are : way.later ≡ earlier ++ event ∷ rest
+  pub number_is : number ≡ length (way.played ++ earlier) + 1
+  pub says : SaysFirst (read_of way) (events_of way)
+  pub few : AreFewBehind capture (way.played ++ (earlier ++ event ∷ [])) way.taken most_behind
   pub held : AppendsPart (appended before.held (begun way.tale earlier)) now.held (spelled event)
-  pub fits : length (cut_file way.tale way.later) ≤ limit
+  pub fits : length (cut_file way.tale (earlier ++ event ∷ [])) ≤ limit
 
 -- a proper part of the End record was written
 pub record LacksEnd (n : ℕ) (way : Way) (number : ℕ) (before now : Streams) : Type 0 where

@@ -5,6 +5,7 @@ ghost use Rattle.std.specs.Prelude.{◌≡◌, ◌<◌, ◌≤◌};
 
 mod bounds;
 mod ending;
+mod file;
 mod first;
 mod memory;
 mod rest;

@@ -1,6 +1,7 @@
 // The events behind the first ones are read, and their records written.
-ghost use Rattle.std.specs.Prelude.{◌≡◌, ◌≤◌, ◌<◌, ◌+◌, ◌^◌, ℕ, List, None, length, IfOk, IfErr};
+ghost use Rattle.std.specs.Prelude.{◌≡◌, ◌≤◌, ◌<◌, ◌+◌, ◌^◌, ℕ, List, None, length, IfErr, OnOk};
 ghost use Rattle.dev_io.specs.Device.{Rose};
+ghost use Rattle.gathered_out.specs.Puts.{Puts};
 ghost use Rattle.gpu_capture.specs.Record.{IsEvent};
 ghost use Rattle.gpu_capture.specs.Reader.{IsReadFault, work_left};
 ghost use Rattle.gpu_capture.specs.Written.{spelled, Allows};
@@ -8,18 +9,22 @@ ghost use Rattle.gpu_taps.specs.Tally.{Reading};
 ghost use Rattle.event_play.specs.Replay.{Tale};
 ghost use Rattle.event_play.specs.RigState.{RigState};
 ghost use Rattle.event_play.specs.Streams.{Streams, streams};
-ghost use Rattle.capture_cut.specs.Came.{Came, EndsAt, EndsRecord, WritesRecord};
+ghost use Rattle.capture_cut.specs.Came.{Came, EndsAt, EndsReading, EndsRecord, EndsTooLong, PutsRecord};
 ghost use Rattle.capture_cut.specs.Cut.{EndsCut, IsEnding, MayReadFault, MayWriteFault};
 
 use crate::ending::CutEnding;
+use crate::file::Draft;
+use capture_flat::write_at_pause;
 use dev_io::{Sink, Source};
-use gpu_capture::{Event, EventReader, Stop, write_end, write_event};
+use gathered_out::Gathered;
+use gpu_capture::{Event, EventReader, Stop, record_bytes, write_end};
 
 /// A written file has no more bytes.
 const LIMIT: u32 = 1 << 30;
 
-/// Reads on behind so many events, and writes their records and an End record behind so many bytes. Each record is
-/// written before the next event is read.
+/// Reads on behind so many events, and writes their records and an End record behind so many bytes. Records are gathered,
+/// up to 4,096 bytes, and written together: where there is no room for one more, before a read that may have to wait, and
+/// before every ending.
 pub(crate) fn write_rest<S: Source, K: Sink>(
     reader: &mut EventReader,
     source: &mut S,
@@ -40,16 +45,24 @@ pub(crate) fn write_rest<S: Source, K: Sink>(
     ensures read_faults { S.faults source.old ≤ S.faults source.new }
     ensures write_faults { K.faults out.old ≤ K.faults out.new }
 {
-    let mut size = size;
+    let mut draft = Draft {
+        size,
+        gathered: Gathered::new(),
+    };
+    let mut since = reader.place();
     let mut number = u64::from(read);
     'events: loop {
+        match write_at_pause(reader, source, since, &mut draft.gathered, out) {
+            Ok(place) => since = place,
+            Err(event) => return CutEnding::WriteFailed { event },
+        }
         number += 1;
         match reader.next(source) {
-            Ok(event) => match write_record(out, size, number, &event) {
-                Ok(now) => size = now,
+            Ok(event) => match put_record(&mut draft, number, &event, out) {
+                Ok(()) => {}
                 Err(ending) => return ending,
             },
-            Err(stop) => return finish(stop, number, out),
+            Err(stop) => return end_reading(stop, number, &mut draft, out),
         }
     }
 }
@@ -106,31 +119,75 @@ fn record_size(event: &Event) -> u32
     }
 }
 
-// Writes the record of the event of this number behind so many bytes. The answer is how many stand then.
-fn write_record<K: Sink>(
-    out: &mut K,
-    size: u32,
+// Puts the record of the event of this number behind the file so far. Where it would be too much, what is gathered is
+// written.
+fn put_record<K: Sink>(
+    draft: &mut Draft,
     number: u64,
     event: &Event,
-) -> Result<u32, CutEnding>
+    out: &mut K,
+) -> Result<(), CutEnding>
     requires event { IsEvent event.now }
-    requires room { size + 4 ≤ 2 ^ 30 }
-    ensures ok { IfOk result (WritesRecord size event.now (K.held out.old) (K.held out.new)) }
-    ensures room { IfOk result (λ now. now + 4 ≤ 2 ^ 30) }
+    requires room { draft.old.size + 4 ≤ 2 ^ 30 }
+    ensures ok { OnOk result (PutsRecord draft.old draft.new number event.now (K.held out.old) (K.held out.new)) }
+    ensures room { OnOk result (draft.new.size + 4 ≤ 2 ^ 30) }
     ensures allowed { Allows 2 event.now }
-    ensures ends { IfErr result (EndsRecord size number event.now (K.held out.old) (K.held out.new)) }
+    ensures ends { IfErr result (EndsRecord draft.old number event.now (K.held out.old) (K.held out.new)) }
     ensures known { IfErr result (λ ending. IsEnding ending × (MayReadFault ending → ⊥)) }
     ensures cause { IfErr result (λ ending. MayWriteFault ending → Rose (K.faults out.old) (K.faults out.new)) }
     ensures faults { K.faults out.old ≤ K.faults out.new }
 {
     allowed(*event);
-    let after = size + record_size(event);
+    let after = draft.size + record_size(event);
     if after + 4 > LIMIT {
-        return Err(CutEnding::TooLong { event: number });
+        return Err(end_too_long(number, &mut draft.gathered, out));
     }
-    match write_event(out, event) {
-        Ok(()) => Ok(after),
-        Err(_) => Err(CutEnding::WriteFailed { event: number }),
+    match put_bytes(number, &mut draft.gathered, out, event) {
+        Ok(()) => {
+            draft.size = after;
+            Ok(())
+        }
+        Err(event) => Err(CutEnding::WriteFailed { event }),
+    }
+}
+
+// Puts the bytes of the record of an event.
+fn put_bytes<K: Sink>(
+    number: u64,
+    gathered: &mut Gathered,
+    out: &mut K,
+    event: &Event,
+) -> Result<(), u64>
+    requires { IsEvent event.now }
+    ensures { Puts K.held K.faults number (spelled event.now) out.old out.new gathered.old gathered.new result }
+{
+    gathered.put(number, record_bytes(event).as_slice(), out)
+}
+
+// Ends at a record that would be too much: what is gathered is written, and that may fail.
+fn end_too_long<K: Sink>(number: u64, gathered: &mut Gathered, out: &mut K) -> CutEnding
+    ensures ends { EndsTooLong number gathered.old (K.held out.old) (K.held out.new) result }
+    ensures known { IsEnding result × (MayReadFault result → ⊥) }
+    ensures cause { MayWriteFault result → Rose (K.faults out.old) (K.faults out.new) }
+    ensures faults { K.faults out.old ≤ K.faults out.new }
+{
+    match gathered.write(out) {
+        Ok(()) => CutEnding::TooLong { event: number },
+        Err(event) => CutEnding::WriteFailed { event },
+    }
+}
+
+// Ends at a stop of the reader, where the next event would have this number: what is gathered is written before.
+fn end_reading<K: Sink>(stop: Stop, number: u64, draft: &mut Draft, out: &mut K) -> CutEnding
+    ensures ends { EndsReading number stop draft.old.gathered (K.held out.old) (K.held out.new) result }
+    ensures known { IsEnding result }
+    ensures stopped { MayReadFault result → IsReadFault stop }
+    ensures cause { MayWriteFault result → Rose (K.faults out.old) (K.faults out.new) }
+    ensures faults { K.faults out.old ≤ K.faults out.new }
+{
+    match draft.gathered.write(out) {
+        Ok(()) => finish(stop, number, out),
+        Err(event) => CutEnding::WriteFailed { event },
     }
 }
 

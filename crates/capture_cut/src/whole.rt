@@ -21,9 +21,13 @@ use vram_store::Steps;
 /// Plays the first `n` events of a capture on a new rig, and writes a snapshot: the state behind them, and the records
 /// of the other events, which it does not play, with an End record. It takes no memory.
 ///
-/// The head and the state are due at event `n`, the record of each later event at that event. After every ending all
-/// that was due before it stands, and no byte was taken past what that ending needs. The rig and the taps are as they
-/// are after the events that were played.
+/// The head and the state are due at event `n`, the record of each later event at that event. Records are gathered, up
+/// to 4,096 bytes, and written together: where there is no room for one more, before a read that may have to wait, and
+/// before every ending. So a write that fails may show at a later event, and is still that of the first record that
+/// lacks a byte; at most 4,112 bytes are taken behind its event.
+///
+/// After every ending all that was due before it stands, and no byte was taken past what that ending needs, unless it
+/// is the failed write of a record. The rig and the taps are as they are after the events that were played.
 pub fn cut<S: Source, K: Sink, T: Listener, L: Ledger>(
     rig: &mut Rig,
     n: u32,

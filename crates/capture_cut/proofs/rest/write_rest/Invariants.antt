@@ -5,6 +5,7 @@ use Rattle.event_play.specs.Replay.{Tale}
 use Rattle.event_play.specs.RigState.{RigState}
 use Rattle.event_play.specs.Streams.{Streams, streams}
 use Rattle.capture_cut.specs.Came.{Came}
+use Rattle.capture_cut.proofs.Coming.{Comes}
 use Rattle.capture_cut.proofs.rest.write_rest.Given as goal
 
 abbrev pub invariant-events : goal.invariant-events
@@ -12,10 +13,10 @@ invariant-events g l = record {
   came : (n : ℕ) (start : Tale) (before : Streams) (heard : List Reading) (steps : ℕ) (rig : RigState)
       → Came n start before (streams (g.S.Source.left l.fn.source) (g.K.Sink.held l.fn.out) heard steps) rig
       l.fn.reader.progress l.fn.size l.read
-      → Came n start before (streams (g.S.Source.left l.source) (g.K.Sink.held l.out) heard steps) rig
-      l.reader.progress l.size l.number;
+      → Comes n start before (streams (g.S.Source.left l.source) (g.K.Sink.held l.out) heard steps) rig
+      l.reader.progress l.draft l.since l.number;
   ready : l.reader.stop ≡ None;
-  fits : l.size + 4 ≤ 2 ^ 30;
+  fits : l.draft.size + 4 ≤ 2 ^ 30;
   room : l.number + work_left l.reader.progress < 2 ^ 52;
   read_faults : g.S.Source.faults l.fn.source ≤ g.S.Source.faults l.source;
   write_faults : g.K.Sink.faults l.fn.out ≤ g.K.Sink.faults l.out;

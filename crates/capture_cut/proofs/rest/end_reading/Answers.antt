@@ -1,0 +1,9 @@
+use Rattle.std.proofs.Common.{inl}
+use Rattle.capture_cut.proofs.rest.end_reading.Goals as goal
+
+pub returns-in-Ok-clause-ends : goal.returns-in-Ok-clause-ends
+returns-in-Ok-clause-ends g c = inl (
+  g.K.Sink.held c.write.new.out,
+  record { stands = c.in-Ok.ensures.ok },
+  c.finish.ensures.ends,
+)
