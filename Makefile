@@ -67,7 +67,7 @@ web: web/out/index.html viewer
 web/out/psxgpu.wasm: $(PROVED) c/heap.c web/memory.c web/build.py
 	python3 web/build.py module
 
-web/out/index.html: web/out/psxgpu.wasm web/psxgpu.js web/capture.js web/page.js web/index.html
+web/out/index.html: web/out/psxgpu.wasm web/psxgpu.js web/psxgpu_machine.js web/capture.js web/page.js web/index.html
 	python3 web/build.py page
 
 viewer: web/viewer.html

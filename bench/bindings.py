@@ -23,13 +23,13 @@ function work() { machine.do('gp0_words', at + 4n * start, count - start); }
 
 
 def library_players(folder):
-    """The library in blocks and word by word, as players."""
+    """The library in blocks, word by word and with notes, as players."""
     subprocess.run(['make', '-s', 'lib'], cwd=ROOT, check=True)
     path = os.path.join(folder, 'library')
     subprocess.run([os.environ.get('CC', 'cc'), '-std=c99', '-O2', '-I', os.path.join(ROOT, 'c'),
                     os.path.join(ROOT, 'bench', 'library.c'), os.path.join(ROOT, 'out', 'libpsxgpu.a'), '-o', path],
                    check=True)
-    return [('library', path), ('word by word', path + ' words')]
+    return [('library', path), ('word by word', path + ' words'), ('with notes', path + ' notes')]
 
 
 def thread_seconds(browser):

@@ -1,9 +1,10 @@
 /* A player over the library, for bench/run.py:
  *
- *     library [words] vram < capture > dump
+ *     library [words | notes] vram < capture > dump
  *
- * plays a capture of version 1 whose records are Gp0 alone: each record by one call, or with `words` by one for each
- * word. The capture is mapped, so that reading it takes as good as no time. */
+ * plays a capture of version 1 whose records are Gp0 alone: each record by one call, with `words` by one for each word,
+ * and with `notes` by calls that tell of the items, for 65,536 words or fewer each. The capture is mapped, so that
+ * reading it takes as good as no time. */
 #define _POSIX_C_SOURCE 200809L
 #include <stdint.h>
 #include <stdio.h>
@@ -14,10 +15,24 @@
 
 #include "psxgpu.h"
 
+enum { WORDS = 65536 };
+
 static uint8_t out[PSXGPU_VRAM_ROOM];
+static psxgpu_note notes[WORDS];
+
+static void play_words(psxgpu *gpu, const uint32_t *words, size_t count) {
+    for (size_t k = 0; k < count; k++) psxgpu_gp0(gpu, words[k]);
+}
+
+static void play_noted(psxgpu *gpu, const uint32_t *words, size_t count) {
+    for (size_t some, told; count > 0; words += some, count -= some) {
+        some = count < WORDS ? count : WORDS;
+        psxgpu_gp0_notes(gpu, words, some, notes, WORDS, &told);
+    }
+}
 
 int main(int argc, char **argv) {
-    int by_words = argc > 2 && strcmp(argv[1], "words") == 0;
+    const char *way = argc > 2 ? argv[1] : "blocks";
     struct stat told;
     if (fstat(0, &told) != 0) return 3;
     const uint32_t *at = mmap(NULL, (size_t)told.st_size, PROT_READ, MAP_PRIVATE, 0, 0);
@@ -28,8 +43,9 @@ int main(int argc, char **argv) {
     for (uint32_t tag; (tag = *at++) != 0;) {
         size_t count = tag & 0xffffff;
         if (tag >> 24 != 2) return 2;
-        if (!by_words) psxgpu_gp0_words(&gpu, at, count);
-        for (size_t k = 0; by_words && k < count; k++) psxgpu_gp0(&gpu, at[k]);
+        if (strcmp(way, "words") == 0) play_words(&gpu, at, count);
+        else if (strcmp(way, "notes") == 0) play_noted(&gpu, at, count);
+        else psxgpu_gp0_words(&gpu, at, count);
         at += count;
     }
     size_t written;

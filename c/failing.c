@@ -41,6 +41,7 @@ static uint8_t out[ROOM], snapshot[ROOM];
 static size_t snapshot_length;
 static psxgpu_ended ended;
 static size_t written; /* how much of the room a call says that it wrote */
+static size_t noted;   /* how many notes */
 
 static uint32_t try_new(psxgpu *gpu) {
     (void)gpu;
@@ -56,6 +57,11 @@ static uint32_t try_gp0(psxgpu *gpu) { return psxgpu_gp0(gpu, 64u << 16 | 64); }
 
 static uint32_t try_words(psxgpu *gpu) { return psxgpu_gp0_words(gpu, scene, sizeof scene / sizeof *scene); }
 
+static uint32_t try_notes(psxgpu *gpu) {
+    static psxgpu_note notes[sizeof scene / sizeof *scene];
+    return psxgpu_gp0_notes(gpu, scene, sizeof scene / sizeof *scene, notes, sizeof notes / sizeof *notes, &noted);
+}
+
 static uint32_t try_ram(psxgpu *gpu) { return psxgpu_ram(gpu, 0x1000, scene, sizeof scene / sizeof *scene); }
 
 static uint32_t try_dma(psxgpu *gpu) { return psxgpu_dma(gpu, 6, 0x100c, 4, 0x11000002, &ended); }
@@ -63,6 +69,8 @@ static uint32_t try_dma(psxgpu *gpu) { return psxgpu_dma(gpu, 6, 0x100c, 4, 0x11
 static uint32_t try_vram(psxgpu *gpu) { return psxgpu_vram(gpu, out, ROOM, &written); }
 
 static uint32_t try_picture(psxgpu *gpu) { return psxgpu_picture(gpu, out, ROOM, &written); }
+
+static uint32_t try_rgba(psxgpu *gpu) { return psxgpu_picture_rgba(gpu, out, ROOM, &written); }
 
 static uint32_t try_save(psxgpu *gpu) { return psxgpu_save(gpu, out, ROOM, &written); }
 
@@ -78,9 +86,11 @@ static uint32_t try_play(psxgpu *gpu) {
 static const struct trial {
     const char *name;
     uint32_t (*call)(psxgpu *);
-} trials[] = { { "new", try_new }, { "clear", try_clear },     { "gp0", try_gp0 },   { "gp0_words", try_words },
-               { "ram", try_ram }, { "dma", try_dma },         { "vram", try_vram }, { "picture", try_picture },
-               { "save", try_save }, { "load", try_load },     { "play", try_play } };
+} trials[] = { { "new", try_new },       { "clear", try_clear },         { "gp0", try_gp0 },
+               { "gp0_words", try_words }, { "gp0_notes", try_notes },     { "ram", try_ram },
+               { "dma", try_dma },       { "vram", try_vram },           { "picture", try_picture },
+               { "picture_rgba", try_rgba }, { "save", try_save },       { "load", try_load },
+               { "play", try_play } };
 
 /* ---- what is looked at */
 

@@ -60,7 +60,7 @@ enum {
 
 /* How a call ended that has more to say than its code. A field that its code does not name is 0. */
 typedef struct psxgpu_ended {
-    size_t written; /* how many bytes or words were put into the room, from its start on */
+    size_t written; /* how many bytes were put into the room, from its start on */
     uint64_t event; /* the number of the event at which it ended; 0 where it is at none */
     uint64_t place; /* a place in bytes, or a count of words */
     uint32_t word;  /* a word, or an address */
@@ -93,6 +93,24 @@ uint32_t psxgpu_gp0(psxgpu *gpu, uint32_t word);
 
 /* `count` words for GP0, one after another: an event each, and much faster than one call a word. CLOSED. */
 uint32_t psxgpu_gp0_words(psxgpu *gpu, const uint32_t *words, size_t count);
+
+/* What is told of an item of GP0 words when it has taken effect: 40 bytes, none of them between the fields. */
+typedef struct psxgpu_note {
+    uint64_t event;        /* the number of the event that completed it */
+    size_t word;           /* the place of its last word among those of the call, from 0 */
+    uint32_t head;         /* its command, or the end word of a polyline */
+    uint16_t class_number; /* 0 to 7 by the top three bits of the command, 8 for the end of a polyline */
+    uint16_t has_area;     /* 1 where it has an area, and else 0 */
+    int32_t x1, y1;        /* the first column and row of the cells that it may change; 0 without an area */
+    int32_t x2, y2;        /* the last column and row; before the first where there is no such cell */
+} psxgpu_note;
+
+/* The same as psxgpu_gp0_words, and what is told of the items that the words complete, in their order, from the start of
+ * `notes` on: a packet, a vertex of a polyline behind its second, the end of a polyline. Nothing is told of the data
+ * words of a load. `room` is in notes, and at least `count`; no other note is written. `written`: how many were; 0 where
+ * it is refused. CLOSED, NO_ROOM. */
+uint32_t psxgpu_gp0_notes(psxgpu *gpu, const uint32_t *words, size_t count, psxgpu_note *notes, size_t room,
+                          size_t *written);
 
 /* A word for GP1 (1F801814h): an event. CLOSED. */
 uint32_t psxgpu_gp1(psxgpu *gpu, uint32_t word);
@@ -143,6 +161,11 @@ uint32_t psxgpu_shape(psxgpu *gpu, uint16_t *width, uint16_t *height);
 /* The shown picture as PPM (P6); 3 * width * height + 32 bytes always suffice. `written`: how many it has; 0 where it
  * is refused. CLOSED, NO_PICTURE, NO_ROOM, NO_MEMORY. */
 uint32_t psxgpu_picture(psxgpu *gpu, uint8_t *out, size_t room, size_t *written);
+
+/* The shown picture as RGBA: its pixels row by row from the top, each red, green and blue as in the PPM and then 255:
+ * 4 * width * height bytes. `written`: how many it has; 0 where it is refused.
+ * CLOSED, NO_PICTURE, NO_ROOM, NO_MEMORY. */
+uint32_t psxgpu_picture_rgba(psxgpu *gpu, uint8_t *out, size_t room, size_t *written);
 
 /* The registers as thirteen words: the values of E1h to E6h, the flags (bit 0 the interrupt bit, bit 1 whether the
  * display is off), the DMA direction, the start of the display area, its two ranges, its mode, and the latch of the

@@ -10,212 +10,21 @@
     machine.load(before)                                 # a step back
     psxgpu.play('frame.capture', 'shot')                 # the bytes that `psxgpu_tool shot` writes
 
-The library is the file that the environment's PSXGPU_LIB names, else the one beside this file, in the checkout's out/,
-or in the system. It is loaded with the first call. docs/LIBRARY.md has a page on this module.
+docs/LIBRARY.md has a page on this module. psxgpu_library.py and psxgpu_values.py stand beside it.
 """
-import array
-import collections
 import ctypes
-import functools
-import operator
 import os
-import struct
 import threading
 
-NAME = 'libpsxgpu.so.1'
+from psxgpu_library import (  # noqa: F401: the module's own names as well
+    NO_ROOM, SIZE, WORD, Ended, Error, Handle, Missing, OutOfMemory, RawNote, Refused, check, library)
+from psxgpu_values import (  # noqa: F401: Note, too
+    Note, Registers, Snapshot, address, bytes_of, note_of, number, words_of)
+
 MODES = {name: number for number, name in enumerate(
     ('play', 'vram', 'shot', 'list', 'report', 'frames', 'frames marks', 'sums', 'sums marks', 'pixel'))}
 CHANNELS = (2, 6)
 COLUMNS, ROWS, RAM_BYTES = 1024, (512, 1024), 0x200000
-NO_PICTURE, NO_ROOM, NO_MEMORY = 10, 11, 13
-# What the program says of a code; `place` and `word` are those of the ending.
-WORDS = {
-    2: 'not-capture at event {event} byte {place}',
-    3: 'truncated at event {event} byte {place}',
-    4: 'bad-record at event {event} byte {place} word {word:08x}',
-    5: 'too-long at event {event} byte {place}',
-    7: 'bad-dma at event {event}',
-    8: 'dma-too-long at event {event} words {place}',
-    9: 'list-loop at event {event} node {word:06x}',
-    NO_PICTURE: 'no-picture at event {event}',
-    NO_ROOM: 'no-room',
-    12: 'bad-snapshot at event {event} byte {place} word {word:08x}',
-    NO_MEMORY: 'memory',
-    14: 'the machine is closed',
-    15: 'the machine is open',
-    16: 'the library has no such mode',
-    17: 'no such cell',
-    18: 'main memory has no words there',
-    19: 'no such channel',
-}
-
-
-class Error(Exception):
-    """What this module raises for what the library answers. The text is the program's line."""
-
-
-class Missing(Error):
-    """There is no library, or it has no such call."""
-
-
-class OutOfMemory(Error, MemoryError):
-    """The library got no memory. The machine is as before."""
-
-
-class Refused(Error):
-    """The library did not do it, and the machine is as before. `output` has what was due of `play` up to there."""
-
-    def __init__(self, code, event=0, place=0, word=0, output=b''):
-        text = WORDS.get(code, 'code %d' % code).format(event=event, place=place, word=word)
-        super().__init__('psxgpu: ' + text.replace(' at event 0', ''))
-        self.code, self.event, self.place, self.word, self.output = code, event, place, word, output
-
-
-class Handle(ctypes.Structure):
-    _fields_ = [('at', ctypes.c_void_p), ('open', ctypes.c_uint32)]
-
-
-class Ended(ctypes.Structure):
-    _fields_ = [('written', ctypes.c_size_t), ('event', ctypes.c_uint64), ('place', ctypes.c_uint64),
-                ('word', ctypes.c_uint32), ('code', ctypes.c_uint32)]
-
-
-class RawNote(ctypes.Structure):
-    _fields_ = [('event', ctypes.c_uint64), ('class_number', ctypes.c_uint32), ('head', ctypes.c_uint32),
-                ('has_area', ctypes.c_uint32)] + [(name, ctypes.c_int32) for name in ('x1', 'y1', 'x2', 'y2')]
-
-
-Note = collections.namedtuple('Note', 'event class_number head area')
-Note.__doc__ = """An item that has taken effect: the event that completed it, its class (docs/CAPTURE.md), its first
-word or data word, and the corners (x1, y1, x2, y2) of what it may change, or None."""
-
-HANDLE, WORD, SIZE = ctypes.POINTER(Handle), ctypes.c_uint32, ctypes.c_size_t
-BYTES, OUT_WORDS, OUT_HALF = ctypes.c_void_p, ctypes.POINTER(WORD), ctypes.POINTER(ctypes.c_uint16)
-OUT_SIZE, ENDED = ctypes.POINTER(SIZE), ctypes.POINTER(Ended)
-# The calls of c/psxgpu.h.
-CALLS = {
-    'new': [HANDLE], 'free': [HANDLE], 'clear': [HANDLE], 'set_tall': [HANDLE],
-    'gp0': [HANDLE, WORD], 'gp0_words': [HANDLE, BYTES, SIZE], 'gp1': [HANDLE, WORD],
-    'read': [HANDLE, OUT_WORDS], 'status': [HANDLE, OUT_WORDS], 'skip': [HANDLE],
-    'ram': [HANDLE, WORD, BYTES, SIZE], 'dma': [HANDLE, WORD, WORD, WORD, WORD, ENDED],
-    'begin': [HANDLE, WORD, WORD, WORD, ENDED], 'turn': [HANDLE],
-    'vram': [HANDLE, BYTES, SIZE, OUT_SIZE], 'cell': [HANDLE, WORD, WORD, OUT_HALF],
-    'shape': [HANDLE, OUT_HALF, OUT_HALF], 'picture': [HANDLE, BYTES, SIZE, OUT_SIZE],
-    'registers': [HANDLE, BYTES, SIZE],
-    'save': [HANDLE, BYTES, SIZE, OUT_SIZE], 'load': [HANDLE, BYTES, SIZE, ENDED],
-    'gp0_notes': [HANDLE, BYTES, SIZE, BYTES, SIZE, OUT_SIZE],
-    'play': [WORD, WORD, BYTES, SIZE, BYTES, SIZE, ENDED],
-}
-
-
-class Library:
-    """The loaded library: each call by its name, without `psxgpu_`."""
-
-    def __init__(self, path):
-        loaded = ctypes.CDLL(path)
-        self.path = path
-        for name, kinds in CALLS.items():
-            call = getattr(loaded, 'psxgpu_' + name, None)
-            if call is not None:
-                call.argtypes, call.restype = kinds, None if name == 'free' else WORD
-                setattr(self, name, call)
-
-    def __getattr__(self, name):
-        raise Missing('%s has no psxgpu_%s' % (self.path, name))
-
-
-def places():
-    """Where the library may be; the first that can be loaded is taken."""
-    if os.environ.get('PSXGPU_LIB'):
-        return [os.environ['PSXGPU_LIB']]
-    here = os.path.dirname(os.path.abspath(__file__))
-    return [os.path.join(here, NAME), os.path.join(here, '..', 'out', NAME), NAME]
-
-
-@functools.lru_cache(maxsize=None)
-def library():
-    """The library, loaded once. Raises Missing where there is none."""
-    causes = []
-    for path in places():
-        try:
-            return Library(path)
-        except OSError as bad:
-            causes.append(str(bad))
-    raise Missing('no libpsxgpu: ' + '; '.join(causes))
-
-
-def check(code, ended=None, output=b''):
-    """Raises what a call's code says, if it is not 0."""
-    if code == NO_MEMORY:
-        raise OutOfMemory('psxgpu: memory')
-    if code:
-        told = (ended.event, ended.place, ended.word) if ended else ()
-        raise Refused(code, *told, output=output)
-
-
-def number(value, most=0xFFFFFFFF, name='word'):
-    """The value, if it is a whole number from 0 on and not too large."""
-    value = operator.index(value)
-    if not 0 <= value <= most:
-        raise ValueError('%s %d is not in 0 to %d' % (name, value, most))
-    return value
-
-
-def words_of(words):
-    """Words of 32 bits side by side: of one number, of numbers, or of bytes, the low byte of each word first."""
-    if isinstance(words, (bytes, bytearray, memoryview)):
-        found = array.array('I')
-        found.frombytes(words)    # ValueError where they are no words of four bytes
-        return found
-    if hasattr(words, '__index__'):
-        words = [number(words)]
-    try:
-        return array.array('I', words)
-    except OverflowError:
-        raise ValueError('a word is not in 0 to 4294967295') from None
-
-
-def address(words):
-    """Where they lie. The pointer of no words is not null either."""
-    return words.buffer_info()[0] or ctypes.addressof(NO_WORDS)
-
-
-NO_WORDS = WORD()
-
-
-def bytes_of(data):
-    """The bytes of what holds bytes."""
-    return data if isinstance(data, bytes) else memoryview(data).tobytes()
-
-
-class Snapshot(bytes):
-    """A machine's state: the bytes of a file that `psxgpu_tool` plays."""
-
-    @classmethod
-    def read(cls, path):
-        with open(path, 'rb') as file:
-            return cls(file.read())
-
-    def write(self, path):
-        with open(path, 'wb') as file:
-            file.write(self)
-
-    @property
-    def rows(self):
-        """How many rows video memory has."""
-        return struct.unpack_from('<I', self, 8)[0]
-
-    @property
-    def events(self):
-        """How many events were played."""
-        return struct.unpack_from('<Q', self, 12)[0]
-
-
-Registers = collections.namedtuple('Registers', (
-    'draw_mode texture_window area_start area_end offset mask_setting flags dma_direction display_start '
-    'horizontal_range vertical_range display_mode latch'))
-Registers.__doc__ = """The registers as words: the values of E1h to E6h, flags (bit 0 interrupt, bit 1 display off), and
-what GP1 has set; the latch is what a read of the data port gives."""
 
 
 class Machine:
@@ -268,12 +77,11 @@ class Machine:
         self._do('gp0_words', address(words), len(words))
 
     def gp0_notes(self, words):
-        """The same; answers a Note for each item that they complete. Raises Missing where the library tells none."""
+        """The same; answers a Note for each item that they complete, but for the data words of a load."""
         words = words_of(words)
         room, written = (RawNote * max(len(words), 1))(), SIZE()
         self._do('gp0_notes', address(words), len(words), room, len(words), written)
-        return [Note(it.event, it.class_number, it.head, (it.x1, it.y1, it.x2, it.y2) if it.has_area else None)
-                for it in room[:written.value]]
+        return [note_of(room[k]) for k in range(written.value)]
 
     def gp1(self, word):
         """A word for GP1."""
@@ -354,10 +162,7 @@ class Machine:
     def picture_rgba(self):
         """The shown picture as four bytes a pixel: red, green, blue, 255."""
         width, height = self.shape()
-        pixels, out = self.picture()[-3 * width * height:], bytearray(b'\xff') * (4 * width * height)
-        for channel in range(3):
-            out[channel::4] = pixels[channel::3]
-        return bytes(out)
+        return self._bytes('picture_rgba', 4 * width * height)
 
     def registers(self):
         words = (WORD * len(Registers._fields))()

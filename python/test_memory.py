@@ -1,6 +1,5 @@
 #!/usr/bin/env python3
 """Tests of psxgpu.py: main memory, DMA, snapshots and notes: python3 python/test_memory.py"""
-import ctypes
 import os
 import sys
 import tempfile
@@ -108,11 +107,8 @@ class Snapshots(unittest.TestCase):
 class Notes(unittest.TestCase):
     def test_events_and_areas(self):
         machine = psxgpu.Machine()
-        if not hasattr(ctypes.CDLL(psxgpu.library().path), 'psxgpu_gp0_notes'):
-            self.assertRaises(psxgpu.Missing, machine.gp0_notes, 0)
-            self.skipTest('this library tells no notes')
         found = machine.gp0_notes(drawing_area(0, 0, 319, 239) + rectangle(0x0000FF, 8, 8, 4, 2))
-        self.assertEqual(found[-1], psxgpu.Note(5, 3, 0x600000FF, (8, 8, 11, 9)))
+        self.assertEqual(found[-1], psxgpu.Note(5, 3, 0x600000FF, (8, 8, 11, 9), 4))
         self.assertEqual([(note.event, note.class_number, note.area) for note in found[:2]],
                          [(1, 7, None), (2, 7, None)])
         self.assertEqual(machine.gp0_notes([0x60000000]), [])

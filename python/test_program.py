@@ -11,6 +11,7 @@ import in_process  # noqa: E402
 import for_library_tests as program  # noqa: E402
 import psxgpu  # noqa: E402
 from capture import BEGIN, DMA, GP0, GP1, RAM, READ, SKIP, STAT, TURN, records  # noqa: E402
+from packets import class_name  # noqa: E402
 
 COMMANDS = [mode for mode in psxgpu.MODES if mode != 'pixel'] + ['pixel 20 30', 'pixel 1023 511']
 
@@ -69,6 +70,33 @@ def play_events(machine, data, most=sys.maxsize):
     return ['%08x' % word for record in first_events(parts, most) for word in play_record(machine, *record)]
 
 
+def in_rgba(ppm):
+    """The pixels of a PPM with an alpha."""
+    width, height = map(int, ppm.split(None, 3)[1:3])
+    pixels = ppm[-3 * width * height:]
+    return b''.join(pixels[k:k + 3] + b'\xff' for k in range(0, len(pixels), 3))
+
+
+def line_of(note):
+    """A note as `list` writes it."""
+    area = ' '.join(map(str, note.area)) if note.area else '-'
+    return '%d %s %08x %s' % (note.event, class_name(note.class_number, note.head), note.head, area)
+
+
+def noted(machine, data):
+    """The lines of the notes of a flat capture's words."""
+    version, parts = records(data)
+    if version == 3:
+        machine.set_tall()
+    lines = []
+    for kind, count, words in parts:
+        if kind == GP0:
+            lines += map(line_of, machine.gp0_notes(words))
+        else:
+            play_record(machine, kind, count, words)
+    return lines
+
+
 @program.needs_player
 class AgainstTheProgram(unittest.TestCase):
     def test_play_in_every_mode(self):
@@ -100,6 +128,17 @@ class AgainstTheProgram(unittest.TestCase):
                     self.assertRaises(psxgpu.Refused, machine.picture)
                 else:
                     self.assertEqual(machine.picture(), picture)
+                    self.assertEqual(machine.picture_rgba(), in_rgba(picture))
+
+    def test_notes(self):
+        """The notes of a capture's words are the lines of `list`, and the machine is the same."""
+        for path in program.EXAMPLES:
+            status, flat, _ = program.play('flat', program.bytes_at(path))
+            if status:
+                continue
+            with self.subTest(path=os.path.basename(path)), psxgpu.Machine() as machine:
+                self.assertEqual(noted(machine, flat), program.play('list', flat)[1].decode().splitlines())
+                self.assertEqual(machine.vram(), program.play('vram', flat)[1])
 
     def test_snapshots(self):
         """After the first events a machine's snapshot is the state of the program's file, and a machine that loads the

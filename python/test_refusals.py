@@ -14,6 +14,7 @@ from capture import Capture, fill, screen  # noqa: E402
 NO_ROOM, CLOSED, OPEN, BAD_MODE, NO_CELL, BAD_ADDRESS, BAD_CHANNEL = 11, 14, 15, 16, 17, 18, 19
 MARK = 0x5A
 WORDS = (ctypes.c_uint32 * 4)(0xE1000001, 0xE1000002, 0xE1000003, 0xE1000004)
+NOTES = (psxgpu.RawNote * 4)()
 
 
 class Room:
@@ -62,7 +63,8 @@ class Refusals(unittest.TestCase):
         calls = (('clear',), ('set_tall',), ('gp0', 0), ('gp0_words', WORDS, 4), ('gp1', 0), ('read', word),
                  ('status', word), ('skip',), ('ram', 0, WORDS, 4), ('dma', 2, 0, 0, 0, ended),
                  ('begin', 0, 0, 0, ended), ('turn',), ('vram', room.at, 64, written), ('cell', 0, 0, half),
-                 ('shape', half, half), ('picture', room.at, 64, written), ('registers', room.at, 13),
+                 ('shape', half, half), ('picture', room.at, 64, written), ('picture_rgba', room.at, 64, written),
+                 ('gp0_notes', WORDS, 4, NOTES, 4, written), ('registers', room.at, 13),
                  ('save', room.at, 64, written), ('load', self.before, len(self.before), ended))
         for name, *arguments in calls:
             with self.subTest(call=name):
@@ -81,7 +83,8 @@ class Refusals(unittest.TestCase):
 
     def test_rooms(self):
         """One byte less than is due is too little; what is due is enough, and no byte behind it is written."""
-        dues = {'vram': 1048576, 'picture': len('P6\n320 240\n255\n') + 3 * 320 * 240, 'save': len(self.before)}
+        dues = {'vram': 1048576, 'picture': len('P6\n320 240\n255\n') + 3 * 320 * 240,
+                'picture_rgba': 4 * 320 * 240, 'save': len(self.before)}
         for name, due in dues.items():
             call, written = getattr(self.library, name), psxgpu.SIZE(7)
             for short in (0, 1, due - 1):
@@ -97,6 +100,24 @@ class Refusals(unittest.TestCase):
         room = Room(4 * 13)
         self.assertEqual(self.library.registers(self.gpu, room.at, 12), NO_ROOM)
         self.assertTrue(room.is_kept())
+
+    def test_notes_room(self):
+        """There is to be room for a note of each word; with less no word is taken."""
+        for room in (0, 1, 3):
+            notes, written = (psxgpu.RawNote * 4)(), psxgpu.SIZE(7)
+            ctypes.memset(notes, MARK, ctypes.sizeof(notes))
+            self.assertEqual(self.library.gp0_notes(self.gpu, WORDS, 4, notes, room, written), NO_ROOM)
+            self.assertEqual((written.value, set(bytes(notes))), (0, {MARK}))
+
+    def test_notes_behind(self):
+        """No note is written but those that are told."""
+        other = psxgpu.Machine()
+        notes, written = (psxgpu.RawNote * 4)(), psxgpu.SIZE(7)
+        ctypes.memset(notes, MARK, ctypes.sizeof(notes))
+        words = (ctypes.c_uint32 * 4)(*fill(0x0000FF, 0, 0, 16, 16), 0xE1000000)
+        self.assertEqual(self.library.gp0_notes(other._handle, words, 4, notes, 4, written), 0)
+        self.assertEqual([(it.event, it.word, it.class_number) for it in notes[:2]], [(3, 2, 0), (4, 3, 7)])
+        self.assertEqual((written.value, set(bytes(notes)[2 * ctypes.sizeof(psxgpu.RawNote):])), (2, {MARK}))
 
     def test_cells(self):
         for x, y in ((1024, 0), (0, 512), (0xFFFFFFFF, 0), (0, 0xFFFFFFFF)):

@@ -146,13 +146,15 @@ def make_page():
             return base64.b64encode(change(file.read())).decode()
     packed = base64_of(out('psxgpu.wasm'), lambda data: gzip.compress(data, mtime=0))
     interface = text_of('psxgpu.js').replace("const PACKED = '';", "const PACKED = '%s';" % packed)
+    machine = text_of('psxgpu_machine.js')
     examples = ', '.join("'%s': '%s'" % (name, base64_of(os.path.join(ROOT, 'examples', name + '.capture')))
                          for name in EXAMPLES)
     page = text_of('index.html').replace('const EXAMPLES = {};', 'const EXAMPLES = { %s };' % examples)
-    scripts = {'psxgpu.js': interface, 'capture.js': text_of('capture.js'), 'page.js': text_of('page.js')}
+    scripts = {'psxgpu.js': interface, 'psxgpu_machine.js': machine, 'capture.js': text_of('capture.js'),
+               'page.js': text_of('page.js')}
     for name, script in scripts.items():
         page = page.replace('<script src="%s"></script>' % name, '<script>\n%s</script>' % script)
-    for name, text in (('psxgpu.js', interface + scripts['capture.js']), ('index.html', page)):
+    for name, text in (('psxgpu.js', interface + machine + scripts['capture.js']), ('index.html', page)):
         with open(out(name), 'w') as file:
             file.write(text)
 

@@ -2,10 +2,33 @@
 // in and pictures come out without a room for each. What a call gives as bytes or words is a view until the next call.
 // psxgpu.js has the same calls for other pages, each with rooms of its own.
 
-const WORDS = 16384, HANDLE = 16, SAVE = 4194564, VRAM = 2097152, PICTURE = 7 << 20;
-const REGISTERS = 13, PPM_HEAD = 32, END = 4;
-// The mode of psxgpu_play that lists, and room for the lines of 16384 steps.
-const LIST = 3, LINES = 1 << 20;
+const WORDS = 16384, HANDLE = 16, SAVE = 4194564, VRAM = 2097152, PICTURE = 9 << 20;
+const REGISTERS = 13, END = 4;
+
+// A note as words: event and place of the word (low halves first), head, class and below it whether there is an area,
+// and the area.
+const NOTE = 10, [PLACE, HEAD, CLASS, AREA] = [2, 4, 5, 6];
+const HAS_AREA = 0x10000;
+
+// What is told of items, as they were completed one after another.
+class Notes {
+    constructor(words, length) { Object.assign(this, { words, length }); }
+
+    // The place of the word that completed the item.
+    place(k) { return this.words[NOTE * k + PLACE]; }
+
+    head(k) { return this.words[NOTE * k + HEAD] >>> 0; }
+
+    kind(k) { return this.words[NOTE * k + CLASS] & 0xFFFF; }
+
+    hasArea(k) { return (this.words[NOTE * k + CLASS] & HAS_AREA) !== 0; }
+
+    // Column and row of a corner: 0 the first, 1 the last.
+    corner(k, which) {
+        const at = NOTE * k + AREA + 2 * which;
+        return [this.words[at], this.words[at + 1]];
+    }
+}
 
 export class Machine {
     // `library`: what psxgpu.load gives.
@@ -56,14 +79,16 @@ export class Machine {
         }
     }
 
-    // The lines of `list` of these records behind the state that `save` has just given.
-    listed(size, records) {
-        this.lines ??= this.room(LINES);
-        const more = new Uint8Array(records.buffer, records.byteOffset, records.byteLength), whole = size + more.length;
-        this.bytes(this.out + BigInt(size), more.length).set(more);
-        this.must(this.calls.psxgpu_play(LIST, 0, this.out, BigInt(whole), this.lines, BigInt(LINES), this.small));
-        const text = new TextDecoder('latin1').decode(this.bytes(this.lines, this.written()));
-        return text.split('\n').slice(0, -1);
+    // The same; `told` is given the notes of some words, and which of all words is the first of those.
+    gp0Notes(words, told) {
+        this.notes ??= this.room(4 * NOTE * WORDS);
+        for (let from = 0; from < words.length; from += WORDS) {
+            const part = words.subarray(from, from + WORDS), count = BigInt(part.length);
+            this.wordsAt(this.words, part.length).set(part);
+            this.must(this.calls.psxgpu_gp0_notes(this.handle, this.words, count, this.notes, count, this.small));
+            const length = this.written();
+            told(new Notes(new Int32Array(this.calls.memory.buffer, Number(this.notes), NOTE * length), length), from);
+        }
     }
 
     gp1(word) { this.must(this.calls.psxgpu_gp1(this.handle, word)); }
@@ -112,16 +137,9 @@ export class Machine {
     picture() {
         const shape = new Uint16Array(this.calls.memory.buffer, Number(this.small), 2);
         if (this.calls.psxgpu_shape(this.handle, this.small, this.small + 2n) !== 0) return null;
-        const [width, height] = shape, count = width * height;
-        this.must(this.calls.psxgpu_picture(this.handle, this.out, BigInt(3 * count + PPM_HEAD), this.small));
-        const size = this.written(), rgb = this.bytes(this.out, size).subarray(size - 3 * count);
-        const bytes = new Uint8ClampedArray(4 * count);
-        for (let k = 0, from = 0; k < bytes.length; k += 4) {
-            bytes[k] = rgb[from++];
-            bytes[k + 1] = rgb[from++];
-            bytes[k + 2] = rgb[from++];
-            bytes[k + 3] = 255;
-        }
+        const [width, height] = shape, size = 4 * width * height;
+        this.must(this.calls.psxgpu_picture_rgba(this.handle, this.out, BigInt(size), this.small));
+        const bytes = new Uint8ClampedArray(this.bytes(this.out, size));
         return { width, height, bytes };
     }
 

@@ -4,7 +4,7 @@
 const element = id => document.getElementById(id);
 const say = text => { element('said').textContent = text; };
 let library = null;
-let film = null;     // { frames, the pictures as PPM; vram, video memory at the end; trouble, or '' }
+let film = null;     // { frames, the pictures; vram, video memory at the end; trouble, or '' }
 let showsMemory = false;
 let timer = null;
 
@@ -18,12 +18,6 @@ function imageOf(width, height, pixel) {
 const word = (red, green, blue) => (255 << 24 | blue << 16 | green << 8 | red) >>> 0;
 const wide = channel => 8 * channel + (channel >> 2);
 
-function imageOfFrame(picture) {
-    const [, size] = new TextDecoder().decode(picture.subarray(0, 32)).split('\n');
-    const [width, height] = size.split(' ').map(Number), from = picture.length - 3 * width * height;
-    return imageOf(width, height, k => word(picture[from + 3 * k], picture[from + 3 * k + 1], picture[from + 3 * k + 2]));
-}
-
 const imageOfMemory = vram => imageOf(1024, vram.length / 2048, k => {
     const cell = vram[2 * k] | vram[2 * k + 1] << 8;
     return word(wide(cell & 31), wide(cell >> 5 & 31), wide(cell >> 10 & 31));
@@ -31,7 +25,7 @@ const imageOfMemory = vram => imageOf(1024, vram.length / 2048, k => {
 
 function show() {
     const at = Number(element('at').value), frame = film && film.frames[at];
-    const image = film && (showsMemory || !frame ? imageOfMemory(film.vram) : imageOfFrame(frame));
+    const image = film && (showsMemory || !frame ? imageOfMemory(film.vram) : frame);
     for (const id of ['play', 'back', 'on', 'at']) element(id).disabled = !film || film.frames.length < 2 || showsMemory;
     element('count').textContent = film ? `${film.frames.length ? at + 1 : 0} of ${film.frames.length}` : '';
     element('memory').textContent = showsMemory ? 'picture' : 'video memory';
@@ -65,7 +59,7 @@ function filmOf(bytes) {
     const found = { frames: [], vram: null, trouble: '' };
     const add = machine => {
         try {
-            found.frames.push(machine.picture());
+            found.frames.push(new ImageData(machine.pictureRgba(), ...machine.shape()));
         } catch (bad) {
             if (bad.code !== psxgpu.NO_PICTURE) throw bad;
         }

@@ -6,7 +6,8 @@
 //     machine.cell(3, 4);                                // 31
 //     const ppm = library.play('shot', capture);         // what psxgpu_tool shot writes
 //
-// A plain script, so that a page that is opened from a disk may load it. docs/LIBRARY.md has a page on it.
+// A plain script, so that a page that is opened from a disk may load it; psxgpu_machine.js comes behind it.
+// docs/LIBRARY.md has a page on it.
 globalThis.psxgpu = (() => {
     'use strict';
 
@@ -14,8 +15,7 @@ globalThis.psxgpu = (() => {
     const PACKED = '';
     const MODES = ['play', 'vram', 'shot', 'list', 'report', 'frames', 'frames marks', 'sums', 'sums marks', 'pixel'];
     const [NO_PICTURE, NO_ROOM, NO_MEMORY] = [10, 11, 13];
-    const [HANDLE_BYTES, ENDED_BYTES, NOTE_BYTES, REGISTER_WORDS] = [16, 32, 40, 13];
-    const [VRAM_ROOM, SAVE_ROOM, FIRST_ROOM] = [2097152, 4194564, 4194304];
+    const [ENDED_BYTES, FIRST_ROOM] = [32, 4194304];
     const hex = (word, digits) => word.toString(16).padStart(digits, '0');
     // What the program says of a code.
     const WORDS = {
@@ -46,7 +46,6 @@ globalThis.psxgpu = (() => {
         }
     }
 
-    const wordsOf = words => typeof words === 'number' ? Uint32Array.of(words) : Uint32Array.from(words);
     const bytesOf = data => ArrayBuffer.isView(data) ? new Uint8Array(data.buffer, data.byteOffset, data.byteLength)
         : new Uint8Array(data);
 
@@ -56,15 +55,7 @@ globalThis.psxgpu = (() => {
             this.exports = instance.exports;
         }
 
-        has(name) {
-            return 'psxgpu_' + name in this.exports;
-        }
-
-        call(name, ...values) {
-            const call = this.exports['psxgpu_' + name];
-            if (!call) throw new Error('this module has no psxgpu_' + name);
-            return call(...values);
-        }
+        call(name, ...values) { return this.exports['psxgpu_' + name](...values); }
 
         bytes(at, count) {
             return new Uint8Array(this.exports.memory.buffer, Number(at), count);
@@ -128,143 +119,9 @@ globalThis.psxgpu = (() => {
 
         // A machine in its first state; `tall` has 1024 rows of video memory. To be closed when it is done with.
         machine({ tall = false } = {}) {
-            const machine = new Machine(this);
+            const machine = new psxgpu.Machine(this);
             if (tall) machine.setTall();
             return machine;
-        }
-    }
-
-    class Machine {
-        constructor(library) {
-            this.library = library;
-            this.handle = library.take(HANDLE_BYTES);
-            library.bytes(this.handle, HANDLE_BYTES).fill(0);
-            this.do('new');
-        }
-
-        // A call with this machine. Throws what its answer says.
-        do(name, ...values) {
-            const code = this.handle === null ? 14 : this.library.call(name, this.handle, ...values);
-            if (code) throw new Refused(code);
-        }
-
-        // The same of a call whose last argument is how it ended.
-        doEnded(name, ...values) {
-            this.library.within([ENDED_BYTES], end => {
-                const code = this.handle === null ? 14 : this.library.call(name, this.handle, ...values, end);
-                if (code) throw new Refused(code, this.library.ended(end));
-            });
-        }
-
-        close() {
-            if (this.handle === null) return;
-            this.library.call('free', this.handle);
-            this.library.give(this.handle);
-            this.handle = null;
-        }
-
-        clear() { this.do('clear'); }
-        setTall() { this.do('set_tall'); }
-
-        // Words for GP0: a number, or numbers.
-        gp0(words) {
-            this.library.withWords(wordsOf(words), [], (at, count) => this.do('gp0_words', at, count));
-        }
-
-        // The same; answers a note for each item that they complete.
-        gp0Notes(words) {
-            const list = wordsOf(words);
-            return this.library.withWords(list, [NOTE_BYTES * Math.max(1, list.length), 8], (at, count, notes, written) => {
-                this.do('gp0_notes', at, count, notes, count, written);
-                const found = Number(this.library.data(written, 8).getBigUint64(0, true));
-                return Array.from({ length: found }, (_, k) => this.note(notes + BigInt(NOTE_BYTES * k)));
-            });
-        }
-
-        note(at) {
-            const data = this.library.data(at, NOTE_BYTES);
-            const area = [20, 24, 28, 32].map(place => data.getInt32(place, true));
-            return { event: Number(data.getBigUint64(0, true)), classNumber: data.getUint32(8, true),
-                head: data.getUint32(12, true), area: data.getUint32(16, true) ? area : null };
-        }
-
-        gp1(word) { this.do('gp1', word); }
-
-        wordFrom(name) {
-            return this.library.within([4], at => {
-                this.do(name, at);
-                return this.library.data(at, 4).getUint32(0, true);
-            });
-        }
-
-        read() { return this.wordFrom('read'); }
-        status() { return this.wordFrom('status'); }
-        skip() { this.do('skip'); }
-
-        // Words for main memory, from a multiple of 4 on.
-        ram(address, words) {
-            this.library.withWords(wordsOf(words), [], (at, count) => this.do('ram', address, at, count));
-        }
-
-        dma(channel, madr, bcr, chcr) { this.doEnded('dma', channel, madr, bcr, chcr); }
-        begin(madr, bcr, chcr) { this.doEnded('begin', madr, bcr, chcr); }
-        turn() { this.do('turn'); }
-
-        bytesFrom(name, room) {
-            return this.library.within([Math.max(1, room), 8], (out, written) => {
-                this.do(name, out, BigInt(room), written);
-                return this.library.bytes(out, Number(this.library.data(written, 8).getBigUint64(0, true))).slice();
-            });
-        }
-
-        // Video memory: cells row by row, the low byte of each first.
-        vram() { return this.bytesFrom('vram', VRAM_ROOM); }
-
-        cell(x, y) {
-            return this.library.within([2], at => {
-                this.do('cell', x, y, at);
-                return this.library.data(at, 2).getUint16(0, true);
-            });
-        }
-
-        // Width and height of the shown picture.
-        shape() {
-            return this.library.within([2, 2], (width, height) => {
-                this.do('shape', width, height);
-                return [width, height].map(at => this.library.data(at, 2).getUint16(0, true));
-            });
-        }
-
-        // The shown picture as PPM, and as the bytes of an ImageData.
-        picture() {
-            const [width, height] = this.shape();
-            return this.bytesFrom('picture', 3 * width * height + 32);
-        }
-
-        pictureRgba() {
-            const picture = this.picture(), [width, height] = this.shape();
-            const from = picture.length - 3 * width * height;
-            return Uint8ClampedArray.from({ length: 4 * width * height }, (_, k) =>
-                k % 4 === 3 ? 255 : picture[from + 3 * (k >> 2) + k % 4]);
-        }
-
-        registers() {
-            return this.library.within([4 * REGISTER_WORDS], at => {
-                this.do('registers', at, BigInt(REGISTER_WORDS));
-                const data = this.library.data(at, 4 * REGISTER_WORDS);
-                return Array.from({ length: REGISTER_WORDS }, (_, k) => data.getUint32(4 * k, true));
-            });
-        }
-
-        // The machine's state as the bytes of a snapshot, and back.
-        save() { return this.bytesFrom('save', SAVE_ROOM); }
-
-        load(snapshot) {
-            const data = bytesOf(snapshot);
-            this.library.within([Math.max(1, data.length)], at => {
-                this.library.bytes(at, data.length).set(data);
-                this.doEnded('load', at, BigInt(data.length));
-            });
         }
     }
 
@@ -280,5 +137,5 @@ globalThis.psxgpu = (() => {
         return new Library(instance);
     }
 
-    return { load, MODES, NO_PICTURE, Refused };
+    return { load, MODES, NO_PICTURE, Refused, bytesOf };
 })();

@@ -78,6 +78,15 @@ function machineSeen() {
     try { machine.read(); } catch (bad) { seen.push(bad.message); }
     return seen;
 }
+function notesAndPicture() {
+    const machine = library.machine();
+    const notes = machine.gp0Notes([0xE1000000, 0x020000FF, 0, 0x00010010, 0xA0000000, 0, 0x00010002, 0]);
+    const told = notes.map(({ event, word, classNumber, head, area }) => [event, word, classNumber, head, area]);
+    machine.gp1(0x08000001);
+    const pixels = machine.pictureRgba(), [width, height] = machine.shape();
+    machine.close();
+    return [told, [...pixels.subarray(4, 16)], pixels.length === 4 * width * height];
+}
 function stepBack() {
     const machine = library.machine({ tall: true });
     machine.gp0([0x020000FF, 0x02580000, 0x00100010]);
@@ -140,6 +149,11 @@ class InTheBrowser(unittest.TestCase):
     def test_machine(self):
         self.assertEqual(self.browser.evaluate('machineSeen()'),
                          [31, 0, 0x14802000, 0x22221111, 0, 'psxgpu: the machine is closed'])
+
+    def test_notes_and_picture(self):
+        told = [[1, 0, 7, 0xE1000000, None], [4, 3, 0, 0x020000FF, [0, 0, 15, 0]], [7, 6, 5, 0xA0000000, [0, 0, 1, 0]]]
+        self.assertEqual(self.browser.evaluate('notesAndPicture()'),
+                         [told, [0, 0, 0, 255, 255, 0, 0, 255, 255, 0, 0, 255], True])
 
     def test_step_back(self):
         self.assertEqual(self.browser.evaluate('stepBack()'), [0, 31])

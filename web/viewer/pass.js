@@ -1,15 +1,11 @@
-// Plays a recording once from its start, slice by slice: keeps the state before a slice, has the library list the slice
-// behind that state, which gives the areas of its packets, and plays it. It can be stopped and gone on with.
+// Plays a recording once from its start, slice by slice: keeps the state before a slice, and plays it with the machine's
+// notes, which give the areas of its packets. It can be stopped and gone on with.
 
 import { KIND, NO_AREA } from './rows.js';
-import { playSteps, toStart } from './player.js';
+import { playOther, toStart } from './player.js';
 
 // Milliseconds that a slice is to be played in, and how many steps it has at least and at most.
-const WANTED = 16, LEAST = 2048, MOST = 16384;
-
-// The classes of the names that `list` gives.
-const CLASSES = { fill: KIND.OTHER, irq: KIND.OTHER, polygon: KIND.POLYGON, line: KIND.LINE, rectangle: KIND.RECTANGLE,
-    copy: KIND.COPY, load: KIND.LOAD, store: KIND.STORE, environment: KIND.SETTING, finish: KIND.FINISH };
+const WANTED = 16, LEAST = 2048, MOST = 65536;
 
 export class Pass {
     constructor(recording, machine) {
@@ -21,21 +17,17 @@ export class Pass {
 
     // Plays the next slice.
     turn() {
-        const { machine, recording } = this, { track } = recording, started = performance.now();
-        const to = Math.min(this.at + this.slice, track.length), state = machine.save();
-        this.keep(state);
-        this.write(machine.listed(state.length, track.records(this.at, to)), to);
-        const listed = performance.now();
-        playSteps(machine, track, this.at, to);
-        this.at = to;
-        this.fit(performance.now() - listed, listed - started);
+        const { machine, recording } = this;
+        this.keep(machine.save());
+        const started = performance.now();
+        this.play(Math.min(this.at + this.slice, recording.length));
+        this.fit(performance.now() - started);
     }
 
-    // Longer slices where they are short, or where what is done once for each takes longer than playing it.
-    fit(played, listed) {
-        const once = listed - played;
-        if (played < WANTED / 2 || played < once) this.slice = Math.min(2 * this.slice, MOST);
-        else if (played > 2 * WANTED && played > 4 * once) this.slice = Math.max(this.slice >> 1, LEAST);
+    // Longer slices where they are played in a short time, and shorter ones where not.
+    fit(played) {
+        if (played < WANTED / 2) this.slice = Math.min(2 * this.slice, MOST);
+        else if (played > 2 * WANTED) this.slice = Math.max(this.slice >> 1, LEAST);
     }
 
     // Keeps a state, or every second, fourth .. where they would be too many.
@@ -48,23 +40,32 @@ export class Pass {
         this.every *= 2;
     }
 
-    // Puts the areas of lines of `list` into the rows that are complete after so many steps.
-    write(lines, to) {
-        const { rows } = this.recording;
-        let at = 0;
-        for (; this.row < rows.length && rows.done[this.row] < to; this.row++) {
-            if (rows.isPacket(this.row)) this.writeArea(this.row, lines[at++] ?? '');
+    // Plays up to a step, and puts the areas of its packets into their rows.
+    play(to) {
+        const { machine, recording: { track } } = this;
+        while (this.at < to) {
+            const run = track.run(this.at, to);
+            if (run.length > 0) machine.gp0Notes(run, (notes, from) => this.write(notes, this.at + from));
+            else playOther(machine, track.kind(this.at), track.word(this.at));
+            this.at += run.length || 1;
         }
-        if (at !== lines.length) throw new Error(`row ${this.row}: the machine tells of more packets`);
     }
 
-    writeArea(row, line) {
-        const { rows } = this.recording, [, name, word, x1, y1, x2, y2] = line.split(' ');
-        const head = parseInt(word, 16), kind = rows.kind[row] === KIND.JOINT ? KIND.LINE : rows.kind[row];
-        if (head !== rows.head[row] || (CLASSES[name] ?? head >>> 29) !== kind) {
+    // Puts areas into the rows of the items that are told of; places count from this step.
+    write(notes, first) {
+        const { rows } = this.recording;
+        for (let k = 0; k < notes.length; k++) {
+            while (this.row < rows.length && !rows.isPacket(this.row)) this.row++;
+            this.writeArea(this.row++, notes, k, first);
+        }
+    }
+
+    writeArea(row, notes, k, first) {
+        const { rows } = this.recording, kind = rows.kind[row] === KIND.JOINT ? KIND.LINE : rows.kind[row];
+        if (first + notes.place(k) !== rows.done[row] || notes.head(k) !== rows.head[row] || notes.kind(k) !== kind) {
             throw new Error(`row ${row}: the machine tells of another packet`);
         }
-        if (x1 === '-') rows.near[row] = NO_AREA;
-        else rows.setArea(row, Number(x1), Number(y1), Number(x2), Number(y2));
+        if (notes.hasArea(k)) rows.setArea(row, ...notes.corner(k, 0), ...notes.corner(k, 1));
+        else rows.near[row] = NO_AREA;
     }
 }

@@ -3,9 +3,6 @@
 
 export const STEP = { GP0: 0, GP1: 1, READ: 2, STAT: 3, SKIP: 4 };
 
-// The kinds of records, in the order of the steps' kinds, each with its count to come.
-const TAGS = [0x02000000, 0x03000000, 0x04000000, 0x05000000, 0x09000000];
-
 export const PIECE = 1 << 20;
 const MASK = PIECE - 1;
 const MOST = 1 << 28;
@@ -80,27 +77,6 @@ export class Track {
             if (this.event(middle) <= event) low = middle + 1; else high = middle;
         }
         return low;
-    }
-
-    // Steps as the records of a capture, and End.
-    records(from, to) {
-        const out = new Uint32Array(2 * (to - from) + 1);
-        let used = 0;
-        for (let at = from; at < to;) {
-            const run = this.run(at, to);
-            if (run.length > 0) {
-                out[used] = TAGS[STEP.GP0] | run.length;
-                out.set(run, used + 1);
-                used += run.length + 1;
-                at += run.length;
-                continue;
-            }
-            const kind = this.kind(at);
-            out[used++] = TAGS[kind] | 1;
-            if (kind === STEP.GP1) out[used++] = this.word(at);
-            at++;
-        }
-        return out.slice(0, used + 1);
     }
 
     // The words for GP0 from a step on, in a row, at most up to another and to the end of a piece; maybe none.

@@ -1,8 +1,9 @@
 -- What the calls of C show of a machine, in a room that the caller lends.
-use Rattle.std.specs.Prelude.{◌≡◌, ◌≤◌, ◌<◌, ◌&&◌, ℕ, Bool, true, false, List, Option, Some, None, Result, Ok}
-use Rattle.std.specs.Prelude.{Err, take, drop, length, nat_lt}
+use Rattle.std.specs.Prelude.{◌≡◌, ◌≤◌, ◌<◌, ◌*◌, ◌++◌, ◌∷◌, ◌&&◌, ℕ, zero, suc, Bool, true, false, List, [], Option}
+use Rattle.std.specs.Prelude.{Some, None, Result, Ok, Err, take, drop, length, nat_lt}
+use Rattle.gp1_status.specs.Registers.{Registers}
 use Rattle.gp1_status.specs.Shape.{shape_of}
-use Rattle.picture_out.specs.Picture.{picture}
+use Rattle.picture_out.specs.Picture.{display_of, picture, pixel_count, pixels_from}
 use Rattle.vram_store.specs.Vram.{at}
 use Rattle.event_play.specs.RigState.{RigState}
 use Rattle.psxgpu_c.specs.Codes.{code_for, code_of}
@@ -62,6 +63,23 @@ where_shown (Some shape) value = Some value
 -- the picture as PPM
 abbrev pub picture_due : RigState → Option (List ℕ)
 picture_due rig = where_shown (shape_of rig.gpu.parts.regs) (picture rig.gpu.parts.m rig.gpu.parts.regs)
+
+-- n times three bytes, red, green and blue, each with an alpha of 255 behind it
+abbrev pub with_alpha : (bytes : List ℕ) → (n : ℕ) → List ℕ
+with_alpha bytes zero = []
+with_alpha bytes (suc n) = with_alpha bytes n ++ (take 3 (drop (3 * n) bytes) ++ 255 ∷ [])
+
+-- the pixels that the picture has as PPM, each with an alpha
+abbrev pub rgba_by_shape : List ℕ → Registers → Option (ℕ × ℕ) → Option (List ℕ)
+rgba_by_shape m regs None = None
+rgba_by_shape m regs (Some shape) =
+    let shown = display_of regs shape in
+    let count = pixel_count shown in
+    Some (with_alpha (pixels_from m shown 0 count) count)
+
+-- the picture as RGBA
+abbrev pub rgba_due : RigState → Option (List ℕ)
+rgba_due rig = rgba_by_shape rig.gpu.parts.m rig.gpu.parts.regs (shape_of rig.gpu.parts.regs)
 
 -- its width and height were put where the caller wants them
 abbrev pub ShowsShape : Option (ℕ × ℕ) → (before now : ℕ × ℕ) → (code : ℕ) → Type 0

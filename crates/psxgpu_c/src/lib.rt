@@ -11,9 +11,13 @@ mod handle;
 mod looks;
 mod machine;
 mod memory;
+mod note;
+mod notes;
 mod parts;
+mod pictures;
 mod ports;
 mod refusal;
+mod rgba;
 mod run;
 mod slice_source;
 mod snapshots;
@@ -24,3 +28,4 @@ mod words;
 
 pub use ended::Ended;
 pub use handle::Psxgpu;
+pub use note::ItemNote;

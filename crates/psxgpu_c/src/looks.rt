@@ -2,15 +2,14 @@
 ghost use Rattle.std.specs.Prelude.{◌≡◌, ◌<◌, ◌^◌, IsTrue, Some};
 ghost use Rattle.gp1_status.specs.Words.{words_of};
 ghost use Rattle.picture_out.specs.Dump.{dump};
-ghost use Rattle.psxgpu_c.specs.Shown.{Answers, SeesCell, SeesShape, Tells, Views, has_cell, picture_due};
+ghost use Rattle.psxgpu_c.specs.Shown.{Answers, SeesCell, Tells, Views, has_cell};
 
 use crate::ended::code_for;
 use crate::front::{code_of, put_words, tell};
 use crate::handle::Psxgpu;
 use crate::refusal::Refusal;
-use crate::views::{cell_of, put_picture, put_vram};
+use crate::views::{cell_of, put_vram};
 use event_play::Rig;
-use picture_out::shape;
 use std::alloc::Global;
 
 /// Puts video memory in front of the caller's bytes: its cells row by row, each low byte first.
@@ -39,62 +38,6 @@ fn vram_of(alloc: Global, gpu: &mut Psxgpu, out: &mut [u8]) -> Result<usize, Ref
             answer
         }
         None => Err(Refusal::Closed),
-    }
-}
-
-/// Puts the shown picture in front of the caller's bytes, as PPM.
-#[unsafe(no_mangle)]
-pub extern "C" fn psxgpu_picture(
-    alloc: Global,
-    gpu: &mut Psxgpu,
-    out: &mut [u8],
-    written: &mut usize,
-) -> u32
-    ensures bytes { Tells (Views gpu.old.held.value picture_due out.old out.new) result written.new }
-    ensures same { gpu.new.held.value ≡ gpu.old.held.value }
-{
-    tell(picture_of(alloc, gpu, out), written)
-}
-
-fn picture_of(alloc: Global, gpu: &mut Psxgpu, out: &mut [u8]) -> Result<usize, Refusal>
-    ensures bytes { Views gpu.old.held.value picture_due out.old out.new result }
-    ensures same { gpu.new.held.value ≡ gpu.old.held.value }
-{
-    match gpu.take(alloc) {
-        Some(rig) => {
-            let answer = put_picture(alloc, &rig, out);
-            gpu.put(rig);
-            answer
-        }
-        None => Err(Refusal::Closed),
-    }
-}
-
-/// Tells the width and height of the shown picture.
-#[unsafe(no_mangle)]
-pub extern "C" fn psxgpu_shape(
-    alloc: Global,
-    gpu: &mut Psxgpu,
-    width: &mut u16,
-    height: &mut u16,
-) -> u32
-    ensures shape { SeesShape gpu.old.held.value (width.old, height.old) (width.new, height.new) result }
-    ensures same { gpu.new.held.value ≡ gpu.old.held.value }
-{
-    match gpu.take(alloc) {
-        Some(rig) => {
-            let found = shape(rig.gpu().regs());
-            gpu.put(rig);
-            match found {
-                Some((w, h)) => {
-                    *width = w;
-                    *height = h;
-                    0
-                }
-                None => code_for(Refusal::NoPicture),
-            }
-        }
-        None => code_for(Refusal::Closed),
     }
 }
 

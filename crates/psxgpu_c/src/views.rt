@@ -1,6 +1,8 @@
 // What is seen of a rig: video memory and the shown picture, as bytes.
-ghost use Rattle.std.specs.Prelude.{◌≡◌, ◌<◌, ◌≤◌, Some};
+ghost use Rattle.std.specs.Prelude.{◌≡◌, ◌<◌, ◌≤◌, ◌^◌, IfOk, IsSome, Some};
+ghost use Rattle.gp1_status.specs.Shape.{shape_of};
 ghost use Rattle.picture_out.specs.Dump.{dump};
+ghost use Rattle.picture_out.specs.Picture.{picture};
 ghost use Rattle.vram_store.specs.Vram.{at};
 ghost use Rattle.psxgpu_c.specs.Shown.{PutsDue, picture_due};
 
@@ -9,6 +11,7 @@ use crate::refusal::Refusal;
 use dev_io::MemSink;
 use event_play::Rig;
 use picture_out::{shape, write_ppm, write_vram};
+use px_num::OutOfMemory;
 use std::alloc::Global;
 use std::marker::Brand;
 use std::sync::ledger::{Blank, Ledger};
@@ -50,31 +53,47 @@ fn put_dump<L: Ledger>(
 pub(crate) fn put_picture(alloc: Global, rig: &Rig, out: &mut [u8]) -> Result<usize, Refusal>
     ensures { PutsDue (picture_due rig.now) out.old out.new result }
 {
-    put_ppm::<Brand>(alloc, rig, out, Blank::new(1))
+    let Some((width, lines)) = shape(rig.gpu().regs()) else {
+        return Err(Refusal::NoPicture);
+    };
+    match picture_in_memory(alloc, rig, width as usize * lines as usize) {
+        Ok(sink) => put_front(out, sink.bytes()),
+        Err(_) => Err(Refusal::NoMemory),
+    }
 }
 
-fn put_ppm<L: Ledger>(
+/// The shown picture, of so many pixels, as PPM in memory of its own.
+pub(crate) fn picture_in_memory(
     alloc: Global,
     rig: &Rig,
-    out: &mut [u8],
+    count: usize,
+) -> Result<MemSink, OutOfMemory>
+    requires shown { IsSome (shape_of rig.now.gpu.parts.regs) }
+    requires few { count < 2 ^ 32 }
+    ensures { IfOk result (λ sink. sink.held ≡ picture rig.now.gpu.parts.m rig.now.gpu.parts.regs) }
+{
+    write_picture::<Brand>(alloc, rig, count, Blank::new(1))
+}
+
+fn write_picture<L: Ledger>(
+    alloc: Global,
+    rig: &Rig,
+    count: usize,
     blank: Blank,
-) -> Result<usize, Refusal>
+) -> Result<MemSink, OutOfMemory>
     requires name { blank.name ≡ L.name }
     requires parts { blank.parts ≡ L.parts }
     requires some { 0 < blank.parts }
-    ensures { PutsDue (picture_due rig.now) out.old out.new result }
+    requires shown { IsSome (shape_of rig.now.gpu.parts.regs) }
+    requires few { count < 2 ^ 32 }
+    ensures { IfOk result (λ sink. sink.held ≡ picture rig.now.gpu.parts.m rig.now.gpu.parts.regs) }
 {
     let mut steps = Steps::<L>::new(blank);
     let gpu = rig.gpu();
-    let Some((width, lines)) = shape(gpu.regs()) else {
-        return Err(Refusal::NoPicture);
-    };
-    let Ok(mut sink) = MemSink::new(alloc, 3 * width as usize * lines as usize + MOST_HEAD) else {
-        return Err(Refusal::NoMemory);
-    };
+    let mut sink = MemSink::new(alloc, 3 * count + MOST_HEAD)?;
     match write_ppm(gpu.vram(), gpu.regs(), &mut sink, &mut steps) {
-        Ok(()) => put_front(out, sink.bytes()),
-        Err(_) => Err(Refusal::NoMemory),
+        Ok(()) => Ok(sink),
+        Err(_) => Err(OutOfMemory),
     }
 }
 

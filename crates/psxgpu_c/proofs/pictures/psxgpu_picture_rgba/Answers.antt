@@ -1,9 +1,9 @@
-use Rattle.psxgpu_c.proofs.looks.psxgpu_picture.Goals as goal
+use Rattle.psxgpu_c.proofs.pictures.psxgpu_picture_rgba.Goals as goal
 
 pub returns-clause-bytes : goal.returns-clause-bytes
 returns-clause-bytes c = record {
-  answer = c.picture_of.result;
-  holds = c.picture_of.ensures.bytes;
+  answer = c.rgba_of.result;
+  holds = c.rgba_of.ensures.bytes;
   is_code = c.tell.ensures.code;
   is_written = c.tell.ensures.count;
 }

@@ -1,0 +1,71 @@
+-- What is told of the items that words of GP0 complete, in a room that the caller lends.
+use Rattle.std.specs.Prelude.{◌≡◌, ◌<◌, ◌==◌, ℕ, zero, suc, pos, List, [], ◌∷◌, ◌++◌, Option, Some, None, Result, Ok}
+use Rattle.std.specs.Prelude.{Err, if◌then◌else◌, length, take, slice_index}
+use Rattle.event_play.specs.PlayedWords.{after_words}
+use Rattle.event_play.specs.Replay.{Tale, from_state, next_number}
+use Rattle.event_play.specs.RigState.{RigState, Stands, StandsFor}
+use Rattle.event_play.specs.Step.{Machine}
+use Rattle.gp0_packets.specs.declared.note.Note.{Note}
+use Rattle.gpu_core.specs.Machine.{gp0_note}
+use Rattle.px_num.specs.declared.shape.Box2.{Box2}
+use Rattle.psxgpu_c.specs.Shown.{StandsInFront}
+use Rattle.psxgpu_c.specs.declared.note.ItemNote.{ItemNote}
+use Rattle.psxgpu_c.specs.declared.refusal.Refusal.{Refusal}
+use Rattle.psxgpu_c.specs.declared.refusal.Refusal.TheVariants as refusal
+
+-- an item with this area, if it has one; else the area's numbers are 0
+abbrev pub with_area : ItemNote → Option Box2 → ItemNote
+with_area item None = item
+with_area item (Some area) = record item { has_area = 1; x1 = area.x1; y1 = area.y1; x2 = area.x2; y2 = area.y2 }
+
+-- what is told of an item that the word at this place completed
+abbrev pub item_note : (word : ℕ) → Note → ItemNote
+item_note word note = with_area (record {
+  event = note.event;
+  word = word;
+  head = note.head;
+  class = note.class;
+  has_area = 0;
+  x1 = pos 0;
+  y1 = pos 0;
+  x2 = pos 0;
+  y2 = pos 0;
+}) note.area
+
+-- nothing is told where no item is completed, and nothing of two pixels of a load
+abbrev pub noted_at : (word : ℕ) → Option Note → List ItemNote
+noted_at word None = []
+noted_at word (Some note) = if note.class == 9 then [] else item_note word note ∷ []
+
+-- what is told of the first n of these words, which come behind a tale
+abbrev pub first_notes : Tale → (words : List ℕ) → (n : ℕ) → List ItemNote
+first_notes t words zero = []
+first_notes t words (suc n) =
+    let before = after_words t (take n words) in
+    first_notes t words n
+    ++ noted_at n (gp0_note before.state.gpu (next_number before.played) (slice_index words n))
+
+-- these words were taken behind a tale, and what is told of them, so many items, stands in front
+pub record HasNoted (t : Tale) (words : List ℕ) (rig : RigState) (before now : List ItemNote) (count : ℕ)
+    : Type 0 where
+  pub stands : StandsFor rig (after_words t words)
+  pub front : StandsInFront (first_notes t words (length words)) before now
+  pub is_count : count ≡ length (first_notes t words (length words))
+
+-- The same behind each machine for which the rig stood; or there is too little room, less than a note for each word, and
+-- nothing changed.
+abbrev pub TakesNoted : (words : List ℕ) → (was rig : RigState) → (before now : List ItemNote) → Result ℕ Refusal
+    → Type 0
+TakesNoted words was rig before now (Ok count) =
+    (s : Machine) → Stands was s → HasNoted (from_state s was.played) words rig before now count
+TakesNoted words was rig before now (Err refusal.NoRoom) =
+    (length before < length words) × (rig ≡ was) × (now ≡ before)
+TakesNoted words was rig before now (Err other) = ⊥
+
+-- the same of a handle
+abbrev pub TakesHeld : (words : List ℕ) → (was held : Option RigState) → (before now : List ItemNote)
+    → Result ℕ Refusal → Type 0
+TakesHeld words (Some was) (Some rig) before now answer = TakesNoted words was rig before now answer
+TakesHeld words (Some was) None before now answer = ⊥
+TakesHeld words None held before now answer =
+    (held ≡ None) × (answer ≡ Err refusal.Closed) × (now ≡ before)
