@@ -46,7 +46,7 @@ noted_more t words n rig next before mid now count more note lt h goes tells is_
     let told : gp0_note u.state.gpu (next_number u.played) w ≡ note = rw h.stands.played (tells u.state h.stands.state) in
     let go = goes u.state h.stands.state in
     let after : StandsFor next (after_word u w) =
-        record { state = go.state; played = ap next_number h.stands.played ∙ go.played } in
+    record { state = go.state; played = ap next_number h.stands.played ∙ go.played } in
     let notes : first_notes t words (n + 1) ≡ first_notes t words n ++ noted_at n note = rw add-one (ap (λ o. first_notes t words n ++ noted_at n o) told) in
     record {
       stands = rw step after;
