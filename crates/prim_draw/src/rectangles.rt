@@ -2,7 +2,7 @@
 ghost use Rattle.std.specs.Prelude.{◌≡◌, ◌≤◌, ◌<◌, ◌+◌, ◌*◌, IfSome, length, pos, ◌-ℤ◌, unsigned_abs};
 ghost use Rattle.gp0_packets.specs.Ranges.{IsPlace};
 ghost use Rattle.vram_store.specs.Vram.{height_of};
-ghost use Rattle.span_lanes.specs.Shade.{texture_of, row_u, IsTexture};
+ghost use Rattle.span_lanes.specs.Shade.{texture_of, IsTexture};
 ghost use Rattle.span_lanes.specs.Frame.{IsBlock};
 ghost use Rattle.prim_draw.specs.Boxes.{IsOnScreen, block_of, cells_of};
 ghost use Rattle.prim_draw.specs.Costs.{rectangle_cost, tile_rows_cost};
@@ -14,7 +14,7 @@ use crate::settings::{brush_in, texture_in};
 use crate::style::Style;
 use gp1_status::Regs;
 use px_num::{Box2, sign11};
-use span_lanes::{Block, Brush, Paint, Span, Spans, Texture, draw_spans};
+use span_lanes::{Block, Brush, Paint, Span, Spans, Texture, draw_spans, row_u};
 use std::sync::ledger::Ledger;
 use vram_store::{Steps, Vram};
 
@@ -134,20 +134,6 @@ pub(crate) fn tile_in(regs: &Regs, style: &Style, u: u8, v: u8) -> Tile
     }
 }
 
-// The column or row of a texel, so many cells from the first one, up or down.
-#[tactic(auto, unfolding(span_lanes::specs::Shade::row_u))]
-fn texel_at(first: u8, falls: bool, cells: u16) -> u8
-    requires { cells ≤ 1023 }
-    ensures { result ≡ row_u first falls cells }
-{
-    let first = first as u16;
-    if falls {
-        ((first + 1024 - cells) & 0xff) as u8
-    } else {
-        ((first + cells) & 0xff) as u8
-    }
-}
-
 // How much of a rectangle lies before the first cell of a block of it.
 fn cells_before(extent: &Extent, block: &Block) -> Skipped
     requires part { IsPartOf extent.now block.now }
@@ -179,8 +165,8 @@ impl Tile {
             Some(texture) => Paint::TexturedRow {
                 color: self.color,
                 texture,
-                u: texel_at(self.u, self.flip_x, column),
-                v: texel_at(self.v, self.flip_y, row),
+                u: row_u(self.u, self.flip_x, column),
+                v: row_u(self.v, self.flip_y, row),
                 flip: self.flip_x,
             },
         }

@@ -35,7 +35,7 @@ coordinates_here paint x y n first k track us vs is within few across down u v =
 pub texels_here : (span : Span) (t : Texture) (first k : ℕ) (us vs m lanes : List ℕ)
     → HasCoordinates span.paint (span.x + first) span.y first k us vs → length lanes ≡ 16
     → ((j : ℕ) → j < k → get_or lanes j 0 ≡ texel t (get_or us j 0) (get_or vs j 0) m)
-    → HasTexels span t first k m lanes
+    → HasTexels span t (record { first = first; k = k }) m lanes
 texels_here span t first k us vs m lanes at long read = record {
   long = long;
   value = λ j lt. rw (at.u j lt, at.v j lt) at (read j lt);

@@ -1,7 +1,7 @@
 -- A palette that is drawn by its entries.
 use Rattle.std.proofs.Common.{◌≡◌, ◌≢◌, ◌≤◌, ◌<◌, ℕ, List, ◌+◌, ◌*◌, ◌/◌, ◌%◌, sym, ◌∙◌, arith, Option, None, Some}
 use Rattle.std.proofs.lemmas.List.FromFn.{get_or-map-range_with_len}
-use Rattle.std.specs.Prelude.{IfSome, MatchOption, slice_index}
+use Rattle.std.specs.Prelude.{IfSome, slice_index}
 use Rattle.texture_page.specs.Page.{clut_place}
 use Rattle.vram_store.specs.Chunk.{AgreesApart}
 use Rattle.span_lanes.specs.declared.span.Texture.{Texture}
@@ -43,13 +43,6 @@ palette_is t m color s colored entries raw color_is = record {
   raw = raw;
   color = color_is;
 }
-
--- a palette that is kept under a colour
-pub kept_palette : (t : Texture) (m : List ℕ) (color : ℕ) (last : Option Swatches)
-    → MatchOption last ⊥ (λ s. (s.raw ≡ t.raw) × (s.color ≡ color)) → IfSome last AreColored
-    → IfSome last (λ s. AreEntries t m s.entries) → MatchOption last ⊥ (IsPalette t m color)
-kept_palette t m color None under colored fresh = under
-kept_palette t m color (Some s) under colored fresh = palette_is t m color s colored fresh under.0 under.1
 
 -- ---- a palette that a pen shows, and keeps as a table
 

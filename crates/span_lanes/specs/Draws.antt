@@ -32,7 +32,7 @@ pub record IsPart (s : Span) (p : Part) : Type 0 where
 
 -- the cells of a part were drawn, one after another; so many steps are spared
 pub record DrawsPart (s : Span) (p : Part) (spared : ℕ) (before after : Stage) : Type 0 where
-  pub cells : after.m ≡ drawn_chunk s p.first p.k before.m
+  pub cells : after.m ≡ drawn_chunk s p before.m
   pub long : length after.m ≡ length before.m
   pub cost : after.steps + spared ≤ before.steps + chunk_cost s p.first p.k
 

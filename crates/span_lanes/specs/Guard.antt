@@ -1,5 +1,5 @@
 -- When a chunk of a span reads what it writes itself (our own rule: every pixel reads video memory as it is then).
-use Rattle.std.specs.Prelude.{ℕ, ◌<◌, ◌≤◌, ◌⊎◌, ◌+◌, ◌*◌, ◌/◌, ◌%◌, ◌==◌, Bool, false, List, Option, None, Some}
+use Rattle.std.specs.Prelude.{ℕ, ◌≡◌, ◌≢◌, ◌<◌, ◌≤◌, ◌⊎◌, ◌+◌, ◌*◌, ◌/◌, ◌%◌, ◌==◌, Bool, false, List, Option, None, Some}
 use Rattle.std.specs.Prelude.{if◌then◌else◌, map, slice_index}
 use Rattle.std.specs.Option.{MatchOption}
 use Rattle.std.specs.List.{range_with_len}
@@ -21,8 +21,16 @@ paint_texel paint t x y i = texel_place t.page t.window (paint_u paint (x + i) y
 unfoldable pub paint_texels : Paint → Texture → ℕ → ℕ → ℕ → ℕ → List Cell
 paint_texels paint t x y first n = map (paint_texel paint t x y) (range_with_len first n)
 
+-- the row of a palette
+abbrev pub clut_row : ℕ → ℕ
+clut_row clut = clut / 64 % 512
+
 abbrev pub clut_strip : ℕ → ℕ → Strip
-clut_strip clut n = record { x = clut % 64 * 16; y = clut / 64 % 512; n = n }
+clut_strip clut n = record { x = clut % 64 * 16; y = clut_row clut; n = n }
+
+-- a palette of sixteen entries, if a texture has one, is in another row
+abbrev pub IsInOtherRow : Texture → ℕ → Type 0
+IsInOtherRow t y = t.page.depth ≡ 0 → clut_row t.clut ≢ y
 
 -- the palette that a texture reads: sixteen entries at depth 0, 256 at depth 1
 abbrev pub palette_of : Texture → Option Strip

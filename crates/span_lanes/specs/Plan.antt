@@ -1,5 +1,6 @@
 -- What is one for all chunks of a textured span.
 use Rattle.std.specs.Prelude.{ℕ, ◌≡◌, ◌+◌, ◌<◌, ◌&&◌, not, IsTrue, List, length, slice_index}
+use Rattle.span_lanes.specs.declared.part.Part.{Part}
 use Rattle.span_lanes.specs.declared.plan.Plan.{Plan}
 use Rattle.span_lanes.specs.declared.shading.Shading.{Shading}
 use Rattle.span_lanes.specs.declared.span.Texture.{Texture}
@@ -22,16 +23,16 @@ pub record IsPlan (span : Span) (t : Texture) (plan : Plan) : Type 0 where
   pub track : IsTrack span.paint span.x span.y span.n plan.track
   pub apart : IsTrue plan.apart → IsApart span
 
--- sixteen lanes: the texels of n cells of a span from a first one on, and then others
-pub record HasTexels (span : Span) (t : Texture) (first n : ℕ) (m lanes : List ℕ) : Type 0 where
+-- sixteen lanes: the texels of a part of a span, and then others
+pub record HasTexels (s : Span) (t : Texture) (p : Part) (m lanes : List ℕ) : Type 0 where
   pub long : length lanes ≡ 16
-  pub value : (j : ℕ) → j < n → slice_index lanes j
-      ≡ texel t (paint_u span.paint (span.x + first + j) span.y (first + j))
-      (paint_v span.paint (span.x + first + j) span.y (first + j)) m
+  pub value : (j : ℕ) → j < p.k → slice_index lanes j
+      ≡ texel t (paint_u s.paint (s.x + p.first + j) s.y (p.first + j))
+      (paint_v s.paint (s.x + p.first + j) s.y (p.first + j)) m
 
--- the first n lanes are what colours make of the texels of n cells of a span from a first one on
-abbrev pub HasFronts : (span : Span) (t : Texture) (first n : ℕ) (texels fronts : List ℕ) → Type 0
-HasFronts span t first n texels fronts =
-    (j : ℕ) → j < n → slice_index fronts j
-    ≡ front_of t.raw (paint_color span.paint (span.x + first + j) span.y)
-    (shift_of (span.brush.dither && not t.raw) (span.x + first + j) span.y) (slice_index texels j)
+-- the first lanes are what colours make of the texels of a part of a span
+abbrev pub HasFronts : (s : Span) (t : Texture) (p : Part) (texels fronts : List ℕ) → Type 0
+HasFronts s t p texels fronts =
+    (j : ℕ) → j < p.k → slice_index fronts j
+    ≡ front_of t.raw (paint_color s.paint (s.x + p.first + j) s.y)
+    (shift_of (s.brush.dither && not t.raw) (s.x + p.first + j) s.y) (slice_index texels j)

@@ -1,5 +1,5 @@
 -- Pens for triangles whose texels stand side by side.
-use Rattle.std.specs.Prelude.{ℕ, ◌≡◌, ◌≢◌, ◌≤◌, ◌+◌, ◌/◌, ◌%◌, ◌&&◌, not, false, Some, IfSome, Option}
+use Rattle.std.specs.Prelude.{ℕ, ◌≡◌, ◌≤◌, ◌+◌, ◌/◌, ◌&&◌, not, false, Some, IfSome, Option}
 use Rattle.edge_walk.specs.Attribute.{IsUnscaled}
 use Rattle.edge_walk.specs.Plane.{IsPlane}
 use Rattle.edge_walk.specs.Triangle.{Corners}
@@ -13,7 +13,7 @@ use Rattle.span_lanes.specs.declared.swatches.Swatches.{Swatches}
 use Rattle.span_lanes.specs.declared.tint.Tint.{Tint}
 use Rattle.span_lanes.specs.declared.tint.Tint.TheVariants.{Plain}
 use Rattle.span_lanes.specs.Frame.{Framed, IsInBlock}
-use Rattle.span_lanes.specs.Guard.{IsApart}
+use Rattle.span_lanes.specs.Guard.{IsApart, IsInOtherRow}
 use Rattle.span_lanes.specs.Pen.{IsTintOf}
 use Rattle.span_lanes.specs.Shade.{IsSpan, IsTexture, texture_of}
 use Rattle.span_lanes.specs.Swatches.{AreColored, entries_of}
@@ -22,7 +22,7 @@ use Rattle.span_lanes.specs.Swatches.{AreColored, entries_of}
 -- entries
 pub record IsBlockApart (b : Block) (t : Texture) : Type 0 where
   pub apart : (s : Span) → texture_of s.paint ≡ Some t → IsSpan s → IsInBlock b s.x s.y s.n → IsApart s
-  pub palette : (s : Span) → t.page.depth ≡ 0 → IsInBlock b s.x s.y s.n → t.clut / 64 % 512 ≢ s.y
+  pub palette : (s : Span) → IsInBlock b s.x s.y s.n → IsInOtherRow t s.y
 
 -- a page whose texels of any column, and those that are read with them, stand in cells that do not wrap
 pub record HasRoom (t : Texture) : Type 0 where

@@ -1,5 +1,5 @@
 -- A palette of sixteen entries as it is drawn.
-use Rattle.std.specs.Prelude.{ℕ, ◌≡◌, ◌≢◌, ◌/◌, ◌%◌, ◌&&◌, not, false, pos, List, slice_index}
+use Rattle.std.specs.Prelude.{ℕ, ◌≡◌, ◌≢◌, ◌&&◌, not, false, pos, List, slice_index}
 use Rattle.std.specs.Prelude.{Option, None, Some, IfSome}
 use Rattle.px_num.specs.Lanes.{EachLane}
 use Rattle.texture_page.specs.Page.{clut_place}
@@ -8,7 +8,7 @@ use Rattle.span_lanes.specs.declared.span.Paint.{Paint}
 use Rattle.span_lanes.specs.declared.span.Span.{Span}
 use Rattle.span_lanes.specs.declared.swatches.Swatches.{Swatches}
 use Rattle.span_lanes.specs.declared.table.Table.{Table}
-use Rattle.span_lanes.specs.Guard.{IsApart}
+use Rattle.span_lanes.specs.Guard.{IsApart, clut_row}
 use Rattle.span_lanes.specs.Shade.{at_cell, front_of, texture_of}
 use Rattle.span_lanes.specs.Table.{IsTable, entries_in, entry_at}
 
@@ -59,5 +59,5 @@ pub record IsPalette (t : Texture) (m : List ℕ) (tint : ℕ) (s : Swatches) : 
 pub record SuitsPalette (span : Span) (t : Texture) : Type 0 where
   pub apart : IsApart span
   pub depth : t.page.depth ≡ 0
-  pub row : t.clut / 64 % 512 ≢ span.y
+  pub row : clut_row t.clut ≢ span.y
   pub even : (span.brush.dither && not t.raw) ≡ false

@@ -1,11 +1,12 @@
 // Spans that lie apart from their texels and from their palette.
-ghost use Rattle.std.specs.Prelude.{ℕ, ◌≡◌, ◌≢◌, ◌≤◌, ◌<◌, ◌+◌, ◌/◌, ◌%◌, ◌⊎◌, ◌↔◌, Some, IsTrue};
+ghost use Rattle.std.specs.Prelude.{ℕ, ◌≡◌, ◌≢◌, ◌≤◌, ◌<◌, ◌+◌, ◌⊎◌, ◌↔◌, Some, IsTrue};
 ghost use Rattle.span_lanes.specs.Shade.{IsSpan, IsTexture, texture_of};
-ghost use Rattle.span_lanes.specs.Guard.{IsApart, LiesBeside, page_width};
+ghost use Rattle.span_lanes.specs.Guard.{IsApart, IsInOtherRow, LiesBeside, clut_row, page_width};
 ghost use Rattle.span_lanes.specs.Frame.{IsBlock, IsInBlock};
 ghost use Rattle.span_lanes.specs.Spans.{nth_span, AreBelow};
 ghost use Rattle.span_lanes.specs.StretchPen.{IsBlockApart};
 
+use crate::clut::clut_row;
 use crate::spans::Spans;
 use crate::{Block, Span, Texture};
 
@@ -48,9 +49,9 @@ fn is_beside_page(span: &Span, texture: &Texture) -> bool
 
 // Whether the palette, if there is one, has another row.
 fn is_off_palette(span: &Span, texture: &Texture) -> bool
-    ensures { IsTrue result ↔ ((2 ≤ texture.now.page.depth) ⊎ (texture.now.clut / 64 % 512 ≢ span.now.y)) }
+    ensures { IsTrue result ↔ ((2 ≤ texture.now.page.depth) ⊎ (clut_row texture.now.clut ≢ span.now.y)) }
 {
-    texture.page.depth >= 2 || texture.clut / 64 % 512 != span.y
+    texture.page.depth >= 2 || clut_row(texture.clut) != span.y
 }
 
 // Whether a span is known to read nothing that it writes.
@@ -58,7 +59,7 @@ pub(crate) fn is_apart(span: &Span, texture: &Texture) -> bool
     requires span { IsSpan span.now }
     requires texture { texture_of span.now.paint ≡ Some texture.now }
     ensures apart { IsTrue result → IsApart span.now }
-    ensures palette { IsTrue result → texture.now.page.depth ≡ 0 → texture.now.clut / 64 % 512 ≢ span.now.y }
+    ensures palette { IsTrue result → IsInOtherRow texture.now span.now.y }
 {
     is_beside_page(span, texture) && is_off_palette(span, texture)
 }
@@ -78,9 +79,9 @@ fn is_block_beside(block: &Block, texture: &Texture) -> bool
 fn is_block_off_palette(block: &Block, texture: &Texture) -> bool
     requires block { IsBlock 1024 block.now }
     ensures { IsTrue result → (x y n : ℕ) → IsInBlock block.now x y n
-        → (2 ≤ texture.now.page.depth) ⊎ (texture.now.clut / 64 % 512 ≢ y) }
+        → (2 ≤ texture.now.page.depth) ⊎ (clut_row texture.now.clut ≢ y) }
 {
-    let palette = texture.clut / 64 % 512;
+    let palette = clut_row(texture.clut);
     texture.page.depth >= 2 || palette < block.y || block.y + block.h <= palette
 }
 
@@ -98,8 +99,8 @@ pub(crate) fn are_apart(spans: &Spans, texture: &Texture) -> bool
     requires spans { AreBelow spans.now }
     requires texture { (j : ℕ) → texture_of (nth_span spans.now j).paint ≡ Some texture.now }
     ensures apart { IsTrue result → (j : ℕ) → j < spans.now.rows → IsApart (nth_span spans.now j) }
-    ensures palette { IsTrue result → texture.now.page.depth ≡ 0
-        → (j : ℕ) → j < spans.now.rows → texture.now.clut / 64 % 512 ≢ spans.now.first.y + j }
+    ensures palette { IsTrue result
+        → (j : ℕ) → j < spans.now.rows → IsInOtherRow texture.now (spans.now.first.y + j) }
 {
     let Span { x, y, n, .. } = spans.first;
     let block = Block {

@@ -1,10 +1,12 @@
 // What the cells of a chunk hold, where that is looked at.
-ghost use Rattle.std.specs.Prelude.{◌≡◌, ◌≤◌, ◌<◌, ◌+◌, ◌*◌, ◌||◌, ℕ, length, slice_index};
-ghost use Rattle.vram_store.specs.Vram.{height_of};
+ghost use Rattle.std.specs.Prelude.{◌≡◌, ◌≤◌, ◌<◌, ◌+◌, ◌||◌, ℕ, length, slice_index};
 ghost use Rattle.vram_store.specs.Plot.{is_testing};
+ghost use Rattle.span_lanes.specs.Chunk.{chunk_place};
+ghost use Rattle.span_lanes.specs.Draws.{CanDraw, IsPart};
 ghost use Rattle.span_lanes.specs.Lanes.{DoesFor};
 
-use crate::Brush;
+use crate::part::Part;
+use crate::{Brush, Span};
 use px_num::lanes::splat;
 use std::simd::prelude::*;
 use std::sync::ledger::Ledger;
@@ -19,27 +21,23 @@ pub(crate) fn looks(brush: &Brush) -> bool
     brush.semi || tests(brush.mask)
 }
 
-// k cells of row y from column x on; zeros where it does not matter what they hold.
+// The cells of a part of a span; zeros where it does not matter what they hold.
 #[inline(always)]
 pub(crate) fn back_of<L: Ledger>(
     vram: &Vram,
-    brush: &Brush,
-    x: u16,
-    y: u16,
-    k: u8,
+    span: &Span,
+    part: Part,
     steps: &mut Steps<L>,
 ) -> u16x16
-    requires some { 1 ≤ k }
-    requires few { k ≤ 16 }
-    requires in_row { x + k ≤ 1024 }
-    requires in_height { y < height_of vram.now }
+    requires can { CanDraw span.now vram.now }
+    requires part { IsPart span.now part }
     ensures long { length result ≡ 16 }
-    ensures value { (j : ℕ) → j < k
-        → DoesFor brush.now (slice_index vram.now (1024 * y + x + j)) (slice_index result j) }
+    ensures value { (j : ℕ) → j < part.k
+        → DoesFor span.now.brush (slice_index vram.now (chunk_place span.now part.first + j)) (slice_index result j) }
     ensures cost { steps.new ≤ steps.old + 1 }
 {
-    if looks(brush) {
-        vram.load16(x, y, k, steps)
+    if looks(&span.brush) {
+        vram.load16(span.x + part.first, span.y, part.k, steps)
     } else {
         splat(0)
     }

@@ -1,6 +1,27 @@
-// Spans, each by what suits it.
-ghost use Rattle.std.specs.Prelude.{◌≡◌, ◌≢◌, ◌/◌, ◌%◌};
+// Which loop draws a span: the one place where that is chosen.
+//
+// A loop over parts is compiled by itself (`draw_parts` over one kind of `Chunks`) where what is known of a span spares
+// work in each part. These there are; "as it is" means neither blended, tested nor marked, and a workload of the
+// benchmark that runs the loop stands in brackets.
+//
+// - `Solid`, in `draw_ready` and `draw_solid`: all cells become one halfword, and nothing is read. [triangle flat]
+// - `Toned`, in `draw_one`: one colour that is blended, tested or dithered; its channels are known. [rectangle B+F]
+// - `Toned`, in `draw_lines`: colours along the row, three lines a part. [triangle gouraud]
+// - `Kept<Stretch>`, in `StretchPen::draw`: a palette coloured once, as it is; it stands in the loop over the rows.
+//   [triangle 4-bit modulated]
+// - `Kept<Stretch>`, four in `draw_strip`: the same of other spans, raw or not, as it is or not: two look-ups or four.
+// - `Raw<Fours>`, `Raw<Eights>`, `Raw<Wholes>`, each as it is or not, in `draw_raw`: texels side by side without a
+//   colour. [triangle 15-bit raw]
+// - `Shaded` of the same three, each as it is or not, in `draw_shaded`: under colours. [rectangle 8-bit modulated]
+// - `Kept<&Track>` and `Plan`, by the coordinates of each texel, in `draw_plain_sheet` under one colour and in
+//   `draw_mixed_sheet` under several [triangle 4-bit gouraud, of other than whole steps], and in `draw_planned_row`, to
+//   which no line belongs. [rectangle that is flipped]
+//
+// Rectangles whose palette is coloured once for all rows have four more of `Kept<Stretch>`, in `draw_strips`.
+// [rectangle, sprite 4-bit]
+ghost use Rattle.std.specs.Prelude.{◌≡◌};
 ghost use Rattle.span_lanes.specs.Draws.{CanDraw, DrawsSpan, at_stage};
+ghost use Rattle.span_lanes.specs.Guard.{IsInOtherRow};
 ghost use Rattle.span_lanes.specs.Kept.{CanTake};
 ghost use Rattle.span_lanes.specs.declared.hues.Hues.TheVariants.{One};
 ghost use Rattle.span_lanes.specs.declared.span.Paint.TheVariants.{TexturedTri, TexturedRow};
@@ -41,7 +62,7 @@ fn draw_beside<L: Ledger>(
 )
     requires take { CanTake span.now texture.now (IsStretch span.now texture.now stretch.now) vram.old }
     requires tint { IsTint span.now.paint tint.now }
-    requires palette { texture.now.page.depth ≡ 0 → texture.now.clut / 64 % 512 ≢ span.now.y }
+    requires palette { IsInOtherRow texture.now span.now.y }
     requires last { IsKept span.now.paint vram.old last.old }
     ensures drawn { DrawsSpan span.now 0 (at_stage vram.old steps.old) (at_stage vram.new steps.new) }
     ensures last { IsKept span.now.paint vram.new last.new }
@@ -70,7 +91,7 @@ pub(crate) fn draw_beside_row<L: Ledger>(
 )
     requires take { CanTake span.now texture.now (IsStretch span.now texture.now stretch.now) vram.old }
     requires tint { IsTint span.now.paint tint.now }
-    requires palette { texture.now.page.depth ≡ 0 → texture.now.clut / 64 % 512 ≢ span.now.y }
+    requires palette { IsInOtherRow texture.now span.now.y }
     requires last { IsKept span.now.paint vram.old last.old }
     ensures drawn { DrawsSpan span.now 0 (at_stage vram.old steps.old) (at_stage vram.new steps.new) }
     ensures last { IsKept span.now.paint vram.new last.new }

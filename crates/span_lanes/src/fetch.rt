@@ -10,6 +10,7 @@ ghost use Rattle.span_lanes.specs.Texels.{AreTexels, StandInRow, StandNear};
 
 use crate::Texture;
 use crate::beside::{are_beside, indexes_of, read_beside};
+use crate::clut::clut_row;
 use crate::coordinates::Coordinates;
 use crate::octets::{entry_columns, octets};
 use crate::places::places_of;
@@ -166,7 +167,7 @@ pub(crate) fn sixteen_entries<L: Ledger>(vram: &Vram, clut: u16, steps: &mut Ste
     ensures cost { steps.new ≤ steps.old + 1 }
 {
     let _height = vram.height();
-    vram.load16(clut % 64 * 16, clut / 64 % 512, 16, steps)
+    vram.load16(clut % 64 * 16, clut_row(clut), 16, steps)
 }
 
 // The entries of a palette by their indexes, one by one.
@@ -188,7 +189,7 @@ pub(crate) fn gather_entries<L: Ledger>(
 {
     let _height = vram.height();
     let columns = entry_columns(clut, indexes);
-    gather(vram, columns, splat(clut / 64 % 512), k, steps)
+    gather(vram, columns, splat(clut_row(clut)), k, steps)
 }
 
 // k texels of four bits.

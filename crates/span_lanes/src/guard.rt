@@ -7,6 +7,7 @@ ghost use Rattle.span_lanes.specs.Shade.{IsTexture, texture_of};
 ghost use Rattle.span_lanes.specs.Lanes.{AreCoordinates};
 ghost use Rattle.span_lanes.specs.Guard.{texel_cells, palette_of, clut_strip};
 
+use crate::clut::clut_row;
 use crate::coordinates::Coordinates;
 use crate::fetch::ramp;
 use crate::places::{Places, places_of};
@@ -42,7 +43,7 @@ fn strip_of(clut: u16, n: u16) -> Strip
 {
     Strip {
         x: clut % 64 * 16,
-        y: clut / 64 % 512,
+        y: clut_row(clut),
         n,
     }
 }

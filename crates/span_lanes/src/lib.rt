@@ -15,6 +15,7 @@ mod beside;
 mod block;
 mod bytes;
 mod cells;
+mod clut;
 mod colors;
 mod coordinates;
 mod draw;
@@ -58,6 +59,7 @@ mod untextured;
 
 pub use block::Block;
 pub use pen::{Pen, draw_span};
+pub use row::row_u;
 pub use solid::{draw_solid, solid_of};
 pub use span::{Brush, Paint, Span, Texture};
 pub use spans::{Spans, draw_spans};

@@ -8,6 +8,7 @@ ghost use Rattle.span_lanes.specs.Shade.{IsTexture, IsSpan, LiesIn, texel, row_u
 ghost use Rattle.span_lanes.specs.Shade.{flat_pixel, textured_pixel, shade, attribute_in, color_in};
 ghost use Rattle.span_lanes.specs.Cost.{texel_steps, paint_steps};
 
+use crate::row::row_u;
 use crate::{Brush, Paint, Span, Texture};
 use blend_dither::{blend, modulate, pack, shift_at, tone};
 use edge_walk::Tri;
@@ -15,18 +16,6 @@ use px_num::Cell;
 use std::sync::ledger::Ledger;
 use texture_page::{clut_cell, index_of, texel_cell};
 use vram_store::{Steps, Vram};
-
-#[tactic(auto, unfolding(crate::specs::Shade::row_u))]
-pub(crate) fn u_of(u: u8, flip: bool, i: u16) -> u8
-    requires { i < 1024 }
-    ensures { result ≡ row_u u flip i }
-{
-    if flip {
-        ((u as u16 + 1024 - i) % 256) as u8
-    } else {
-        ((u as u16 + i) % 256) as u8
-    }
-}
 
 // A cell of a palette, whose row is one of the first 512.
 fn palette_entry<L: Ledger>(vram: &Vram, cell: Cell, steps: &mut Steps<L>) -> u16
@@ -185,7 +174,7 @@ pub(crate) fn pixel_of<L: Ledger>(
             flip,
         } => {
             let shift = shift_for(span.brush.dither && !texture.raw, span.x + i, span.y);
-            let t = read_texel(vram, texture, u_of(*u, *flip, i), *v, steps);
+            let t = read_texel(vram, texture, row_u(*u, *flip, i), *v, steps);
             texel_pixel(&span.brush, texture.raw, *color, shift, back, t)
         }
     }

@@ -104,11 +104,10 @@ pub(crate) fn collect_plain<L: Ledger>(
 ) -> Lanes
     requires tones { CanTone span.now hues.now shifts.lanes vram.now }
     requires part { IsPart span.now part }
-    ensures lanes { HasChunk span.now part.first part.k vram.now result }
+    ensures lanes { HasChunk span.now part vram.now result }
     ensures cost { steps.new ≤ steps.old + 1 }
 {
-    let x = span.x + part.first;
-    let back = back_of(vram, &span.brush, x, span.y, part.k, steps);
+    let back = back_of(vram, span, part, steps);
     let tones = hue_tones(hues, span.brush.dither, shifts, part.first);
     let plotted = blend_lanes_if(span.brush.semi, span.brush.mode, back, tones);
     Lanes {

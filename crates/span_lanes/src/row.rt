@@ -11,17 +11,18 @@ pub(crate) struct TexelRow {
     pub(crate) flip: bool,
 }
 
-// The row of the page so many rows further down.
+/// The column or the row of a texel so many cells from the first: one more from cell to cell, or one less where it
+/// falls. It wraps at 256.
 #[inline(always)]
 #[tactic(auto, unfolding(crate::specs::Shade::row_u))]
-pub(crate) fn row_down(v: u8, falls: bool, rows: u16) -> u8
-    requires { rows ≤ 1024 }
-    ensures { result ≡ row_u v falls rows }
+pub fn row_u(first: u8, falls: bool, cells: u16) -> u8
+    requires { cells ≤ 1024 }
+    ensures { result ≡ row_u first falls cells }
 {
-    let v = v as u16;
+    let first = first as u16;
     if falls {
-        ((v + 1024 - rows) & 0xff) as u8
+        ((first + 1024 - cells) & 0xff) as u8
     } else {
-        ((v + rows) & 0xff) as u8
+        ((first + cells) & 0xff) as u8
     }
 }

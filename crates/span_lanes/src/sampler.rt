@@ -30,7 +30,7 @@ pub(crate) trait Sampler {
         requires sample { CanSample span.now texture.now vram.now }
         requires finds { finds self.now span.now texture.now }
         requires part { IsPart span.now part }
-        ensures texels { HasTexels span.now texture.now part.first part.k vram.now result }
+        ensures texels { HasTexels span.now texture.now part vram.now result }
         ensures cost { steps.new ≤ steps.old + texel_steps texture.now.page.depth * part.k };
 }
 

@@ -5,7 +5,7 @@ ghost use Rattle.span_lanes.specs.declared.span.Paint.TheVariants.{TexturedRow};
 ghost use Rattle.span_lanes.specs.Spans.{drawn_rows, paint_down, rows_cost, AreSpans};
 
 use crate::draw::draw_row;
-use crate::row::{TexelRow, row_down};
+use crate::row::{TexelRow, row_u};
 use crate::strips::{draw_strips, suit_strips};
 use crate::tint::Tint;
 use crate::{Paint, Pen, Span, Texture};
@@ -43,7 +43,7 @@ fn draw_each_row<L: Ledger>(
     let tint = Tint::Plain { color: row.color };
     let mut last = None;
     for j in 0..spans.rows {
-        let v = row_down(row.v, spans.falls, j);
+        let v = row_u(row.v, spans.falls, j);
         let here = TexelRow { v, ..row };
         let paint = Paint::TexturedRow {
             color: row.color,

@@ -18,7 +18,7 @@ use vram_store::{Steps, Vram};
 pub(crate) fn draw_cells<L: Ledger>(vram: &mut Vram, span: &Span, part: Part, steps: &mut Steps<L>)
     requires can { CanDraw span.now vram.old }
     requires part { IsPart span.now part }
-    ensures cells { vram.new ≡ drawn_chunk span.now part.first part.k vram.old }
+    ensures cells { vram.new ≡ drawn_chunk span.now part vram.old }
     ensures long { length vram.new ≡ length vram.old }
     ensures cost { steps.new ≤ steps.old + (paint_steps span.now.paint + 2) * part.k }
 {
@@ -39,8 +39,8 @@ pub(crate) fn store_part<L: Ledger>(
     requires can { CanDraw span.now vram.old }
     requires part { IsPart span.now part }
     requires free { HasHazard span.now part.first part.k → ⊥ }
-    requires lanes { HasChunk span.now part.first part.k vram.old lanes.now }
-    ensures cells { vram.new ≡ drawn_chunk span.now part.first part.k vram.old }
+    requires lanes { HasChunk span.now part vram.old lanes.now }
+    ensures cells { vram.new ≡ drawn_chunk span.now part vram.old }
     ensures others { AgreesApart (chunk_place span.now part.first) part.k vram.old vram.new }
     ensures cost { steps.new ≤ steps.old + 1 }
 {

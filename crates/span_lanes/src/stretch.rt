@@ -1,11 +1,8 @@
 // Texels that stand side by side in a row of video memory.
 ghost use Rattle.std.specs.Prelude.{◌≡◌, ◌≤◌, ◌<◌, ◌+◌, ◌*◌, ◌/◌, IfSome, IsTrue};
 ghost use Rattle.texture_page.specs.Page.{windowed};
-ghost use Rattle.vram_store.specs.Vram.{height_of};
 ghost use Rattle.span_lanes.specs.declared.span.Paint.TheVariants.{TexturedRow, TexturedTri};
-ghost use Rattle.span_lanes.specs.Draws.{IsPart};
 ghost use Rattle.span_lanes.specs.Pen.{AreSlopes};
-ghost use Rattle.span_lanes.specs.Plan.{HasTexels};
 ghost use Rattle.span_lanes.specs.Shade.{IsSpan, IsTexture};
 ghost use Rattle.span_lanes.specs.Stretch.{IsRising, IsStretch};
 ghost use Rattle.span_lanes.specs.StretchPen.{AreSideBySide};
@@ -137,79 +134,6 @@ pub(crate) fn place_row(span: &Span, tri: &Tri, texture: &Texture, u: &Plane, v:
     stretch_at(texture, u, v)
 }
 
-// k texels of fifteen bits that stand side by side.
-#[inline(always)]
-fn read_wholes<L: Ledger>(
-    vram: &Vram,
-    span: &Span,
-    texture: &Texture,
-    stretch: &Stretch,
-    part: Part,
-    steps: &mut Steps<L>,
-) -> u16x16
-    requires page { texture.now.page.y + 255 < height_of vram.now }
-    requires part { IsPart span.now part }
-    requires stretch { IsStretch span.now texture.now stretch.now }
-    requires depth { 2 ≤ texture.now.page.depth }
-    ensures texels { HasTexels span.now texture.now part.first part.k vram.now result }
-    ensures cost { steps.new ≤ steps.old + part.k }
-{
-    let _ = span;
-    vram.load16(
-        texture.page.x + stretch.u + part.first,
-        stretch.y,
-        part.k,
-        steps,
-    )
-}
-
-// k texels of eight bits that stand side by side.
-#[inline(always)]
-fn read_eights<L: Ledger>(
-    vram: &Vram,
-    span: &Span,
-    texture: &Texture,
-    stretch: &Stretch,
-    part: Part,
-    steps: &mut Steps<L>,
-) -> u16x16
-    requires page { texture.now.page.y + 255 < height_of vram.now }
-    requires part { IsPart span.now part }
-    requires stretch { IsStretch span.now texture.now stretch.now }
-    requires depth { texture.now.page.depth ≡ 1 }
-    ensures texels { HasTexels span.now texture.now part.first part.k vram.now result }
-    ensures cost { steps.new ≤ steps.old + 2 * part.k }
-{
-    let _ = span;
-    let u = stretch.u + part.first;
-    let index = sixteen_octets(vram, texture.page.x, u, stretch.y, steps);
-    gather_entries(vram, texture.clut, index, part.k, steps)
-}
-
-// k texels of four bits that stand side by side.
-#[inline(always)]
-fn read_fours<L: Ledger>(
-    vram: &Vram,
-    span: &Span,
-    texture: &Texture,
-    stretch: &Stretch,
-    part: Part,
-    steps: &mut Steps<L>,
-) -> u16x16
-    requires page { texture.now.page.y + 255 < height_of vram.now }
-    requires part { IsPart span.now part }
-    requires stretch { IsStretch span.now texture.now stretch.now }
-    requires depth { texture.now.page.depth ≡ 0 }
-    ensures texels { HasTexels span.now texture.now part.first part.k vram.now result }
-    ensures cost { steps.new ≤ steps.old + 2 * part.k }
-{
-    let _ = span;
-    let u = stretch.u + part.first;
-    let index = sixteen_indexes(vram, texture.page.x, u, stretch.y, steps);
-    let entries = sixteen_entries(vram, texture.clut, steps);
-    entries_at(&table_of(entries), index)
-}
-
 // Texels of four bits that stand side by side.
 #[derive(Clone, Copy)]
 pub(crate) struct Fours {
@@ -217,7 +141,7 @@ pub(crate) struct Fours {
 }
 
 impl Sampler for Fours {
-    ghost use Rattle.std.specs.Prelude.{◌≡◌, ◌≤◌};
+    ghost use Rattle.std.specs.Prelude.{◌≡◌};
     ghost use Rattle.span_lanes.specs.Stretch.{IsStretch};
 
     ghost finds = { λ c s t. IsStretch s t c.stretch × (t.page.depth ≡ 0) };
@@ -226,12 +150,15 @@ impl Sampler for Fours {
     fn read_texels<L: Ledger>(
         &self,
         vram: &Vram,
-        span: &Span,
+        _span: &Span,
         texture: &Texture,
         part: Part,
         steps: &mut Steps<L>,
     ) -> u16x16 {
-        read_fours(vram, span, texture, &self.stretch, part, steps)
+        let Stretch { u, y } = self.stretch;
+        let index = sixteen_indexes(vram, texture.page.x, u + part.first, y, steps);
+        let entries = sixteen_entries(vram, texture.clut, steps);
+        entries_at(&table_of(entries), index)
     }
 }
 
@@ -242,7 +169,7 @@ pub(crate) struct Eights {
 }
 
 impl Sampler for Eights {
-    ghost use Rattle.std.specs.Prelude.{◌≡◌, ◌≤◌};
+    ghost use Rattle.std.specs.Prelude.{◌≡◌};
     ghost use Rattle.span_lanes.specs.Stretch.{IsStretch};
 
     ghost finds = { λ c s t. IsStretch s t c.stretch × (t.page.depth ≡ 1) };
@@ -251,12 +178,14 @@ impl Sampler for Eights {
     fn read_texels<L: Ledger>(
         &self,
         vram: &Vram,
-        span: &Span,
+        _span: &Span,
         texture: &Texture,
         part: Part,
         steps: &mut Steps<L>,
     ) -> u16x16 {
-        read_eights(vram, span, texture, &self.stretch, part, steps)
+        let Stretch { u, y } = self.stretch;
+        let index = sixteen_octets(vram, texture.page.x, u + part.first, y, steps);
+        gather_entries(vram, texture.clut, index, part.k, steps)
     }
 }
 
@@ -267,7 +196,7 @@ pub(crate) struct Wholes {
 }
 
 impl Sampler for Wholes {
-    ghost use Rattle.std.specs.Prelude.{◌≡◌, ◌≤◌};
+    ghost use Rattle.std.specs.Prelude.{◌≤◌};
     ghost use Rattle.span_lanes.specs.Stretch.{IsStretch};
 
     ghost finds = { λ c s t. IsStretch s t c.stretch × (2 ≤ t.page.depth) };
@@ -276,12 +205,13 @@ impl Sampler for Wholes {
     fn read_texels<L: Ledger>(
         &self,
         vram: &Vram,
-        span: &Span,
+        _span: &Span,
         texture: &Texture,
         part: Part,
         steps: &mut Steps<L>,
     ) -> u16x16 {
-        read_wholes(vram, span, texture, &self.stretch, part, steps)
+        let Stretch { u, y } = self.stretch;
+        vram.load16(texture.page.x + u + part.first, y, part.k, steps)
     }
 }
 
@@ -294,12 +224,11 @@ impl Indexed for Stretch {
     fn read_indexes<L: Ledger>(
         &self,
         vram: &Vram,
-        span: &Span,
+        _span: &Span,
         texture: &Texture,
         part: Part,
         steps: &mut Steps<L>,
     ) -> u8x16 {
-        let _ = span;
         let u = self.u + part.first;
         sixteen_indexes(vram, texture.page.x, u, self.y, steps)
     }

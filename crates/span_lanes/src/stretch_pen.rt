@@ -5,9 +5,9 @@ ghost use Rattle.span_lanes.specs.Shade.{IsTexture, texture_of};
 ghost use Rattle.span_lanes.specs.StretchPen.{IsPlain};
 
 use crate::apart::is_block_apart;
+use crate::clut::has_even_palette;
 use crate::draw::draw_beside_row;
 use crate::plainly::is_plain;
-use crate::shading::is_dithered;
 use crate::stretch::{has_room, place_row};
 use crate::strip::draw_plain_strip;
 use crate::swatches::Swatches;
@@ -27,10 +27,11 @@ fn plain_color(texture: &Texture, brush: &Brush, tint: &Tint) -> Option<u32>
     let Tint::Plain { color } = tint else {
         return None;
     };
-    if texture.page.depth > 0 || is_dithered(brush.dither, texture.raw) || !is_plain(brush) {
-        return None;
+    if has_even_palette(texture, brush) && is_plain(brush) {
+        Some(*color)
+    } else {
+        None
     }
-    Some(*color)
 }
 
 /// A pen for the spans of a triangle that lie in a block of cells, where the texels of each row stand side by side, and

@@ -1,16 +1,16 @@
 // Rows of texels of four bits that stand side by side, whose palette is coloured once.
-ghost use Rattle.std.specs.Prelude.{◌≡◌, ◌/◌, ◌%◌, ◌≢◌, IsTrue, false};
+ghost use Rattle.std.specs.Prelude.{◌≡◌, IsTrue, false};
 ghost use Rattle.span_lanes.specs.declared.hues.Hues.TheVariants.{One};
 ghost use Rattle.span_lanes.specs.Draws.{CanSample, DrawsSpan, at_stage};
-ghost use Rattle.span_lanes.specs.Guard.{IsApart};
+ghost use Rattle.span_lanes.specs.Guard.{IsApart, IsInOtherRow};
 ghost use Rattle.span_lanes.specs.Hues.{AreHues};
 ghost use Rattle.span_lanes.specs.Kept.{CanKeep};
 ghost use Rattle.span_lanes.specs.Stretch.{IsStretch};
 ghost use Rattle.span_lanes.specs.Swatches.{IsKept, SuitsPalette};
 
+use crate::clut::has_even_palette;
 use crate::loops::{draw_by_brush, draw_parts};
 use crate::plainly::plain;
-use crate::shading::is_dithered;
 use crate::stretch::Stretch;
 use crate::stretched::known;
 use crate::swatches::{Swatches, swatches_of};
@@ -23,11 +23,10 @@ use vram_store::{Steps, Vram};
 #[inline(always)]
 pub(crate) fn suits_strip(span: &Span, texture: &Texture) -> bool
     requires apart { IsApart span.now }
-    requires palette { texture.now.page.depth ≡ 0 → texture.now.clut / 64 % 512 ≢ span.now.y }
+    requires palette { IsInOtherRow texture.now span.now.y }
     ensures { IsTrue result → SuitsPalette span.now texture.now }
 {
-    let dithered = is_dithered(span.brush.dither, texture.raw);
-    texture.page.depth == 0 && !dithered
+    has_even_palette(texture, &span.brush)
 }
 
 // A row, by whether the texels are drawn as they are.

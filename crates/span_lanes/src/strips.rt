@@ -7,10 +7,10 @@ ghost use Rattle.span_lanes.specs.Strips.{AreStrips};
 ghost use Rattle.span_lanes.specs.Swatches.{IsPalette};
 
 use crate::apart::are_apart;
+use crate::clut::has_even_palette;
 use crate::loops::draw_parts;
 use crate::plainly::{is_plain, plain};
-use crate::row::{TexelRow, row_down};
-use crate::shading::is_dithered;
+use crate::row::{TexelRow, row_u};
 use crate::spans::Spans;
 use crate::stretch::{has_room, is_open, stretch_at};
 use crate::stretched::known;
@@ -27,10 +27,7 @@ pub(crate) fn suit_strips(spans: &Spans, texture: &Texture, row: TexelRow) -> bo
     ensures { IsTrue result → AreStrips spans.now texture.now row }
 {
     let n = spans.first.n;
-    if row.flip || texture.page.depth > 0 {
-        return false;
-    }
-    if is_dithered(spans.first.brush.dither, texture.raw) || !is_open(texture, row.u, n) {
+    if row.flip || !has_even_palette(texture, &spans.first.brush) || !is_open(texture, row.u, n) {
         return false;
     }
     has_room(texture, row.u as u16, n) && are_apart(spans, texture)
@@ -55,7 +52,7 @@ fn draw_rows<L: Ledger>(
 {
     let Span { x, y, n, brush, .. } = spans.first;
     for j in 0..spans.rows {
-        let v = row_down(row.v, spans.falls, j);
+        let v = row_u(row.v, spans.falls, j);
         let span = Span {
             x,
             y: y + j,

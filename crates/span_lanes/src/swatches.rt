@@ -1,5 +1,5 @@
 // Textures of four bits under one colour, whose palette is read and coloured once a primitive.
-ghost use Rattle.std.specs.Prelude.{◌≡◌, ◌≤◌, ◌<◌, ◌+◌, IfSome, IsTrue, MatchOption, Some, pos};
+ghost use Rattle.std.specs.Prelude.{◌≡◌, ◌≤◌, ◌<◌, ◌+◌, IfSome, IsTrue, Some, pos};
 ghost use Rattle.std.specs.Prelude.{length, slice_index};
 ghost use Rattle.px_num.specs.Lanes.{EachLane};
 ghost use Rattle.span_lanes.specs.Plan.{IsPlan};
@@ -7,11 +7,11 @@ ghost use Rattle.span_lanes.specs.Shade.{front_of};
 ghost use Rattle.span_lanes.specs.Swatches.{AreColored, AreEntries, IsPalette, SuitsPalette};
 ghost use Rattle.span_lanes.specs.Table.{AreBytes, entry_at};
 
+use crate::clut::{clut_row, has_even_palette};
 use crate::colors::no_shifts;
 use crate::fetch::sixteen_entries;
 use crate::hues::Hues;
 use crate::plan::Plan;
-use crate::shading::is_dithered;
 use crate::table::{Table, entries_at, table_of};
 use crate::textured::fronts;
 use crate::{Span, Texture};
@@ -53,40 +53,10 @@ fn colored(raw: bool, color: u32, entries: u16x16) -> Swatches
     }
 }
 
-// Whether a palette is kept under this colour.
+// The palette of a texture under a colour, which is kept from then on: it is read and coloured, unless it is kept under
+// this colour.
 #[inline(always)]
-fn is_under(last: &Option<Swatches>, raw: bool, color: u32) -> bool
-    ensures { IsTrue result → MatchOption last.now ⊥ (λ s. (s.raw ≡ raw) × (s.color ≡ color)) }
-{
-    match last {
-        Some(kept) => kept.raw == raw && kept.color == color,
-        None => false,
-    }
-}
-
-// Reads the palette of a texture and colours it, unless it is kept under this colour.
-#[inline(always)]
-#[tactic(auto, using(crate::proofs::SwatchLemmas::kept_palette))]
-pub(crate) fn refresh<L: Ledger>(
-    vram: &Vram,
-    texture: &Texture,
-    color: u32,
-    last: &mut Option<Swatches>,
-    steps: &mut Steps<L>,
-)
-    requires colored { IfSome last.old AreColored }
-    requires fresh { IfSome last.old (λ s. AreEntries texture.now vram.now s.entries) }
-    ensures palette { MatchOption last.new ⊥ (IsPalette texture.now vram.now color) }
-    ensures cost { steps.new ≤ steps.old + 1 }
-{
-    if !is_under(last, texture.raw, color) {
-        let entries = sixteen_entries(vram, texture.clut, steps);
-        *last = Some(colored(texture.raw, color, entries));
-    }
-}
-
-// The palette of a texture under a colour, which is kept from then on.
-#[inline(always)]
+#[tactic(auto, using(crate::proofs::SwatchLemmas::palette_is))]
 pub(crate) fn swatches_of<L: Ledger>(
     vram: &Vram,
     texture: &Texture,
@@ -100,10 +70,14 @@ pub(crate) fn swatches_of<L: Ledger>(
     ensures kept { last.new ≡ Some result }
     ensures cost { steps.new ≤ steps.old + 1 }
 {
-    refresh(vram, texture, color, last, steps);
-    match &*last {
-        Some(kept) => *kept,
-        None => unreachable!(),
+    match *last {
+        Some(kept) if kept.raw == texture.raw && kept.color == color => kept,
+        _ => {
+            let entries = sixteen_entries(vram, texture.clut, steps);
+            let swatches = colored(texture.raw, color, entries);
+            *last = Some(swatches);
+            swatches
+        }
     }
 }
 
@@ -135,6 +109,6 @@ pub(crate) fn suits(span: &Span, texture: &Texture, plan: &Plan) -> bool
     requires plan { IsPlan span.now texture.now plan.now }
     ensures { IsTrue result → SuitsPalette span.now texture.now }
 {
-    let dithered = is_dithered(span.brush.dither, texture.raw);
-    plan.apart && texture.page.depth == 0 && texture.clut / 64 % 512 != span.y && !dithered
+    let even = has_even_palette(texture, &span.brush);
+    plan.apart && even && clut_row(texture.clut) != span.y
 }

@@ -173,15 +173,14 @@ fn collect_fronts<L: Ledger>(
 ) -> Lanes
     requires sample { CanSample span.now texture.now vram.now }
     requires part { IsPart span.now part }
-    requires texels { HasTexels span.now texture.now part.first part.k vram.now drawn.texels }
+    requires texels { HasTexels span.now texture.now part vram.now drawn.texels }
     requires long { length drawn.fronts ≡ 16 }
-    requires front { HasFronts span.now texture.now part.first part.k drawn.texels drawn.fronts }
-    ensures lanes { HasChunk span.now part.first part.k vram.now result }
+    requires front { HasFronts span.now texture.now part drawn.texels drawn.fronts }
+    ensures lanes { HasChunk span.now part vram.now result }
     ensures cost { steps.new ≤ steps.old + 1 }
 {
-    let x = span.x + part.first;
     let brush = span.brush;
-    let back = back_of(vram, &brush, x, span.y, part.k, steps);
+    let back = back_of(vram, span, part, steps);
     let plotted = plotted_of(&brush, texture.raw, back, drawn, part.k);
     Lanes {
         cells: force_lanes(brush.mask, plotted),
@@ -202,10 +201,10 @@ pub(crate) fn draw_fronts<L: Ledger>(
     requires sample { CanSample span.now texture.now vram.old }
     requires part { IsPart span.now part }
     requires free { HasHazard span.now part.first part.k → ⊥ }
-    requires texels { HasTexels span.now texture.now part.first part.k vram.old drawn.texels }
+    requires texels { HasTexels span.now texture.now part vram.old drawn.texels }
     requires long { length drawn.fronts ≡ 16 }
-    requires front { HasFronts span.now texture.now part.first part.k drawn.texels drawn.fronts }
-    ensures cells { vram.new ≡ drawn_chunk span.now part.first part.k vram.old }
+    requires front { HasFronts span.now texture.now part drawn.texels drawn.fronts }
+    ensures cells { vram.new ≡ drawn_chunk span.now part vram.old }
     ensures others { AgreesApart (chunk_place span.now part.first) part.k vram.old vram.new }
     ensures cost { steps.new ≤ steps.old + 2 }
 {
@@ -228,8 +227,8 @@ pub(crate) fn draw_shaded<L: Ledger>(
     requires part { IsPart span.now part }
     requires free { HasHazard span.now part.first part.k → ⊥ }
     requires shading { IsShading span.now texture.now shading.now }
-    requires texels { HasTexels span.now texture.now part.first part.k vram.old texels }
-    ensures cells { vram.new ≡ drawn_chunk span.now part.first part.k vram.old }
+    requires texels { HasTexels span.now texture.now part vram.old texels }
+    ensures cells { vram.new ≡ drawn_chunk span.now part vram.old }
     ensures others { AgreesApart (chunk_place span.now part.first) part.k vram.old vram.new }
     ensures cost { steps.new ≤ steps.old + 2 }
 {

@@ -135,12 +135,11 @@ impl Sampler for Track {
     fn read_texels<L: Ledger>(
         &self,
         vram: &Vram,
-        span: &Span,
+        _span: &Span,
         texture: &Texture,
         part: Part,
         steps: &mut Steps<L>,
     ) -> u16x16 {
-        let _ = span;
         let at = track_lanes(self, part.first);
         read_texels(vram, texture, &at, part.k, steps)
     }
@@ -155,12 +154,11 @@ impl Indexed for Track {
     fn read_indexes<L: Ledger>(
         &self,
         vram: &Vram,
-        span: &Span,
+        _span: &Span,
         texture: &Texture,
         part: Part,
         steps: &mut Steps<L>,
     ) -> u8x16 {
-        let _ = span;
         let at = track_lanes(self, part.first);
         indexes_of(vram, texture, &at, part.k, steps)
     }

@@ -14,6 +14,6 @@ returns-clause-apart c is j lt =
     (record { left = omega arith; right = omega arith; top = omega arith; bottom = omega arith })
 
 pub returns-clause-palette : goal.returns-clause-palette
-returns-clause-palette c is four j lt =
-    (c.is_block_apart.ensures is).palette (nth_span c.args.spans.now j) four
+returns-clause-palette c is j lt =
+    (c.is_block_apart.ensures is).palette (nth_span c.args.spans.now j)
     (record { left = omega arith; right = omega arith; top = omega arith; bottom = omega arith })

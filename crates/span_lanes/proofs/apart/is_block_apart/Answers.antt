@@ -8,7 +8,7 @@ returns-then-is_block_beside c off = record {
       span_apart s c.args.texture.now is c.requires.texture of_paint
       (c.is_block_beside.ensures c.if-is_block_beside.true s.x s.y s.n within)
       (c.is_block_off_palette.ensures off s.x s.y s.n within);
-  palette = λ s four within same. elim (c.is_block_off_palette.ensures off s.x s.y s.n within) [
+  palette = λ s within four same. elim (c.is_block_off_palette.ensures off s.x s.y s.n within) [
     | inl deep ↦ omega (arith, deep, four)
     | inr other ↦ other same
   ];

@@ -8,11 +8,11 @@ loop-j-preserved g c =
     let row = c.args.row in
     let t = c.args.texture.now in
     let h = c.loop-j.invariant in
-    let is = texel_span spans row.color row.u row.v c.row_down-v.result c.loop-j.j t row.flip c.requires.paint
-    c.row_down-v.ensures in
+    let is = texel_span spans row.color row.u row.v c.row_u-v.result c.loop-j.j t row.flip c.requires.paint
+    c.row_u-v.ensures in
     record {
       cells = one_more spans c.loop-j.j _ _ _ _ is h.cells c.draw_row.ensures.drawn.cells;
       long = c.draw_row.ensures.drawn.long ∙ h.long;
       cost = one_more_cost spans c.loop-j.j _ _ _ _ is h.cost (omega (arith, c.draw_row.ensures.drawn.cost));
-      last = other_row row.color row.u c.row_down-v.result row.v t row.flip _ _ c.draw_row.ensures.last;
+      last = other_row row.color row.u c.row_u-v.result row.v t row.flip _ _ c.draw_row.ensures.last;
     }

@@ -20,11 +20,11 @@ draw_parts-requires g c =
     let row = c.args.row in
     let t = c.args.texture.now in
     let j = c.loop-j.j in
-    let v = c.row_down-v.result in
+    let v = c.row_u-v.result in
     let are = c.requires.strips in
     let lt = c.loop-j-test.true in
     let span : Span = repainted (nth_span spans j) (TexturedRow row.color t row.u v row.flip) in
-    let is = texel_span spans row.color row.u row.v v j t row.flip are.paint c.row_down-v.ensures in
+    let is = texel_span spans row.color row.u row.v v j t row.flip are.paint c.row_u-v.ensures in
     let height : height_of c.args.vram.now ≡ height_of c.loop-j.vram = ap (λ k. k / 1024)
     (sym c.loop-j.invariant.long) in
     let suits : SuitsPalette span t = subst (λ (s : Span). SuitsPalette s t) is (are.suits j lt) in
@@ -54,8 +54,8 @@ loop-j-preserved g c =
     let spans = c.args.spans.now in
     let row = c.args.row in
     let h = c.loop-j.invariant in
-    let is = texel_span spans row.color row.u row.v c.row_down-v.result c.loop-j.j c.args.texture.now row.flip
-    c.requires.strips.paint c.row_down-v.ensures in
+    let is = texel_span spans row.color row.u row.v c.row_u-v.result c.loop-j.j c.args.texture.now row.flip
+    c.requires.strips.paint c.row_u-v.ensures in
     record {
       cells = one_more spans c.loop-j.j _ _ _ _ is h.cells c.draw_parts.ensures.drawn.cells;
       long = c.draw_parts.ensures.drawn.long ∙ h.long;

@@ -1,9 +1,9 @@
-use Rattle.std.proofs.Common.{◌≡◌, ◌∙◌, refl, sym, arith}
+use Rattle.std.proofs.Common.{refl}
 use Rattle.span_lanes.proofs.strips.suit_strips.Goals as goal
 
 pub returns-then-has_room : goal.returns-then-has_room
 returns-then-has_room c apart =
-    let shallow : c.args.texture.now.page.depth ≡ 0 = omega (arith, c.if-texture-gt0.false) in
+    let shallow = c.if-not-has_even_palette.ensures.depth refl in
     record {
       paint = c.requires.paint;
       rises = c.if-row.false;
@@ -13,7 +13,7 @@ returns-then-has_room c apart =
       suits = λ j lt. record {
         apart = c.are_apart.ensures.apart apart j lt;
         depth = shallow;
-        row = c.are_apart.ensures.palette apart shallow j lt;
-        even = sym c.is_dithered.ensures ∙ c.if-is_dithered.false;
+        row = c.are_apart.ensures.palette apart j lt shallow;
+        even = c.if-not-has_even_palette.ensures.even refl;
       };
     }

@@ -1,4 +1,20 @@
+use Rattle.std.proofs.Common.{◌≡◌, ℕ, ◌+◌, ◌*◌, get_or, ◌∙◌, ap, arith}
+use Rattle.span_lanes.proofs.StretchLemmas.{whole_texel}
 use Rattle.span_lanes.proofs.stretch.WholesSampler.read_texels.Goals as goal
 
-pub read_wholes-requires-clause-page : goal.read_wholes-requires-clause-page
-read_wholes-requires-clause-page g c = rw c.requires.sample.texture at c.requires.sample.can.lies.page
+pub returns-clause-texels : goal.returns-clause-texels
+returns-clause-texels g c = record {
+  long = c.load16.ensures.lanes.count;
+  value = λ j lt.
+      let s = c.args.self.now.stretch in
+      let place : 1024 * s.y + (c.args.texture.now.page.x + s.u + c.args.part.first) + j
+      ≡ 1024 * s.y + (c.args.texture.now.page.x + (s.u + (c.args.part.first + j))) = omega arith in
+      whole_texel c.args._span.now c.args.texture.now s _ (c.args.part.first + j) _ c.args.vram.now c.requires.finds.0
+      c.requires.finds.1 (omega arith) (omega arith)
+      (c.load16.ensures.lanes.cells j lt ∙ ap (λ (k : ℕ). get_or c.args.vram.now k 0) place);
+}
+
+pub load16-requires-clause-in_height : goal.load16-requires-clause-in_height
+load16-requires-clause-in_height g c =
+    let page = rw c.requires.sample.texture at c.requires.sample.can.lies.page in
+    omega (arith, page, c.requires.finds.0.low)

@@ -18,7 +18,7 @@ draw_plain_strip-requires-clause-suits g c =
     let suits : SuitsPalette span pen.texture = record {
       apart = c.self.invariant.apart.apart span refl (rw (← c.self.view_is) at c.requires.span) block;
       depth = plain.depth;
-      row = c.self.invariant.apart.palette span plain.depth block;
+      row = c.self.invariant.apart.palette span block plain.depth;
       even = plain.even;
     } in
     rw (c.span-span.ensures, ← c.self.view_is) suits
@@ -28,8 +28,8 @@ draw_beside_row-requires-clause-palette g c four =
     let pen = c.self.inside in
     let ink = (framed_of pen.tri pen.texture pen.brush pen.block pen.last).loaded.ink in
     rw c.span-span-in-None.ensures
-    (c.self.invariant.apart.palette (ink_span ink c.args.x c.args.y c.args.n) four
-    (rw (← c.self.view_is) at c.requires.block))
+    (c.self.invariant.apart.palette (ink_span ink c.args.x c.args.y c.args.n)
+    (rw (← c.self.view_is) at c.requires.block) four)
 
 pub returns-in-Some-clause-drawn : goal.returns-in-Some-clause-drawn
 returns-in-Some-clause-drawn g c =

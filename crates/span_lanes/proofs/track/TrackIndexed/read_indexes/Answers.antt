@@ -13,7 +13,7 @@ indexes_of-requires-clause-page g c = rw c.requires.sample.texture at c.requires
 
 pub returns-clause-indexes : goal.returns-clause-indexes
 returns-clause-indexes g c =
-    let span = c.args.span.now in
+    let span = c.args._span.now in
     let part = c.args.part in
     let at = c.track_lanes-at.ensures in
     let index = c.indexes_of.ensures.indexes in

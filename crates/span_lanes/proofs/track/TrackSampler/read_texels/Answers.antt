@@ -9,7 +9,7 @@ read_texels-requires-clause-page g c = rw c.requires.sample.texture at c.require
 
 pub returns-clause-texels : goal.returns-clause-texels
 returns-clause-texels g c =
-    let span = c.args.span.now in
+    let span = c.args._span.now in
     let part = c.args.part in
     let at = c.track_lanes-at.ensures in
     texels_here span c.args.texture.now part.first part.k _ _ c.args.vram.now _
