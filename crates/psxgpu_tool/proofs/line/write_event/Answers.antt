@@ -3,4 +3,4 @@ use Rattle.psxgpu_tool.proofs.line.write_event.Goals as goal
 
 pub returns : goal.returns
 unfolding event_line
-returns g c = rw (← c.decimal_text-n.ensures) c.write_pieces.ensures
+returns g c = rw (← c.decimal_text-n.ensures.text) c.write_pieces.ensures
