@@ -9,10 +9,14 @@ writes of one byte each. What must come: without memory status 5, nothing read a
 a smaller growth serves as well and is asked for next, all as it was; where a read fails status 3, where a write fails
 status 4, and in both cases a part of what is written otherwise; where standard error fails, or the pieces are short,
 the same status and the same output. The calls are made to fail by tools/faults.c, which gcc makes a library of that is
-loaded before the player. The last line is `N passed, M failed`. Without gcc the exit status is 77.
+loaded before the player. Then the disk is full behind some bytes of the output: status 4, with exactly these bytes, and for
+`list`, `flat` and `cut` the event is the one at which the next byte is due, by the line that lacks it or by what the
+command writes of the first events alone. The last line is `N passed, M failed`. Without gcc the exit status is 77.
 """
 import os
+import resource
 import shutil
+import signal
 import subprocess
 import sys
 import tempfile
@@ -20,6 +24,9 @@ import tempfile
 HERE = os.path.dirname(os.path.abspath(__file__))
 SECONDS = 120
 KINDS = ('memory', 'read', 'write', 'error')
+PLACES = 48
+MOST_EVENTS = 400
+END = 4
 
 
 class Run:
@@ -34,6 +41,24 @@ class Run:
         self.status, self.out, self.err = done.returncode, done.stdout, done.stderr
         with open(counts) as file:
             self.calls = dict(zip(KINDS, map(int, file.read().split())))
+
+
+class Full:
+    """One run of a player on a disk that is full behind so many bytes."""
+
+    def __init__(self, folder, words, capture, room):
+        out = os.path.join(folder, 'full')
+
+        def bounded():
+            signal.signal(signal.SIGXFSZ, signal.SIG_IGN)
+            resource.setrlimit(resource.RLIMIT_FSIZE, (room, room))
+
+        with open(capture, 'rb') as source, open(out, 'wb') as file:
+            done = subprocess.run(words, stdin=source, stdout=file, stderr=subprocess.PIPE, preexec_fn=bounded,
+                                  timeout=SECONDS)
+        self.status, self.err = done.returncode, done.stderr
+        with open(out, 'rb') as file:
+            self.out = file.read()
 
 
 def is_part(part, whole):
@@ -69,6 +94,45 @@ def without_error(was, now):
     return '' if (now.status, now.out) == (was.status, was.out) else 'status %d' % now.status
 
 
+def full_disk(was, now, room, event):
+    """Judges a run on a full disk; event is None where it is not known."""
+    line = b'psxgpu: write-fault at event '
+    if now.status != 4 or not now.err.startswith(line):
+        return 'status %d, err %r' % (now.status, now.err[:60])
+    if now.out != was.out[:room]:
+        return 'out has not exactly the bytes for which there was room'
+    said = int(now.err[len(line):].split(b'\n')[0])
+    return '' if event in (None, said) else 'event %d, and the byte is due at %d' % (said, event)
+
+
+def ends_of_events(words, capture):
+    """How many bytes of the output are due up to each event, by what is written of the first events alone; the End record
+    of that is not."""
+    ends = []
+    for events in range(1, MOST_EVENTS + 1):
+        first = subprocess.run([sys.executable, os.path.join(HERE, 'first.py'), str(events), capture], capture_output=True)
+        if first.returncode:
+            return ends
+        out = subprocess.run(words, input=first.stdout, capture_output=True, timeout=SECONDS)
+        ends.append(max(len(out.stdout) - END, 0) if out.returncode == 0 else 0)
+    return ends
+
+
+def event_of(was, words, capture):
+    """The event at which a byte is due, by its place; None where the command does not let it be told."""
+    if words[1] == 'list':
+        return lambda place: int(was.out[was.out.rfind(b'\n', 0, place) + 1:].split()[0])
+    if words[1] in ('flat', 'cut') and was.status == 0:
+        ends = ends_of_events(words, capture)
+        return lambda place: sum(end <= place for end in ends) + 1
+    return lambda place: None
+
+
+def rooms(size):
+    """Some numbers of bytes below this, all of them where they are few."""
+    return sorted({size * k // PLACES for k in range(PLACES)} if size > PLACES else range(size))
+
+
 JUDGES = {'memory': without_memory, 'read': without_read, 'write': without_write, 'error': without_error}
 
 
@@ -90,6 +154,12 @@ def tried(library, folder, player, capture, command):
         passed, failed = passed + (not wrong), failed + bool(wrong)
         if wrong:
             print('%s, %s: %s %d: %s' % (capture, command, kind, at, wrong))
+    due = event_of(was, words, capture)
+    for room in rooms(len(was.out)):
+        wrong = full_disk(was, Full(folder, words, capture, room), room, due(room))
+        passed, failed = passed + (not wrong), failed + bool(wrong)
+        if wrong:
+            print('%s, %s: disk of %d bytes: %s' % (capture, command, room, wrong))
     return passed, failed
 
 

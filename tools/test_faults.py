@@ -7,7 +7,8 @@ import unittest
 HERE = os.path.dirname(os.path.abspath(__file__))
 sys.path.insert(0, HERE)
 
-from faults import as_it_was, trials, without_error, without_memory, without_read, without_write, words_of  # noqa: E402
+from faults import (as_it_was, event_of, full_disk, rooms, trials, without_error, without_memory,  # noqa: E402
+                    without_read, without_write, words_of)
 
 
 class Ran:
@@ -46,6 +47,21 @@ class Judges(unittest.TestCase):
     def test_others(self):
         self.judged(without_error, [Ran(0, b'ab', b'x')], [Ran(4, b'ab'), Ran(0, b'a')])
         self.judged(as_it_was, [Ran(0, b'ab')], [Ran(0, b'ab', b'x'), Ran(0, b'a')])
+
+    def test_full_disk(self):
+        two = WRITE.replace(b'1', b'2')
+        for now, room, event, good in ((Ran(4, b'a', two), 1, 2, True), (Ran(4, b'a', two), 1, None, True),
+                                       (Ran(4, b'a', two), 1, 1, False), (Ran(4, b'', two), 1, 2, False),
+                                       (Ran(4, b'ab', two), 1, 2, False), (Ran(0, b'a'), 1, 2, False)):
+            self.assertEqual(full_disk(WAS, now, room, event) == '', good)
+
+    def test_places(self):
+        self.assertEqual(rooms(0), [])
+        self.assertEqual(rooms(3), [0, 1, 2])
+        many = rooms(1000)
+        self.assertTrue(len(many) == 48 and many[0] == 0 and many[-1] < 1000)
+        due = event_of(Ran(0, b'3 load a0000000 -\n12 fill 02000000 -\n'), ['player', 'list'], '')
+        self.assertEqual([due(place) for place in (0, 16, 17, 18, 36)], [3, 3, 3, 12, 12])
 
     def test_each_call_is_tried(self):
         self.assertEqual([it[:2] for it in trials(WAS)],
