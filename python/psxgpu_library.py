@@ -52,6 +52,10 @@ class Refused(Error):
         self.code, self.event, self.place, self.word, self.output = code, event, place, word, output
 
 
+for error in (Error, Missing, OutOfMemory, Refused):
+    error.__module__ = 'psxgpu'    # whose names they are for a reader
+
+
 class Handle(ctypes.Structure):
     _fields_ = [('at', ctypes.c_void_p), ('open', ctypes.c_uint32)]
 

@@ -13,8 +13,6 @@ from capture import Capture, corner, display_start, draw_mode, drawing_area, dra
 
 # Milliseconds that are said in docs/VIEWER.md: until the page shows the recording, and for a step back.
 OPEN, STEP = 10000, 100
-# The page plays the recording behind what it shows; one part of so many is waited for.
-PART = 20
 FRAMES, QUADS = 30, 1650
 
 
@@ -53,16 +51,15 @@ class Long(unittest.TestCase):
             page.until('document.title.startsWith("minute")')
             opened = 1000 * (time.time() - started)
             length = page.evaluate('probe.app.recording.length')
-            page.until('probe.app.pass.at > %d' % (length // PART), 600)
-            played = time.time() - started
-            page.evaluate('probe.app.pass.isStopped = true')
-            page.until('!probe.app.pass.isRunning')
-            at, there = random.Random(2), page.evaluate('probe.app.pass.at')
-            places = page.ask('times', [at.randrange(there) for _ in range(100)])
-            back = page.ask('times', [there - 9 * k for k in range(100)])
-            print('%d bytes, %d steps: shown after %d ms; the first of %d parts is played after %.1f s'
-                  % (len(data), length, opened, PART, played))
-            print('a random place: %d ms in the middle, %d at most; a step back: %d, %d'
+            page.evaluate('probe.app.seek(%d)' % length)
+            page.until('probe.app.at === %d' % length, 600)
+            ended = time.time() - started
+            at = random.Random(2)
+            places = page.ask('times', [at.randrange(length) for _ in range(100)])
+            back = page.ask('times', [length - 9 * k for k in range(100)])
+            print('%d bytes, %d steps: shown after %d ms; a jump to the end is there after %.1f s'
+                  % (len(data), length, opened, ended))
+            print('then a random place: %d ms in the middle, %d at most; a step back: %d, %d'
                   % (places[50], places[-1], back[50], back[-1]))
             print('%d states of %d MB, %d MB in all' % tuple(page.ask('kept')))
             self.assertLess(opened, OPEN)

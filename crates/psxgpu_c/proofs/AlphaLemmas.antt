@@ -1,6 +1,7 @@
 -- The pixels of a picture with an alpha.
 use Rattle.std.proofs.Common.{◌≡◌, ◌≤◌, ◌+◌, ◌-◌, ◌*◌, ◌++◌, ◌∷◌, [], ◌∙◌, ℕ, zero, suc, List, refl, ap, arith}
-use Rattle.std.proofs.Common.{length, take, drop, slice_range, add-one, Bool, true, false, if◌then◌else◌, length-append, length-drop}
+use Rattle.std.proofs.Common.{length, take, drop, slice_range, add-one, Bool, true, false, if◌then◌else◌}
+use Rattle.std.proofs.Common.{length-append, length-drop}
 use Rattle.std.proofs.lemmas.Grind.{common_steps}
 use Rattle.std.proofs.lemmas.Slice.{take-put_mid}
 use Rattle.std.proofs.Math.Seq.{drop-append_seam}

@@ -1,6 +1,6 @@
 -- Data words of a load that are taken at once: nothing is told of them.
 use Rattle.std.proofs.Common.{◌≡◌, ◌≤◌, ◌<◌, ◌+◌, ◌-◌, ◌++◌, ℕ, zero, suc, List, [], ◌∷◌, true, length, take, drop}
-use Rattle.std.proofs.Common.{get_or, nat_lt, Some, refl, ap, sym, subst, arith, ◌∙◌, add-one, add-zero}
+use Rattle.std.proofs.Common.{get_or, nat_lt, Some, refl, ap, sym, subst, arith, ◌∙◌}
 use Rattle.std.proofs.lemmas.Bool.Decides.{nat_tests}
 use Rattle.std.proofs.lemmas.List.Sums.{fold_more, fold-append}
 use Rattle.std.proofs.Math.Seq.{take-add}
@@ -12,7 +12,6 @@ use Rattle.gp0_words.specs.Items.{pending_behind}
 use Rattle.gp0_words.specs.Next.{next_pending, wanted, IsPending}
 use Rattle.gp0_words.specs.Sizes.{most_data_words}
 use Rattle.gp0_words.specs.declared.item.Item.TheVariants as item
-use Rattle.gp0_words.specs.declared.pending.Pending.{Pending}
 use Rattle.gp0_words.specs.declared.pending.Pending.TheVariants as pending
 use Rattle.gp0_words.proofs.Pushes.{pushed, wanted_is}
 use Rattle.gpu_core.specs.Kept.{Kept, kept_of}

@@ -1,5 +1,5 @@
 -- What is told of words that are taken one after another.
-use Rattle.std.proofs.Common.{◌≡◌, ◌≤◌, ◌<◌, ◌+◌, ◌++◌, ℕ, suc, List, Option, length, take, drop, slice_index, get_or}
+use Rattle.std.proofs.Common.{◌≡◌, ◌≤◌, ◌<◌, ◌+◌, ◌++◌, ℕ, List, Option, length, take, drop, get_or}
 use Rattle.std.proofs.Common.{refl, ap, sym, subst, arith, ◌∙◌, length-append, add-one}
 use Rattle.std.proofs.lemmas.List.{take_all, drop-drop}
 use Rattle.std.proofs.lemmas.List.Sums.{fold_more}
@@ -43,11 +43,13 @@ noted_more t words n rig next before mid now count more note lt h goes tells is_
     let u = after_words t (take n words) in
     let w = get_or words n 0 in
     let step = fold_more after_word t words n 0 lt in
-    let told : gp0_note u.state.gpu (next_number u.played) w ≡ note = rw h.stands.played (tells u.state h.stands.state) in
+    let told : gp0_note u.state.gpu (next_number u.played) w ≡ note =
+    rw h.stands.played (tells u.state h.stands.state) in
     let go = goes u.state h.stands.state in
     let after : StandsFor next (after_word u w) =
     record { state = go.state; played = ap next_number h.stands.played ∙ go.played } in
-    let notes : first_notes t words (n + 1) ≡ first_notes t words n ++ noted_at n note = rw add-one (ap (λ o. first_notes t words n ++ noted_at n o) told) in
+    let notes : first_notes t words (n + 1) ≡ first_notes t words n ++ noted_at n note =
+    rw add-one (ap (λ o. first_notes t words n ++ noted_at n o) told) in
     record {
       stands = rw step after;
       front = rw (front, h.front, notes) refl;
@@ -62,7 +64,8 @@ pub noted_all : (t : Tale) (words : List ℕ) (n : ℕ) (rig : RigState) (before
 noted_all t words n rig before now count is fits h =
     let all : take n words ≡ words = take_all n words (omega (arith, is)) in
     let due : first_notes t words n ≡ first_notes t words (length words) = ap (λ k. first_notes t words k) is in
-    let many : length (first_notes t words (length words)) ≡ count = sym (h.is_count ∙ ap (λ (xs : List ItemNote). length xs) due) in
+    let many : length (first_notes t words (length words)) ≡ count =
+    sym (h.is_count ∙ ap (λ (xs : List ItemNote). length xs) due) in
     record {
       stands = subst (λ ws. StandsFor rig (after_words t ws)) all h.stands;
       front = record {

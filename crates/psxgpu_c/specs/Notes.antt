@@ -52,8 +52,8 @@ pub record HasNoted (t : Tale) (words : List ℕ) (rig : RigState) (before now :
   pub front : StandsInFront (first_notes t words (length words)) before now
   pub is_count : count ≡ length (first_notes t words (length words))
 
--- The same behind each machine for which the rig stood; or there is too little room, less than a note for each word, and
--- nothing changed.
+-- The same behind each machine for which the rig stood; or there is too little room, less than a note for each word,
+-- and nothing changed.
 abbrev pub TakesNoted : (words : List ℕ) → (was rig : RigState) → (before now : List ItemNote) → Result ℕ Refusal
     → Type 0
 TakesNoted words was rig before now (Ok count) =

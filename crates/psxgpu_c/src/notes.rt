@@ -20,8 +20,8 @@ use std::marker::Brand;
 use std::sync::ledger::{Blank, Ledger};
 use vram_store::Steps;
 
-/// Takes words of GP0, one after another, and puts what is told of the items that they complete in front of the caller's
-/// notes. There is room for a note of each word.
+/// Takes words of GP0, one after another, and puts what is told of the items that they complete in front of the
+/// caller's notes. There is room for a note of each word.
 #[unsafe(no_mangle)]
 pub extern "C" fn psxgpu_gp0_notes(
     alloc: Global,

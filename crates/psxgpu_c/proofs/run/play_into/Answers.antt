@@ -1,6 +1,5 @@
 use Rattle.std.proofs.Common.{List, ℕ, length, map, ap, subst, ◌∙◌}
 use Rattle.dev_io.specs.Memory.{SinkState}
-use Rattle.event_play.specs.Streams.{streams}
 use Rattle.psxgpu_c.specs.Shown.{StandsInFront}
 use Rattle.psxgpu_c.specs.Whole.{at_end}
 use Rattle.psxgpu_c.specs.declared.ended.Ended.{Ended}
