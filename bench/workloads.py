@@ -109,6 +109,30 @@ def triangle(size, **settings):
     return piece
 
 
+def turned(size):
+    """Triangles as recorded work has them: shaded, half transparent, with a texture that is turned and scaled."""
+    def piece(k, numbers):
+        x, y = numbers.below(512 - size), numbers.below(256 - size)
+        places = [(x + u * size // 100, y + v * size // 100) for u, v in SHAPES[k % 3]]
+        texture = [(v * size * 3 // 200, (100 - u) * size * 3 // 200) for u, v in SHAPES[k % 3]]
+        return polygon(places, [numbers.color() for _ in range(3)], texture=texture, semi=True, **PALETTED)
+    return piece
+
+
+def palettes(k, numbers):
+    """Sprites, each with another palette than the one before."""
+    return rectangle(numbers.color(), numbers.below(504), numbers.below(248), 8, 8,
+                     texture=(numbers.below(64), numbers.below(64)), palette=clut(16 * (k % 16), 500))
+
+
+def streamed(k, numbers):
+    """A texture of 64x64 texels of four bits is loaded, and drawn once."""
+    at = k % 4
+    cells = STREAM[numbers.below(len(STREAM))]
+    return load(512 + 16 * at, 256, 16, 64, cells) + rectangle(
+        numbers.color(), numbers.below(448), numbers.below(192), 64, 64, texture=(64 * at, 0), palette=PALETTE)
+
+
 def tile(size, depth=None, **settings):
     """Rectangles of this size, flat or textured."""
     def piece(k, numbers):
@@ -155,6 +179,7 @@ def frame(k, numbers):
 
 PALETTED = {'page': PAGE4, 'palette': PALETTE}
 DITHER = draw_mode(dither=True)
+STREAM = [[(1 + 7919 * i * (j + 3)) % 65536 for i in range(1024)] for j in range(8)]
 PIXELS, WORDS, FRAMES = UNITS
 
 WORKLOADS = [
@@ -181,6 +206,10 @@ WORKLOADS = [
     Workload('triangle 8x8 4-bit modulated', PIXELS, CELLS * 0.0064, 80000, triangle(8, **PALETTED), TEXTURES),
     Workload('triangle 16x16 4-bit gouraud', PIXELS, CELLS * 0.0256, 50000, triangle(16, shaded=True, **PALETTED),
              TEXTURES),
+    *[Workload('triangle %dx%d turned, gouraud, dithered, half' % (size, size), PIXELS, CELLS * (size / 100) ** 2,
+               count, turned(size), TEXTURES + DITHER) for size, count in ((8, 60000), (16, 30000), (32, 12000))],
+    Workload('sprite 8x8, palettes in turn', PIXELS, 64, 150000, palettes, TEXTURES + draw_mode(PAGE4)),
+    Workload('texture 64x64 loaded and drawn', PIXELS, 4096, 3000, streamed, TEXTURES + draw_mode(PAGE4)),
     Workload('mixed frame', FRAMES, 0.1, 1500, frame, TEXTURES),
     Workload('state words', WORDS, 1, 2000000, state),
 ]
