@@ -44,7 +44,11 @@ pub fn end<N: Ended, E: Sink, T: Listener>(err: &mut E, ending: N, taps: &Vec<T>
 }
 
 // Writes the line of an ending, and behind that of a refusal the last items.
-fn write_told<N: Ended, E: Sink, T: Listener>(err: &mut E, ending: N, taps: &Vec<T>) -> Result<(), Failed>
+fn write_told<N: Ended, E: Sink, T: Listener>(
+    err: &mut E,
+    ending: N,
+    taps: &Vec<T>,
+) -> Result<(), Failed>
     ensures { Writes E.held E.faults err.old err.new
         (told (N.line ending) (N.exit ending) (map T.heard taps.now.items)) result }
 {

@@ -64,7 +64,13 @@ impl Ended for AnyEnding {
     fn write_line<E: Sink>(self, err: &mut E) -> Result<(), Failed> {
         match self {
             AnyEnding::Played { ending } => ending.write_line(err),
-            AnyEnding::BadSnapshot { byte, word } => write_word(err, b"bad-snapshot", 1, byte, word),
+            AnyEnding::BadSnapshot { byte, word } => write_word(
+                err,
+                b"bad-snapshot",
+                1,
+                byte,
+                word,
+            ),
         }
     }
 }

@@ -42,6 +42,9 @@ fn what_asks_for_memory_is_made(rt: HostRuntime) -> Result<(), Fail> {
     assert_eq!(rt; walk.check(&ram, 0x80_0000), Ok(0));
     assert_eq!(rt; Trace::new(alloc)?.len(), 0);
     assert_eq!(rt; MemSink::new(alloc, 16)?.bytes().len(), 0);
-    assert_eq!(rt; FailSink::new(alloc, 16, 1, Vec::new(alloc))?.bytes().len(), 0);
+    assert_eq!(rt;
+        FailSink::new(alloc, 16, 1, Vec::new(alloc))?.bytes().len(),
+        0
+    );
     Ok(())
 }
