@@ -8,7 +8,6 @@ mod dumps;
 mod film;
 mod flat;
 mod lines;
-mod memory;
 mod pictures;
 mod slim;
 mod told;
