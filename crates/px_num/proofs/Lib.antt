@@ -1,4 +1,6 @@
+pub mod ByteLemmas
 pub mod FloorLemmas
 pub mod FoldLemmas
 pub mod LaneOps
 pub mod Ring
+pub mod SameLemmas

@@ -1,5 +1,7 @@
 //! Operations on sixteen lanes of 16 bits, each by what it does to a lane.
-ghost use Rattle.std.specs.Prelude.{◌≡◌, ◌<◌, ◌+◌, ◌-◌, ◌*◌, ◌/◌, ◌^◌, min, length, slice_index};
+ghost use Rattle.std.specs.Prelude.{◌≡◌, ◌<◌, ◌+◌, ◌-◌, ◌*◌, ◌/◌, ◌%◌, ◌^◌, ◌==◌, ◌↔◌, IsTrue, if◌then◌else◌, nat_lt};
+ghost use Rattle.std.specs.Prelude.{min, length, slice_index};
+ghost use Rattle.std.specs.Int.RustNames.{bit_and, bit_or};
 ghost use Rattle.px_num.specs.Lanes.{EachLane};
 
 use std::simd::prelude::*;
@@ -10,6 +12,15 @@ pub fn splat(value: u16) -> u16x16
     ensures value { EachLane (λ i. slice_index result i ≡ value) }
 {
     u16x16::splat(value)
+}
+
+/// The numbers of the lanes.
+#[inline(always)]
+pub fn ramp() -> u16x16
+    ensures long { length result ≡ 16 }
+    ensures value { EachLane (λ i. slice_index result i ≡ i) }
+{
+    u16x16::from_array([0, 1, 2, 3, 4, 5, 6, 7, 8, 9, 10, 11, 12, 13, 14, 15])
 }
 
 /// The sums, which fit.
@@ -30,6 +41,16 @@ pub fn mul(a: u16x16, b: u16x16) -> u16x16
     a.strict_mul(b)
 }
 
+/// The products modulo 2^16.
+#[inline(always)]
+pub fn wrapping_mul(a: u16x16, b: u16x16) -> u16x16
+    requires { (length a ≡ 16) × (length b ≡ 16) }
+    ensures long { length result ≡ 16 }
+    ensures value { EachLane (λ i. slice_index result i ≡ slice_index a i * slice_index b i % 2 ^ 16) }
+{
+    a * b
+}
+
 /// The differences, 0 where the second number is the larger.
 pub fn sub_or_zero(a: u16x16, b: u16x16) -> u16x16
     requires { (length a ≡ 16) × (length b ≡ 16) }
@@ -37,6 +58,17 @@ pub fn sub_or_zero(a: u16x16, b: u16x16) -> u16x16
     ensures value { EachLane (λ i. slice_index result i ≡ slice_index a i - slice_index b i) }
 {
     a.saturating_sub(b)
+}
+
+/// The differences modulo 2^16.
+#[inline(always)]
+pub fn wrapping_sub(a: u16x16, b: u16x16) -> u16x16
+    requires { (length a ≡ 16) × (length b ≡ 16) }
+    ensures long { length result ≡ 16 }
+    ensures value { EachLane (λ i. slice_index result i
+        ≡ (slice_index a i + (2 ^ 16 - slice_index b i)) % 2 ^ 16) }
+{
+    a - b
 }
 
 /// The smaller of two numbers in each lane.
@@ -56,4 +88,86 @@ pub fn shifted_down(a: u16x16, by: u16) -> u16x16
     ensures value { EachLane (λ i. slice_index result i ≡ slice_index a i / 2 ^ by) }
 {
     a >> by
+}
+
+// The number of so many bits that are 1.
+#[inline(always)]
+fn ones(count: u16) -> u16
+    requires { count < 16 }
+    ensures { result ≡ 2 ^ count - 1 }
+{
+    (1 << count) - 1
+}
+
+/// Each lane modulo a power of two.
+#[inline(always)]
+pub fn low_bits(a: u16x16, count: u16) -> u16x16
+    requires long { length a ≡ 16 }
+    requires count { count < 16 }
+    ensures long { length result ≡ 16 }
+    ensures value { EachLane (λ i. slice_index result i ≡ slice_index a i % 2 ^ count) }
+{
+    a & u16x16::splat(ones(count))
+}
+
+/// The bits that are 1 in both vectors.
+#[inline(always)]
+pub fn and(a: u16x16, b: u16x16) -> u16x16
+    requires { (length a ≡ 16) × (length b ≡ 16) }
+    ensures long { length result ≡ 16 }
+    ensures value { EachLane (λ i. slice_index result i ≡ bit_and (slice_index a i) (slice_index b i)) }
+{
+    a & b
+}
+
+/// The bits that are 1 in one of two vectors.
+#[inline(always)]
+pub fn or(a: u16x16, b: u16x16) -> u16x16
+    requires { (length a ≡ 16) × (length b ≡ 16) }
+    ensures long { length result ≡ 16 }
+    ensures value { EachLane (λ i. slice_index result i ≡ bit_or (slice_index a i) (slice_index b i)) }
+{
+    a | b
+}
+
+/// Whether two vectors are the same.
+#[inline(always)]
+pub fn same(a: u16x16, b: u16x16) -> bool
+    requires { (length a ≡ 16) × (length b ≡ 16) }
+    ensures { IsTrue result ↔ EachLane (λ i. slice_index a i ≡ slice_index b i) }
+{
+    a == b
+}
+
+/// Whether all lanes are 0.
+#[inline(always)]
+pub fn are_zero(a: u16x16) -> bool
+    requires { length a ≡ 16 }
+    ensures { IsTrue result ↔ EachLane (λ i. slice_index a i ≡ 0) }
+{
+    a == u16x16::splat(0)
+}
+
+/// The lanes of one vector where a is below b, and the others of another one.
+#[inline(always)]
+pub fn where_below(a: u16x16, b: u16x16, first: u16x16, others: u16x16) -> u16x16
+    requires tested { (length a ≡ 16) × (length b ≡ 16) }
+    requires chosen { (length first ≡ 16) × (length others ≡ 16) }
+    ensures long { length result ≡ 16 }
+    ensures value { EachLane (λ i. slice_index result i
+        ≡ (if nat_lt (slice_index a i) (slice_index b i) then slice_index first i else slice_index others i)) }
+{
+    a.simd_lt(b).select(first, others)
+}
+
+/// The lanes of one vector where a is b, and the others of another one.
+#[inline(always)]
+pub fn where_equal(a: u16x16, b: u16x16, first: u16x16, others: u16x16) -> u16x16
+    requires tested { (length a ≡ 16) × (length b ≡ 16) }
+    requires chosen { (length first ≡ 16) × (length others ≡ 16) }
+    ensures long { length result ≡ 16 }
+    ensures value { EachLane (λ i. slice_index result i
+        ≡ (if slice_index a i == slice_index b i then slice_index first i else slice_index others i)) }
+{
+    a.simd_eq(b).select(first, others)
 }

@@ -4,6 +4,7 @@
 //! there are is a value, the height, and never a number written into a formula.
 #![tactic(auto)]
 
+pub mod bytes;
 mod error;
 mod height;
 pub mod lanes;

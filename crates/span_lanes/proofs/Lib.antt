@@ -11,7 +11,6 @@ pub mod NibbleLemmas
 pub mod PartLemmas
 pub mod PlainLemmas
 pub mod PlanLemmas
-pub mod SameLemmas
 pub mod SolidLemmas
 pub mod SpansLemmas
 mod StretchLemmas

@@ -1,6 +1,6 @@
 -- Spans of texels, and what is known of them before they are drawn.
 use Rattle.std.specs.Prelude.{ℕ, ◌≡◌, ◌+◌, ◌<◌, List, slice_index}
-use Rattle.px_num.specs.Lanes.{EachLane}
+use Rattle.px_num.specs.Lanes.{EachLane, AreBytes}
 use Rattle.texture_page.specs.Page.{clut_place}
 use Rattle.span_lanes.specs.declared.part.Part.{Part}
 use Rattle.span_lanes.specs.declared.span.Span.{Span}
@@ -13,7 +13,6 @@ use Rattle.span_lanes.specs.Hues.{AreHues}
 use Rattle.span_lanes.specs.Paints.{paint_u, paint_v}
 use Rattle.span_lanes.specs.Shade.{at_cell, texel}
 use Rattle.span_lanes.specs.Swatches.{AreColored, AreSwatches, SuitsPalette}
-use Rattle.span_lanes.specs.Table.{AreBytes}
 
 -- a span that takes its texels from a texture and reads nothing that it writes; that its texels can be found is given
 pub record CanTake (s : Span) (t : Texture) (found : Type 0) (m : List ℕ) : Type 0 where

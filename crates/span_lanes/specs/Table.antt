@@ -1,13 +1,8 @@
 -- Sixteen halfwords by their bytes.
-use Rattle.std.specs.Prelude.{ℕ, ◌≡◌, ◌+◌, ◌*◌, ◌<◌, List, length, map, slice_index}
+use Rattle.std.specs.Prelude.{ℕ, ◌+◌, ◌*◌, List, map, slice_index}
 use Rattle.std.specs.List.{range_with_len}
-use Rattle.px_num.specs.Lanes.{EachLane}
+use Rattle.px_num.specs.Lanes.{AreBytes}
 use Rattle.span_lanes.specs.declared.table.Table.{Table}
-
--- sixteen bytes
-pub record AreBytes (bytes : List ℕ) : Type 0 where
-  pub long : length bytes ≡ 16
-  pub low : EachLane (λ i. slice_index bytes i < 256)
 
 -- the low bytes of sixteen halfwords and the high ones
 pub record IsTable (table : Table) : Type 0 where

@@ -1,12 +1,11 @@
 -- The texels of a chunk by their coordinates, lane by lane.
 use Rattle.std.specs.Prelude.{ℕ, ◌≡◌, ◌+◌, ◌<◌, ◌≤◌, List, slice_index}
-use Rattle.px_num.specs.Lanes.{EachLane}
+use Rattle.px_num.specs.Lanes.{EachLane, AreBytes}
 use Rattle.px_num.specs.declared.shape.Cell.{Cell}
 use Rattle.texture_page.specs.Page.{texel_place, windowed, column, index_in}
 use Rattle.span_lanes.specs.declared.coordinates.Coordinates.{Coordinates}
 use Rattle.span_lanes.specs.declared.span.Texture.{Texture}
 use Rattle.span_lanes.specs.Shade.{at_cell, texel}
-use Rattle.span_lanes.specs.Table.{AreBytes}
 
 -- the cell of the texel of lane j
 abbrev pub lane_place : Texture → Coordinates → ℕ → Cell

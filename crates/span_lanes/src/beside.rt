@@ -1,21 +1,20 @@
 // Texels of a chunk that stand side by side.
 ghost use Rattle.std.specs.Prelude.{◌≡◌, IsTrue, ◌≤◌, ◌<◌, ◌+◌, ◌/◌, length, slice_index};
-ghost use Rattle.px_num.specs.Lanes.{EachLane};
+ghost use Rattle.px_num.specs.Lanes.{EachLane, AreBytes};
 ghost use Rattle.vram_store.specs.Vram.{at, height_of};
 ghost use Rattle.texture_page.specs.Page.{column, index_in};
 ghost use Rattle.span_lanes.specs.Shade.{IsTexture};
 ghost use Rattle.span_lanes.specs.Lanes.{AreCoordinates};
-ghost use Rattle.span_lanes.specs.Table.{AreBytes};
 ghost use Rattle.span_lanes.specs.Texels.{AreBeside, AreIndexes, AreTexels};
 
 use crate::Texture;
 use crate::coordinates::Coordinates;
-use crate::fetch::{halfwords_of, ramp, same};
+use crate::fetch::halfwords_of;
 use crate::nibbles::{nibbles, nibbles_from};
 use crate::octets::octets;
 use crate::places::places_of;
 use crate::table::halfwords_at;
-use px_num::lanes::{add, shifted_down, splat};
+use px_num::lanes::{add, ramp, same, shifted_down, splat};
 use std::simd::prelude::*;
 use std::sync::ledger::Ledger;
 use vram_store::{Steps, Vram};

@@ -15,7 +15,7 @@ use crate::coordinates::Coordinates;
 use crate::octets::{entry_columns, octets};
 use crate::places::places_of;
 use crate::table::{entries_at, halfwords_at, table_of};
-use px_num::lanes::{add, shifted_down, splat, sub_or_zero};
+use px_num::lanes::{add, ramp, same, shifted_down, splat, sub_or_zero};
 use std::simd::prelude::*;
 use std::sync::ledger::Ledger;
 use vram_store::{Steps, Vram};
@@ -37,24 +37,6 @@ fn gather<L: Ledger>(vram: &Vram, xs: u16x16, ys: u16x16, k: u8, steps: &mut Ste
         halfwords[j as usize] = vram.get(xs[j as usize], ys[j as usize], steps);
     }
     u16x16::from_array(halfwords)
-}
-
-// The numbers of the lanes.
-#[inline(always)]
-pub(crate) fn ramp() -> u16x16
-    ensures long { length result ≡ 16 }
-    ensures value { EachLane (λ i. slice_index result i ≡ i) }
-{
-    u16x16::from_array([0, 1, 2, 3, 4, 5, 6, 7, 8, 9, 10, 11, 12, 13, 14, 15])
-}
-
-// Whether two vectors are the same.
-#[inline(always)]
-pub(crate) fn same(a: u16x16, b: u16x16) -> bool
-    requires { (length a ≡ 16) × (length b ≡ 16) }
-    ensures { IsTrue result → EachLane (λ i. slice_index a i ≡ slice_index b i) }
-{
-    a == b
 }
 
 // Whether sixteen cells stand side by side, from (x, y) on.

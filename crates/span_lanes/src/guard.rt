@@ -9,11 +9,10 @@ ghost use Rattle.span_lanes.specs.Guard.{texel_cells, palette_of, clut_strip};
 
 use crate::clut::clut_row;
 use crate::coordinates::Coordinates;
-use crate::fetch::ramp;
 use crate::places::{Places, places_of};
 use crate::{Paint, Texture};
 use overlap_guard::clut_hazard;
-use px_num::lanes::{splat, sub_or_zero};
+use px_num::lanes::{are_zero, ramp, splat, sub_or_zero, where_below, where_equal, wrapping_sub};
 use px_num::{Cell, Strip};
 use std::simd::prelude::*;
 
@@ -48,47 +47,6 @@ fn strip_of(clut: u16, n: u16) -> Strip
     }
 }
 
-// The lanes of a vector where two numbers are the same, and else 0.
-#[inline(always)]
-fn where_equal(a: u16x16, b: u16x16, lanes: u16x16) -> u16x16
-    requires { (length a ≡ 16) × (length b ≡ 16) × (length lanes ≡ 16) }
-    ensures long { length result ≡ 16 }
-    ensures value { EachLane (λ i. slice_index result i
-        ≡ (if slice_index a i == slice_index b i then slice_index lanes i else 0)) }
-{
-    a.simd_eq(b).select(lanes, u16x16::splat(0))
-}
-
-// The lanes of a vector where one number is below another one, and else 0.
-#[inline(always)]
-fn where_below(a: u16x16, b: u16x16, lanes: u16x16) -> u16x16
-    requires { (length a ≡ 16) × (length b ≡ 16) × (length lanes ≡ 16) }
-    ensures long { length result ≡ 16 }
-    ensures value { EachLane (λ i. slice_index result i
-        ≡ (if nat_lt (slice_index a i) (slice_index b i) then slice_index lanes i else 0)) }
-{
-    a.simd_lt(b).select(lanes, u16x16::splat(0))
-}
-
-// How far each number is above another one, modulo 2^16.
-#[inline(always)]
-fn above(a: u16x16, b: u16x16) -> u16x16
-    requires { (length a ≡ 16) × (length b ≡ 16) }
-    ensures long { length result ≡ 16 }
-    ensures value { EachLane (λ i. slice_index result i
-        ≡ (slice_index a i + (2 ^ 16 - slice_index b i)) % 2 ^ 16) }
-{
-    a - b
-}
-
-#[inline(always)]
-fn are_zero(a: u16x16) -> bool
-    requires { length a ≡ 16 }
-    ensures { IsTrue result ↔ EachLane (λ i. slice_index a i ≡ 0) }
-{
-    a == u16x16::splat(0)
-}
-
 // Of k cells from `to` on, whose texels are at these places, those that read what an earlier one writes: their lanes
 // are above 0, and all others 0.
 #[inline(always)]
@@ -101,9 +59,10 @@ fn late_lanes(places: &Places, to: Cell, k: u8) -> u16x16
         × (to.x ≤ slice_index places.now.xs j) × (slice_index places.now.xs j < to.x + j))) }
 {
     let lanes = ramp();
-    let before = where_below(lanes, splat(k as u16), lanes);
-    let row = where_equal(places.ys, splat(to.y), before);
-    sub_or_zero(row, above(places.xs, splat(to.x)))
+    let none = splat(0);
+    let before = where_below(lanes, splat(k as u16), lanes, none);
+    let row = where_equal(places.ys, splat(to.y), before, none);
+    sub_or_zero(row, wrapping_sub(places.xs, splat(to.x)))
 }
 
 // Whether one of k cells from `to` on reads as its texel what an earlier one writes.

@@ -13,7 +13,6 @@ mod apart;
 mod back;
 mod beside;
 mod block;
-mod bytes;
 mod cells;
 mod clut;
 mod colors;

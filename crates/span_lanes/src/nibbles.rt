@@ -1,36 +1,15 @@
 // The indexes of texels of four bits.
-ghost use Rattle.std.specs.Prelude.{◌≡◌, ◌<◌, ◌+◌, ◌*◌, ◌/◌, ◌%◌, ◌^◌, ℕ, length, slice_index};
-ghost use Rattle.px_num.specs.Lanes.{EachLane};
+ghost use Rattle.std.specs.Prelude.{◌≡◌, ◌<◌, ◌+◌, ◌/◌, ℕ, length, slice_index};
+ghost use Rattle.px_num.specs.Lanes.{EachLane, AreBytes};
 ghost use Rattle.texture_page.specs.Page.{index_in};
 ghost use Rattle.span_lanes.specs.Nibbles.{raise};
-ghost use Rattle.span_lanes.specs.Table.{AreBytes};
 
-use crate::bytes::{
-    bytes_at, bytes_down, bytes_from, first_bytes, low4, narrowed, parities, where_zero,
-};
 use crate::table::halfwords_at;
-use px_num::lanes::shifted_down;
+use px_num::bytes::{
+    bytes_at, bytes_down, bytes_from, bytes_low, first_bytes, narrowed, where_zero,
+};
+use px_num::lanes::{low_bits, shifted_down, wrapping_mul};
 use std::simd::prelude::*;
-
-// The products modulo 2^16.
-#[inline(always)]
-pub(crate) fn product(a: u16x16, b: u16x16) -> u16x16
-    requires { (length a ≡ 16) × (length b ≡ 16) }
-    ensures long { length result ≡ 16 }
-    ensures value { EachLane (λ i. slice_index result i ≡ slice_index a i * slice_index b i % 2 ^ 16) }
-{
-    a * b
-}
-
-// Each number modulo 4.
-#[inline(always)]
-fn low2(a: u16x16) -> u16x16
-    requires { length a ≡ 16 }
-    ensures long { length result ≡ 16 }
-    ensures value { EachLane (λ i. slice_index result i ≡ slice_index a i % 4) }
-{
-    a & u16x16::splat(3)
-}
 
 // What brings the four bits of a column into the top of its halfword, for the columns 0 to 3.
 #[inline(always)]
@@ -49,7 +28,7 @@ fn raises(across: u16x16) -> u16x16
     ensures long { length result ≡ 16 }
     ensures value { EachLane (λ i. slice_index result i ≡ raise (slice_index across i)) }
 {
-    halfwords_at(raise_table(), low2(across))
+    halfwords_at(raise_table(), low_bits(across, 2))
 }
 
 // The indexes of sixteen texels, by their columns under the window and the halfwords of their cells.
@@ -62,7 +41,7 @@ fn indexes(across: u16x16, halfwords: u16x16) -> u16x16
     ensures value { EachLane (λ i. slice_index result i ≡ index_in 0 (slice_index across i) (slice_index halfwords i)) }
     ensures low { EachLane (λ i. slice_index result i < 16) }
 {
-    shifted_down(product(halfwords, raises(across)), 12)
+    shifted_down(wrapping_mul(halfwords, raises(across)), 12)
 }
 
 // The same as bytes.
@@ -89,5 +68,9 @@ pub(crate) fn nibbles_from(column: u8, halfwords: u16x16) -> u8x16
 {
     let across = bytes_from(column);
     let bytes = bytes_at(first_bytes(halfwords), bytes_down(across, 1));
-    where_zero(parities(across), low4(bytes), bytes_down(bytes, 4))
+    where_zero(
+        bytes_low(across, 1),
+        bytes_low(bytes, 4),
+        bytes_down(bytes, 4),
+    )
 }

@@ -1,24 +1,12 @@
 // Texels of eight bits: their indexes, and the columns of a palette's entries.
-ghost use Rattle.std.specs.Prelude.{◌≡◌, ◌<◌, ◌%◌, ℕ, length, slice_index};
+ghost use Rattle.std.specs.Prelude.{◌≡◌, ◌<◌, ℕ, length, slice_index};
 ghost use Rattle.px_num.specs.Lanes.{EachLane};
 ghost use Rattle.texture_page.specs.Page.{clut_place, index_in};
 ghost use Rattle.span_lanes.specs.Nibbles.{raise_byte};
 
-use crate::nibbles::product;
-use crate::places::low10;
 use crate::table::halfwords_at;
-use px_num::lanes::{add, shifted_down, splat};
+use px_num::lanes::{add, low_bits, shifted_down, splat, wrapping_mul};
 use std::simd::prelude::*;
-
-// Each number modulo 2.
-#[inline(always)]
-fn low1(a: u16x16) -> u16x16
-    requires { length a ≡ 16 }
-    ensures long { length result ≡ 16 }
-    ensures value { EachLane (λ i. slice_index result i ≡ slice_index a i % 2) }
-{
-    a & u16x16::splat(1)
-}
 
 // What brings the eight bits of a column into the top of its halfword, for the columns 0 and 1.
 #[inline(always)]
@@ -37,7 +25,7 @@ fn byte_raises(across: u16x16) -> u16x16
     ensures long { length result ≡ 16 }
     ensures value { EachLane (λ i. slice_index result i ≡ raise_byte (slice_index across i)) }
 {
-    halfwords_at(byte_table(), low1(across))
+    halfwords_at(byte_table(), low_bits(across, 1))
 }
 
 // The indexes of sixteen texels, by their columns under the window and the halfwords of their cells.
@@ -50,7 +38,7 @@ pub(crate) fn octets(across: u16x16, halfwords: u16x16) -> u16x16
     ensures value { EachLane (λ i. slice_index result i ≡ index_in 1 (slice_index across i) (slice_index halfwords i)) }
     ensures low { EachLane (λ i. slice_index result i < 256) }
 {
-    shifted_down(product(halfwords, byte_raises(across)), 8)
+    shifted_down(wrapping_mul(halfwords, byte_raises(across)), 8)
 }
 
 // The columns of the entries of sixteen indexes.
@@ -62,5 +50,5 @@ pub(crate) fn entry_columns(clut: u16, indexes: u16x16) -> u16x16
     ensures value { EachLane (λ i. slice_index result i ≡ (clut_place clut (slice_index indexes i)).x) }
     ensures in_row { EachLane (λ i. slice_index result i < 1024) }
 {
-    low10(add(splat(clut % 64 * 16), indexes))
+    low_bits(add(splat(clut % 64 * 16), indexes), 10)
 }

@@ -1,6 +1,5 @@
 // The cells of the texels of a chunk, their addresses all at once.
 ghost use Rattle.std.specs.Prelude.{◌≡◌, ◌≤◌, ◌<◌, ◌+◌, ◌%◌, length, slice_index};
-ghost use Rattle.std.specs.Int.RustNames.{bit_and, bit_or};
 ghost use Rattle.px_num.specs.Lanes.{EachLane};
 ghost use Rattle.texture_page.specs.Page.{IsPage, windowed, column};
 ghost use Rattle.span_lanes.specs.Shade.{IsTexture};
@@ -9,39 +8,9 @@ ghost use Rattle.span_lanes.specs.Texels.{lane_place, AreAcross};
 
 use crate::Texture;
 use crate::coordinates::Coordinates;
-use px_num::lanes::{add, shifted_down, splat};
+use px_num::lanes::{add, and, low_bits, or, shifted_down, splat};
 use std::simd::prelude::*;
 use texture_page::Page;
-
-// The bits that are 1 in a vector and in a number.
-#[inline(always)]
-fn and(a: u16x16, b: u16) -> u16x16
-    requires { length a ≡ 16 }
-    ensures long { length result ≡ 16 }
-    ensures value { EachLane (λ i. slice_index result i ≡ bit_and (slice_index a i) b) }
-{
-    a & u16x16::splat(b)
-}
-
-// The bits that are 1 in a vector or in a number.
-#[inline(always)]
-fn or(a: u16x16, b: u16) -> u16x16
-    requires { length a ≡ 16 }
-    ensures long { length result ≡ 16 }
-    ensures value { EachLane (λ i. slice_index result i ≡ bit_or (slice_index a i) b) }
-{
-    a | u16x16::splat(b)
-}
-
-// Each number modulo 1024.
-#[inline(always)]
-pub(crate) fn low10(a: u16x16) -> u16x16
-    requires { length a ≡ 16 }
-    ensures long { length result ≡ 16 }
-    ensures value { EachLane (λ i. slice_index result i ≡ slice_index a i % 1024) }
-{
-    a & u16x16::splat(1023)
-}
 
 // Sixteen coordinates under one direction of a window.
 #[inline(always)]
@@ -55,8 +24,8 @@ fn under_window(mask: u8, off: u8, coordinates: u16x16) -> u16x16
     ensures low { EachLane (λ i. slice_index result i ≤ 255) }
 {
     or(
-        and(coordinates, 255 - mask as u16 * 8),
-        (off & mask) as u16 * 8,
+        and(coordinates, splat(255 - mask as u16 * 8)),
+        splat((off & mask) as u16 * 8),
     )
 }
 
@@ -85,7 +54,7 @@ fn texel_columns(page: &Page, across: u16x16) -> u16x16
     ensures value { EachLane (λ i. slice_index result i
         ≡ (page.now.x + column page.now.depth (slice_index across i)) % 1024) }
 {
-    low10(add(splat(page.x), columns(page.depth, across)))
+    low_bits(add(splat(page.x), columns(page.depth, across)), 10)
 }
 
 #[inline(always)]

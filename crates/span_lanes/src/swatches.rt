@@ -1,11 +1,11 @@
 // Textures of four bits under one colour, whose palette is read and coloured once a primitive.
 ghost use Rattle.std.specs.Prelude.{◌≡◌, ◌≤◌, ◌<◌, ◌+◌, IfSome, IsTrue, Some, pos};
 ghost use Rattle.std.specs.Prelude.{length, slice_index};
-ghost use Rattle.px_num.specs.Lanes.{EachLane};
+ghost use Rattle.px_num.specs.Lanes.{EachLane, AreBytes};
 ghost use Rattle.span_lanes.specs.Plan.{IsPlan};
 ghost use Rattle.span_lanes.specs.Shade.{front_of};
 ghost use Rattle.span_lanes.specs.Swatches.{AreColored, AreEntries, IsPalette, SuitsPalette};
-ghost use Rattle.span_lanes.specs.Table.{AreBytes, entry_at};
+ghost use Rattle.span_lanes.specs.Table.{entry_at};
 
 use crate::clut::{clut_row, has_even_palette};
 use crate::colors::no_shifts;

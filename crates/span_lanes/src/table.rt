@@ -1,10 +1,10 @@
 // Tables of sixteen halfwords.
-ghost use Rattle.std.specs.Prelude.{◌≡◌, ◌<◌, ◌%◌, length, slice_index};
-ghost use Rattle.px_num.specs.Lanes.{EachLane};
-ghost use Rattle.span_lanes.specs.Table.{AreBytes, IsTable, entry_at};
+ghost use Rattle.std.specs.Prelude.{◌≡◌, ◌<◌, length, slice_index};
+ghost use Rattle.px_num.specs.Lanes.{EachLane, AreBytes};
+ghost use Rattle.span_lanes.specs.Table.{IsTable, entry_at};
 
-use crate::bytes::{bytes_at, joined, narrowed};
-use px_num::lanes::shifted_down;
+use px_num::bytes::{bytes_at, joined, narrowed};
+use px_num::lanes::{low_bits, shifted_down};
 use std::simd::prelude::*;
 
 // Sixteen halfwords by their bytes.
@@ -14,16 +14,6 @@ pub(crate) struct Table {
     pub(crate) high: u8x16,
 }
 
-// Each number modulo 256.
-#[inline(always)]
-pub(crate) fn low8(a: u16x16) -> u16x16
-    requires { length a ≡ 16 }
-    ensures long { length result ≡ 16 }
-    ensures value { EachLane (λ i. slice_index result i ≡ slice_index a i % 256) }
-{
-    a & u16x16::splat(255)
-}
-
 #[inline(always)]
 pub(crate) fn table_of(entries: u16x16) -> Table
     requires { length entries ≡ 16 }
@@ -31,7 +21,7 @@ pub(crate) fn table_of(entries: u16x16) -> Table
     ensures value { EachLane (λ i. entry_at result i ≡ slice_index entries i) }
 {
     Table {
-        low: narrowed(low8(entries)),
+        low: narrowed(low_bits(entries, 8)),
         high: narrowed(shifted_down(entries, 8)),
     }
 }

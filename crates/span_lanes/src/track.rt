@@ -8,15 +8,14 @@ ghost use Rattle.span_lanes.specs.Track.{along_at, IsAlong};
 
 use crate::beside::indexes_of;
 use crate::coordinates::Coordinates;
-use crate::fetch::{ramp, read_texels};
+use crate::fetch::read_texels;
 use crate::hues::line_of;
 use crate::part::Part;
 use crate::sampler::{Indexed, Sampler};
 use crate::slopes::Slopes;
-use crate::table::low8;
 use crate::{Span, Texture};
 use edge_walk::RowLine;
-use px_num::lanes::{add, splat, sub_or_zero};
+use px_num::lanes::{add, low_bits, ramp, splat, sub_or_zero};
 use std::simd::prelude::*;
 use std::sync::ledger::Ledger;
 use vram_store::{Steps, Vram};
@@ -62,7 +61,7 @@ fn rising_columns(u: u8, first: u16) -> u16x16
     ensures columns { AreCoordinates result }
     ensures value { (j : ℕ) → j < 16 → slice_index result j ≡ row_u u false (first + j) }
 {
-    low8(add(splat(u as u16 + first), ramp()))
+    low_bits(add(splat(u as u16 + first), ramp()), 8)
 }
 
 // The columns of sixteen texels that fall from u on, so many cells further.
@@ -73,7 +72,7 @@ fn falling_columns(u: u8, first: u16) -> u16x16
     ensures columns { AreCoordinates result }
     ensures value { (j : ℕ) → j < 16 → slice_index result j ≡ row_u u true (first + j) }
 {
-    low8(sub_or_zero(splat(u as u16 + 1024 - first), ramp()))
+    low_bits(sub_or_zero(splat(u as u16 + 1024 - first), ramp()), 8)
 }
 
 // The columns of sixteen texels of a row, from that of its cell `first` on.

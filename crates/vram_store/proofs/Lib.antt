@@ -1,4 +1,4 @@
-pub mod Choices
+pub mod BitLemmas
 pub mod ChunkLaw
 pub mod Drawn
 pub mod Lanes

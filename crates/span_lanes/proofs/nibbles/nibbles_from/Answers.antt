@@ -16,5 +16,5 @@ returns-clause-value c i lt =
     ∙ c.first_bytes.ensures.value (a / 2) few
     ∙ ap (λ (n : ℕ). get_or h n 0 / 256 ^ (a / 2 % 2) % 256) quarter in
     c.where_zero.ensures.value i lt
-    ∙ rw (c.parities.ensures.value i lt, c.low4.ensures.value i lt, c.bytes_down-2.ensures.value i lt, across, byte)
+    ∙ rw (c.bytes_low.ensures.value i lt, c.bytes_low-2.ensures.value i lt, c.bytes_down-2.ensures.value i lt, across, byte)
     (half_byte a (get_or h (a / 4) 0))

@@ -1,0 +1,14 @@
+use Rattle.std.proofs.Common.{◌∙◌, ap, get_or}
+use lib.Bits.{bit_and}
+use Rattle.std.proofs.lemmas.Nat.{and_mask}
+use Rattle.px_num.proofs.LaneOps.{long_splat, at_splat}
+use Rattle.px_num.proofs.bytes.bytes_low.Goals as goal
+
+pub returns-clause-long : goal.returns-clause-long
+returns-clause-long c = long_splat bit_and c.args.a _ c.requires.long
+
+pub returns-clause-value : goal.returns-clause-value
+returns-clause-value c i lt =
+    at_splat bit_and c.args.a _ c.requires.long i lt
+    ∙ ap (bit_and (get_or c.args.a i 0)) c.ones.ensures
+    ∙ and_mask (get_or c.args.a i 0) c.args.count
