@@ -1,2 +1,3 @@
+pub mod LateLemmas
 pub mod Places
 pub mod TestLemmas

@@ -1,2 +1,3 @@
 pub mod Hazard
+pub mod Lanes
 pub mod Laws

@@ -8,10 +8,12 @@
 #![tactic(auto)]
 
 mod copy;
+mod lanes;
 pub mod laws;
 mod texture;
 
 pub use copy::copy_hazard;
+pub use lanes::lanes_hazard;
 pub use texture::{clut_hazard, texture_hazard};
 
 #[cfg(test)]

@@ -11,7 +11,8 @@ use px_num::{Cell, Strip};
 ///
 /// Lane `i` of the `n` lanes reads `texels[i]`, and writes the cell `i` columns to the right of `to`,
 /// whose row may not be left. The palette is a strip, which wraps at 1024 columns; without one there are
-/// texels alone.
+/// texels alone. It goes from texel to texel: what is drawn asks [`lanes_hazard`](crate::lanes_hazard), which
+/// is proved to answer as this one does.
 pub fn texture_hazard(texels: &[Cell], clut: Option<Strip>, to: Cell, n: u8) -> bool
     requires count { (1 ≤ n) × (n ≤ 16) }
     requires members { length texels.now ≡ n }

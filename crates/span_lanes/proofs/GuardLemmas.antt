@@ -1,91 +1,60 @@
--- Chunks that read what they write, by lanes.
-use Rattle.std.proofs.Common.{◌≡◌, ◌<◌, ◌≤◌, ℕ, zero, suc, ◌+◌, ◌-◌, ◌%◌, ◌^◌, ◌↔◌, Bool, true, false, cond, eqb, ltb}
-use Rattle.std.proofs.Common.{IsTrue, not, List, length, get_or, refl, arith}
-use Rattle.std.proofs.lemmas.Bool.Decides.{nat_tests}
-use Rattle.std.proofs.lemmas.List.FromFn.{get_or-map-range_with_len, length-map-range_with_len}
+-- The cells of the texels of a chunk, by its lanes.
+use Rattle.std.proofs.Common.{◌≡◌, ◌<◌, ◌≤◌, ℕ, zero, suc, ◌+◌, List, [], ◌∷◌, ◌++◌, map, get_or, refl, sym, ap, ◌∙◌}
+use Rattle.std.proofs.Common.{add-one, arith}
+use Rattle.std.specs.List.{range_with_len}
+use Rattle.std.proofs.lemmas.List.FromFn.{map-range_with_len_more}
 use Rattle.px_num.specs.Lanes.{EachLane}
 use Rattle.px_num.specs.declared.shape.Cell.{Cell}
 use Rattle.texture_page.specs.Page.{texel_place}
-use Rattle.overlap_guard.specs.Hazard.{HasTexelHazard, WrittenBefore, cell_at}
+use Rattle.overlap_guard.specs.Lanes.{lane_cells}
+use Rattle.span_lanes.specs.declared.span.Paint.{Paint}
 use Rattle.span_lanes.specs.declared.span.Texture.{Texture}
-use Rattle.span_lanes.specs.Guard.{texel_cells}
+use Rattle.span_lanes.specs.Paints.{paint_u, paint_v}
+use Rattle.span_lanes.specs.Lanes.{HasCoordinates}
+use Rattle.span_lanes.specs.Guard.{paint_texel, paint_texels, texel_cells}
 
--- a fact that has a test, and one that holds exactly where the first does not
-pub found_unless : {P Q : Type 0} (none : Bool) → IsTrue none ↔ Q → (test : Bool) → IsTrue test ↔ P → (P → Q → ⊥)
-    → ((P → ⊥) → Q) → IsTrue (not none) ↔ P
-found_unless true is test tests apart other = (λ h. absurd cc, λ p. absurd (apart p (is.0 refl)))
-found_unless false is true tests apart other = (λ h. tests.0 refl, λ p. refl)
-found_unless false is false tests apart other = (
-  λ h. absurd (cc (is.1 (other (λ p. absurd (cc (tests.1 p)))))),
-  λ p. refl,
-)
+-- two lists of n cells that are the same number by number
+mapped_same : (f g : ℕ → Cell) (first n : ℕ) → ((i : ℕ) → i < n → f (first + i) ≡ g i)
+    → map f (range_with_len first n) ≡ map g (range_with_len 0 n)
+mapped_same f g first zero same = refl
+mapped_same f g first (suc n) same =
+    let so_far = mapped_same f g first n (λ i lt. same i (omega (arith, lt))) in
+    let more : map f (range_with_len first n) ++ f (first + n) ∷ []
+    ≡ map g (range_with_len 0 n) ++ g n ∷ [] = rw (so_far, same n (omega arith)) refl in
+    ap (λ (k : ℕ). map f (range_with_len first k)) (sym (add-one n))
+    ∙ map-range_with_len_more f first n (first + n) refl
+    ∙ more
+    ∙ sym (map-range_with_len_more g 0 n n (omega arith))
+    ∙ ap (λ (k : ℕ). map g (range_with_len 0 k)) (add-one n)
 
-near : (j x y z : ℕ) → x < 1024 → z < 1024 → j < 16 → (0 < j - (x + (2 ^ 16 - z)) % 2 ^ 16) ↔ ((z ≤ x) × (x < z + j))
-near j x y z low_x low_z lane = (λ h. (omega arith, omega arith), λ h. omega (arith, h.0, h.1))
-
--- the lane of a cell that reads what an earlier one writes
-pub late_lane : (j k x y to_x to_y : ℕ) → x < 1024 → to_x < 1024 → j < 16
-    → (0 < cond (eqb y to_y) (cond (ltb j k) j 0) 0 - (x + (2 ^ 16 - to_x)) % 2 ^ 16)
-    ↔ ((j < k) × (y ≡ to_y) × (to_x ≤ x) × (x < to_x + j))
-late_lane j k x y to_x to_y low_x low_to lane = by_tests (eqb y to_y) (ltb j k) refl refl
+-- the cells of texels by their coordinates are those of the paint
+pub cells_same : (paint : Paint) (t : Texture) (x y first : ℕ) (us vs : List ℕ) (k n : ℕ)
+    → HasCoordinates paint (x + first) y first n us vs → k ≤ n
+    → paint_texels paint t x y first k ≡ texel_cells t us vs k
+unfolding paint_texels texel_cells
+cells_same paint t x y first us vs k n has le =
+    mapped_same (paint_texel paint t x y) (λ j. texel_place t.page t.window (get_or us j 0) (get_or vs j 0)) first k here
   where
-    by_tests : (row few : Bool) → eqb y to_y ≡ row → ltb j k ≡ few
-        → (0 < cond row (cond few j 0) 0 - (x + (2 ^ 16 - to_x)) % 2 ^ 16)
-        ↔ ((j < k) × (y ≡ to_y) × (to_x ≤ x) × (x < to_x + j))
-    by_tests true true is_row is_few =
-        let n = near j x y to_x low_x low_to lane in
-        (λ h. (grind (arith, nat_tests), grind (arith, nat_tests), (n.0 h).0, (n.0 h).1), λ h. n.1 (h.2, h.3))
-    by_tests true false is_row is_few = (λ h. absurd (omega arith), λ h. absurd (grind (arith, nat_tests, h.0)))
-    by_tests false few is_row is_few = (λ h. absurd (omega arith), λ h. absurd (grind (arith, nat_tests, h.1)))
+    here : (i : ℕ) → i < k → paint_texel paint t x y (first + i)
+        ≡ texel_place t.page t.window (get_or us i 0) (get_or vs i 0)
+    here i lt =
+        let column : x + first + i ≡ x + (first + i) = omega arith in
+        let across = rw column at (has.u i (omega (arith, lt))) in
+        let down = rw column at (has.v i (omega (arith, lt))) in
+        rw (across, down) refl
 
--- the lanes above 0 are those of texels that an earlier lane writes
-abbrev pub AreLate : Texture → (us vs : List ℕ) → ℕ → Cell → List ℕ → Type 0
-AreLate t us vs k to late = (j : ℕ) → j < 16 → (0 < get_or late j 0)
-    ↔ ((j < k) × ((texel_place t.page t.window (get_or us j 0) (get_or vs j 0)).y ≡ to.y)
-    × (to.x ≤ (texel_place t.page t.window (get_or us j 0) (get_or vs j 0)).x)
-    × ((texel_place t.page t.window (get_or us j 0) (get_or vs j 0)).x < to.x + j))
-
-module _ (t : Texture) (us vs : List ℕ) (k : ℕ) (to : Cell) (late : List ℕ) (few : k ≤ 16)
-    (lanes : AreLate t us vs k to late) where
-  member : (j : ℕ) → j < k → cell_at (texel_cells t us vs k) j
-      ≡ texel_place t.page t.window (get_or us j 0) (get_or vs j 0)
-  unfolding texel_cells
-  member j lt = get_or-map-range_with_len (λ i. texel_place t.page t.window (get_or us i 0) (get_or vs i 0)) 0 k j j
-      (record { x = 0; y = 0 }) lt (omega arith)
-
-  count : length (texel_cells t us vs k) ≡ k
-  unfolding texel_cells
-  count = length-map-range_with_len (λ i. texel_place t.page t.window (get_or us i 0) (get_or vs i 0)) 0 k
-
-  -- a cell that reads what an earlier one writes has a lane that says so
-  pub late_found : HasTexelHazard (texel_cells t us vs k) to → EachLane (λ j. get_or late j 0 ≡ 0) → ⊥
-  late_found h none =
-      let j : ℕ = h.0 in
-      let long = count in
-      let lt : j < k = omega (arith, h.1, long) in
-      let lane : j < 16 = omega arith in
-      let written : WrittenBefore to j (texel_place t.page t.window (get_or us j 0) (get_or vs j 0)) =
-      rw (member j lt) at h.2 in
-      let some = (lanes j lane).1 (
-        lt,
-        written.2.1,
-        omega (arith, written.2.0),
-        omega (arith, written.1, written.2.0),
-      ) in
-      omega (arith, some, none j lane)
-
-  -- without such a cell all lanes are 0
-  pub none_late : (HasTexelHazard (texel_cells t us vs k) to → ⊥) → EachLane (λ j. get_or late j 0 ≡ 0)
-  none_late none j lane = zero_unless (get_or late j 0) (λ some.
-      let is = (lanes j lane).0 some in
-      let long = count in
-      let written : WrittenBefore to j (texel_place t.page t.window (get_or us j 0) (get_or vs j 0)) = (
-        (texel_place t.page t.window (get_or us j 0) (get_or vs j 0)).x - to.x,
-        omega (arith, is.2, is.3),
-        (omega (arith, is.2), is.1),
-      ) in
-      none (j, omega (arith, is.0, long), rw (member j is.0) written))
-    where
-      zero_unless : (n : ℕ) → (0 < n → ⊥) → n ≡ 0
-      zero_unless zero f = refl
-      zero_unless (suc n) f = absurd (f (omega arith))
+-- by their places they are, too
+pub lanes_same : (t : Texture) (us vs xs ys : List ℕ) (k : ℕ) → k ≤ 16
+    → EachLane (λ i. get_or xs i 0 ≡ (texel_place t.page t.window (get_or us i 0) (get_or vs i 0)).x)
+    → EachLane (λ i. get_or ys i 0 ≡ (texel_place t.page t.window (get_or us i 0) (get_or vs i 0)).y)
+    → lane_cells xs ys k ≡ texel_cells t us vs k
+unfolding lane_cells texel_cells
+lanes_same t us vs xs ys k few across down =
+    mapped_same (λ j. record { x = get_or xs j 0; y = get_or ys j 0 })
+    (λ j. texel_place t.page t.window (get_or us j 0) (get_or vs j 0)) 0 k here
+  where
+    here : (i : ℕ) → i < k → ◌≡◌ {A = Cell} (record { x = get_or xs (0 + i) 0; y = get_or ys (0 + i) 0 })
+        (texel_place t.page t.window (get_or us i 0) (get_or vs i 0))
+    here i lt =
+        let same : 0 + i ≡ i = omega arith in
+        rw (same, across i (omega (arith, lt)), down i (omega (arith, lt))) refl

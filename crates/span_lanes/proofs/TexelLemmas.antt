@@ -73,33 +73,6 @@ texel_eight t u v m across h e eight window read entry =
     entry ∙ ap (λ (i : ℕ). at_cell m (clut_place t.clut i)) here
     ∙ texel_entry t u v m (texel_place t.page t.window u v) h (omega (arith, eight)) refl read
 
--- the cells of texels by their coordinates are those of the paint
-pub cells_same : (paint : Paint) (t : Texture) (x y first : ℕ) (us vs : List ℕ) (k n : ℕ)
-    → HasCoordinates paint (x + first) y first n us vs → k ≤ n
-    → paint_texels paint t x y first k ≡ texel_cells t us vs k
-unfolding paint_texels texel_cells
-cells_same paint t x y first us vs zero n has le = refl
-cells_same paint t x y first us vs (suc k) n has le =
-    let so_far = cells_same paint t x y first us vs k n has (omega arith) in
-    let across : get_or us k 0 ≡ paint_u paint (x + (first + k)) y (first + k) = has.u k (omega arith)
-    ∙ ap (λ (c : ℕ). paint_u paint c y (first + k)) (omega arith) in
-    let down : get_or vs k 0 ≡ paint_v paint (x + (first + k)) y (first + k) = has.v k (omega arith)
-    ∙ ap (λ (c : ℕ). paint_v paint c y (first + k)) (omega arith) in
-    let by_paint = map-range_with_len_more (paint_texel paint t x y) first k (first + k) refl in
-    let by_lane = map-range_with_len_more (λ j. texel_place t.page t.window (get_or us j 0) (get_or vs j 0)) 0 k k
-    (omega arith) in
-    let here : paint_texel paint t x y (first + k) ≡ texel_place t.page t.window (get_or us k 0)
-    (get_or vs k 0) = rw (across, down) refl in
-    let by_paint_and_lane : paint_texels paint t x y first k ++ paint_texel paint t x y (first + k) ∷ []
-    ≡ texel_cells t us vs k ++ texel_place t.page t.window (get_or us k 0)
-    (get_or vs k 0) ∷ [] = rw (so_far, here) refl in
-    ap (λ (n : ℕ). map (paint_texel paint t x y) (range_with_len first n)) (sym (add-one k))
-    ∙ by_paint
-    ∙ by_paint_and_lane
-    ∙ sym by_lane
-    ∙ ap (λ (n : ℕ). map (λ j. texel_place t.page t.window (get_or us j 0) (get_or vs j 0)) (range_with_len 0 n))
-    (add-one k)
-
 paint_textured : (paint : Paint) (t : Texture) (brush : Brush) (x y i : ℕ) (m : List ℕ) → texture_of paint ≡ Some t
     → paint_pixel paint brush x y i m
     ≡ textured_pixel brush t.raw (paint_color paint x y) (shift_of (brush.dither && not t.raw) x y) (at m x y)

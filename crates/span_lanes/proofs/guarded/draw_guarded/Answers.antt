@@ -1,7 +1,7 @@
 use Rattle.std.proofs.Common.{arith}
 use Rattle.span_lanes.proofs.CostLemmas.{textured_cost}
 use Rattle.span_lanes.proofs.PlanLemmas.{texels_here}
-use Rattle.span_lanes.proofs.TexelLemmas.{cells_same}
+use Rattle.span_lanes.proofs.GuardLemmas.{cells_same}
 use Rattle.span_lanes.proofs.guarded.draw_guarded.Goals as goal
 
 pub reads_itself-requires-clause-texture : goal.reads_itself-requires-clause-texture

@@ -1,0 +1,71 @@
+// Textured chunks by the places of their texels, all lanes at once.
+ghost use Rattle.std.specs.Prelude.{◌≡◌, ◌+◌, ◌≤◌, ◌<◌, ◌↔◌, IsTrue, length, slice_index};
+ghost use Rattle.px_num.specs.Lanes.{EachLane};
+ghost use Rattle.overlap_guard.specs.Hazard.{HasTexelHazard, HasTextureHazard, has_texture_hazard};
+ghost use Rattle.overlap_guard.specs.Lanes.{lane_cells};
+
+use crate::texture::clut_hazard;
+use px_num::lanes::{are_zero, ramp, splat, sub_or_zero, where_below, where_equal, wrapping_sub};
+use px_num::{Cell, Strip};
+use std::simd::prelude::*;
+
+/// Whether some lane of a textured chunk reads as its texel a cell that an earlier lane writes, or some
+/// lane writes a cell of the palette.
+///
+/// Lane `i` of the `n` lanes reads the cell in column `xs[i]` and row `ys[i]`, and writes the cell `i` columns
+/// to the right of `to`, whose row may not be left. It answers as [`texture_hazard`](crate::texture_hazard)
+/// does of these cells.
+#[inline(always)]
+pub fn lanes_hazard(xs: u16x16, ys: u16x16, clut: Option<Strip>, to: Cell, n: u8) -> bool
+    requires count { (1 ≤ n) × (n ≤ 16) }
+    requires long { (length xs ≡ 16) × (length ys ≡ 16) }
+    requires in_row { EachLane (λ i. slice_index xs i < 1024) }
+    requires target { to.x + n ≤ 1024 }
+    ensures pairs { IsTrue result ↔ HasTextureHazard (lane_cells xs ys n) clut to n }
+    ensures value { result ≡ has_texture_hazard (lane_cells xs ys n) clut to n }
+{
+    lanes_read_written(xs, ys, clut, to, n)
+}
+
+#[inline(always)]
+fn lanes_read_written(xs: u16x16, ys: u16x16, clut: Option<Strip>, to: Cell, n: u8) -> bool
+    requires count { (1 ≤ n) × (n ≤ 16) }
+    requires long { (length xs ≡ 16) × (length ys ≡ 16) }
+    requires in_row { EachLane (λ i. slice_index xs i < 1024) }
+    requires target { to.x + n ≤ 1024 }
+    ensures { IsTrue result ↔ HasTextureHazard (lane_cells xs ys n) clut to n }
+{
+    let texel = have_late(xs, ys, to, n);
+    let palette = clut_hazard(clut, to, n);
+    texel || palette
+}
+
+// Whether some lane reads as its texel a cell that an earlier lane writes.
+#[inline(always)]
+fn have_late(xs: u16x16, ys: u16x16, to: Cell, n: u8) -> bool
+    requires few { n ≤ 16 }
+    requires long { (length xs ≡ 16) × (length ys ≡ 16) }
+    requires in_row { EachLane (λ i. slice_index xs i < 1024) }
+    requires target { to.x < 1024 }
+    ensures { IsTrue result ↔ HasTexelHazard (lane_cells xs ys n) to }
+{
+    !are_zero(late_lanes(xs, ys, to, n))
+}
+
+// Of n lanes whose texels are at these places, those that read what an earlier one writes are above 0, and all others
+// are 0.
+#[inline(always)]
+fn late_lanes(xs: u16x16, ys: u16x16, to: Cell, n: u8) -> u16x16
+    requires long { (length xs ≡ 16) × (length ys ≡ 16) }
+    requires in_row { EachLane (λ i. slice_index xs i < 1024) }
+    requires target { to.x < 1024 }
+    ensures long { length result ≡ 16 }
+    ensures late { EachLane (λ j. (0 < slice_index result j) ↔ ((j < n) × (slice_index ys j ≡ to.y)
+        × (to.x ≤ slice_index xs j) × (slice_index xs j < to.x + j))) }
+{
+    let lanes = ramp();
+    let none = splat(0);
+    let before = where_below(lanes, splat(n as u16), lanes, none);
+    let row = where_equal(ys, splat(to.y), before, none);
+    sub_or_zero(row, wrapping_sub(xs, splat(to.x)))
+}
