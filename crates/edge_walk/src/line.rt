@@ -1,11 +1,8 @@
 // An attribute along a row.
 ghost use Rattle.std.specs.Prelude.{◌≡◌, ◌+◌, ◌-◌, ◌*◌, ◌/◌, ◌%◌, ◌^◌, ◌≤◌, ◌<◌, ℕ, length, slice_index};
 ghost use Rattle.px_num.specs.Lanes.{EachLane};
-ghost use Rattle.edge_walk.specs.Divisor.{IsDivisor};
 ghost use Rattle.edge_walk.specs.Line.{wrapped, scaled, line_value};
 
-use crate::divisor::Divisor;
-use crate::mix::RowMix;
 use std::simd::prelude::*;
 
 /// An attribute along a row of cells. It is the top byte of a number of 64 bits that grows by the same step from
@@ -34,20 +31,6 @@ pub(crate) fn scaled(step: i64, by: u64) -> u64
 }
 
 impl RowLine {
-    // The sums of a row over the area.
-    #[inline(always)]
-    pub(crate) fn of(mix: &RowMix, divisor: &Divisor) -> RowLine
-        requires divisor { IsDivisor divisor.now }
-        requires start { mix.now.start ≤ 255 * divisor.now.area }
-        ensures first { result.first ≡ mix.now.start * divisor.now.reciprocal }
-        ensures step { result.step ≡ scaled mix.now.step divisor.now.reciprocal }
-    {
-        RowLine {
-            first: mix.start as u64 * divisor.reciprocal,
-            step: scaled(mix.step, divisor.reciprocal),
-        }
-    }
-
     // The number i cells further.
     #[inline(always)]
     fn sum(&self, i: u32) -> u64
