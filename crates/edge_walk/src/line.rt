@@ -1,7 +1,7 @@
 // An attribute along a row.
 ghost use Rattle.std.specs.Prelude.{◌≡◌, ◌+◌, ◌-◌, ◌*◌, ◌/◌, ◌%◌, ◌^◌, ◌≤◌, ◌<◌, ℕ, length, slice_index};
 ghost use Rattle.px_num.specs.Lanes.{EachLane};
-ghost use Rattle.edge_walk.specs.Line.{wrapped, scaled, line_value};
+ghost use Rattle.edge_walk.specs.Line.{AreFirst, wrapped, scaled, line_value};
 
 use std::simd::prelude::*;
 
@@ -155,11 +155,7 @@ fn top_bytes(a: u32x16) -> u16x16
 pub(crate) fn keep_first(lanes: u16x16, n: u8) -> u16x16
     requires few { n ≤ 16 }
     requires long { length lanes ≡ 16 }
-    requires bytes { EachLane (λ j. slice_index lanes j ≤ 255) }
-    ensures long { length result ≡ 16 }
-    ensures value { (j : ℕ) → j < n → slice_index result j ≡ slice_index lanes j }
-    ensures bytes { EachLane (λ j. slice_index result j ≤ 255) }
-    ensures rest { (j : ℕ) → n ≤ j → slice_index result j ≡ 0 }
+    ensures { AreFirst lanes n result }
 {
     let all = lanes.to_array();
     let mut kept = [0; 16];
