@@ -1,5 +1,5 @@
 -- The area of a triangle, and what the sums of its attributes are divided by.
-use Rattle.std.proofs.Common.{◌*◌, ◌≤◌, ◌≡◌, ℤ, pos, ◌-ℤ◌, ◌*ℤ◌, ◌≤ℤ◌, int_lt, true, false, cond}
+use Rattle.std.proofs.Common.{◌≤◌, ◌≡◌, ℤ, pos, ◌-ℤ◌, ◌*ℤ◌, ◌≤ℤ◌, int_lt, true, false, cond}
 use Rattle.std.proofs.Common.{unsigned_abs, refl, sym, ap, ◌∙◌, arith}
 use Rattle.std.proofs.lemmas.Int.{ints, unsigned_abs-mul}
 use Rattle.std.proofs.lemmas.Nat.{mul-le}
@@ -7,7 +7,7 @@ use Rattle.px_num.specs.declared.shape.Vertex.{Vertex}
 use Rattle.edge_walk.specs.declared.divisor.Divisor.{Divisor}
 use Rattle.edge_walk.specs.Divisor.{IsDivisor}
 use Rattle.edge_walk.specs.Held.{divisor_for}
-use Rattle.edge_walk.specs.Triangle.{Corners, corners, oriented, doubled_area, edge, IsNear, IsUpright}
+use Rattle.edge_walk.specs.Triangle.{Corners, corners, oriented, doubled_area, IsNear, IsUpright}
 use Rattle.edge_walk.proofs.Corner.{area_turned}
 use Rattle.edge_walk.proofs.WeightLemmas.{edge_is}
 

@@ -1,5 +1,5 @@
 -- Triangles along whose rows texels stand side by side.
-use Rattle.std.proofs.Common.{ℕ, ◌+◌, ◌*◌, ◌/◌, ◌<◌, ◌≡◌, ℤ, pos, ◌+ℤ◌, ◌*ℤ◌, IsTrue, unsigned_abs, refl, sym, ap}
+use Rattle.std.proofs.Common.{ℕ, ◌+◌, ◌*◌, ◌/◌, ◌<◌, ◌≡◌, ℤ, pos, ◌+ℤ◌, ◌*ℤ◌, IsTrue, unsigned_abs, sym, ap}
 use Rattle.std.proofs.Common.{◌∙◌, arith}
 use Rattle.std.proofs.lemmas.Int.{ints}
 use Rattle.std.proofs.Math.Nat.{add-mul-div_left}
@@ -29,7 +29,8 @@ unfolding mixed_of
 one_more a b c which area x y step i upright bytes area_is step_is rises here there =
     let lane = lane_is a b c which area x y i step here there bytes area_is step_is in
     let whole : unsigned_abs (doubled_area (corners a b c)) ≡ area = ap unsigned_abs (sym area_is) in
-    sym lane.value ∙ rw (rises, whole) (rising (sum_at a b c which x y) area i (omega (arith, ints, area_is, upright.area)))
+    sym lane.value
+    ∙ rw (rises, whole) (rising (sum_at a b c which x y) area i (omega (arith, ints, area_is, upright.area)))
 
 -- an attribute that stays
 pub the_same : (a b c : Vertex) (which area : ℕ) (x y step : ℤ) (i : ℕ) → IsUpright (corners a b c)

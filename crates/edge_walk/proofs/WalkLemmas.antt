@@ -1,5 +1,5 @@
 -- What the edges leave of a row.
-use Rattle.std.proofs.Common.{ℕ, ◌+◌, ◌/◌, ◌^◌, ◌≤◌, ◌<◌, ◌≡◌, ℤ, pos, ◌+ℤ◌, ◌-ℤ◌, ◌≤ℤ◌, ◌↔◌, IsTrue, false}
+use Rattle.std.proofs.Common.{ℕ, ◌+◌, ◌/◌, ◌^◌, ◌≤◌, ◌<◌, ◌≡◌, ℤ, pos, ◌-ℤ◌, ◌≤ℤ◌, ◌↔◌, IsTrue, false}
 use Rattle.std.proofs.Common.{FitsSigned, MatchOption, Option, None, Some, w32, arith}
 use Rattle.std.specs.Int.{int_max, int_min}
 use Rattle.std.proofs.lemmas.Int.{ints, clamps}

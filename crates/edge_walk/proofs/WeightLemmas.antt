@@ -1,5 +1,5 @@
 -- Edge values of the cells inside, as weights.
-use Rattle.std.proofs.Common.{ℕ, ◌+◌, ◌≡◌, ℤ, pos, ◌-ℤ◌, ◌*ℤ◌, ◌≤ℤ◌, Bool, true, false, cond, ◌&&◌, IsTrue}
+use Rattle.std.proofs.Common.{◌+◌, ◌≡◌, ℤ, pos, ◌-ℤ◌, ◌*ℤ◌, ◌≤ℤ◌, Bool, true, false, cond, ◌&&◌, IsTrue}
 use Rattle.std.proofs.Common.{refl, arith}
 use Rattle.std.proofs.lemmas.Int.{ints}
 use Rattle.px_num.specs.declared.shape.Vertex.{Vertex}
