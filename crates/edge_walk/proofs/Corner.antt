@@ -40,6 +40,18 @@ IsUpright-turned a b c h less = record {
       omega (arith, ints);
 }
 
+area_next : (a b c : Vertex) → doubled_area (corners b c a) ≡ doubled_area (corners a b c)
+unfolding edge
+area_next a b c = same (poly_edge b c a.x a.y) (poly_edge a b c.x c.y) (omega arith)
+
+-- the same triangle from its second vertex on
+pub upright_next : (a b c : Vertex) → IsUpright (corners a b c) → IsUpright (corners b c a)
+upright_next a b c h = record {
+  small = record { one = h.small.two; two = h.small.three; three = h.small.one };
+  area = let e = area_next a b c in
+      omega (arith, ints, h.area);
+}
+
 -- the three vertices are not in one row
 pub not_level : (a b c : Vertex) → IsUpright (corners a b c) → a.y ≡ b.y → b.y ≡ c.y → ⊥
 unfolding edge

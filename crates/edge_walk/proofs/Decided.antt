@@ -51,7 +51,7 @@ is_drawn-iff t = (
   ),
 )
 
-not_true : (b : Bool) → (IsTrue b → ⊥) → b ≡ false
+pub not_true : (b : Bool) → (IsTrue b → ⊥) → b ≡ false
 not_true true h = absurd (h refl)
 not_true false h = refl
 

@@ -10,7 +10,7 @@ use Rattle.edge_walk.specs.Row.{IsInBox}
 use Rattle.edge_walk.specs.Triangle.{Corners, corners, edge, doubled_area, oriented, is_within, is_inside, IsDrawn}
 use Rattle.edge_walk.specs.Triangle.{IsUpright}
 use Rattle.edge_walk.proofs.Corner.{sum_of_edges, upright_turned, upright_kept}
-use Rattle.edge_walk.proofs.MixLemmas.{positive_edges}
+use Rattle.edge_walk.proofs.WeightLemmas.{positive_edges}
 
 abbrev cross : ℤ → ℤ → ℤ → ℤ → ℤ
 cross a b c d = a *ℤ d -ℤ b *ℤ c

@@ -1,14 +1,20 @@
+pub mod AreaLemmas
+pub mod ColorLemmas
 pub mod Corner
 pub mod Decided
 pub mod DivisorLemmas
 pub mod InBox
 pub mod LineLemmas
-pub mod MixLemmas
 pub mod NearLemmas
+pub mod NumberLemmas
 pub mod PlaneLemmas
 pub mod RowLemmas
 pub mod ScaleLemmas
-pub mod SpanLemmas
+pub mod ShareLemmas
+pub mod SideLemmas
 pub mod SlopeLemmas
-mod SmallLemmas
+pub mod SumLemmas
+pub mod TurnLemmas
 pub mod WalkLemmas
+pub mod WeightLemmas
+mod SmallLemmas

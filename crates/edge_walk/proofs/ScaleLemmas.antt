@@ -1,30 +1,13 @@
 -- Triangles along whose rows texels stand side by side.
-use Rattle.std.proofs.Common.{ℕ, ◌+◌, ◌*◌, ◌/◌, ◌<◌, ◌≡◌, ℤ, pos, ◌+ℤ◌, ◌*ℤ◌, IsTrue, unsigned_abs, refl, sym, ap}
+use Rattle.std.proofs.Common.{ℕ, ◌+◌, ◌*◌, ◌/◌, ◌<◌, ◌≡◌, ℤ, pos, ◌+ℤ◌, ◌*ℤ◌, IsTrue, unsigned_abs, sym, ap}
 use Rattle.std.proofs.Common.{◌∙◌, arith}
 use Rattle.std.proofs.lemmas.Int.{ints}
 use Rattle.std.proofs.Math.Nat.{add-mul-div_left}
 use Rattle.px_num.specs.declared.shape.Vertex.{Vertex}
 use Rattle.edge_walk.specs.Triangle.{Corners, corners, oriented, doubled_area, is_within, IsUpright}
-use Rattle.edge_walk.specs.Attribute.{attribute, mixed_of, step_of, weight, AreBytes, IsUnscaled}
+use Rattle.edge_walk.specs.Attribute.{mixed_of, step_of, AreBytes, IsUnscaled}
 use Rattle.edge_walk.proofs.Corner.{inside_is}
-use Rattle.edge_walk.proofs.MixLemmas.{edges_of, lane_is, sum_is, weight_is, IsLane}
-
--- an attribute some cells on, by its step
-further : (a b c : Vertex) (which area : ℕ) (x y step : ℤ) (i : ℕ) → IsUpright (corners a b c)
-    → AreBytes which (corners a b c) → pos area ≡ doubled_area (corners a b c)
-    → step ≡ step_of (corners a b c) which → IsTrue (is_within (corners a b c) x y)
-    → IsTrue (is_within (corners a b c) (x +ℤ pos i) y)
-    → IsLane (corners a b c) which (x +ℤ pos i) y
-    (pos (weight b c x y * attribute which a + weight c a x y * attribute which b + weight a b x y * attribute which c)
-    +ℤ step *ℤ pos i) area
-further a b c which area x y step i upright bytes area_is step_is here there =
-    let edges = edges_of a b c x y upright here in
-    let first = weight_is b c x y edges.bc_low in
-    let second = weight_is c a x y edges.ca_low in
-    let third = weight_is a b x y edges.ab_low in
-    let sum = sum_is a b c x y (weight b c x y) (weight c a x y) (weight a b x y) first second third in
-    lane_is a b c which x y i _ _ _ _ area step upright there first second third sum bytes refl
-    (omega (arith, ints, sum, area_is)) step_is
+use Rattle.edge_walk.proofs.SumLemmas.{lane_is, sum_at}
 
 rising : (start area i : ℕ) → 0 < area → unsigned_abs (pos start +ℤ pos area *ℤ pos i) / area ≡ start / area + i
 rising start area i some =
@@ -44,9 +27,10 @@ pub one_more : (a b c : Vertex) (which area : ℕ) (x y step : ℤ) (i : ℕ) �
     → mixed_of (corners a b c) which (x +ℤ pos i) y ≡ mixed_of (corners a b c) which x y + i
 unfolding mixed_of
 one_more a b c which area x y step i upright bytes area_is step_is rises here there =
-    let lane = further a b c which area x y step i upright bytes area_is step_is here there in
+    let lane = lane_is a b c which area x y i step here there bytes area_is step_is in
     let whole : unsigned_abs (doubled_area (corners a b c)) ≡ area = ap unsigned_abs (sym area_is) in
-    sym lane.value ∙ rw (rises, whole) (rising _ area i (omega (arith, ints, area_is, upright.area)))
+    sym lane.value
+    ∙ rw (rises, whole) (rising (sum_at a b c which x y) area i (omega (arith, ints, area_is, upright.area)))
 
 -- an attribute that stays
 pub the_same : (a b c : Vertex) (which area : ℕ) (x y step : ℤ) (i : ℕ) → IsUpright (corners a b c)
@@ -56,9 +40,9 @@ pub the_same : (a b c : Vertex) (which area : ℕ) (x y step : ℤ) (i : ℕ) �
     → mixed_of (corners a b c) which (x +ℤ pos i) y ≡ mixed_of (corners a b c) which x y
 unfolding mixed_of
 the_same a b c which area x y step i upright bytes area_is step_is stays here there =
-    let lane = further a b c which area x y step i upright bytes area_is step_is here there in
+    let lane = lane_is a b c which area x y i step here there bytes area_is step_is in
     let whole : unsigned_abs (doubled_area (corners a b c)) ≡ area = ap unsigned_abs (sym area_is) in
-    sym lane.value ∙ rw (stays, whole) (staying _ area i)
+    sym lane.value ∙ rw (stays, whole) (staying (sum_at a b c which x y) area i)
 
 -- along the rows of a triangle
 pub unscaled_is : (t : Corners) (a b c : Vertex) (area : ℕ) (across down : ℤ) → corners a b c ≡ oriented t

@@ -202,8 +202,3 @@ level_is p q false slack level to is =
       scale = omega (arith, ints);
       slack = omega (arith, ints);
     })
-
--- a number by its sign and its size
-pub by_sign : (z : ℤ) (size : ℕ) → size ≡ unsigned_abs z → z ≡ cond (int_lt z (pos 0)) (pos 0 -ℤ pos size) (pos size)
-by_sign (pos n) size is = rw (not_under (pos 0) (pos n) (omega (arith, ints))) (omega (arith, ints, is))
-by_sign (negsuc n) size is = omega (arith, ints, is)

@@ -6,4 +6,5 @@ pub mod Line
 pub mod Plane
 pub mod Row
 pub mod Triangle
+pub mod Upright
 pub mod Walk

@@ -1,6 +1,6 @@
 -- An attribute along a row (our own rule).
 use Rattle.std.specs.Prelude.{ℕ, ◌+◌, ◌-◌, ◌*◌, ◌/◌, ◌%◌, ◌^◌, ◌<◌, ◌≡◌, ℤ, pos, ◌+ℤ◌, int_lt, unsigned_abs, IsTrue}
-use Rattle.std.specs.Prelude.{Bool, if◌then◌else◌}
+use Rattle.std.specs.Prelude.{Bool, if◌then◌else◌, List, length, slice_index, ◌≤◌}
 use Rattle.edge_walk.specs.declared.line.RowLine.{RowLine}
 use Rattle.edge_walk.specs.Triangle.{Corners, is_inside}
 use Rattle.edge_walk.specs.Attribute.{attribute_at}
@@ -18,6 +18,12 @@ unfoldable pub line_value : RowLine → ℕ → ℕ → ℕ
 line_value line at j =
     ((j + (2 ^ 32 - 8)) % 2 ^ 32 * ((line.step + 2 ^ 31) % 2 ^ 64 / 2 ^ 32) % 2 ^ 32 +
     ((line.first + line.step * (at + 8)) % 2 ^ 64 / 2 ^ 32 + 8) % 2 ^ 32) % 2 ^ 32 / 2 ^ 24
+
+-- the first n of sixteen numbers, and then zeros
+pub record AreFirst (lanes : List ℕ) (n : ℕ) (kept : List ℕ) : Type 0 where
+  pub long : length kept ≡ 16
+  pub value : (j : ℕ) → j < n → slice_index kept j ≡ slice_index lanes j
+  pub rest : (j : ℕ) → n ≤ j → slice_index kept j ≡ 0
 
 -- a line is that of an attribute from (x, y) to the right, as far as cells are inside
 abbrev pub IsRowLine : Corners → ℕ → ℤ → ℤ → RowLine → Type 0

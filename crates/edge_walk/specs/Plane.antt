@@ -2,9 +2,10 @@
 use Rattle.std.specs.Prelude.{ℕ, ◌+◌, ◌*◌, ◌/◌, ◌%◌, ◌^◌, ◌≡◌, ℤ, pos, ◌+ℤ◌, unsigned_abs, IsTrue}
 use Rattle.edge_walk.specs.declared.line.RowLine.{RowLine}
 use Rattle.edge_walk.specs.declared.plane.Plane.{Plane}
-use Rattle.edge_walk.specs.Attribute.{attribute_at}
+use Rattle.edge_walk.specs.declared.divisor.Divisor.{Divisor}
+use Rattle.edge_walk.specs.Attribute.{attribute, attribute_at, step_of, row_step_of, AreBytes}
 use Rattle.edge_walk.specs.Triangle.{Corners, is_inside}
-use Rattle.edge_walk.specs.Line.{IsRowLine}
+use Rattle.edge_walk.specs.Line.{IsRowLine, scaled}
 
 -- a coordinate, counted from the least one that there is
 abbrev pub from_least : ℤ → ℕ
@@ -17,6 +18,15 @@ number_at p x y = (p.base + p.across * from_least x + p.down * from_least y) % 2
 -- the line of a plane from (x, y) to the right
 abbrev pub line_at : Plane → ℤ → ℤ → RowLine
 line_at p x y = record { first = number_at p x y; step = p.across }
+
+-- a plane as it is made for an oriented triangle: its steps are those of the attribute's sum over the area, and its
+-- number at the first vertex is that vertex's share
+pub record IsPlaneOf (t : Corners) (which : ℕ) (divisor : Divisor) (plane : Plane) : Type 0 where
+  pub rightward : plane.across ≡ scaled (step_of t which) divisor.reciprocal
+  pub downward : plane.down ≡ scaled (row_step_of t which) divisor.reciprocal
+  pub first : (plane.base + plane.across * from_least t.first.x + plane.down * from_least t.first.y) % 2 ^ 64
+      ≡ divisor.area * attribute which t.first * divisor.reciprocal
+  pub bytes : AreBytes which t
 
 -- a plane is that of an attribute where at each cell inside its number's top byte is the attribute, and its line from
 -- there is that of the cell's row

@@ -22,15 +22,15 @@ edge p q x y = (q.x -ℤ p.x) *ℤ (y -ℤ p.y) -ℤ (q.y -ℤ p.y) *ℤ (x -ℤ
 abbrev pub doubled_area : Corners → ℤ
 doubled_area t = edge t.first t.second t.third.x t.third.y
 
--- the same triangle, its second and third vertex exchanged where the doubled area is below 0
+-- a triangle, its second and third vertex exchanged where the doubled area is below 0
 unfoldable pub oriented : Corners → Corners
 oriented t = if int_lt (doubled_area t) (pos 0) then corners t.first t.third t.second else t
 
--- the same triangle from its second vertex on
+-- a triangle from its second vertex on
 abbrev pub turned : Corners → Corners
 turned t = corners t.second t.third t.first
 
--- the same triangle from any of its vertices on
+-- a triangle and that from any of its vertices on
 abbrev pub IsTurn : Corners → Corners → Type 0
 IsTurn t u = (u ≡ t) ⊎ ((u ≡ turned t) ⊎ (u ≡ turned (turned t)))
 
@@ -65,7 +65,7 @@ pub record IsDrawn (t : Corners) : Type 0 where
   pub small : IsSmall t
   pub area : doubled_area t ≢ pos 0
 
--- the same as a test, for definitions that choose by it
+-- the size rule of two vertices as a test, for definitions that choose by it
 abbrev pub is_near : Vertex → Vertex → Bool
 is_near p q = nat_le (unsigned_abs (p.x -ℤ q.x)) 1023 && nat_le (unsigned_abs (p.y -ℤ q.y)) 511
 

@@ -1,6 +1,6 @@
 -- The rows of a triangle from top to bottom (our own rule).
-use Rattle.std.specs.Prelude.{ℕ, ◌+◌, ◌-◌, ◌%◌, ◌^◌, ◌≤◌, ◌≡◌, ◌↔◌, ℤ, pos, ◌+ℤ◌, ◌-ℤ◌, ◌*ℤ◌, ◌≤ℤ◌, ◌<ℤ◌, unsigned_abs}
-use Rattle.std.specs.Prelude.{FitsSigned}
+use Rattle.std.specs.Prelude.{ℕ, ◌+◌, ◌-◌, ◌*◌, ◌%◌, ◌^◌, ◌≤◌, ◌<◌, ◌≡◌, ◌↔◌, ℤ, pos, ◌+ℤ◌, ◌-ℤ◌, ◌*ℤ◌}
+use Rattle.std.specs.Prelude.{◌≤ℤ◌, ◌<ℤ◌, unsigned_abs, FitsSigned}
 use Rattle.std.specs.Int.{int_max, int_min, w32}
 use Rattle.px_num.specs.declared.shape.Box2.{Box2}
 use Rattle.px_num.specs.declared.shape.Vertex.{Vertex}
@@ -30,6 +30,12 @@ IsBounded Above at x = at <ℤ x
 -- a column lies between two ends, all in parts
 abbrev pub IsWithin : Ends → ℤ → Type 0
 IsWithin ends x = IsBounded Above (pos ends.low) x × IsBounded AtMost (pos ends.high) x
+
+-- the parts of a column over so many rows, rounded up
+pub record ArePartsOver (rows parts : ℕ) : Type 0 where
+  pub enough : 2 ^ 30 ≤ parts * rows
+  pub close : parts * rows < 2 ^ 30 + rows
+  pub most : parts ≤ 2 ^ 30
 
 -- an edge leaves the columns that its slope says: of those up to 1023 away from its first vertex, at whose column its
 -- value is v, the ones where its value is the least one or more

@@ -5,16 +5,17 @@
 //! level to the right. So two triangles with a common edge draw none of its cells twice.
 #![tactic(auto)]
 
+mod attributes;
 mod divisor;
 mod edge;
 mod extent;
 mod line;
-mod mix;
 mod plane;
-mod rows;
 mod side;
 mod slope;
+mod steps;
 mod triangle;
+mod upright;
 mod walk;
 
 pub use divisor::Divisor;

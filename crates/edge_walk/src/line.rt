@@ -1,11 +1,8 @@
 // An attribute along a row.
 ghost use Rattle.std.specs.Prelude.{◌≡◌, ◌+◌, ◌-◌, ◌*◌, ◌/◌, ◌%◌, ◌^◌, ◌≤◌, ◌<◌, ℕ, length, slice_index};
 ghost use Rattle.px_num.specs.Lanes.{EachLane};
-ghost use Rattle.edge_walk.specs.Divisor.{IsDivisor};
-ghost use Rattle.edge_walk.specs.Line.{wrapped, scaled, line_value};
+ghost use Rattle.edge_walk.specs.Line.{AreFirst, wrapped, scaled, line_value};
 
-use crate::divisor::Divisor;
-use crate::mix::RowMix;
 use std::simd::prelude::*;
 
 /// An attribute along a row of cells. It is the top byte of a number of 64 bits that grows by the same step from
@@ -34,20 +31,6 @@ pub(crate) fn scaled(step: i64, by: u64) -> u64
 }
 
 impl RowLine {
-    // The sums of a row over the area.
-    #[inline(always)]
-    pub(crate) fn of(mix: &RowMix, divisor: &Divisor) -> RowLine
-        requires divisor { IsDivisor divisor.now }
-        requires start { mix.now.start ≤ 255 * divisor.now.area }
-        ensures first { result.first ≡ mix.now.start * divisor.now.reciprocal }
-        ensures step { result.step ≡ scaled mix.now.step divisor.now.reciprocal }
-    {
-        RowLine {
-            first: mix.start as u64 * divisor.reciprocal,
-            step: scaled(mix.step, divisor.reciprocal),
-        }
-    }
-
     // The number i cells further.
     #[inline(always)]
     fn sum(&self, i: u32) -> u64
@@ -172,11 +155,7 @@ fn top_bytes(a: u32x16) -> u16x16
 pub(crate) fn keep_first(lanes: u16x16, n: u8) -> u16x16
     requires few { n ≤ 16 }
     requires long { length lanes ≡ 16 }
-    requires bytes { EachLane (λ j. slice_index lanes j ≤ 255) }
-    ensures long { length result ≡ 16 }
-    ensures value { (j : ℕ) → j < n → slice_index result j ≡ slice_index lanes j }
-    ensures bytes { EachLane (λ j. slice_index result j ≤ 255) }
-    ensures rest { (j : ℕ) → n ≤ j → slice_index result j ≡ 0 }
+    ensures { AreFirst lanes n result }
 {
     let all = lanes.to_array();
     let mut kept = [0; 16];

@@ -1,15 +1,16 @@
 // An attribute over a whole triangle.
 ghost use Rattle.std.specs.Prelude.{◌≡◌, ◌+◌, ◌*◌, ◌%◌, ◌^◌, ◌≤◌, ℕ, IsTrue};
-ghost use Rattle.edge_walk.specs.Attribute.{AreBytes, attribute, attribute_at, row_step_of, step_of};
+ghost use Rattle.edge_walk.specs.Attribute.{attribute_at};
 ghost use Rattle.edge_walk.specs.Divisor.{IsDivisor};
-ghost use Rattle.edge_walk.specs.Line.{IsRowLine, scaled};
-ghost use Rattle.edge_walk.specs.Plane.{IsPlane, from_least, line_at, number_at};
-ghost use Rattle.edge_walk.specs.Triangle.{Corners, IsSmall, corners, is_inside};
+ghost use Rattle.edge_walk.specs.Line.{IsRowLine};
+ghost use Rattle.edge_walk.specs.Plane.{IsPlane, IsPlaneOf, from_least, line_at, number_at};
+ghost use Rattle.edge_walk.specs.Triangle.{Corners, is_inside};
+ghost use Rattle.edge_walk.specs.Upright.{corners_of};
 
 use crate::divisor::Divisor;
 use crate::line::{RowLine, scaled};
-use crate::mix::{attribute, step_across, step_down};
-use px_num::Vertex;
+use crate::steps::attribute;
+use crate::upright::Upright;
 
 /// An attribute over a triangle, of whose rows it gives the lines.
 ///
@@ -48,22 +49,17 @@ fn before_steps(to: u64, step: u64, steps: u64) -> u64
 impl Plane {
     // The plane whose sum at the first vertex is that vertex's share of the area.
     #[inline(always)]
-    pub(crate) fn of(a: &Vertex, b: &Vertex, c: &Vertex, which: u8, divisor: &Divisor) -> Plane
-        requires small { IsSmall (corners a.now b.now c.now) }
+    pub(crate) fn of(t: &Upright, which: u8, divisor: &Divisor) -> Plane
         requires which { which ≤ 4 }
         requires divisor { IsDivisor divisor.now }
-        ensures across { result.across ≡ scaled (step_of (corners a.now b.now c.now) which) divisor.now.reciprocal }
-        ensures down { result.down ≡ scaled (row_step_of (corners a.now b.now c.now) which) divisor.now.reciprocal }
-        ensures base { (result.base + result.across * from_least a.now.x + result.down * from_least a.now.y) % 2 ^ 64
-            ≡ divisor.now.area * attribute which a.now * divisor.now.reciprocal }
-        ensures bytes { AreBytes which (corners a.now b.now c.now) }
+        ensures { IsPlaneOf (corners_of t.now) which divisor.now result }
     {
-        let across = scaled(step_across(a, b, c, which), divisor.reciprocal);
-        let down = scaled(step_down(a, b, c, which), divisor.reciprocal);
-        let first = divisor.times(attribute(a, which));
-        let row = before_steps(first, down, from_least(a.y));
+        let across = scaled(t.step_across(which), divisor.reciprocal);
+        let down = scaled(t.step_down(which), divisor.reciprocal);
+        let first = divisor.times(attribute(&t.a, which));
+        let row = before_steps(first, down, from_least(t.a.y));
         Plane {
-            base: before_steps(row, across, from_least(a.x)),
+            base: before_steps(row, across, from_least(t.a.x)),
             across,
             down,
         }

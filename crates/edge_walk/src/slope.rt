@@ -1,9 +1,9 @@
 // How the columns that an edge bounds go from row to row.
-ghost use Rattle.std.specs.Prelude.{◌≡◌, ◌+◌, ◌*◌, ◌^◌, ◌≤◌, ◌<◌, ℤ, pos, ◌-ℤ◌, int_lt, ◌≤ℤ◌, ◌<ℤ◌};
+ghost use Rattle.std.specs.Prelude.{◌≡◌, ◌≤◌, pos, ◌-ℤ◌, int_lt, ◌≤ℤ◌, ◌<ℤ◌};
 ghost use Rattle.std.specs.Prelude.{if◌then◌else◌};
 ghost use Rattle.px_num.specs.declared.shape.Vertex.{Vertex};
 ghost use Rattle.edge_walk.specs.Triangle.{IsNear};
-ghost use Rattle.edge_walk.specs.Walk.{IsSlope};
+ghost use Rattle.edge_walk.specs.Walk.{ArePartsOver, IsSlope};
 
 use crate::edge::difference;
 use px_num::Vertex;
@@ -35,9 +35,7 @@ const SLACK: i64 = -0x10_0000;
 fn parts_over(rows: u32) -> u32
     requires some { 1 ≤ rows }
     requires most { rows ≤ 511 }
-    ensures enough { 2 ^ 30 ≤ result * rows }
-    ensures close { result * rows < 2 ^ 30 + rows }
-    ensures most { result ≤ 2 ^ 30 }
+    ensures { ArePartsOver rows result }
 {
     0x3fff_ffff / rows + 1
 }

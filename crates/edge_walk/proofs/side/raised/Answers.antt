@@ -1,6 +1,6 @@
 use Rattle.std.proofs.Common.{◌^◌, SFits, w64, arith, pos, ◌+ℤ◌, ◌*ℤ◌}
 use Rattle.std.proofs.lemmas.Int.{to_z-of_z, ints, fits_signed_mul}
-use Rattle.edge_walk.proofs.WalkLemmas.{far_small}
+use Rattle.edge_walk.proofs.SideLemmas.{far_small}
 use Rattle.edge_walk.proofs.side.raised.Goals as goal
 
 pub overflow_cast-result : goal.overflow_cast-result

@@ -1,7 +1,7 @@
 use Rattle.std.proofs.Common.{◌≡◌, SFits, w32, w64, arith, rules, refl, ◌+ℤ◌, ◌-ℤ◌, ◌*ℤ◌}
 use Rattle.std.proofs.lemmas.Int.{to_z-of_z, ints}
 use Rattle.edge_walk.specs.Walk.{in_parts, start_value}
-use Rattle.edge_walk.proofs.WalkLemmas.{IsPlaced, far_small, in_reach, placed, value_small}
+use Rattle.edge_walk.proofs.SideLemmas.{IsPlaced, far_small, in_reach, placed, value_small}
 use Rattle.edge_walk.proofs.side.Side.at.Goals as goal
 use Rattle.edge_walk.proofs.side.Side.at.Goals.{After-in_parts}
 

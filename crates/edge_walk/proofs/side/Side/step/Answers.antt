@@ -1,5 +1,5 @@
 use Rattle.std.proofs.Common.{refl}
-use Rattle.edge_walk.proofs.WalkLemmas.{moved_with}
+use Rattle.edge_walk.proofs.SideLemmas.{moved_with}
 use Rattle.edge_walk.proofs.side.Side.step.Goals as goal
 
 pub returns : goal.returns

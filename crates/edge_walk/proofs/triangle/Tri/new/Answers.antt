@@ -1,7 +1,7 @@
 use Rattle.std.proofs.Common.{◌∙◌, IsTrue, false, refl, ap, arith, pos, int_lt, w64, SFits, rules, unsigned_abs}
 use Rattle.std.proofs.lemmas.Int.{to_z-of_z, ints}
 use Rattle.edge_walk.proofs.Decided.{is_drawn-yes, is_drawn-no}
-use Rattle.edge_walk.proofs.MixLemmas.{area_small}
+use Rattle.edge_walk.proofs.AreaLemmas.{area_small}
 use Rattle.edge_walk.proofs.triangle.Tri.new.Goals as goal
 
 pub overflow_cast-result : goal.overflow_cast-result

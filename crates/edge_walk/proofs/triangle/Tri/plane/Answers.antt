@@ -5,14 +5,14 @@ use Rattle.edge_walk.specs.Extent.{bounding_box}
 use Rattle.edge_walk.specs.Triangle.{corners, is_inside, is_within}
 use Rattle.edge_walk.proofs.Corner.{inside_is}
 use Rattle.edge_walk.proofs.InBox.{within-in_box}
-use Rattle.edge_walk.proofs.MixLemmas.{IsAreaOf, area_held}
+use Rattle.edge_walk.proofs.AreaLemmas.{IsAreaOf, area_held}
 use Rattle.edge_walk.proofs.PlaneLemmas.{PlaneAt, plane_at}
 use Rattle.edge_walk.proofs.triangle.Tri.plane.Goals as goal
 use Rattle.edge_walk.proofs.triangle.Tri.plane.Goals.{After-upright-t, After-of}
 
 area : (c : After-upright-t)
     → IsAreaOf c.args.divisor.now (corners c.upright-t.result.a c.upright-t.result.b c.upright-t.result.c)
-area c = area_held _ _ _ _ _ c.requires.divisor c.upright-t.ensures.same c.upright-t.ensures.upright
+area c = area_held _ _ _ _ _ c.requires.divisor c.upright-t.ensures.same c.upright-t.result.upright
 
 pub of-requires-clause-divisor : goal.of-requires-clause-divisor
 of-requires-clause-divisor c = (area (goal.at.of-requires-clause-divisor c).After-upright-t).divisor
@@ -25,18 +25,15 @@ module _ (c : After-of) (x y : ℤ) (inside : IsTrue (is_inside c.args.self.now 
   unfolding bounding_box
   both =
       let t = c.upright-t.result in
-      let held = area_held _ _ _ _ _ c.requires.divisor c.upright-t.ensures.same c.upright-t.ensures.upright in
-      let box = within-in_box t.a t.b t.c x y c.upright-t.ensures.upright here in
+      let held = area_held _ _ _ _ _ c.requires.divisor c.upright-t.ensures.same t.upright in
+      let box = within-in_box t.a t.b t.c x y t.upright here in
       let ax : SFits w32 t.a.x = search rules in
       let bx : SFits w32 t.b.x = search rules in
       let cx : SFits w32 t.c.x = search rules in
       let ay : SFits w32 t.a.y = search rules in
       let by : SFits w32 t.b.y = search rules in
       let cy : SFits w32 t.c.y = search rules in
-      plane_at t.a t.b t.c c.args.which c.args.divisor.now.area c.args.divisor.now.reciprocal c.of.result
-      c.upright-t.ensures.upright c.of.ensures.bytes held.is held.divisor.some held.divisor.most
-      held.divisor.reciprocal
-      (record { across = c.of.ensures.across; down_is = c.of.ensures.down; base = c.of.ensures.base })
+      plane_at t.a t.b t.c c.args.which c.args.divisor.now c.of.result held c.of.ensures
       x y here (omega (arith, ints)) (omega (arith, ints)) (omega (arith, ints, clamps, box.0.0))
       (omega (arith, ints, clamps, box.1.0))
 

@@ -1,71 +1,60 @@
-use Rattle.std.proofs.Common.{◌≡◌, ℤ, ◌≤ℤ◌, ◌↔◌, SFits, w32, w64, IsTrue, refl, arith, rules}
-use Rattle.std.proofs.lemmas.Int.{to_z-of_z, ints}
-use Rattle.edge_walk.specs.Triangle.{corners, is_within, is_inside}
-use Rattle.edge_walk.specs.Row.{IsBetween}
-use Rattle.edge_walk.proofs.Corner.{inside_is}
-use Rattle.edge_walk.proofs.SpanLemmas.{ends, span_is, none_is}
+use Rattle.std.proofs.Common.{◌≡◌, SFits, w32, ap, rules, arith}
+use Rattle.std.proofs.lemmas.Int.{ints, clamps, to_z-of_z}
+use Rattle.std.specs.Int.{int_max, int_min}
+use Rattle.edge_walk.specs.Extent.{bounding_box}
+use Rattle.edge_walk.proofs.WalkLemmas.{answer_in, none_beyond, row_of}
 use Rattle.edge_walk.proofs.triangle.Tri.row_span.Goals as goal
-use Rattle.edge_walk.proofs.triangle.Tri.row_span.Goals.{After-row_limits-limits}
+use Rattle.edge_walk.proofs.triangle.Tri.row_span.Goals.{After-min-bottom, then-y-top-via-then-y-top}
+use Rattle.edge_walk.proofs.triangle.Tri.row_span.Goals.{then-y-top-via-else-y-top+then-bottom-y}
 
-cells : (c : After-row_limits-limits) (x : ℤ)
-    → (IsBetween c.args.clip.now.x1 c.args.clip.now.x2 x
-    × IsTrue (is_within (corners c.upright-t.result.a c.upright-t.result.b c.upright-t.result.c) x c.args.y))
-    ↔ IsBetween c.row_limits-limits.result.low c.row_limits-limits.result.high x
-cells c x =
+top_is : (c : After-min-bottom) → c.max-top.result ≡ int_max c.args.clip.now.y1 (bounding_box c.args.self.now).y1
+top_is c =
+    let clip_fits : SFits w32 c.args.clip.now.y1 = search rules in
+    let own_fits : SFits w32 c.bounds-own.result.y1 = search rules in
+    let own : c.bounds-own.result.y1 ≡ (bounding_box c.args.self.now).y1 = ap (λ b. b.y1) c.bounds-own.ensures.value in
+    rw own at (simp to_z-of_z at c.max-top.ensures.value)
+
+bottom_is : (c : After-min-bottom)
+    → c.min-bottom.result ≡ int_min c.args.clip.now.y2 (bounding_box c.args.self.now).y2
+bottom_is c =
+    let clip_fits : SFits w32 c.args.clip.now.y2 = search rules in
+    let own_fits : SFits w32 c.bounds-own.result.y2 = search rules in
+    let own : c.bounds-own.result.y2 ≡ (bounding_box c.args.self.now).y2 = ap (λ b. b.y2) c.bounds-own.ensures.value in
+    rw own at (simp to_z-of_z at c.min-bottom.ensures.value)
+
+pub returns-then-y-top : goal.returns-then-y-top
+returns-then-y-top c x box =
+    let top = top_is (goal.at.returns-then-y-top c).After-min-bottom in
+    let bottom = bottom_is (goal.at.returns-then-y-top c).After-min-bottom in
+    none_beyond c.args.self.now c.args.clip.now c.args.y c.bounds-own.ensures.drawn (λ b. elim c.then-y-top.branch [
+      | then-y-top-via-then-y-top w ↦ omega (arith, ints, top, b.0, w.if-y-top.true)
+      | then-y-top-via-else-y-top+then-bottom-y w ↦ omega (arith, ints, bottom, b.1, w.if-bottom-y.true)
+    ]) x box
+
+pub rows-requires : goal.rows-requires
+rows-requires c =
+    let clip = c.args.clip.now in
     let y_fits = c.ranges.y in
-    let x1_fits : SFits w32 c.args.clip.now.x1 = search rules in
-    let x2_fits : SFits w32 c.args.clip.now.x2 = search rules in
-    simp to_z-of_z at (rw (c.of.ensures.low, c.of.ensures.high) at (c.row_limits-limits.ensures x))
+    let left : SFits w32 clip.x1 = search rules in
+    let right : SFits w32 clip.x2 = search rules in
+    let top = top_is (goal.at.rows-requires c).After-min-bottom in
+    let bottom = bottom_is (goal.at.rows-requires c).After-min-bottom in
+    simp to_z-of_z (record {
+      top = omega (arith, ints, clamps, top, c.if-y-top.false);
+      some = omega (arith, ints);
+      bottom = omega (arith, ints, clamps, bottom, c.if-bottom-y.false);
+    })
 
-inside : (c : After-row_limits-limits) (x : ℤ) → is_inside c.args.self.now x c.args.y
-    ≡ is_within (corners c.upright-t.result.a c.upright-t.result.b c.upright-t.result.c) x c.args.y
-inside c x = let t = c.upright-t.result in inside_is c.args.self.now t.a t.b t.c c.upright-t.ensures.same x c.args.y
-
-within : (c : After-row_limits-limits) → c.row_limits-limits.result.low ≤ℤ c.row_limits-limits.result.high
-    → (c.args.clip.now.x1 ≤ℤ c.row_limits-limits.result.low) × (c.row_limits-limits.result.high ≤ℤ c.args.clip.now.x2)
-within c order = let clip = c.args.clip.now in ends c.args.self.now c.args.y clip.x1 clip.x2 _ _ clip refl refl _
-    (inside c) (cells c) order
-
-low_fits : (c : After-row_limits-limits) → c.row_limits-limits.result.low ≤ℤ c.row_limits-limits.result.high
-    → SFits w32 c.row_limits-limits.result.low
-low_fits c order =
-    let x1_fits : SFits w32 c.args.clip.now.x1 = search rules in
-    let x2_fits : SFits w32 c.args.clip.now.x2 = search rules in
-    let h = within c order in
-    omega (arith, ints, h.0, h.1, order)
-
-high_fits : (c : After-row_limits-limits) → c.row_limits-limits.result.low ≤ℤ c.row_limits-limits.result.high
-    → SFits w32 c.row_limits-limits.result.high
-high_fits c order =
-    let x1_fits : SFits w32 c.args.clip.now.x1 = search rules in
-    let x2_fits : SFits w32 c.args.clip.now.x2 = search rules in
-    let h = within c order in
-    omega (arith, ints, h.0, h.1, order)
-
-pub overflow_cast-result : goal.overflow_cast-result
-overflow_cast-result c =
-    let fits = low_fits (goal.at.overflow_cast-result c).After-row_limits-limits (omega (arith, ints)) in
-    omega (arith, ints, fits)
-
-pub overflow_cast-result-then-limits : goal.overflow_cast-result-then-limits
-overflow_cast-result-then-limits c =
-    let fits = high_fits (goal.at.overflow_cast-result-then-limits c).After-row_limits-limits (omega (arith, ints)) in
-    omega (arith, ints, fits)
-
-pub returns-then-limits : goal.returns-then-limits
-returns-then-limits c =
-    let k = (goal.at.returns-then-limits c).After-row_limits-limits in
+pub returns : goal.returns
+returns c =
+    let t = c.args.self.now in
     let clip = c.args.clip.now in
-    let order : c.row_limits-limits.result.low ≤ℤ c.row_limits-limits.result.high = omega (arith, ints) in
-    let low = low_fits k order in
-    let high = high_fits k order in
-    let low_wide : SFits w64 c.row_limits-limits.result.low = omega (arith, ints, low) in
-    let high_wide : SFits w64 c.row_limits-limits.result.high = omega (arith, ints, high) in
-    simp to_z-of_z (span_is c.args.self.now c.args.y clip.x1 clip.x2 _ _ clip refl refl _ (inside k) (cells k) order
-    (omega (arith, ints)) (omega (arith, ints)))
-
-pub returns-else-limits : goal.returns-else-limits
-returns-else-limits c =
-    let k = (goal.at.returns-else-limits c).After-row_limits-limits in
-    let clip = c.args.clip.now in
-    none_is c.args.self.now c.args.y clip.x1 clip.x2 _ _ clip refl refl _ (inside k) (cells k) (omega (arith, ints))
+    let y_fits = c.ranges.y in
+    let left : SFits w32 clip.x1 = search rules in
+    let right : SFits w32 clip.x2 = search rules in
+    let top = top_is (goal.at.returns c).After-min-bottom in
+    let bottom = bottom_is (goal.at.returns c).After-min-bottom in
+    let rows = simp to_z-of_z at c.rows.ensures in
+    answer_in t clip c.args.y (omega (arith, ints, clamps, top, c.if-y-top.false))
+    (omega (arith, ints, clamps, bottom, c.if-bottom-y.false)) c.next.result
+    (c.next.ensures.span t (row_of clip c.args.y) c.args.y rows (omega (arith, ints)))

@@ -4,12 +4,12 @@ use Rattle.std.specs.Int.{int_max, int_min}
 use Rattle.edge_walk.specs.Extent.{bounding_box}
 use Rattle.edge_walk.specs.Triangle.{corners, oriented, IsSmall, IsTurn}
 use Rattle.edge_walk.specs.Walk.{in_parts}
-use Rattle.edge_walk.proofs.WalkLemmas.{AreReached, reached, reached_around}
+use Rattle.edge_walk.proofs.TurnLemmas.{AreReached, reached, reached_around}
 use Rattle.edge_walk.proofs.triangle.Tri.rows.Goals as goal
 use Rattle.edge_walk.proofs.triangle.Tri.rows.Goals.{After-bounds-own}
 
 small : (c : After-bounds-own) → IsSmall (oriented c.args.self.now)
-small c = subst (λ w. IsSmall w) c.upright.ensures.same c.upright.ensures.upright.small
+small c = subst (λ w. IsSmall w) c.upright.ensures.same c.upright.result.upright.small
 
 turn : (c : After-bounds-own) → IsTurn (oriented c.args.self.now)
     (corners c.around_top-t.result.a c.around_top-t.result.b c.around_top-t.result.c)

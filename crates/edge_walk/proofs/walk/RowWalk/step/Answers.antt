@@ -1,6 +1,6 @@
 use Rattle.std.proofs.Common.{arith, pos, ◌+ℤ◌}
 use Rattle.std.proofs.lemmas.Int.{ints}
-use Rattle.edge_walk.proofs.WalkLemmas.{reached, reached_around, small_around}
+use Rattle.edge_walk.proofs.TurnLemmas.{reached, reached_around, small_around}
 use Rattle.edge_walk.specs.Triangle.{oriented}
 use Rattle.edge_walk.proofs.walk.RowWalk.step.Goals as goal
 

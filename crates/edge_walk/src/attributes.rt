@@ -1,0 +1,84 @@
+// Colours and texture coordinates of a triangle's cells.
+use crate::divisor::Divisor;
+use crate::line::keep_first;
+use crate::plane::Plane;
+use crate::triangle::Tri;
+use std::simd::prelude::*;
+
+impl Tri {
+    ghost use Rattle.std.specs.Prelude.{◌≡◌, ◌+◌, ◌^◌, ◌≤◌, ◌<◌, IfSome, IsTrue, ℕ, length, slice_index};
+    ghost use Rattle.std.specs.Prelude.{ℤ, pos, ◌+ℤ◌};
+    ghost use Rattle.px_num.specs.Lanes.{EachLane};
+    ghost use Rattle.edge_walk.specs.Attribute.{attribute_at, HasColor, IsUnscaled};
+    ghost use Rattle.edge_walk.specs.Held.{divisor_for};
+    ghost use Rattle.edge_walk.specs.Plane.{IsPlane};
+    ghost use Rattle.edge_walk.specs.Triangle.{is_inside};
+
+    /// Red, green, blue, u or v, numbered from 0, at a cell inside.
+    pub fn attr_at(&self, which: u8, x: i32, y: i32) -> u8
+        requires which { which ≤ 4 }
+        requires inside { IsTrue (is_inside self.now x y) }
+        ensures value { result ≡ attribute_at self.now which x y }
+        ensures byte { result ≤ 255 }
+    {
+        self.plane(which, &self.area_divisor()).value_at(x, y)
+    }
+
+    /// `attr_at` of the `n` cells inside from (x, y) to the right, and 0 in the lanes from `n` on.
+    pub fn attr_lanes(&self, which: u8, x: i32, y: i32, n: u8) -> u16x16
+        requires which { which ≤ 4 }
+        requires some { 1 ≤ n }
+        requires lanes { n ≤ 16 }
+        requires inside { (j : ℕ) → j < n → IsTrue (is_inside self.now (x +ℤ pos j) y) }
+        ensures long { length result ≡ 16 }
+        ensures value { (j : ℕ) → j < n → slice_index result j ≡ attribute_at self.now which (x +ℤ pos j) y }
+        ensures bytes { EachLane (λ j. slice_index result j ≤ 255) }
+        ensures rest { (j : ℕ) → n ≤ j → slice_index result j ≡ 0 }
+    {
+        let plane = self.plane(which, &self.area_divisor());
+        keep_first(plane.row_line(x, y).lanes(0), n)
+    }
+
+    /// What the sums of its attributes are divided by. It takes a division.
+    pub fn area_divisor(&self) -> Divisor
+        ensures { result ≡ divisor_for self.now }
+    {
+        Divisor::new(self.area)
+    }
+
+    /// An attribute over the whole triangle.
+    #[inline(always)]
+    pub fn plane(&self, which: u8, divisor: &Divisor) -> Plane
+        requires which { which ≤ 4 }
+        requires divisor { divisor.now ≡ divisor_for self.now }
+        ensures { IsPlane self.now which result }
+    {
+        let t = self.upright();
+        Plane::of(&t, which, divisor)
+    }
+
+    /// The colour of all cells inside, where the three vertices have the same.
+    pub fn one_color(&self) -> Option<u32>
+        ensures low { IfSome result (λ color. color < 2 ^ 24) }
+        ensures value { IfSome result (λ color. (x y : ℤ) → IsTrue (is_inside self.now x y)
+            → HasColor self.now x y color) }
+    {
+        let t = self.upright();
+        let color = t.a.color % 0x100_0000;
+        if t.b.color % 0x100_0000 == color && t.c.color % 0x100_0000 == color {
+            Some(color)
+        } else {
+            None
+        }
+    }
+
+    /// Whether u is one more from cell to cell of each row, and v stays the same.
+    pub fn is_unscaled(&self) -> bool
+        ensures { IsTrue result → IsUnscaled self.now }
+    {
+        let t = self.upright();
+        let across = t.step_across(3);
+        let down = t.step_across(4);
+        across == self.area as i64 && down == 0
+    }
+}
