@@ -24,7 +24,7 @@ use Rattle.capture_flat.proofs.Needed.{none_needed, needed_on, needed_end, says_
 use Rattle.capture_flat.proofs.Needed.{takes_version, stops_version}
 use Rattle.capture_slim.specs.Came.{Came, EndsEvent, EndsRefused, EndsPushed, EndsStop, FailsAny, FailsLast, IsAll}
 use Rattle.capture_slim.specs.File.{IsDraft, begun}
-use Rattle.capture_slim.specs.Gathered.{Piece}
+use Rattle.gathered_out.specs.Pieces.{Piece}
 use Rattle.capture_slim.specs.Passing.{Streams, streams, Way, SaysFirst, SaysStop, StopsBehind, RefusesNext, SaysEnding}
 use Rattle.capture_slim.specs.Passing.{EndsSlim, FailsAt, IsTooLong}
 use Rattle.capture_slim.specs.Window.{Window, first_window, waiting}

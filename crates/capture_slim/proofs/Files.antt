@@ -11,7 +11,8 @@ use Rattle.capture_flat.specs.Out.{spell}
 use Rattle.capture_flat.proofs.Pieces.{spell-append, wrote_on}
 use Rattle.capture_slim.specs.File.{begun, head_due, head_at, due, IsFile, IsDraft, IsLacking, FailsIn, FailsNext}
 use Rattle.capture_slim.specs.File.{EndsTooLong}
-use Rattle.capture_slim.specs.Gathered.{BreaksOff, MakesRoom, Piece, bytes_of}
+use Rattle.gathered_out.specs.Pieces.{AreOut, BreaksOff, Piece, bytes_of}
+use Rattle.gathered_out.proofs.Pieces.{all_out, breaks_all}
 use Rattle.capture_slim.specs.Places.{kept_of}
 use Rattle.capture_slim.specs.declared.ending.SlimEnding.{SlimEnding}
 use Rattle.capture_slim.specs.declared.ending.SlimEnding.TheVariants.{Done, Stopped, NotFlat, TooLong, WriteFailed}
@@ -162,28 +163,18 @@ first_draft version held = record {
   lacks = λ now number off. absurd (none_split off.whole off.broken off.later off.are);
 }
 
-written_draft : (file : SlimFile) (pieces : List Piece) (base held now : Option (List ℕ)) (outs : List (Option Event))
-    → IsDraft (draft_of file pieces) base held outs → now ≡ appended held (bytes_of pieces)
-    → IsDraft (draft_of file []) base now outs
-written_draft file pieces base held now outs is wrote = record {
+-- what was gathered is out behind it, or gathered still
+pub out_draft : (file : SlimFile) (pieces gathered : List Piece) (base held now : Option (List ℕ))
+    (outs : List (Option Event)) → IsDraft (draft_of file pieces) base held outs → AreOut held pieces now gathered
+    → IsDraft (draft_of file gathered) base now outs
+out_draft file pieces gathered base held now outs is out = record {
   file_is = record {
-    stands = appended-nil now ∙ wrote ∙ is.file_is.stands;
+    stands = all_out held now (appended now (bytes_of gathered)) pieces gathered out refl ∙ is.file_is.stands;
     size_is = is.file_is.size_is;
     fits = is.file_is.fits;
   };
-  lacks = λ later number off. absurd (none_split off.whole off.broken off.later off.are);
+  lacks = λ later number off. is.lacks later number (breaks_all held now later pieces gathered number out off);
 }
-
-pub room_draft : (file : SlimFile) (old new : List Piece) (base held now : Option (List ℕ)) (outs : List (Option Event))
-    → IsDraft (draft_of file old) base held outs → MakesRoom old new held now
-    → IsDraft (draft_of file new) base now outs
-room_draft file old new base held now outs is made =
-    let P : List Piece → Type 0 = λ ps. IsDraft (draft_of file ps) base now outs in
-    let Q : Option (List ℕ) → Type 0 = λ h. IsDraft (draft_of file old) base h outs in
-    elim made [
-      | inl u ↦ subst P (sym u.0) (subst Q (sym u.1) is)
-      | inr u ↦ subst P (sym u.0) (written_draft file old base held now outs is u.1)
-    ]
 
 -- none of these stays
 pub passed_draft : (draft : Draft) (base held : Option (List ℕ)) (outs none : List (Option Event))

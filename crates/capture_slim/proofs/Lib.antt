@@ -1,7 +1,6 @@
 pub mod Awaiting
 pub mod Files
 pub mod Firsts
-pub mod Gatherings
 pub mod ReadAgain
 pub mod Rests
 pub mod Ports

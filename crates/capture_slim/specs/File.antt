@@ -5,7 +5,7 @@ use Rattle.gpu_capture.specs.Capture.{IsVersion, head_of, limit}
 use Rattle.gpu_capture.specs.Written.{spelled, written}
 use Rattle.gpu_capture.specs.declared.event.Event.{Event}
 use Rattle.capture_flat.specs.Out.{spell}
-use Rattle.capture_slim.specs.Gathered.{BreaksOff, Piece, bytes_of}
+use Rattle.gathered_out.specs.Pieces.{BreaksOff, Piece, bytes_of}
 use Rattle.capture_slim.specs.Places.{kept_of}
 use Rattle.capture_slim.specs.declared.ending.SlimEnding.{SlimEnding}
 use Rattle.capture_slim.specs.declared.ending.SlimEnding.TheVariants.{TooLong, WriteFailed}

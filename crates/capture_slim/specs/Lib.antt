@@ -1,6 +1,5 @@
 pub mod Came
 pub mod File
-pub mod Gathered
 pub mod Passing
 pub mod Places
 pub mod Saying

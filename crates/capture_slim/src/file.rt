@@ -1,5 +1,5 @@
 // The file that is written.
-use crate::gathering::Gathered;
+use gathered_out::Gathered;
 
 /// The version of the capture that is read, and how many bytes stand in the file so far, or are gathered for it.
 #[derive(Clone, Copy)]

@@ -2,9 +2,7 @@
 #![tactic(auto)]
 
 mod ending;
-mod extent;
 mod file;
-mod gathering;
 
 ghost use Rattle.std.specs.Prelude.{◌≤◌};
 

@@ -8,10 +8,10 @@ ghost use Rattle.capture_slim.specs.Window.{first_window};
 
 use crate::ending::SlimEnding;
 use crate::file::{Draft, SlimFile};
-use crate::gathering::Gathered;
 use crate::slim::{finish, take_event};
 use crate::waiting::Waiting;
 use dev_io::{Sink, Source};
+use gathered_out::Gathered;
 use gpu_capture::EventReader;
 use px_num::OutOfMemory;
 use std::alloc::Global;

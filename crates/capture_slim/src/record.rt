@@ -11,13 +11,16 @@ ghost use Rattle.capture_slim.specs.Passing.{EndsWriting};
 
 use crate::ending::SlimEnding;
 use crate::file::{Draft, SlimFile};
-use crate::gathering::{DUE_MOST, Gathered};
 use arrayvec::ArrayVec;
 use dev_io::{Failed, Sink};
+use gathered_out::Gathered;
 use gpu_capture::{Event, RECORD_MOST, head_bytes, record_bytes, write_end, write_start};
 
 /// A written file has no more bytes.
 const LIMIT: u32 = 1 << 30;
+
+/// The most bytes that a record has, with the head before it.
+const DUE_MOST: usize = 16;
 
 // Writes the head, where it is due.
 fn write_head<K: Sink>(out: &mut K, file: SlimFile) -> Result<(), Failed>
@@ -129,9 +132,8 @@ pub(crate) fn add_record<K: Sink>(
     if after + 4 > LIMIT {
         return Err(end_too_long(&mut draft.gathered, number, out));
     }
-    match draft.gathered.make_room(out) {
+    match draft.gathered.put(number, bytes.as_slice(), out) {
         Ok(()) => {
-            draft.gathered.add(number, bytes.as_slice());
             draft.file.size = after;
             Ok(())
         }

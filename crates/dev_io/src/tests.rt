@@ -29,6 +29,15 @@ fn pieces_and_failures_in_memory(rt: HostRuntime) -> Result<(), Fail> {
 }
 
 #[test]
+fn new_sinks_hold_nothing(rt: HostRuntime) -> Result<(), Fail> {
+    let alloc = rt.alloc();
+    assert_eq!(rt; MemSink::new(alloc, 16)?.bytes().len(), 0);
+    let failing = FailSink::new(alloc, 16, 1, Vec::new(alloc))?;
+    assert_eq!(rt; failing.bytes().len(), 0);
+    Ok(())
+}
+
+#[test]
 fn the_edges_pass_bytes_on(rt: HostRuntime) -> Result<(), Fail> {
     let mut source = ReadEdge::new(b"hello".as_slice());
     let mut buf = [0u8; 8];

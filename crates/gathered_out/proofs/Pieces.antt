@@ -123,6 +123,10 @@ bytes_append [] ys = refl
 bytes_append (x ∷ xs) ys =
     ap (λ bs. x.bytes ++ bs) (bytes_append xs ys) ∙ sym (append_assoc x.bytes (bytes_of xs) (bytes_of ys))
 
+-- what is gathered is out behind what the sink holds
+pub only_gathered : (held : Option (List ℕ)) (gathered : List Piece) → AreOut held gathered held gathered
+only_gathered held gathered = record { written = []; are = refl; stands = sym (appended-nil held) }
+
 -- once those that are gathered are written, all stand
 pub all_out : (before held now : Option (List ℕ)) (pieces gathered : List Piece) → AreOut before pieces held gathered
     → now ≡ appended held (bytes_of gathered) → now ≡ appended before (bytes_of pieces)

@@ -38,7 +38,7 @@ pub put_one : {Value Sink : Type 0} (held : Sink → Option (List ℕ)) (failure
     → ((base : Option (List ℕ)) (pieces : List Piece) → AreOut base pieces (held before) old
     → OnOk result (AreOut base (pieces ++ piece number bytes ∷ []) (held now) new))
     → ((base : Option (List ℕ)) (pieces : List Piece) → AreOut base pieces (held before) old
-    → IfErr result (BreaksOff (pieces ++ piece number bytes ∷ []) base (held now)))
+    → IfErr result (BreaksOff pieces base (held now)))
     → OnErr result (Rose (failures before) (failures now)) → failures before ≤ failures now
     → Puts held failures number bytes before now old new result
 put_one held failures number bytes before now old new (Ok v) ok failed cause faults = record {
@@ -49,7 +49,12 @@ put_one held failures number bytes before now old new (Ok v) ok failed cause fau
 }
 put_one held failures number bytes before now old new (Err e) ok failed cause faults = record {
   ok = tt;
-  failed = record { parts = piece number bytes ∷ []; are = are_one number bytes; off = failed };
+  failed = record {
+    parts = piece number bytes ∷ [];
+    are = are_one number bytes;
+    off = λ base pieces out.
+        breaks_more base (held now) pieces (piece number bytes ∷ []) e (failed base pieces out);
+  };
   cause = cause;
   faults = faults;
 }

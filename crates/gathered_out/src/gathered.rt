@@ -98,15 +98,15 @@ impl Gathered {
     }
 
     /// Adds a piece of at most 4,096 bytes, which is due at the event of this number. Where there is no room for it, what
-    /// is gathered is written first. The answer to a failure is the number of the first piece that lacks a byte; nothing
-    /// more can be written then.
+    /// is gathered is written first. The answer to a failure is the number of the first piece that lacks a byte, one of
+    /// those before this; nothing more can be written then.
     pub fn put<K: Sink>(&mut self, number: u64, bytes: &[u8], out: &mut K) -> Result<(), u64>
         requires { length bytes.now ≤ 4096 }
         ensures ok { (before : Option (List ℕ)) (pieces : List Piece) → AreOut before pieces (K.held out.old) self.old
             → OnOk result (AreOut before (pieces ++ piece number bytes.now ∷ []) (K.held out.new) self.new) }
         ensures failed { (before : Option (List ℕ)) (pieces : List Piece)
             → AreOut before pieces (K.held out.old) self.old
-            → IfErr result (BreaksOff (pieces ++ piece number bytes.now ∷ []) before (K.held out.new)) }
+            → IfErr result (BreaksOff pieces before (K.held out.new)) }
         ensures cause { OnErr result (Rose (K.faults out.old) (K.faults out.new)) }
         ensures faults { K.faults out.old ≤ K.faults out.new }
     {

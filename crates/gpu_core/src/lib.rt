@@ -51,6 +51,12 @@ mod tests {
     }
 
     #[test]
+    fn a_new_gpu_shows_its_status(rt: HostRuntime) -> Result<(), Fail> {
+        assert_eq!(rt; Gpu::new(rt.alloc())?.status(), 0x1480_2000);
+        Ok(())
+    }
+
+    #[test]
     fn a_fill_reaches_below_row_512(rt: HostRuntime) -> Result<(), Fail> {
         laws::costs_are_small();
         let after = after_a_fill::<Brand>(rt.alloc(), Blank::new(1))?;

@@ -28,6 +28,7 @@ fn every_tap_of_a_list_is_told(rt: HostRuntime) -> Result<(), Fail> {
     let mut taps: Vec<Box<dyn Tap>> = Vec::new(alloc);
     taps.push(Box::new(alloc, Counts::new())?)?;
     let trace = Trace::new(alloc)?;
+    assert_eq!(rt; trace.len(), 0);
     taps.push(Box::new(alloc, trace)?)?;
     taps.push(Box::new(alloc, Cover::new())?)?;
     let area = Box2 {

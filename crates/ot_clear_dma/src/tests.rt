@@ -2,6 +2,15 @@ use super::*;
 use std::test::Fail;
 
 #[test]
+fn new_memory_is_zero(rt: HostRuntime) -> Result<(), Fail> {
+    let ram = Ram::new(rt.alloc())?;
+    for address in [0, 4, 0xf_fffc, 0x1f_fffc] {
+        assert_eq!(rt; ram.get(address), 0, "at {address}");
+    }
+    Ok(())
+}
+
+#[test]
 fn a_cleared_table_is_a_list_downward(rt: HostRuntime) -> Result<(), Fail> {
     let mut ram = Ram::new(rt.alloc())?;
     ram.put(0xfc, 0x1234_5678);
