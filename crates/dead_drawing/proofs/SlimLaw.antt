@@ -24,7 +24,8 @@ use Rattle.gpu_core.specs.Machine.{State}
 use Rattle.prim_draw.specs.Areas.{area_of, polygon_area}
 use Rattle.prim_draw.specs.Lines.{segment_box}
 use Rattle.prim_draw.specs.Rectangles.{extent_at, rectangle_box}
-use Rattle.prim_draw.specs.Settings.{drawing_area, placed}
+use Rattle.gp1_status.specs.Drawing.{drawing_area}
+use Rattle.prim_draw.specs.Settings.{placed}
 use Rattle.prim_draw.specs.Triangles.{triangle_box}
 use Rattle.dead_drawing.specs.Control.{Control, controlled, controls, regs_after, regs_by}
 use Rattle.event_play.specs.Ports.{IsAtPorts, AreAtPorts}

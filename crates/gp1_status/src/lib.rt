@@ -4,6 +4,7 @@
 //! video memory, which is 512 or 1024 rows.
 #![tactic(auto)]
 
+mod drawing;
 mod fields;
 pub mod laws;
 mod regs;
@@ -11,6 +12,7 @@ mod shape;
 mod status;
 mod words;
 
+pub use drawing::{Flips, Offset};
 pub use regs::{Regs, clears};
 pub use words::allows;
 

@@ -4,7 +4,8 @@ use Rattle.px_num.specs.declared.shape.Vertex.{Vertex}
 use Rattle.gp0_packets.specs.declared.packet.Packet.TheVariants.{Poly}
 use Rattle.gp1_status.specs.Registers.{Registers}
 use Rattle.prim_draw.specs.Areas.{area_of, polygon_area}
-use Rattle.prim_draw.specs.Settings.{drawing_area, placed}
+use Rattle.gp1_status.specs.Drawing.{drawing_area}
+use Rattle.prim_draw.specs.Settings.{placed}
 use Rattle.prim_draw.specs.Triangles.{triangle_box}
 use Rattle.gpu_core.specs.Machine.{with_page}
 

@@ -6,7 +6,7 @@ use Rattle.px_num.specs.declared.shape.Box2.{Box2}
 use Rattle.prim_draw.specs.Boxes.{some_box, overlap, block_of, IsOnScreen, LiesIn}
 use Rattle.prim_draw.specs.Rectangles.{cells_box, IsExtent, IsPartOf}
 use Rattle.prim_draw.specs.declared.rectangles.Extent.{Extent}
-use Rattle.prim_draw.specs.Settings.{IsArea}
+use Rattle.gp1_status.specs.Drawing.{IsArea}
 
 not_less : (a b : ℤ) → false ≡ int_lt b a → a ≤ℤ b
 not_less a b e = grind (arith, ints)

@@ -15,7 +15,7 @@ use Rattle.vram_store.specs.Vram.{set}
 use Rattle.prim_draw.specs.Costs.{points_cost}
 use Rattle.prim_draw.specs.Ink.{IsInk, AreInked, IsInMemory, inked_points}
 use Rattle.prim_draw.specs.Lines.{cell_of, drawn_point, drawn_points, is_between, is_in, plotted}
-use Rattle.prim_draw.specs.Settings.{IsArea}
+use Rattle.gp1_status.specs.Drawing.{IsArea}
 use Rattle.prim_draw.proofs.PointLemmas.{columns_of, rows_of}
 
 -- ---- a walk

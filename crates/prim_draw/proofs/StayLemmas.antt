@@ -24,7 +24,8 @@ use Rattle.prim_draw.specs.Lines.{segment_box}
 use Rattle.prim_draw.specs.Parts.{polygon, polygon_style, rectangle_style}
 use Rattle.prim_draw.specs.Rectangles.{cells_box, extent_at, drawn_all, drawn_rectangle, rectangle_box, tile_in}
 use Rattle.prim_draw.specs.Rectangles.{tile_pixel}
-use Rattle.prim_draw.specs.Settings.{brush_in, drawing_area}
+use Rattle.gp1_status.specs.Drawing.{drawing_area}
+use Rattle.prim_draw.specs.Settings.{brush_in}
 use Rattle.prim_draw.specs.Triangles.{draws, drawn_inside, drawn_polygon, drawn_triangle, pixel_at}
 use Rattle.prim_draw.specs.Triangles.{triangle_box, triangle_coat, upper_half, lower_half}
 use Rattle.prim_draw.specs.declared.coat.Coat.{Coat}

@@ -6,7 +6,7 @@ use Rattle.px_num.specs.declared.shape.Box2.{Box2}
 use Rattle.px_num.specs.declared.shape.Cell.{Cell}
 use Rattle.gp1_status.specs.Registers.{Registers}
 use Rattle.span_lanes.specs.Cells.{row_cells}
-use Rattle.prim_draw.specs.Settings.{drawing_area}
+use Rattle.gp1_status.specs.Drawing.{drawing_area}
 use Rattle.span_lanes.specs.declared.block.Block.{Block}
 
 -- a box, or none where it has no cell

@@ -13,7 +13,7 @@ use Rattle.prim_draw.specs.Boxes.{block_of, count_in}
 use Rattle.prim_draw.specs.Lines.{is_in, placed_ends, segment_box}
 use Rattle.prim_draw.specs.Parts.{polygon, polygon_style, rectangle_style}
 use Rattle.prim_draw.specs.Rectangles.{column_of, extent_at, rectangle_box, row_of, tile_in, tile_paint}
-use Rattle.prim_draw.specs.Settings.{drawing_area}
+use Rattle.gp1_status.specs.Drawing.{drawing_area}
 use Rattle.prim_draw.specs.Triangles.{lower_half, row_inside, triangle_box, triangle_coat, upper_half}
 use Rattle.span_lanes.specs.declared.block.Block.{Block}
 use Rattle.prim_draw.specs.declared.coat.Coat.{Coat}

@@ -11,7 +11,8 @@ use Rattle.line_walk.specs.Line.{Ends, ends, is_near, len_of, point_of}
 use Rattle.span_lanes.specs.declared.span.Brush.{Brush}
 use Rattle.span_lanes.specs.declared.span.Paint.TheVariants.{Flat}
 use Rattle.prim_draw.specs.Boxes.{clipped}
-use Rattle.prim_draw.specs.Settings.{brush_in, drawing_area, placed}
+use Rattle.gp1_status.specs.Drawing.{drawing_area}
+use Rattle.prim_draw.specs.Settings.{brush_in, placed}
 use Rattle.prim_draw.specs.Triangles.{painted_cells}
 
 -- the smallest box that has both ends

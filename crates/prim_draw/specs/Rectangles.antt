@@ -3,14 +3,15 @@ use Rattle.std.specs.Prelude.{ℕ, ◌≤◌, ◌≤ℤ◌, negsuc, ◌==◌, �
 use Rattle.std.specs.Prelude.{if◌then◌else◌, unsigned_abs, ℤ, pos, ◌+ℤ◌, ◌-ℤ◌}
 use Rattle.px_num.specs.declared.shape.Box2.{Box2}
 use Rattle.px_num.specs.declared.shape.Cell.{Cell}
-use Rattle.gp1_status.specs.Registers.{Registers, bit}
+use Rattle.gp1_status.specs.Drawing.{flips_in, offset_x, offset_y}
+use Rattle.gp1_status.specs.Registers.{Registers}
 use Rattle.span_lanes.specs.declared.span.Paint.{Paint}
 use Rattle.span_lanes.specs.declared.span.Paint.TheVariants.{Flat, TexturedRow}
 use Rattle.span_lanes.specs.declared.span.Texture.{Texture}
 use Rattle.span_lanes.specs.Shade.{HasInside, IsTexture, paint_pixel, row_u}
 use Rattle.span_lanes.specs.Cells.{drawn_cells}
 use Rattle.prim_draw.specs.Boxes.{block_of, cells_of, clipped}
-use Rattle.prim_draw.specs.Settings.{brush_in, offset_x, offset_y, texture_in}
+use Rattle.prim_draw.specs.Settings.{brush_in, texture_in}
 use Rattle.span_lanes.specs.declared.block.Block.{Block}
 use Rattle.prim_draw.specs.declared.rectangles.Extent.{Extent}
 use Rattle.prim_draw.specs.declared.rectangles.Tile.{Tile}
@@ -52,8 +53,8 @@ tile_in r style u v = record {
   texture = optional_texture r style.textured style.clut style.raw;
   u = u;
   v = v;
-  flip_x = bit r.e1 12 == 1;
-  flip_y = bit r.e1 13 == 1;
+  flip_x = (flips_in r).x;
+  flip_y = (flips_in r).y;
   brush = brush_in r style.semi false;
 }
 

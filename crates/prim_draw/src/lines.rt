@@ -7,11 +7,11 @@ ghost use Rattle.prim_draw.specs.Costs.{ends_cost, points_cost};
 ghost use Rattle.prim_draw.specs.Ink.{AreInked, IsInMemory, inked_points};
 ghost use Rattle.prim_draw.specs.Lines.{drawn_ends, drawn_point, drawn_points, ends_box, is_between, is_in};
 ghost use Rattle.prim_draw.specs.Lines.{placed_ends, segment_box};
-ghost use Rattle.prim_draw.specs.Settings.{IsArea};
+ghost use Rattle.gp1_status.specs.Drawing.{IsArea};
 
 use crate::boxes::{Spot, box_from, clipped, greatest, least};
 use crate::point::{ink_of, plot_color};
-use crate::settings::{brush_in, drawing_area, placed};
+use crate::settings::{brush_in, placed};
 use gp1_status::Regs;
 use line_walk::Segment;
 use px_num::{Box2, Cell, Vertex};
@@ -190,7 +190,7 @@ pub(crate) fn draw_segment<L: Ledger>(
         None => None,
         Some(segment) => {
             let brush = brush_in(regs, semi, true);
-            draw_points(vram, &drawing_area(regs), &brush, &segment, steps);
+            draw_points(vram, &regs.drawing_area(), &brush, &segment, steps);
             clipped(regs, &ends_box(ends))
         }
     }

@@ -13,7 +13,7 @@ use crate::boxes::{block_of, clipped};
 use crate::settings::{brush_in, texture_in};
 use crate::style::Style;
 use gp1_status::Regs;
-use px_num::{Box2, sign11};
+use px_num::Box2;
 use span_lanes::{Block, Brush, Paint, Span, Spans, Texture, draw_spans, row_u};
 use std::sync::ledger::Ledger;
 use vram_store::{Steps, Vram};
@@ -66,10 +66,10 @@ pub(crate) fn extent_at(regs: &Regs, x: i32, y: i32, w: u16, h: u16) -> Extent
     ensures value { result ≡ extent_at regs.now x y w h }
     ensures is { IsExtent result }
 {
-    let offset = regs.offset();
+    let offset = regs.drawing_offset();
     Extent {
-        left: x + sign11(offset),
-        top: y + sign11(offset >> 11),
+        left: x + offset.x,
+        top: y + offset.y,
         w,
         h,
     }
@@ -122,14 +122,14 @@ pub(crate) fn tile_in(regs: &Regs, style: &Style, u: u8, v: u8) -> Tile
     ensures value { result ≡ tile_in regs.now style.now u v }
     ensures is { IsTile regs.now.height result }
 {
-    let mode = regs.e1();
+    let flips = regs.flips();
     Tile {
         color: style.color,
         texture: optional_texture(regs, style.textured, style.clut, style.raw),
         u,
         v,
-        flip_x: mode >> 12 & 1 == 1,
-        flip_y: mode >> 13 & 1 == 1,
+        flip_x: flips.x,
+        flip_y: flips.y,
         brush: brush_in(regs, style.semi, false),
     }
 }

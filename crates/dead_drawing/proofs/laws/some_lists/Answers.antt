@@ -3,7 +3,7 @@ use Rattle.gp0_packets.specs.Packets.{whole_of, rectangle_of, other_of, fill_of,
 use Rattle.prim_draw.specs.Areas.{area_of, moved_box}
 use Rattle.prim_draw.specs.Boxes.{some_box, overlap}
 use Rattle.prim_draw.specs.Rectangles.{extent_at, rectangle_box}
-use Rattle.prim_draw.specs.Settings.{drawing_area}
+use Rattle.gp1_status.specs.Drawing.{drawing_area}
 use Rattle.dead_drawing.specs.Control.{controlled}
 use Rattle.dead_drawing.specs.Dead.{is_droppable, dead_len, holds_box}
 use Rattle.dead_drawing.specs.Slim.{slim_events}

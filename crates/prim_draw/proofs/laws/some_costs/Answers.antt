@@ -11,7 +11,8 @@ use Rattle.prim_draw.specs.Boxes.{some_box, overlap, block_of}
 use Rattle.prim_draw.specs.Costs.{draw_cost, polygon_cost, rectangle_cost, triangle_cost}
 use Rattle.prim_draw.specs.Laws.{open_registers, raw_rectangle, white_half}
 use Rattle.prim_draw.specs.Rectangles.{extent_at, rectangle_box, tile_in, tile_paint}
-use Rattle.prim_draw.specs.Settings.{brush_in, drawing_area, placed, texture_in}
+use Rattle.gp1_status.specs.Drawing.{drawing_area}
+use Rattle.prim_draw.specs.Settings.{brush_in, placed, texture_in}
 use Rattle.prim_draw.specs.Triangles.{triangle_box, triangle_coat, triangle_paint}
 use Rattle.prim_draw.proofs.laws.some_costs.Goals as goal
 
