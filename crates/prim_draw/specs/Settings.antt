@@ -8,7 +8,7 @@ use Rattle.gp1_status.specs.Registers.{Registers, bit}
 use Rattle.texture_page.specs.declared.page.Page.{Page}
 use Rattle.texture_page.specs.declared.page.Window.{Window}
 use Rattle.span_lanes.specs.declared.span.Brush.{Brush}
-use Rattle.span_lanes.specs.declared.span.Texture.{Texture}
+use Rattle.texel_lanes.specs.declared.texture.Texture.{Texture}
 
 -- the drawing offset
 abbrev pub offset_x : Registers → ℤ
