@@ -11,7 +11,7 @@ use Rattle.span_lanes.specs.declared.spans.Spans.{Spans}
 use Rattle.span_lanes.specs.Shade.{paint_pixel, row_u, shade, shade_at, texture_of, HasInside, IsSpan, LiesIn}
 use Rattle.span_lanes.specs.declared.span.Paint.{Paint}
 use Rattle.span_lanes.specs.declared.span.Brush.{Brush}
-use Rattle.span_lanes.specs.declared.span.Texture.{Texture}
+use Rattle.texel_lanes.specs.declared.texture.Texture.{Texture}
 use Rattle.span_lanes.proofs.CellsLemmas.{cells_append, row_same}
 use Rattle.prim_draw.specs.Boxes.{cells_in_rows}
 use Rattle.span_lanes.specs.Frame.{IsBlock}

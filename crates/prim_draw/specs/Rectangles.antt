@@ -7,8 +7,9 @@ use Rattle.gp1_status.specs.Drawing.{flips_in, offset_x, offset_y}
 use Rattle.gp1_status.specs.Registers.{Registers}
 use Rattle.span_lanes.specs.declared.span.Paint.{Paint}
 use Rattle.span_lanes.specs.declared.span.Paint.TheVariants.{Flat, TexturedRow}
-use Rattle.span_lanes.specs.declared.span.Texture.{Texture}
-use Rattle.span_lanes.specs.Shade.{HasInside, IsTexture, paint_pixel, row_u}
+use Rattle.texel_lanes.specs.declared.texture.Texture.{Texture}
+use Rattle.texel_lanes.specs.Texture.{IsTexture}
+use Rattle.span_lanes.specs.Shade.{HasInside, paint_pixel, row_u}
 use Rattle.span_lanes.specs.Cells.{drawn_cells}
 use Rattle.prim_draw.specs.Boxes.{block_of, cells_of, clipped}
 use Rattle.prim_draw.specs.Settings.{brush_in, texture_in}

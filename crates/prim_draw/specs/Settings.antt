@@ -5,7 +5,7 @@ use Rattle.px_num.specs.declared.shape.Vertex.{Vertex}
 use Rattle.gp1_status.specs.Drawing.{blend_mode, dithers, offset_x, offset_y, page_in, window_in}
 use Rattle.gp1_status.specs.Registers.{Registers}
 use Rattle.span_lanes.specs.declared.span.Brush.{Brush}
-use Rattle.span_lanes.specs.declared.span.Texture.{Texture}
+use Rattle.texel_lanes.specs.declared.texture.Texture.{Texture}
 
 -- a vertex with the offset added
 unfoldable pub placed : Registers → Vertex → Vertex

@@ -11,7 +11,8 @@ use Rattle.edge_walk.specs.Triangle.{Corners, corners, is_drawn, is_inside}
 use Rattle.span_lanes.specs.declared.span.Brush.{Brush}
 use Rattle.span_lanes.specs.declared.span.Paint.{Paint}
 use Rattle.span_lanes.specs.declared.span.Paint.TheVariants.{Flat, Shaded, TexturedTri}
-use Rattle.span_lanes.specs.Shade.{AreInside, HasInside, IsTexture, paint_pixel, texture_of}
+use Rattle.texel_lanes.specs.Texture.{IsTexture}
+use Rattle.span_lanes.specs.Shade.{AreInside, HasInside, paint_pixel, texture_of}
 use Rattle.span_lanes.specs.Cells.{drawn_cells, row_cells}
 use Rattle.prim_draw.specs.Boxes.{block_of, cells_of, clipped}
 use Rattle.prim_draw.specs.Settings.{brush_in, placed, texture_in}

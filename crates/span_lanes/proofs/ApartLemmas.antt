@@ -10,9 +10,10 @@ use lib.Bits.{bit_and}
 use Rattle.px_num.specs.declared.shape.Cell.{Cell}
 use Rattle.texture_page.specs.Page.{texel_place, column, windowed}
 use Rattle.overlap_guard.specs.Hazard.{WrittenBefore, cell_at, HasTexelHazard, HasStripHazard}
-use Rattle.span_lanes.specs.declared.span.Texture.{Texture}
+use Rattle.texel_lanes.specs.declared.texture.Texture.{Texture}
 use Rattle.span_lanes.specs.declared.span.Span.{Span}
-use Rattle.span_lanes.specs.Shade.{IsSpan, IsTexture, texture_of}
+use Rattle.texel_lanes.specs.Texture.{IsTexture}
+use Rattle.span_lanes.specs.Shade.{IsSpan, texture_of}
 use Rattle.span_lanes.specs.Guard.{paint_texel, paint_texels, target, clut_strip, page_width, IsApart, LiesBeside}
 
 -- a coordinate under a window is within the page

@@ -10,13 +10,14 @@ use Rattle.px_num.specs.declared.shape.Cell.{Cell}
 use Rattle.texture_page.specs.Page.{texel_place, clut_place, index_at, index_in, windowed}
 use Rattle.overlap_guard.specs.Hazard.{Writes, cell_at, HasStripHazard, HasTextureHazard}
 use Rattle.span_lanes.specs.declared.span.Brush.{Brush}
-use Rattle.span_lanes.specs.declared.span.Texture.{Texture}
+use Rattle.texel_lanes.specs.declared.texture.Texture.{Texture}
 use Rattle.span_lanes.specs.declared.span.Paint.{Paint}
 use Rattle.span_lanes.specs.declared.span.Paint.TheVariants.{Flat, Shaded, TexturedTri, TexturedRow}
 use Rattle.span_lanes.specs.declared.span.Span.{Span}
 use Rattle.vram_store.specs.Plot.{later}
 use Rattle.vram_store.specs.Chunk.{AgreesApart, IsBlind}
-use Rattle.span_lanes.specs.Shade.{IsSpan, at_cell, texel, row_u, paint_pixel, shade, flat_pixel, shift_of, color_in}
+use Rattle.texel_lanes.specs.Texture.{at_cell, texel}
+use Rattle.span_lanes.specs.Shade.{IsSpan, row_u, paint_pixel, shade, flat_pixel, shift_of, color_in}
 use Rattle.span_lanes.specs.Shade.{attribute_in}
 use Rattle.span_lanes.specs.Guard.{paint_texel, paint_texels, target, clut_strip, palette_of, PaintHazard, HasHazard}
 

@@ -1,13 +1,14 @@
 -- What a span costs at most.
 use Rattle.std.proofs.Common.{◌≡◌, ◌≤◌, ℕ, zero, suc, List, Option, None, Some, Bool, true, false, cond, ltb, ◌+◌, ◌-◌}
 use Rattle.std.proofs.Common.{◌*◌, ◌/◌, min, refl, subst, add-one, arith}
-use Rattle.span_lanes.specs.declared.span.Texture.{Texture}
+use Rattle.texel_lanes.specs.declared.texture.Texture.{Texture}
 use Rattle.span_lanes.specs.declared.span.Span.{Span}
 use Rattle.span_lanes.specs.Guard.{has_hazard, paint_texels, palette_of, target}
 use Rattle.span_lanes.specs.Shade.{texture_of}
 use Rattle.overlap_guard.specs.Hazard.{has_texture_hazard}
 use Rattle.px_num.specs.declared.shape.Cell.{Cell}
-use Rattle.span_lanes.specs.Cost.{texel_steps, texture_steps, paint_steps, steps_of, chunk_cost, chunks_cost, span_cost}
+use Rattle.texel_lanes.specs.Texture.{texel_steps}
+use Rattle.span_lanes.specs.Cost.{texture_steps, paint_steps, steps_of, chunk_cost, chunks_cost, span_cost}
 use Rattle.span_lanes.specs.Laws.{CostLaw}
 
 steps_small : (b : Bool) (p k : ℕ) → p ≤ 2 → 1 ≤ k → steps_of b p k ≤ 4 * k

@@ -7,7 +7,6 @@ pub mod ColorLemmas
 pub mod CostLemmas
 pub mod DrawnBits
 pub mod GuardLemmas
-pub mod NibbleLemmas
 pub mod PartLemmas
 pub mod PlainLemmas
 pub mod PlanLemmas

@@ -2,7 +2,7 @@
 use Rattle.std.proofs.Common.{◌≡◌, ◌<◌, ◌≤◌, ℕ, zero, suc, List, ◌+◌, ◌-◌, ◌*◌, ◌/◌, min, length, sym, subst, arith}
 use Rattle.span_lanes.specs.declared.part.Part.{Part}
 use Rattle.span_lanes.specs.declared.span.Span.{Span}
-use Rattle.span_lanes.specs.declared.span.Texture.{Texture}
+use Rattle.texel_lanes.specs.declared.texture.Texture.{Texture}
 use Rattle.span_lanes.specs.Draws.{CanDraw, CanSample, DrawsPart, DrawsSpan, at_stage}
 use Rattle.span_lanes.specs.Shade.{LiesIn}
 use Rattle.span_lanes.proofs.ChunkLemmas.{AreDrawn, drawn_begun, drawn_next, all_cells, all_cost}

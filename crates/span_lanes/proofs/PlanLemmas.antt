@@ -2,14 +2,16 @@
 use Rattle.std.proofs.Common.{◌≡◌, ◌<◌, ◌≤◌, ℕ, List, Some, ◌+◌, ◌*◌, get_or, length, refl, ap, ◌∙◌, arith}
 use Rattle.overlap_guard.proofs.TestLemmas.{texture_iff, false_of}
 use Rattle.overlap_guard.specs.Hazard.{has_texture_hazard}
-use Rattle.span_lanes.specs.declared.span.Texture.{Texture}
+use Rattle.texel_lanes.specs.declared.texture.Texture.{Texture}
 use Rattle.span_lanes.specs.declared.span.Paint.{Paint}
 use Rattle.span_lanes.specs.declared.span.Span.{Span}
 use Rattle.span_lanes.specs.declared.track.Track.{Track}
-use Rattle.span_lanes.specs.Shade.{texture_of, texel}
-use Rattle.span_lanes.specs.Cost.{texel_steps, chunk_cost}
+use Rattle.texel_lanes.specs.Texture.{texel, texel_steps}
+use Rattle.span_lanes.specs.Shade.{texture_of}
+use Rattle.span_lanes.specs.Cost.{chunk_cost}
 use Rattle.span_lanes.specs.Guard.{paint_texels, palette_of, target, IsApart}
-use Rattle.span_lanes.specs.Lanes.{AreCoordinates, HasCoordinates}
+use Rattle.texel_lanes.specs.Texels.{AreCoordinates}
+use Rattle.span_lanes.specs.Lanes.{HasCoordinates}
 use Rattle.span_lanes.specs.Plan.{HasTexels}
 use Rattle.span_lanes.specs.Track.{along_at, IsTrack}
 use Rattle.span_lanes.specs.Paints.{paint_u, paint_v}

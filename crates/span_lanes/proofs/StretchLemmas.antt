@@ -1,9 +1,6 @@
 -- Texels that stand side by side.
 use Rattle.std.proofs.Common.{◌≡◌, ◌<◌, ◌≤◌, ℕ, List, Bool, false, ◌+◌, ◌-◌, ◌*◌, ◌/◌, ◌%◌, get_or, refl, sym, ap, ◌∙◌}
 use Rattle.std.proofs.Common.{pos, IsTrue, arith}
-use Rattle.std.specs.Int.Bits.{and_zero_r, or_zero_r}
-use Rattle.std.proofs.lemmas.Bool.Decides.{nat_tests}
-use Rattle.std.proofs.lemmas.Nat.{and_mask}
 use Rattle.texture_page.specs.Page.{texel_place, clut_place, column, windowed, index_in}
 use Rattle.edge_walk.specs.Attribute.{IsUnscaled}
 use Rattle.edge_walk.specs.Line.{line_value}
@@ -11,29 +8,21 @@ use Rattle.edge_walk.specs.Plane.{IsPlane}
 use Rattle.edge_walk.specs.declared.plane.Plane.{Plane}
 use Rattle.edge_walk.specs.Triangle.{Corners, is_inside}
 use Rattle.span_lanes.specs.declared.stretch.Stretch.{Stretch}
-use Rattle.span_lanes.specs.declared.span.Texture.{Texture}
+use Rattle.texel_lanes.specs.declared.texture.Texture.{Texture}
 use Rattle.span_lanes.specs.declared.span.Paint.TheVariants.{TexturedRow, TexturedTri}
 use Rattle.span_lanes.specs.declared.span.Span.{Span}
 use Rattle.span_lanes.specs.Paints.{paint_u, paint_v}
-use Rattle.span_lanes.specs.Shade.{row_u, texel, at_cell, attribute_in, AreInside, IsSpan}
-use Rattle.span_lanes.specs.declared.coordinates.Coordinates.{Coordinates}
+use Rattle.texel_lanes.specs.Texture.{at_cell, texel}
+use Rattle.span_lanes.specs.Shade.{row_u, attribute_in, AreInside, IsSpan}
 use Rattle.span_lanes.specs.Stretch.{IsRising, IsStretch}
-use Rattle.span_lanes.specs.Texels.{AreBeside, lane_place}
 use Rattle.span_lanes.proofs.TintLemmas.{first_cell}
-use Rattle.span_lanes.proofs.TexelLemmas.{texel_direct, texel_eight, texel_four}
-
--- without bits of the mask a window changes no coordinate
-pub open_window : (mask off u : ℕ) → mask ≡ 0 → u ≤ 255 → windowed mask off u ≡ u
-unfolding windowed
-open_window mask off u none low = rw (none, and_zero_r, or_zero_r, and_mask u 8) (omega arith)
+use Rattle.texel_lanes.proofs.BesideLemmas.{open_window, deep_column}
+use Rattle.texel_lanes.proofs.TexelLemmas.{texel_direct, texel_eight, texel_four}
 
 -- the columns of a row that does not wrap
 pub rising : (u i : ℕ) → u + i ≤ 255 → row_u u false i ≡ u + i
 unfolding row_u
 rising u i low = omega arith
-
-deep_column : (depth u : ℕ) → 2 ≤ depth → column depth u ≡ u
-deep_column depth u deep = grind (arith, nat_tests)
 
 -- a texel of fifteen bits
 pub whole_texel : (span : Span) (t : Texture) (s : Stretch) (x i h : ℕ) (m : List ℕ) → IsStretch span t s
@@ -79,14 +68,6 @@ eight_texel span t s x i e m is eight lt at entry =
     let here : (t.page.x + (s.u + i) / 2) % 1024 ≡ t.page.x + (s.u + i) / 2 = omega arith in
     texel_eight t _ _ m (s.u + i) (get_or m (1024 * s.y + (t.page.x + (s.u + i) / 2)) 0) e eight (sym column)
     (rw (eight, column, row, here) refl) entry
-
--- the part of a halfword for a column
-pub same_half : (a b h : ℕ) → a % 2 ≡ b % 2 → index_in 1 a h ≡ index_in 1 b h
-same_half a b h same = rw same refl
-
--- the part of a halfword for a column
-pub same_part : (a b h : ℕ) → a % 4 ≡ b % 4 → index_in 0 a h ≡ index_in 0 b h
-same_part a b h same = rw same refl
 
 -- where the texels of a span stand side by side
 pub rising_stretch : (span : Span) (t : Texture) (u v : ℕ) (s : Stretch) → IsRising span u v → t.window.mask_x ≡ 0
@@ -150,44 +131,3 @@ tri_in_page span tri t plane paint is same across =
     let last = cells i (omega (arith, is.some)) in
     let low = plane_small tri 3 span.x span.y i plane across first last in
     omega (arith, is.some, low, same.across (pos span.x) (pos span.y) i first last)
-
--- sixteen cells of texels of fifteen bits do not wrap
-pub beside_room : (t : Texture) (at : Coordinates) → 2 ≤ t.page.depth → AreBeside t at
-    → t.page.x + get_or at.us 0 0 + 16 ≤ 1024
-beside_room t at deep is = let wide = deep_column t.page.depth (get_or at.us 0 0) deep in rw wide at is.in_row
-
--- one of sixteen texels of fifteen bits side by side
-pub beside_texel : (t : Texture) (at : Coordinates) (j h : ℕ) (m : List ℕ) → 2 ≤ t.page.depth → AreBeside t at
-    → get_or at.us j 0 ≤ 255 → get_or at.vs j 0 ≤ 255 → j < 16
-    → h ≡ get_or m (1024 * (t.page.y + get_or at.vs 0 0) + (t.page.x + get_or at.us 0 0) + j) 0
-    → h ≡ texel t (get_or at.us j 0) (get_or at.vs j 0) m
-beside_texel t at j h m deep is low_u low_v lane read =
-    let u = open_window t.window.mask_x t.window.off_x (get_or at.us j 0) is.window_x low_u in
-    let v = open_window t.window.mask_y t.window.off_y (get_or at.vs j 0) is.window_y low_v in
-    let wide = deep_column t.page.depth (get_or at.us j 0) deep in
-    let across = is.columns j lane in
-    let down = is.rows j lane in
-    let room = beside_room t at deep is in
-    let here : (t.page.x + get_or at.us j 0) % 1024 ≡ t.page.x + get_or at.us j 0 = omega arith in
-    let place : 1024 * (t.page.y + get_or at.vs 0 0) + (t.page.x + get_or at.us 0 0) + j
-    ≡ 1024 * (t.page.y + get_or at.vs j 0) + (t.page.x + get_or at.us j 0) = omega arith in
-    read ∙ ap (λ (k : ℕ). get_or m k 0) place
-    ∙ rw (u, v, wide, here) at
-    (texel_direct t (get_or at.us j 0) (get_or at.vs j 0) m
-    (texel_place t.page t.window (get_or at.us j 0) (get_or at.vs j 0)) deep refl)
-
--- the index of one of sixteen texels of four bits side by side
-pub beside_index : (t : Texture) (at : Coordinates) (j h : ℕ) (m : List ℕ) → t.page.depth ≡ 0 → AreBeside t at
-    → get_or at.us j 0 ≤ 255 → get_or at.vs j 0 ≤ 255 → j < 16
-    → h ≡ index_in 0 (get_or at.us 0 0 + j)
-    (get_or m (1024 * (t.page.y + get_or at.vs 0 0) + (t.page.x + (get_or at.us 0 0 + j) / 4)) 0)
-    → h ≡ index_in 0 (windowed t.window.mask_x t.window.off_x (get_or at.us j 0)) (at_cell m (lane_place t at j))
-beside_index t at j h m four is low_u low_v lane read =
-    let u = open_window t.window.mask_x t.window.off_x (get_or at.us j 0) is.window_x low_u in
-    let v = open_window t.window.mask_y t.window.off_y (get_or at.vs j 0) is.window_y low_v in
-    let across = is.columns j lane in
-    let down = is.rows j lane in
-    let room = rw four at is.in_row in
-    let here : (t.page.x + (get_or at.us 0 0 + j) / 4) % 1024 ≡ t.page.x + (get_or at.us 0 0 + j) / 4 = omega
-    (arith, room) in
-    rw (u, v, four, across, down, here) read

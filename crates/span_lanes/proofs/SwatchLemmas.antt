@@ -4,14 +4,15 @@ use Rattle.std.proofs.lemmas.List.FromFn.{get_or-map-range_with_len}
 use Rattle.std.specs.Prelude.{IfSome, slice_index}
 use Rattle.texture_page.specs.Page.{clut_place}
 use Rattle.vram_store.specs.Chunk.{AgreesApart}
-use Rattle.span_lanes.specs.declared.span.Texture.{Texture}
+use Rattle.texel_lanes.specs.declared.texture.Texture.{Texture}
 use Rattle.span_lanes.specs.declared.swatches.Swatches.{Swatches}
 use Rattle.span_lanes.specs.declared.span.Paint.{Paint}
-use Rattle.span_lanes.specs.declared.table.Table.{Table}
-use Rattle.span_lanes.specs.Shade.{at_cell, texture_of}
+use Rattle.texel_lanes.specs.declared.table.Table.{Table}
+use Rattle.texel_lanes.specs.Texture.{at_cell}
+use Rattle.span_lanes.specs.Shade.{texture_of}
 use Rattle.span_lanes.specs.Swatches.{AreColored, AreEntries, AreFresh, AreSwatches, IsKept, IsPalette, IsPaletteOf}
 use Rattle.span_lanes.specs.Swatches.{entries_of}
-use Rattle.span_lanes.specs.Table.{entries_in, entry_at}
+use Rattle.texel_lanes.specs.Table.{entries_in, entry_at}
 use Rattle.span_lanes.proofs.BlindLemmas.{same_cell}
 
 -- cells of another row leave it as it is

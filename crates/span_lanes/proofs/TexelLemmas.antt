@@ -1,26 +1,21 @@
 -- Texels of a chunk.
-use Rattle.std.proofs.Common.{◌≡◌, ◌<◌, ◌≤◌, ℕ, ℤ, zero, suc, List, [], ◌∷◌, ◌++◌, Option, None, Some, Bool, true}
-use Rattle.std.proofs.Common.{false, cond, eqb, ◌&&◌, not, ◌+◌, ltb, min, map, get_or, refl, sym, ap}
-use Rattle.std.proofs.Common.{◌∙◌, ◌^◌, IsTrue, arith, add-one}
-use Rattle.std.specs.List.{range_with_len}
-use Rattle.std.proofs.lemmas.List.FromFn.{map-range_with_len_more}
+use Rattle.std.proofs.Common.{◌≡◌, ◌<◌, ℕ, ℤ, List, Option, None, Some, Bool, true}
+use Rattle.std.proofs.Common.{false, cond, eqb, ◌&&◌, not, ◌+◌, min, refl, ap}
+use Rattle.std.proofs.Common.{◌∙◌, ◌^◌, IsTrue, arith}
 use Rattle.std.proofs.lemmas.Bool.Decides.{nat_tests}
-use Rattle.px_num.specs.declared.shape.Cell.{Cell}
 use Rattle.vram_store.specs.Vram.{at}
 use Rattle.vram_store.specs.Plot.{is_kept, forced, written_over}
 use Rattle.vram_store.specs.Chunk.{IsLane}
 use Rattle.blend_dither.specs.Color.{packed_pixel}
-use Rattle.texture_page.specs.Page.{texel_place, clut_place, index_at, index_in, windowed}
 use Rattle.span_lanes.specs.declared.span.Brush.{Brush}
-use Rattle.span_lanes.specs.declared.span.Texture.{Texture}
+use Rattle.texel_lanes.specs.declared.texture.Texture.{Texture}
 use Rattle.span_lanes.specs.declared.span.Paint.{Paint}
 use Rattle.span_lanes.specs.declared.span.Paint.TheVariants.{Flat, Shaded, TexturedTri, TexturedRow}
 use Rattle.span_lanes.specs.declared.span.Span.{Span}
-use Rattle.span_lanes.specs.Shade.{texture_of, at_cell, texel, textured_pixel, blended_if, front_of, is_high, shift_of}
+use Rattle.texel_lanes.specs.Texture.{texel}
+use Rattle.span_lanes.specs.Shade.{texture_of, textured_pixel, blended_if, front_of, is_high, shift_of}
 use Rattle.span_lanes.specs.Shade.{paint_pixel, shade}
 use Rattle.span_lanes.specs.Paints.{paint_color, paint_u, paint_v}
-use Rattle.span_lanes.specs.Lanes.{HasCoordinates}
-use Rattle.span_lanes.specs.Guard.{paint_texel, paint_texels, texel_cells}
 
 -- a halfword has its own bit 15
 pub as_it_is : (h : ℕ) → h < 2 ^ 16 → h ≡ packed_pixel h (is_high h) false
@@ -31,47 +26,6 @@ pub raw_front : (raw : Bool) (color : ℕ) (shift : ℤ) (t h : ℕ) → IsTrue 
 unfolding front_of
 raw_front true color shift t h is front = front
 raw_front false color shift t h is front = absurd (cc is)
-
-low_depth : (n : ℕ) → n < 2 → ltb n 2 ≡ true
-low_depth n lt = grind (arith, nat_tests)
-
-high_depth : (n : ℕ) → 2 ≤ n → ltb n 2 ≡ false
-high_depth n le = grind (arith, nat_tests)
-
--- a texel by the cell that it stands in
-pub texel_direct : (t : Texture) (u v : ℕ) (m : List ℕ) (cell : Cell) → 2 ≤ t.page.depth
-    → cell ≡ texel_place t.page t.window u v
-    → at_cell m cell ≡ texel t u v m
-unfolding texel
-texel_direct t u v m cell deep e = rw (high_depth t.page.depth deep) (ap (at_cell m) e)
-
-pub texel_entry : (t : Texture) (u v : ℕ) (m : List ℕ) (cell : Cell) (h : ℕ) → t.page.depth < 2
-    → cell ≡ texel_place t.page t.window u v → h ≡ at_cell m cell
-    → at_cell m (clut_place t.clut (index_at t.page t.window u h)) ≡ texel t u v m
-unfolding texel
-texel_entry t u v m cell h low e read =
-    rw (low_depth t.page.depth low)
-    (ap (λ (k : ℕ). at_cell m (clut_place t.clut (index_at t.page t.window u k))) (read ∙ ap (at_cell m) e))
-
--- a texel of four bits by the entry of its index
-pub texel_four : (t : Texture) (u v : ℕ) (m : List ℕ) (across h e : ℕ) → t.page.depth ≡ 0
-    → across ≡ windowed t.window.mask_x t.window.off_x u
-    → h ≡ at_cell m (texel_place t.page t.window u v) → e ≡ at_cell m (clut_place t.clut (index_in 0 across h))
-    → e ≡ texel t u v m
-texel_four t u v m across h e four window read entry =
-    let here : index_in 0 across h ≡ index_at t.page t.window u h = rw (window, four) refl in
-    entry ∙ ap (λ (i : ℕ). at_cell m (clut_place t.clut i)) here
-    ∙ texel_entry t u v m (texel_place t.page t.window u v) h (omega (arith, four)) refl read
-
--- a texel of eight bits by the entry of its index
-pub texel_eight : (t : Texture) (u v : ℕ) (m : List ℕ) (across h e : ℕ) → t.page.depth ≡ 1
-    → across ≡ windowed t.window.mask_x t.window.off_x u
-    → h ≡ at_cell m (texel_place t.page t.window u v) → e ≡ at_cell m (clut_place t.clut (index_in 1 across h))
-    → e ≡ texel t u v m
-texel_eight t u v m across h e eight window read entry =
-    let here : index_in 1 across h ≡ index_at t.page t.window u h = rw (window, eight) refl in
-    entry ∙ ap (λ (i : ℕ). at_cell m (clut_place t.clut i)) here
-    ∙ texel_entry t u v m (texel_place t.page t.window u v) h (omega (arith, eight)) refl read
 
 paint_textured : (paint : Paint) (t : Texture) (brush : Brush) (x y i : ℕ) (m : List ℕ) → texture_of paint ≡ Some t
     → paint_pixel paint brush x y i m

@@ -1,15 +1,13 @@
 -- How many store steps the cells of a row may take (our own rule).
-use Rattle.std.specs.Prelude.{ℕ, zero, suc, ◌+◌, ◌-◌, ◌*◌, ◌/◌, min, Bool, Option, None, Some, if◌then◌else◌, nat_lt}
+use Rattle.std.specs.Prelude.{ℕ, zero, suc, ◌+◌, ◌-◌, ◌*◌, ◌/◌, min, Bool, Option, None, Some, if◌then◌else◌}
 use Rattle.span_lanes.specs.declared.span.Paint.{Paint}
-use Rattle.span_lanes.specs.declared.span.Texture.{Texture}
+use Rattle.texel_lanes.specs.declared.texture.Texture.{Texture}
+use Rattle.texel_lanes.specs.Texture.{texel_steps}
 use Rattle.span_lanes.specs.declared.span.Span.{Span}
 use Rattle.span_lanes.specs.Shade.{texture_of}
 use Rattle.span_lanes.specs.Guard.{has_hazard}
 
--- the reads of a texel: its cell, and at depths 0 and 1 the palette's entry
-abbrev pub texel_steps : ℕ → ℕ
-texel_steps depth = if nat_lt depth 2 then 2 else 1
-
+-- the reads of the texel of a pixel, if it has one
 abbrev pub texture_steps : Option Texture → ℕ
 texture_steps None = 0
 texture_steps (Some t) = texel_steps t.page.depth

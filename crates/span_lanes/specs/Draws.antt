@@ -3,7 +3,7 @@ use Rattle.std.specs.Prelude.{ℕ, ◌≡◌, ◌≤◌, ◌+◌, ◌%◌, List,
 use Rattle.vram_store.specs.Vram.{height_of}
 use Rattle.span_lanes.specs.declared.part.Part.{Part}
 use Rattle.span_lanes.specs.declared.span.Span.{Span}
-use Rattle.span_lanes.specs.declared.span.Texture.{Texture}
+use Rattle.texel_lanes.specs.declared.texture.Texture.{Texture}
 use Rattle.span_lanes.specs.Cells.{Stage}
 use Rattle.span_lanes.specs.Chunk.{drawn_chunk}
 use Rattle.span_lanes.specs.Cost.{chunk_cost, span_cost}

@@ -7,7 +7,8 @@ use Rattle.px_num.specs.declared.shape.Cell.{Cell}
 use Rattle.px_num.specs.declared.shape.Strip.{Strip}
 use Rattle.texture_page.specs.Page.{texel_place}
 use Rattle.overlap_guard.specs.Hazard.{HasTextureHazard, has_texture_hazard}
-use Rattle.span_lanes.specs.declared.span.Texture.{Texture}
+use Rattle.texel_lanes.specs.declared.texture.Texture.{Texture}
+use Rattle.texel_lanes.specs.Texture.{clut_row}
 use Rattle.span_lanes.specs.declared.span.Paint.{Paint}
 use Rattle.span_lanes.specs.declared.span.Span.{Span}
 use Rattle.span_lanes.specs.Shade.{texture_of}
@@ -20,10 +21,6 @@ paint_texel paint t x y i = texel_place t.page t.window (paint_u paint (x + i) y
 -- those of n cells from a first one on
 unfoldable pub paint_texels : Paint → Texture → ℕ → ℕ → ℕ → ℕ → List Cell
 paint_texels paint t x y first n = map (paint_texel paint t x y) (range_with_len first n)
-
--- the row of a palette
-abbrev pub clut_row : ℕ → ℕ
-clut_row clut = clut / 64 % 512
 
 abbrev pub clut_strip : ℕ → ℕ → Strip
 clut_strip clut n = record { x = clut % 64 * 16; y = clut_row clut; n = n }

@@ -4,14 +4,14 @@ use Rattle.px_num.specs.Lanes.{EachLane, AreBytes}
 use Rattle.texture_page.specs.Page.{clut_place}
 use Rattle.span_lanes.specs.declared.part.Part.{Part}
 use Rattle.span_lanes.specs.declared.span.Span.{Span}
-use Rattle.span_lanes.specs.declared.span.Texture.{Texture}
+use Rattle.texel_lanes.specs.declared.texture.Texture.{Texture}
 use Rattle.span_lanes.specs.declared.swatches.Swatches.{Swatches}
 use Rattle.span_lanes.specs.declared.hues.Hues.TheVariants.{One}
 use Rattle.span_lanes.specs.Draws.{CanSample}
 use Rattle.span_lanes.specs.Guard.{IsApart}
 use Rattle.span_lanes.specs.Hues.{AreHues}
 use Rattle.span_lanes.specs.Paints.{paint_u, paint_v}
-use Rattle.span_lanes.specs.Shade.{at_cell, texel}
+use Rattle.texel_lanes.specs.Texture.{at_cell, texel}
 use Rattle.span_lanes.specs.Swatches.{AreColored, AreSwatches, SuitsPalette}
 
 -- a span that takes its texels from a texture and reads nothing that it writes; that its texels can be found is given

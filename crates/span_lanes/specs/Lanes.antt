@@ -4,6 +4,7 @@ use Rattle.std.specs.Prelude.{slice_index_or}
 use Rattle.px_num.specs.Lanes.{EachLane}
 use Rattle.blend_dither.specs.Color.{IsShift, tone_of, red_of, green_of, blue_of}
 use Rattle.vram_store.specs.Plot.{is_testing, written_over}
+use Rattle.texel_lanes.specs.Texels.{AreCoordinates}
 use Rattle.span_lanes.specs.declared.span.Brush.{Brush}
 use Rattle.span_lanes.specs.declared.span.Paint.{Paint}
 use Rattle.span_lanes.specs.declared.span.Span.{Span}
@@ -41,11 +42,6 @@ pub record AreShiftsAt (dither : Bool) (x y : ℕ) (shifts : List ℤ) : Type 0 
 -- the tone of a colour with a dither offset
 abbrev pub tone_with : ℕ → ℤ → ℕ
 tone_with color shift = tone_of (red_of color) (green_of color) (blue_of color) shift
-
--- sixteen coordinates of a texel
-pub record AreCoordinates (coordinates : List ℕ) : Type 0 where
-  pub long : length coordinates ≡ 16
-  pub bytes : EachLane (λ i. slice_index coordinates i ≤ 255)
 
 -- the first n lanes are the texel coordinates of a paint in a row, from (x, y) on, which is cell `first` of a span
 pub record HasCoordinates (paint : Paint) (x y first n : ℕ) (us vs : List ℕ) : Type 0 where

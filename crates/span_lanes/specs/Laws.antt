@@ -3,7 +3,7 @@ use Rattle.std.specs.Prelude.{ℕ, ◌≡◌, ◌*◌, ◌≤◌, List, true, fa
 use Rattle.texture_page.specs.declared.page.Page.{Page}
 use Rattle.span_lanes.specs.declared.span.Paint.TheVariants.{TexturedRow}
 use Rattle.span_lanes.specs.declared.span.Span.{Span}
-use Rattle.span_lanes.specs.declared.span.Texture.{Texture}
+use Rattle.texel_lanes.specs.declared.texture.Texture.{Texture}
 use Rattle.span_lanes.specs.Cells.{drawn_cells, row_cells}
 use Rattle.span_lanes.specs.Shade.{drawn_span, shade_at}
 use Rattle.span_lanes.specs.Cost.{span_cost}

@@ -8,7 +8,6 @@ pub mod Hues
 pub mod Kept
 pub mod Lanes
 pub mod Laws
-pub mod Nibbles
 pub mod Paints
 pub mod Pen
 pub mod Plan
@@ -19,7 +18,5 @@ pub mod Stretch
 pub mod StretchPen
 pub mod Strips
 pub mod Swatches
-pub mod Table
-pub mod Texels
 pub mod Toned
 pub mod Track

@@ -3,9 +3,10 @@ use Rattle.std.specs.Prelude.{ℕ, ◌≡◌, ◌+◌, ◌<◌, ◌&&◌, not, I
 use Rattle.span_lanes.specs.declared.part.Part.{Part}
 use Rattle.span_lanes.specs.declared.plan.Plan.{Plan}
 use Rattle.span_lanes.specs.declared.shading.Shading.{Shading}
-use Rattle.span_lanes.specs.declared.span.Texture.{Texture}
+use Rattle.texel_lanes.specs.declared.texture.Texture.{Texture}
 use Rattle.span_lanes.specs.declared.span.Span.{Span}
-use Rattle.span_lanes.specs.Shade.{texel, front_of, shift_of}
+use Rattle.texel_lanes.specs.Texture.{texel}
+use Rattle.span_lanes.specs.Shade.{front_of, shift_of}
 use Rattle.span_lanes.specs.Guard.{IsApart}
 use Rattle.span_lanes.specs.Hues.{AreHues}
 use Rattle.span_lanes.specs.Lanes.{AreShiftsAt}

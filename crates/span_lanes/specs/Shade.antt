@@ -1,27 +1,22 @@
 -- The pixel that a span draws at one of its cells (psx-spx, "GPU Rendering Attributes"; the exact whole numbers are our
 -- own rule).
 use Rattle.std.specs.Prelude.{ℕ, ◌+◌, ◌-◌, ◌*◌, ◌%◌, ◌<◌, ◌≤◌, ◌==◌, ◌&&◌, ℤ, pos, IsTrue, Bool, false, not, List}
-use Rattle.std.specs.Prelude.{Option, None, Some, IfSome, if◌then◌else◌, nat_lt}
+use Rattle.std.specs.Prelude.{Option, None, Some, IfSome, if◌then◌else◌}
 use Rattle.px_num.specs.declared.shape.Cell.{Cell}
 use Rattle.vram_store.specs.Vram.{at, bit}
 use Rattle.vram_store.specs.Plot.{drawn_lanes}
-use Rattle.texture_page.specs.Page.{IsPage, IsWindow, texel_place, clut_place, index_at}
 use Rattle.blend_dither.specs.Color.{dither_offset, tone_of, red_of, green_of, blue_of, modulated_of, blended_of}
 use Rattle.blend_dither.specs.Color.{packed_pixel}
 use Rattle.edge_walk.specs.Triangle.{Corners, is_inside}
 use Rattle.edge_walk.specs.Attribute.{attribute_at}
 use Rattle.span_lanes.specs.declared.span.Brush.{Brush}
-use Rattle.span_lanes.specs.declared.span.Texture.{Texture}
+use Rattle.texel_lanes.specs.declared.texture.Texture.{Texture}
+use Rattle.texel_lanes.specs.Texture.{IsTexture, texel}
 use Rattle.span_lanes.specs.declared.span.Paint.{Paint}
 use Rattle.span_lanes.specs.declared.span.Paint.TheVariants.{Flat, Shaded, TexturedTri, TexturedRow}
 use Rattle.span_lanes.specs.declared.span.Span.{Span}
 
 -- ---- spans that can be drawn
-
--- a texture whose page and window are such as there are
-pub record IsTexture (texture : Texture) : Type 0 where
-  pub page : IsPage texture.page
-  pub window : IsWindow texture.window
 
 -- the texture of a paint
 abbrev pub texture_of : Paint → Option Texture
@@ -56,16 +51,6 @@ pub record LiesIn (height : ℕ) (span : Span) : Type 0 where
   pub page : IfSome (texture_of span.paint) (λ texture. texture.page.y + 255 < height)
 
 -- ---- texels
-
-abbrev pub at_cell : List ℕ → Cell → ℕ
-at_cell m cell = at m cell.x cell.y
-
--- the texel at a pair of coordinates, its cell and its palette's entry as they are in video memory
-unfoldable pub texel : Texture → ℕ → ℕ → List ℕ → ℕ
-texel t u v m =
-    if nat_lt t.page.depth 2
-    then at_cell m (clut_place t.clut (index_at t.page t.window u (at_cell m (texel_place t.page t.window u v))))
-    else at_cell m (texel_place t.page t.window u v)
 
 -- the U of cell i of a row: from cell to cell one more, or one less where it is flipped
 unfoldable pub row_u : ℕ → Bool → ℕ → ℕ

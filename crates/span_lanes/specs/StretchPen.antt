@@ -8,14 +8,15 @@ use Rattle.span_lanes.specs.declared.block.Block.{Block}
 use Rattle.span_lanes.specs.declared.span.Brush.{Brush}
 use Rattle.span_lanes.specs.declared.span.Paint.TheVariants.{TexturedTri}
 use Rattle.span_lanes.specs.declared.span.Span.{Span}
-use Rattle.span_lanes.specs.declared.span.Texture.{Texture}
+use Rattle.texel_lanes.specs.declared.texture.Texture.{Texture}
 use Rattle.span_lanes.specs.declared.swatches.Swatches.{Swatches}
 use Rattle.span_lanes.specs.declared.tint.Tint.{Tint}
 use Rattle.span_lanes.specs.declared.tint.Tint.TheVariants.{Plain}
 use Rattle.span_lanes.specs.Frame.{Framed, IsInBlock}
 use Rattle.span_lanes.specs.Guard.{IsApart, IsInOtherRow}
 use Rattle.span_lanes.specs.Pen.{IsTintOf}
-use Rattle.span_lanes.specs.Shade.{IsSpan, IsTexture, texture_of}
+use Rattle.texel_lanes.specs.Texture.{IsTexture}
+use Rattle.span_lanes.specs.Shade.{IsSpan, texture_of}
 use Rattle.span_lanes.specs.Swatches.{AreColored, entries_of}
 
 -- the spans in a block read nothing that they write, and none has the row of the palette, if there is one of sixteen

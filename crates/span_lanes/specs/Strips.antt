@@ -2,7 +2,7 @@
 use Rattle.std.specs.Prelude.{ℕ, false, ◌≡◌, ◌≤◌, ◌<◌, ◌+◌, ◌/◌}
 use Rattle.span_lanes.specs.declared.row.TexelRow.{TexelRow}
 use Rattle.span_lanes.specs.declared.span.Paint.TheVariants.{TexturedRow}
-use Rattle.span_lanes.specs.declared.span.Texture.{Texture}
+use Rattle.texel_lanes.specs.declared.texture.Texture.{Texture}
 use Rattle.span_lanes.specs.declared.spans.Spans.{Spans}
 use Rattle.span_lanes.specs.Spans.{nth_span}
 use Rattle.span_lanes.specs.Swatches.{SuitsPalette}

@@ -3,14 +3,15 @@ use Rattle.std.specs.Prelude.{ℕ, ◌≡◌, ◌≢◌, ◌&&◌, not, false, p
 use Rattle.std.specs.Prelude.{Option, None, Some, IfSome}
 use Rattle.px_num.specs.Lanes.{EachLane}
 use Rattle.texture_page.specs.Page.{clut_place}
-use Rattle.span_lanes.specs.declared.span.Texture.{Texture}
+use Rattle.texel_lanes.specs.declared.texture.Texture.{Texture}
 use Rattle.span_lanes.specs.declared.span.Paint.{Paint}
 use Rattle.span_lanes.specs.declared.span.Span.{Span}
 use Rattle.span_lanes.specs.declared.swatches.Swatches.{Swatches}
-use Rattle.span_lanes.specs.declared.table.Table.{Table}
-use Rattle.span_lanes.specs.Guard.{IsApart, clut_row}
-use Rattle.span_lanes.specs.Shade.{at_cell, front_of, texture_of}
-use Rattle.span_lanes.specs.Table.{IsTable, entries_in, entry_at}
+use Rattle.texel_lanes.specs.declared.table.Table.{Table}
+use Rattle.texel_lanes.specs.Texture.{at_cell, clut_row}
+use Rattle.span_lanes.specs.Guard.{IsApart}
+use Rattle.span_lanes.specs.Shade.{front_of, texture_of}
+use Rattle.texel_lanes.specs.Table.{IsTable, entries_in, entry_at}
 
 -- the entries of a texture's palette, and what a colour makes of each without dither
 pub record AreSwatches (t : Texture) (m : List ℕ) (swatches : Swatches) : Type 0 where

@@ -1,14 +1,15 @@
 // Spans that lie apart from their texels and from their palette.
 ghost use Rattle.std.specs.Prelude.{ℕ, ◌≡◌, ◌≢◌, ◌≤◌, ◌<◌, ◌+◌, ◌⊎◌, ◌↔◌, Some, IsTrue};
-ghost use Rattle.span_lanes.specs.Shade.{IsSpan, IsTexture, texture_of};
-ghost use Rattle.span_lanes.specs.Guard.{IsApart, IsInOtherRow, LiesBeside, clut_row, page_width};
+ghost use Rattle.texel_lanes.specs.Texture.{IsTexture, clut_row};
+ghost use Rattle.span_lanes.specs.Shade.{IsSpan, texture_of};
+ghost use Rattle.span_lanes.specs.Guard.{IsApart, IsInOtherRow, LiesBeside, page_width};
 ghost use Rattle.span_lanes.specs.Frame.{IsBlock, IsInBlock};
 ghost use Rattle.span_lanes.specs.Spans.{nth_span, AreBelow};
 ghost use Rattle.span_lanes.specs.StretchPen.{IsBlockApart};
 
-use crate::clut::clut_row;
 use crate::spans::Spans;
 use crate::{Block, Span, Texture};
+use texel_lanes::clut_row;
 
 // Whether n cells from x on are none of those of a strip that does not wrap.
 fn lies_beside(first: u16, width: u16, x: u16, n: u16) -> bool

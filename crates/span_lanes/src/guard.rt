@@ -1,16 +1,15 @@
 // Whether a textured chunk reads what it writes.
 ghost use Rattle.std.specs.Prelude.{◌≡◌, ◌≤◌, ◌+◌, ◌↔◌, IsTrue};
 ghost use Rattle.overlap_guard.specs.Hazard.{HasTextureHazard, has_texture_hazard};
-ghost use Rattle.span_lanes.specs.Shade.{IsTexture, texture_of};
-ghost use Rattle.span_lanes.specs.Lanes.{AreCoordinates};
+ghost use Rattle.texel_lanes.specs.Texture.{IsTexture};
+ghost use Rattle.texel_lanes.specs.Texels.{AreCoordinates};
+ghost use Rattle.span_lanes.specs.Shade.{texture_of};
 ghost use Rattle.span_lanes.specs.Guard.{texel_cells, palette_of, clut_strip};
 
-use crate::clut::clut_row;
-use crate::coordinates::Coordinates;
-use crate::places::places_of;
 use crate::{Paint, Texture};
 use overlap_guard::lanes_hazard;
 use px_num::{Cell, Strip};
+use texel_lanes::{Coordinates, clut_row, places_of};
 
 pub(crate) fn texture_of(paint: &Paint) -> Option<Texture>
     ensures { result ≡ texture_of paint.now }

@@ -6,8 +6,6 @@ ghost use Rattle.span_lanes.specs.Lanes.{HasCoordinates};
 ghost use Rattle.span_lanes.specs.Plan.{IsPlan, IsShading};
 
 use crate::Span;
-use crate::coordinates::Coordinates;
-use crate::fetch::read_texels;
 use crate::guard::reads_itself;
 use crate::loops::Chunks;
 use crate::part::Part;
@@ -18,6 +16,7 @@ use crate::textured::draw_shaded;
 use crate::track::track_lanes;
 use px_num::Cell;
 use std::sync::ledger::Ledger;
+use texel_lanes::{Coordinates, read_texels};
 use vram_store::{Steps, Vram};
 
 // A part by its coordinates: at once where it does not read what it writes.

@@ -11,26 +11,19 @@ ghost use Rattle.edge_walk.specs.Triangle.{is_inside};
 
 mod apart;
 mod back;
-mod beside;
 mod block;
 mod cells;
-mod clut;
 mod colors;
-mod coordinates;
 mod draw;
-mod fetch;
 mod guard;
 mod guarded;
 mod hues;
 mod lanes;
 pub mod laws;
 mod loops;
-mod nibbles;
-mod octets;
 mod part;
 mod pen;
 mod pixel;
-mod places;
 mod plain;
 mod plainly;
 mod plan;
@@ -49,7 +42,6 @@ mod stretched;
 mod strip;
 mod strips;
 mod swatches;
-mod table;
 mod texels;
 mod textured;
 mod tint;
@@ -60,9 +52,10 @@ pub use block::Block;
 pub use pen::{Pen, draw_span};
 pub use row::row_u;
 pub use solid::{draw_solid, solid_of};
-pub use span::{Brush, Paint, Span, Texture};
+pub use span::{Brush, Paint, Span};
 pub use spans::{Spans, draw_spans};
 pub use stretch_pen::StretchPen;
+pub use texel_lanes::Texture;
 
 #[cfg(test)]
 mod tests {

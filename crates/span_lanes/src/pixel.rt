@@ -2,55 +2,18 @@
 ghost use Rattle.std.specs.Prelude.{◌≡◌, ◌≤◌, ◌<◌, ◌+◌, pos, IsTrue};
 ghost use Rattle.blend_dither.specs.Color.{IsShift};
 ghost use Rattle.edge_walk.specs.Triangle.{is_inside};
-ghost use Rattle.px_num.specs.Height.{short_height};
 ghost use Rattle.vram_store.specs.Vram.{at, height_of};
-ghost use Rattle.span_lanes.specs.Shade.{IsTexture, IsSpan, LiesIn, texel, row_u, shift_of, blended_if, front_of};
+ghost use Rattle.span_lanes.specs.Shade.{IsSpan, LiesIn, row_u, shift_of, blended_if, front_of};
 ghost use Rattle.span_lanes.specs.Shade.{flat_pixel, textured_pixel, shade, attribute_in, color_in};
-ghost use Rattle.span_lanes.specs.Cost.{texel_steps, paint_steps};
+ghost use Rattle.span_lanes.specs.Cost.{paint_steps};
 
 use crate::row::row_u;
-use crate::{Brush, Paint, Span, Texture};
+use crate::{Brush, Paint, Span};
 use blend_dither::{blend, modulate, pack, shift_at, tone};
 use edge_walk::Tri;
-use px_num::Cell;
 use std::sync::ledger::Ledger;
-use texture_page::{clut_cell, index_of, texel_cell};
+use texel_lanes::read_texel;
 use vram_store::{Steps, Vram};
-
-// A cell of a palette, whose row is one of the first 512.
-fn palette_entry<L: Ledger>(vram: &Vram, cell: Cell, steps: &mut Steps<L>) -> u16
-    requires in_row { cell.x < 1024 }
-    requires in_height { cell.y < short_height }
-    ensures value { result ≡ at vram.now cell.x cell.y }
-    ensures cost { steps.new ≤ steps.old + 1 }
-{
-    let _height = vram.height();
-    vram.get(cell.x, cell.y, steps)
-}
-
-// A texel as it is in video memory.
-#[tactic(auto, unfolding(crate::specs::Shade::texel))]
-pub(crate) fn read_texel<L: Ledger>(
-    vram: &Vram,
-    texture: &Texture,
-    u: u8,
-    v: u8,
-    steps: &mut Steps<L>,
-) -> u16
-    requires texture { IsTexture texture.now }
-    requires page { texture.now.page.y + 255 < height_of vram.now }
-    ensures value { result ≡ texel texture.now u v vram.now }
-    ensures cost { steps.new ≤ steps.old + texel_steps texture.now.page.depth }
-{
-    let cell = texel_cell(&texture.page, &texture.window, u, v);
-    let h = vram.get(cell.x, cell.y, steps);
-    if texture.page.depth < 2 {
-        let index = index_of(&texture.page, &texture.window, u, h);
-        palette_entry(vram, clut_cell(texture.clut, index), steps)
-    } else {
-        h
-    }
-}
 
 #[tactic(auto, unfolding(crate::specs::Shade::shift_of))]
 pub(crate) fn shift_for(dither: bool, x: u16, y: u16) -> i8

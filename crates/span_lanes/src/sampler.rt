@@ -1,6 +1,6 @@
 // Where texels are found.
 ghost use Rattle.std.specs.Prelude.{◌≡◌, ◌≤◌, ◌+◌, ◌*◌};
-ghost use Rattle.span_lanes.specs.Cost.{texel_steps};
+ghost use Rattle.texel_lanes.specs.Texture.{texel_steps};
 ghost use Rattle.span_lanes.specs.Draws.{CanSample, IsPart};
 ghost use Rattle.span_lanes.specs.Kept.{HasIndexes};
 ghost use Rattle.span_lanes.specs.Plan.{HasTexels};
@@ -14,7 +14,7 @@ use vram_store::{Steps, Vram};
 // How the texels of a span are found, part by part.
 pub(crate) trait Sampler {
     ghost use Rattle.span_lanes.specs.declared.span.Span.{Span};
-    ghost use Rattle.span_lanes.specs.declared.span.Texture.{Texture};
+    ghost use Rattle.texel_lanes.specs.declared.texture.Texture.{Texture};
 
     // Holds where it finds the texels of a span in a texture.
     ghost finds: { Self → Span → Texture → Type 0 };
@@ -37,7 +37,7 @@ pub(crate) trait Sampler {
 // How the indexes of texels of four bits are found.
 pub(crate) trait Indexed {
     ghost use Rattle.span_lanes.specs.declared.span.Span.{Span};
-    ghost use Rattle.span_lanes.specs.declared.span.Texture.{Texture};
+    ghost use Rattle.texel_lanes.specs.declared.texture.Texture.{Texture};
 
     ghost finds: { Self → Span → Texture → Type 0 };
 

@@ -1,12 +1,12 @@
 // The colours of a textured span.
-ghost use Rattle.std.specs.Prelude.{◌≡◌, ◌&&◌, not};
+ghost use Rattle.std.specs.Prelude.{◌≡◌, ◌&&◌, not, false, IsTrue};
 ghost use Rattle.span_lanes.specs.Hues.{AreHues};
 ghost use Rattle.span_lanes.specs.Plan.{IsShading};
 ghost use Rattle.span_lanes.specs.Shade.{IsSpan};
 
 use crate::colors::{Shifts, shifts_of};
 use crate::hues::Hues;
-use crate::{Span, Texture};
+use crate::{Brush, Span, Texture};
 
 // The colours of the cells of a span, and their dither offsets.
 #[derive(Clone, Copy)]
@@ -19,6 +19,15 @@ pub(crate) fn is_dithered(dither: bool, raw: bool) -> bool
     ensures { result ≡ (dither && not raw) }
 {
     dither && !raw
+}
+
+// Whether a texture has a palette of sixteen entries of which one colour makes the same in all cells.
+#[inline(always)]
+pub(crate) fn has_even_palette(texture: &Texture, brush: &Brush) -> bool
+    ensures depth { IsTrue result → texture.now.page.depth ≡ 0 }
+    ensures even { IsTrue result → (brush.now.dither && not texture.now.raw) ≡ false }
+{
+    texture.page.depth == 0 && !is_dithered(brush.dither, texture.raw)
 }
 
 #[inline(always)]

@@ -1,6 +1,6 @@
 // What a span is.
 use edge_walk::Tri;
-use texture_page::{Page, Window};
+use texel_lanes::Texture;
 
 /// How pixels come to cells.
 #[derive(Clone, Copy)]
@@ -13,19 +13,6 @@ pub struct Brush {
     pub semi: bool,
     /// Whether colours are dithered. Raw texels never are.
     pub dither: bool,
-}
-
-/// A texture.
-#[derive(Clone, Copy)]
-pub struct Texture {
-    /// Where its texels stand, and how many bits each has.
-    pub page: Page,
-    /// The part of the page that is repeated.
-    pub window: Window,
-    /// The attribute that says where the palette begins: bits 0 to 5 are its column over 16, bits 6 to 14 its row.
-    pub clut: u16,
-    /// Whether texels are drawn as they are, without a colour.
-    pub raw: bool,
 }
 
 /// What the cells of a span are drawn with. A colour has red in bits 0 to 7, green in 8 to 15 and blue in 16 to 23.

@@ -3,21 +3,22 @@ ghost use Rattle.std.specs.Prelude.{◌≡◌, ◌≤◌, ◌<◌, ◌+◌, ◌*
 ghost use Rattle.texture_page.specs.Page.{windowed};
 ghost use Rattle.span_lanes.specs.declared.span.Paint.TheVariants.{TexturedRow, TexturedTri};
 ghost use Rattle.span_lanes.specs.Pen.{AreSlopes};
-ghost use Rattle.span_lanes.specs.Shade.{IsSpan, IsTexture};
+ghost use Rattle.texel_lanes.specs.Texture.{IsTexture};
+ghost use Rattle.span_lanes.specs.Shade.{IsSpan};
 ghost use Rattle.span_lanes.specs.Stretch.{IsRising, IsStretch};
 ghost use Rattle.span_lanes.specs.StretchPen.{AreSideBySide};
 
-use crate::beside::{sixteen_indexes, sixteen_octets};
-use crate::fetch::{gather_entries, sixteen_entries};
 use crate::part::Part;
 use crate::row::TexelRow;
 use crate::sampler::{Indexed, Sampler};
 use crate::slopes::{Slopes, value_of};
-use crate::table::{entries_at, table_of};
 use crate::{Span, Texture};
 use edge_walk::{Plane, Tri};
 use std::simd::prelude::*;
 use std::sync::ledger::Ledger;
+use texel_lanes::{
+    entries_at, gather_entries, sixteen_entries, sixteen_indexes, sixteen_octets, table_of,
+};
 use texture_page::texel_cell;
 use vram_store::{Steps, Vram};
 

@@ -1,13 +1,14 @@
 // Pens for triangles whose texels stand side by side.
 ghost use Rattle.std.specs.Prelude.{◌≡◌, IfSome};
 ghost use Rattle.span_lanes.specs.Frame.{IsBlock, framed_in};
-ghost use Rattle.span_lanes.specs.Shade.{IsTexture, texture_of};
+ghost use Rattle.texel_lanes.specs.Texture.{IsTexture};
+ghost use Rattle.span_lanes.specs.Shade.{texture_of};
 ghost use Rattle.span_lanes.specs.StretchPen.{IsPlain};
 
 use crate::apart::is_block_apart;
-use crate::clut::has_even_palette;
 use crate::draw::draw_beside_row;
 use crate::plainly::is_plain;
+use crate::shading::has_even_palette;
 use crate::stretch::{has_room, place_row};
 use crate::strip::draw_plain_strip;
 use crate::swatches::Swatches;
@@ -68,7 +69,8 @@ impl StretchPen {
     ghost use Rattle.vram_store.specs.Vram.{height_of};
     ghost use Rattle.span_lanes.specs.Frame.{IsBlock, IsInBlock, framed_in};
     ghost use Rattle.span_lanes.specs.Pen.{DrawsCells, IsFresh, ink_span};
-    ghost use Rattle.span_lanes.specs.Shade.{IsSpan, IsTexture, LiesIn, texture_of};
+    ghost use Rattle.texel_lanes.specs.Texture.{IsTexture};
+    ghost use Rattle.span_lanes.specs.Shade.{IsSpan, LiesIn, texture_of};
 
     /// A pen for a paint and a brush in a block. None for other paints than triangles with a texture, and where texels
     /// are not known to stand side by side or the block not known to lie apart: [`Pen`](crate::Pen) draws them all.

@@ -8,9 +8,9 @@ ghost use Rattle.span_lanes.specs.Kept.{CanKeep};
 ghost use Rattle.span_lanes.specs.Stretch.{IsStretch};
 ghost use Rattle.span_lanes.specs.Swatches.{IsKept, SuitsPalette};
 
-use crate::clut::has_even_palette;
 use crate::loops::{draw_by_brush, draw_parts};
 use crate::plainly::plain;
+use crate::shading::has_even_palette;
 use crate::stretch::Stretch;
 use crate::stretched::known;
 use crate::swatches::{Swatches, swatches_of};

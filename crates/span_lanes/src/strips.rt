@@ -7,10 +7,10 @@ ghost use Rattle.span_lanes.specs.Strips.{AreStrips};
 ghost use Rattle.span_lanes.specs.Swatches.{IsPalette};
 
 use crate::apart::are_apart;
-use crate::clut::has_even_palette;
 use crate::loops::draw_parts;
 use crate::plainly::{is_plain, plain};
 use crate::row::{TexelRow, row_u};
+use crate::shading::has_even_palette;
 use crate::spans::Spans;
 use crate::stretch::{has_room, is_open, stretch_at};
 use crate::stretched::known;

@@ -5,18 +5,17 @@ ghost use Rattle.px_num.specs.Lanes.{EachLane, AreBytes};
 ghost use Rattle.span_lanes.specs.Plan.{IsPlan};
 ghost use Rattle.span_lanes.specs.Shade.{front_of};
 ghost use Rattle.span_lanes.specs.Swatches.{AreColored, AreEntries, IsPalette, SuitsPalette};
-ghost use Rattle.span_lanes.specs.Table.{entry_at};
+ghost use Rattle.texel_lanes.specs.Table.{entry_at};
 
-use crate::clut::{clut_row, has_even_palette};
 use crate::colors::no_shifts;
-use crate::fetch::sixteen_entries;
 use crate::hues::Hues;
 use crate::plan::Plan;
-use crate::table::{Table, entries_at, table_of};
+use crate::shading::has_even_palette;
 use crate::textured::fronts;
 use crate::{Span, Texture};
 use std::simd::prelude::*;
 use std::sync::ledger::Ledger;
+use texel_lanes::{Table, clut_row, entries_at, sixteen_entries, table_of};
 use vram_store::{Steps, Vram};
 
 // The sixteen entries of a palette, and what a colour makes of them.

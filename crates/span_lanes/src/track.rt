@@ -3,12 +3,9 @@ ghost use Rattle.std.specs.Prelude.{◌≡◌, ◌≤◌, ◌<◌, ◌+◌, ℕ,
 ghost use Rattle.edge_walk.specs.Triangle.{Corners, is_inside};
 ghost use Rattle.span_lanes.specs.Shade.{row_u};
 ghost use Rattle.span_lanes.specs.Pen.{AreSlopes};
-ghost use Rattle.span_lanes.specs.Lanes.{AreCoordinates};
+ghost use Rattle.texel_lanes.specs.Texels.{AreCoordinates};
 ghost use Rattle.span_lanes.specs.Track.{along_at, IsAlong};
 
-use crate::beside::indexes_of;
-use crate::coordinates::Coordinates;
-use crate::fetch::read_texels;
 use crate::hues::line_of;
 use crate::part::Part;
 use crate::sampler::{Indexed, Sampler};
@@ -18,6 +15,7 @@ use edge_walk::RowLine;
 use px_num::lanes::{add, low_bits, ramp, splat, sub_or_zero};
 use std::simd::prelude::*;
 use std::sync::ledger::Ledger;
+use texel_lanes::{Coordinates, indexes_of, read_texels};
 use vram_store::{Steps, Vram};
 
 // One coordinate of the texels of a span.

@@ -1,5 +1,6 @@
 use Rattle.std.proofs.Common.{ℕ, ℤ, ◌≡◌, ◌<◌, ◌+◌, ◌*◌, ◌&&◌, not, Bool, cond, get_or, sym, ap, ◌∙◌, arith}
-use Rattle.span_lanes.specs.Shade.{textured_pixel, shift_of, texel}
+use Rattle.texel_lanes.specs.Texture.{texel}
+use Rattle.span_lanes.specs.Shade.{textured_pixel, shift_of}
 use Rattle.span_lanes.specs.Paints.{paint_color, paint_u, paint_v}
 use Rattle.span_lanes.specs.Lanes.{DoesFor}
 use Rattle.span_lanes.proofs.BackLemmas.{textured_back, kept_back}

@@ -1,6 +1,6 @@
 use Rattle.std.proofs.Common.{ℕ, ◌≡◌, ◌<◌, ◌+◌, ap, arith}
 use Rattle.texture_page.specs.Page.{clut_place}
-use Rattle.span_lanes.specs.Shade.{at_cell}
+use Rattle.texel_lanes.specs.Texture.{at_cell}
 use Rattle.span_lanes.proofs.StretchLemmas.{four_texel}
 use Rattle.span_lanes.proofs.stretch.StretchIndexed.read_indexes.Goals as goal
 

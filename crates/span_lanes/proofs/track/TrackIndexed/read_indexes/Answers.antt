@@ -1,8 +1,8 @@
 use Rattle.std.proofs.Common.{ℕ, refl, ap}
 use Rattle.texture_page.specs.Page.{clut_place}
-use Rattle.span_lanes.specs.Shade.{at_cell}
+use Rattle.texel_lanes.specs.Texture.{at_cell}
 use Rattle.span_lanes.proofs.PlanLemmas.{coordinates_here}
-use Rattle.span_lanes.proofs.TexelLemmas.{texel_four}
+use Rattle.texel_lanes.proofs.TexelLemmas.{texel_four}
 use Rattle.span_lanes.proofs.track.TrackIndexed.read_indexes.Goals as goal
 
 pub indexes_of-requires-clause-texture : goal.indexes_of-requires-clause-texture

@@ -1,0 +1,3 @@
+pub mod BesideLemmas
+pub mod NibbleLemmas
+pub mod TexelLemmas

@@ -1,0 +1,4 @@
+pub mod Nibbles
+pub mod Table
+pub mod Texels
+pub mod Texture

@@ -1,0 +1,65 @@
+// Palettes: their rows and their entries.
+ghost use Rattle.std.specs.Prelude.{◌≡◌, ◌≤◌, ◌<◌, ◌+◌, ℕ, length, slice_index};
+ghost use Rattle.px_num.specs.Lanes.{EachLane};
+ghost use Rattle.texture_page.specs.Page.{clut_place};
+ghost use Rattle.texel_lanes.specs.Texture.{at_cell, clut_row};
+
+use crate::halfwords::gather;
+use px_num::lanes::{add, low_bits, splat};
+use std::simd::prelude::*;
+use std::sync::ledger::Ledger;
+use vram_store::{Steps, Vram};
+
+/// The row of video memory that a palette stands in.
+#[inline(always)]
+pub fn clut_row(clut: u16) -> u16
+    ensures value { result ≡ clut_row clut }
+    ensures low { result < 512 }
+{
+    clut / 64 % 512
+}
+
+// The columns of the entries of sixteen indexes.
+#[inline(always)]
+fn entry_columns(clut: u16, indexes: u16x16) -> u16x16
+    requires long { length indexes ≡ 16 }
+    requires low { EachLane (λ i. slice_index indexes i < 256) }
+    ensures long { length result ≡ 16 }
+    ensures value { EachLane (λ i. slice_index result i ≡ (clut_place clut (slice_index indexes i)).x) }
+    ensures in_row { EachLane (λ i. slice_index result i < 1024) }
+{
+    low_bits(add(splat(clut % 64 * 16), indexes), 10)
+}
+
+/// The first sixteen entries of a palette, whose row is one of the first 512.
+#[inline(always)]
+pub fn sixteen_entries<L: Ledger>(vram: &Vram, clut: u16, steps: &mut Steps<L>) -> u16x16
+    ensures long { length result ≡ 16 }
+    ensures value { EachLane (λ i. slice_index result i ≡ at_cell vram.now (clut_place clut i)) }
+    ensures cost { steps.new ≤ steps.old + 1 }
+{
+    let _height = vram.height();
+    vram.load16(clut % 64 * 16, clut_row(clut), 16, steps)
+}
+
+/// The entries of a palette by their indexes, one by one.
+#[inline(always)]
+pub fn gather_entries<L: Ledger>(
+    vram: &Vram,
+    clut: u16,
+    indexes: u16x16,
+    k: u8,
+    steps: &mut Steps<L>,
+) -> u16x16
+    requires few { k ≤ 16 }
+    requires long { length indexes ≡ 16 }
+    requires low { EachLane (λ i. slice_index indexes i < 256) }
+    ensures long { length result ≡ 16 }
+    ensures value { (j : ℕ) → j < k
+        → slice_index result j ≡ at_cell vram.now (clut_place clut (slice_index indexes j)) }
+    ensures cost { steps.new ≤ steps.old + k }
+{
+    let _height = vram.height();
+    let columns = entry_columns(clut, indexes);
+    gather(vram, columns, splat(clut_row(clut)), k, steps)
+}

@@ -1,0 +1,138 @@
+// Halfwords of cells, all lanes at once.
+ghost use Rattle.std.specs.Prelude.{◌≡◌, IsTrue, ◌≤◌, ◌<◌, ◌+◌, ℕ, length, slice_index};
+ghost use Rattle.px_num.specs.Lanes.{EachLane};
+ghost use Rattle.vram_store.specs.Vram.{at, height_of};
+ghost use Rattle.texel_lanes.specs.Texels.{StandInRow, StandNear};
+
+use crate::table::halfwords_at;
+use px_num::lanes::{add, ramp, same, shifted_down, splat, sub_or_zero};
+use std::simd::prelude::*;
+use std::sync::ledger::Ledger;
+use vram_store::{Steps, Vram};
+
+// The halfwords of k cells, one by one.
+#[inline(always)]
+pub(crate) fn gather<L: Ledger>(
+    vram: &Vram,
+    xs: u16x16,
+    ys: u16x16,
+    k: u8,
+    steps: &mut Steps<L>,
+) -> u16x16
+    requires few { k ≤ 16 }
+    requires in_row { EachLane (λ i. slice_index xs i < 1024) }
+    requires in_height { EachLane (λ i. slice_index ys i < height_of vram.now) }
+    ensures long { length result ≡ 16 }
+    ensures value { (j : ℕ) → j < k → slice_index result j ≡ at vram.now (slice_index xs j) (slice_index ys j) }
+    ensures cost { steps.new ≤ steps.old + k }
+{
+    let xs = xs.to_array();
+    let ys = ys.to_array();
+    let mut halfwords = [0; 16];
+    for j in 0..k {
+        halfwords[j as usize] = vram.get(xs[j as usize], ys[j as usize], steps);
+    }
+    u16x16::from_array(halfwords)
+}
+
+// Whether sixteen cells stand side by side, from (x, y) on.
+#[inline(always)]
+fn stand_in_row(xs: u16x16, ys: u16x16, x: u16, y: u16) -> bool
+    requires long { (length xs ≡ 16) × (length ys ≡ 16) }
+    requires x { x < 1024 }
+    ensures { IsTrue result → StandInRow xs ys x y }
+{
+    let first = same(xs, add(splat(x), ramp()));
+    let second = same(ys, splat(y));
+    x + 16 <= 1024 && first && second
+}
+
+// Whether sixteen cells stand in a row of sixteen cells from (x, y) on.
+#[inline(always)]
+fn stand_near(xs: u16x16, ys: u16x16, x: u16, y: u16) -> bool
+    requires long { (length xs ≡ 16) × (length ys ≡ 16) }
+    requires in_row { EachLane (λ i. slice_index xs i < 1024) }
+    requires x { x < 1024 }
+    ensures { IsTrue result → StandNear xs ys x y }
+{
+    let far = sub_or_zero(xs, splat(x));
+    let none_before = same(xs, add(splat(x), far));
+    let none_after = same(shifted_down(far, 4), splat(0));
+    let one_row = same(ys, splat(y));
+    x + 16 <= 1024 && none_before && none_after && one_row
+}
+
+// The halfwords of cells in a row of sixteen cells from (x, y) on.
+#[inline(always)]
+fn near_halfwords<L: Ledger>(
+    vram: &Vram,
+    xs: u16x16,
+    x: u16,
+    y: u16,
+    steps: &mut Steps<L>,
+) -> u16x16
+    requires long { length xs ≡ 16 }
+    requires in_row { x + 16 ≤ 1024 }
+    requires in_height { y < height_of vram.now }
+    requires near { EachLane (λ i. (x ≤ slice_index xs i) × (slice_index xs i < x + 16)) }
+    ensures long { length result ≡ 16 }
+    ensures value { EachLane (λ i. slice_index result i ≡ at vram.now (slice_index xs i) y) }
+    ensures cost { steps.new ≤ steps.old + 1 }
+{
+    let cells = vram.load16(x, y, 16, steps);
+    halfwords_at(cells, sub_or_zero(xs, splat(x)))
+}
+
+// The halfwords of k cells: at once where they stand close by.
+#[inline(always)]
+fn close_halfwords<L: Ledger>(
+    vram: &Vram,
+    xs: u16x16,
+    ys: u16x16,
+    k: u8,
+    steps: &mut Steps<L>,
+) -> u16x16
+    requires some { 1 ≤ k }
+    requires few { k ≤ 16 }
+    requires long { (length xs ≡ 16) × (length ys ≡ 16) }
+    requires in_row { EachLane (λ i. slice_index xs i < 1024) }
+    requires in_height { EachLane (λ i. slice_index ys i < height_of vram.now) }
+    ensures long { length result ≡ 16 }
+    ensures value { (j : ℕ) → j < k → slice_index result j ≡ at vram.now (slice_index xs j) (slice_index ys j) }
+    ensures cost { steps.new ≤ steps.old + k }
+{
+    let x = xs.to_array()[0].min(xs.to_array()[15]);
+    let y = ys.to_array()[0];
+    if stand_near(xs, ys, x, y) {
+        near_halfwords(vram, xs, x, y, steps)
+    } else {
+        gather(vram, xs, ys, k, steps)
+    }
+}
+
+// The halfwords of k cells: at once where they stand side by side.
+#[inline(always)]
+pub(crate) fn halfwords_of<L: Ledger>(
+    vram: &Vram,
+    xs: u16x16,
+    ys: u16x16,
+    k: u8,
+    steps: &mut Steps<L>,
+) -> u16x16
+    requires some { 1 ≤ k }
+    requires few { k ≤ 16 }
+    requires long { (length xs ≡ 16) × (length ys ≡ 16) }
+    requires in_row { EachLane (λ i. slice_index xs i < 1024) }
+    requires in_height { EachLane (λ i. slice_index ys i < height_of vram.now) }
+    ensures long { length result ≡ 16 }
+    ensures value { (j : ℕ) → j < k → slice_index result j ≡ at vram.now (slice_index xs j) (slice_index ys j) }
+    ensures cost { steps.new ≤ steps.old + k }
+{
+    let x = xs.to_array()[0];
+    let y = ys.to_array()[0];
+    if stand_in_row(xs, ys, x, y) {
+        vram.load16(x, y, k, steps)
+    } else {
+        close_halfwords(vram, xs, ys, k, steps)
+    }
+}

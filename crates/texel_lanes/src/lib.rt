@@ -1,0 +1,31 @@
+//! The texels of a chunk of up to sixteen pixels: where they stand in video memory, and what they are.
+//!
+//! A texel has coordinates within its page. Under the window and with the page they give a cell; of texels of four
+//! and eight bits the cell has an index, and the palette's entry at this index is the texel. All that is done for
+//! sixteen texels at once, and what is read is read as video memory is before the first pixel is written: whether
+//! a chunk may do so is asked of `overlap_guard`.
+#![tactic(auto)]
+
+mod beside;
+mod clut;
+mod coordinates;
+mod halfwords;
+mod nibbles;
+mod octets;
+mod places;
+mod read;
+mod table;
+mod texel;
+mod texture;
+
+pub use beside::{indexes_of, sixteen_indexes, sixteen_octets};
+pub use clut::{clut_row, gather_entries, sixteen_entries};
+pub use coordinates::Coordinates;
+pub use places::{Places, places_of};
+pub use read::read_texels;
+pub use table::{Table, entries_at, table_of};
+pub use texel::read_texel;
+pub use texture::Texture;
+
+#[cfg(test)]
+mod tests;

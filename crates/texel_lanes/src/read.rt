@@ -1,0 +1,135 @@
+// Texels by their coordinates, all lanes at once.
+ghost use Rattle.std.specs.Prelude.{◌≡◌, ◌≤◌, ◌<◌, ◌+◌, ◌*◌, length};
+ghost use Rattle.vram_store.specs.Vram.{height_of};
+ghost use Rattle.texel_lanes.specs.Texture.{IsTexture, texel_steps};
+ghost use Rattle.texel_lanes.specs.Texels.{AreCoordinates, AreTexels};
+
+use crate::Texture;
+use crate::beside::{are_beside, indexes_of, read_beside};
+use crate::clut::{gather_entries, sixteen_entries};
+use crate::coordinates::Coordinates;
+use crate::halfwords::halfwords_of;
+use crate::octets::octets;
+use crate::places::places_of;
+use crate::table::{entries_at, table_of};
+use std::simd::prelude::*;
+use std::sync::ledger::Ledger;
+use vram_store::{Steps, Vram};
+
+// k texels of four bits.
+#[inline(always)]
+fn read_fours<L: Ledger>(
+    vram: &Vram,
+    texture: &Texture,
+    at: &Coordinates,
+    k: u8,
+    steps: &mut Steps<L>,
+) -> u16x16
+    requires texture { IsTexture texture.now }
+    requires page { texture.now.page.y + 255 < height_of vram.now }
+    requires at { AreCoordinates at.now.us × AreCoordinates at.now.vs }
+    requires depth { texture.now.page.depth ≡ 0 }
+    requires few { (1 ≤ k) × (k ≤ 16) }
+    ensures long { length result ≡ 16 }
+    ensures value { AreTexels texture.now at.now k vram.now result }
+    ensures cost { steps.new ≤ steps.old + 2 * k }
+{
+    let index = indexes_of(vram, texture, at, k, steps);
+    let entries = sixteen_entries(vram, texture.clut, steps);
+    entries_at(&table_of(entries), index)
+}
+
+// k texels of eight bits.
+#[inline(always)]
+fn read_eights<L: Ledger>(
+    vram: &Vram,
+    texture: &Texture,
+    at: &Coordinates,
+    k: u8,
+    steps: &mut Steps<L>,
+) -> u16x16
+    requires texture { IsTexture texture.now }
+    requires page { texture.now.page.y + 255 < height_of vram.now }
+    requires at { AreCoordinates at.now.us × AreCoordinates at.now.vs }
+    requires depth { texture.now.page.depth ≡ 1 }
+    requires few { (1 ≤ k) × (k ≤ 16) }
+    ensures long { length result ≡ 16 }
+    ensures value { AreTexels texture.now at.now k vram.now result }
+    ensures cost { steps.new ≤ steps.old + 2 * k }
+{
+    let places = places_of(texture, at);
+    let halfwords = halfwords_of(vram, places.xs, places.ys, k, steps);
+    let index = octets(places.across, halfwords);
+    gather_entries(vram, texture.clut, index, k, steps)
+}
+
+// k texels of fifteen bits, by the cells that they stand in.
+#[inline(always)]
+fn read_scattered<L: Ledger>(
+    vram: &Vram,
+    texture: &Texture,
+    at: &Coordinates,
+    k: u8,
+    steps: &mut Steps<L>,
+) -> u16x16
+    requires texture { IsTexture texture.now }
+    requires page { texture.now.page.y + 255 < height_of vram.now }
+    requires at { AreCoordinates at.now.us × AreCoordinates at.now.vs }
+    requires depth { 2 ≤ texture.now.page.depth }
+    requires few { (1 ≤ k) × (k ≤ 16) }
+    ensures long { length result ≡ 16 }
+    ensures value { AreTexels texture.now at.now k vram.now result }
+    ensures cost { steps.new ≤ steps.old + k }
+{
+    let places = places_of(texture, at);
+    halfwords_of(vram, places.xs, places.ys, k, steps)
+}
+
+// k texels of fifteen bits.
+#[inline(always)]
+fn read_wholes<L: Ledger>(
+    vram: &Vram,
+    texture: &Texture,
+    at: &Coordinates,
+    k: u8,
+    steps: &mut Steps<L>,
+) -> u16x16
+    requires texture { IsTexture texture.now }
+    requires page { texture.now.page.y + 255 < height_of vram.now }
+    requires at { AreCoordinates at.now.us × AreCoordinates at.now.vs }
+    requires depth { 2 ≤ texture.now.page.depth }
+    requires few { (1 ≤ k) × (k ≤ 16) }
+    ensures long { length result ≡ 16 }
+    ensures value { AreTexels texture.now at.now k vram.now result }
+    ensures cost { steps.new ≤ steps.old + k }
+{
+    if are_beside(texture, at) {
+        read_beside(vram, texture, at, k, steps)
+    } else {
+        read_scattered(vram, texture, at, k, steps)
+    }
+}
+
+/// k texels by their coordinates.
+#[inline(always)]
+pub fn read_texels<L: Ledger>(
+    vram: &Vram,
+    texture: &Texture,
+    at: &Coordinates,
+    k: u8,
+    steps: &mut Steps<L>,
+) -> u16x16
+    requires texture { IsTexture texture.now }
+    requires page { texture.now.page.y + 255 < height_of vram.now }
+    requires at { AreCoordinates at.now.us × AreCoordinates at.now.vs }
+    requires few { (1 ≤ k) × (k ≤ 16) }
+    ensures long { length result ≡ 16 }
+    ensures value { AreTexels texture.now at.now k vram.now result }
+    ensures cost { steps.new ≤ steps.old + texel_steps texture.now.page.depth * k }
+{
+    match texture.page.depth {
+        0 => read_fours(vram, texture, at, k, steps),
+        1 => read_eights(vram, texture, at, k, steps),
+        _ => read_wholes(vram, texture, at, k, steps),
+    }
+}
