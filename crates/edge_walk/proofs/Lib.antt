@@ -5,6 +5,7 @@ pub mod Decided
 pub mod DivisorLemmas
 pub mod InBox
 pub mod LineLemmas
+pub mod MixLemmas
 pub mod NearLemmas
 pub mod NumberLemmas
 pub mod PlaneLemmas

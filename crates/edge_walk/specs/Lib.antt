@@ -8,3 +8,4 @@ pub mod Row
 pub mod Triangle
 pub mod Upright
 pub mod Walk
+pub mod Weights

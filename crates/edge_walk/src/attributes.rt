@@ -14,16 +14,6 @@ impl Tri {
     ghost use Rattle.edge_walk.specs.Plane.{IsPlane};
     ghost use Rattle.edge_walk.specs.Triangle.{is_inside};
 
-    /// Red, green, blue, u or v, numbered from 0, at a cell inside.
-    pub fn attr_at(&self, which: u8, x: i32, y: i32) -> u8
-        requires which { which ≤ 4 }
-        requires inside { IsTrue (is_inside self.now x y) }
-        ensures value { result ≡ attribute_at self.now which x y }
-        ensures byte { result ≤ 255 }
-    {
-        self.plane(which, &self.area_divisor()).value_at(x, y)
-    }
-
     /// `attr_at` of the `n` cells inside from (x, y) to the right, and 0 in the lanes from `n` on.
     pub fn attr_lanes(&self, which: u8, x: i32, y: i32, n: u8) -> u16x16
         requires which { which ≤ 4 }

@@ -1,5 +1,5 @@
 // Exact quotients by an area, without a division for each.
-ghost use Rattle.std.specs.Prelude.{◌≡◌, ◌*◌, ◌<◌};
+ghost use Rattle.std.specs.Prelude.{◌≡◌, ◌*◌, ◌/◌, ◌<◌, ◌≤◌};
 
 /// A doubled area, and 2^56 over it, rounded up past the quotient.
 ///
@@ -30,5 +30,14 @@ impl Divisor {
         ensures { result ≡ self.now.area * byte * self.now.reciprocal }
     {
         self.area as u64 * byte as u64 * self.reciprocal
+    }
+
+    // The sum over the area, rounded down.
+    pub(crate) fn quotient(&self, sum: u32) -> u8
+        requires divisor { IsDivisor self.now }
+        requires sum { sum ≤ 255 * self.now.area }
+        ensures { result ≡ sum / self.now.area }
+    {
+        (sum as u64 * self.reciprocal >> 56) as u8
     }
 }

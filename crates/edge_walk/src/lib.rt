@@ -17,6 +17,7 @@ mod steps;
 mod triangle;
 mod upright;
 mod walk;
+mod weights;
 
 pub use divisor::Divisor;
 pub use line::RowLine;

@@ -3,8 +3,10 @@ use crate::edge::{all_three, doubled_area, is_on_side, is_small};
 use crate::extent::bounding_box;
 use crate::side::{Ends, Side};
 use crate::slope::{falling, rising, slope_of};
+use crate::steps::attribute;
 use crate::upright::Upright;
 use crate::walk::RowWalk;
+use crate::weights::mixed;
 use px_num::{Box2, Vertex};
 use std::marker::Model;
 
@@ -48,7 +50,8 @@ impl Model for Tri {
 
 impl Tri {
     ghost use Rattle.std.specs.Option.{is_some};
-    ghost use Rattle.std.specs.Prelude.{◌≡◌, SomeIff, MatchOption, IsTrue, ℤ, false};
+    ghost use Rattle.std.specs.Prelude.{◌≡◌, ◌≤◌, SomeIff, MatchOption, IsTrue, ℤ, false};
+    ghost use Rattle.edge_walk.specs.Attribute.{attribute_at};
     ghost use Rattle.edge_walk.specs.Extent.{bounding_box};
     ghost use Rattle.edge_walk.specs.Row.{IsInBox, IsRowSpan};
     ghost use Rattle.edge_walk.specs.Walk.{AreRows, HasRows};
@@ -135,6 +138,24 @@ impl Tri {
             y2: y,
         };
         self.rows(&row).next()
+    }
+
+    /// Red, green, blue, u or v, numbered from 0, at a cell inside.
+    pub fn attr_at(&self, which: u8, x: i32, y: i32) -> u8
+        requires which { which ≤ 4 }
+        requires inside { IsTrue (is_inside self.now x y) }
+        ensures value { result ≡ attribute_at self.now which x y }
+        ensures byte { result ≤ 255 }
+    {
+        let t = self.upright();
+        let weights = t.weights_at(x, y);
+        mixed(
+            &weights,
+            attribute(&t.a, which),
+            attribute(&t.b, which),
+            attribute(&t.c, which),
+            &self.area_divisor(),
+        )
     }
 
     /// A walk over the rows of a box, which are rows of `bounds`. It stands at the first one.
