@@ -10,8 +10,8 @@ a smaller growth serves as well and is asked for next, all as it was; where a re
 status 4, and in both cases a part of what is written otherwise; where standard error fails, or the pieces are short,
 the same status and the same output. The calls are made to fail by tools/faults.c, which gcc makes a library of that is
 loaded before the player. Then the disk is full behind some bytes of the output: status 4, with exactly these bytes, and for
-`list`, `flat` and `cut` the event is the one at which the next byte is due, by the line that lacks it or by what the
-command writes of the first events alone. The last line is `N passed, M failed`. Without gcc the exit status is 77.
+`list`, `pixel`, `flat` and `cut` the event is the one at which the next byte is due, by the line that lacks it or by what
+the command writes of the first events alone. The last line is `N passed, M failed`. Without gcc the exit status is 77.
 """
 import os
 import resource
@@ -120,7 +120,7 @@ def ends_of_events(words, capture):
 
 def event_of(was, words, capture):
     """The event at which a byte is due, by its place; None where the command does not let it be told."""
-    if words[1] == 'list':
+    if words[1] in ('list', 'pixel'):
         return lambda place: int(was.out[was.out.rfind(b'\n', 0, place) + 1:].split()[0])
     if words[1] in ('flat', 'cut') and was.status == 0:
         ends = ends_of_events(words, capture)

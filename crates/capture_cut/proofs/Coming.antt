@@ -14,8 +14,8 @@ use Rattle.picture_out.specs.Dump.{dump_cost}
 use Rattle.event_play.specs.Replay.{Tale, raised}
 use Rattle.event_play.specs.RigState.{RigState}
 use Rattle.event_play.specs.Streams.{Streams, streams}
-use Rattle.capture_flat.specs.OneEvent.{Pauses}
-use Rattle.capture_flat.specs.Passing.{AreNeeded, most_behind}
+use Rattle.capture_flat.specs.Passing.{AreNeeded}
+use Rattle.event_play.specs.Pausing.{Pauses, most_behind}
 use Rattle.capture_cut.specs.Came.{Came, HasRead}
 use Rattle.capture_cut.specs.Cut.{Way, Plays, events_of}
 use Rattle.capture_cut.specs.File.{begun, cut_file, rig_of, IsWritable}

@@ -17,7 +17,8 @@ use Rattle.event_play.specs.Replay.{Tale}
 use Rattle.event_play.specs.RigState.{RigState}
 use Rattle.event_play.specs.Streams.{Streams, streams}
 use Rattle.capture_flat.specs.Out.{spell}
-use Rattle.capture_flat.specs.Passing.{SaysFirst, most_behind}
+use Rattle.capture_flat.specs.Passing.{SaysFirst}
+use Rattle.event_play.specs.Pausing.{most_behind}
 use Rattle.capture_flat.proofs.Allows.{allows_append}
 use Rattle.capture_flat.proofs.Following.{few_behind}
 use Rattle.capture_flat.proofs.Pieces.{spell-append, wrote_on}

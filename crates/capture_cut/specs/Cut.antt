@@ -11,13 +11,14 @@ use Rattle.gpu_capture.specs.declared.event.Stop.TheVariants.{End, ReadFault}
 use Rattle.gpu_taps.specs.Tally.{Reading}
 use Rattle.picture_out.specs.Dump.{dump_cost}
 use Rattle.event_play.specs.Ends.{IsNotEnd}
+use Rattle.event_play.specs.Pausing.{most_behind}
 use Rattle.event_play.specs.Replay.{Tale, played_events, raised}
 use Rattle.event_play.specs.RigState.{RigState, StandsFor}
 use Rattle.event_play.specs.Step.{event_step}
 use Rattle.event_play.specs.Streams.{Streams}
 use Rattle.event_play.specs.Told.{told_notes}
 use Rattle.event_play.specs.declared.fault.EventFault.{EventFault}
-use Rattle.capture_flat.specs.Passing.{Way as Read, AreNeeded, AreNeededToEnd, SaysFirst, SaysStop, most_behind}
+use Rattle.capture_flat.specs.Passing.{Way as Read, AreNeeded, AreNeededToEnd, SaysFirst, SaysStop}
 use Rattle.capture_cut.specs.File.{snapshot, begun, cut_file, rig_of, IsWritable}
 use Rattle.capture_cut.specs.declared.ending.CutEnding.{CutEnding}
 use Rattle.capture_cut.specs.declared.ending.CutEnding.TheVariants.{Done, PastEnd, Stopped, Faulted, TooLong}

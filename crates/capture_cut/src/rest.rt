@@ -14,8 +14,8 @@ ghost use Rattle.capture_cut.specs.Cut.{EndsCut, IsEnding, MayReadFault, MayWrit
 
 use crate::ending::CutEnding;
 use crate::file::Draft;
-use capture_flat::write_at_pause;
 use dev_io::{Sink, Source};
+use event_play::write_at_pause;
 use gathered_out::Gathered;
 use gpu_capture::{Event, EventReader, Stop, record_bytes, write_end};
 

@@ -13,12 +13,12 @@ use Rattle.gpu_capture.specs.declared.event.Event.{Event}
 use Rattle.gpu_capture.specs.declared.event.Stop.{Stop}
 use Rattle.gpu_capture.specs.declared.progress.Progress.{Progress}
 use Rattle.gpu_taps.specs.Tally.{Reading}
+use Rattle.event_play.specs.Pausing.{Pauses}
 use Rattle.event_play.specs.Replay.{Tale, from_state, raised, tall_version}
 use Rattle.event_play.specs.RigState.{RigState, StandsFor}
 use Rattle.event_play.specs.Step.{Machine}
 use Rattle.event_play.specs.Streams.{Streams, streams}
 use Rattle.event_play.proofs.Firsts.{IsFirst, from_first, raised_first}
-use Rattle.capture_flat.specs.OneEvent.{Pauses}
 use Rattle.capture_flat.specs.Out.{begun}
 use Rattle.capture_flat.specs.declared.file.Draft.{Draft}
 use Rattle.capture_flat.specs.declared.file.FlatFile.{FlatFile}

@@ -17,6 +17,7 @@ use Rattle.gathered_out.proofs.Gathers.{BreaksDue, Gathers, breaks_put, gathers_
 use Rattle.gathered_out.proofs.Gathers.{gathers_written}
 use Rattle.gpu_taps.specs.Tally.{Reading}
 use Rattle.event_play.specs.Ends.{FaultsEvent}
+use Rattle.event_play.specs.Pausing.{most_behind}
 use Rattle.event_play.specs.Replay.{Tale, played_events, after_event, go_on, next_number, raised}
 use Rattle.event_play.specs.RigState.{RigState, StandsFor}
 use Rattle.event_play.specs.Step.{event_cost, event_box_cost}
@@ -31,7 +32,7 @@ use Rattle.event_play.proofs.Reaching.{beside}
 use Rattle.capture_flat.specs.Flat.{flat_events, flat_replay, then_flat}
 use Rattle.capture_flat.specs.OneEvent.{EndsBehind, EndsEvent, IsTooLong, LacksPut, PassesEvent, PlaysFlat}
 use Rattle.capture_flat.specs.Out.{due_at, begun, flat_version, flat_file}
-use Rattle.capture_flat.specs.Passing.{Way, Follows, AreNeeded, IsLast, EndsFlat, most_behind}
+use Rattle.capture_flat.specs.Passing.{Way, Follows, AreNeeded, IsLast, EndsFlat}
 use Rattle.capture_flat.specs.declared.ending.FlatEnding.{FlatEnding}
 use Rattle.capture_flat.specs.declared.ending.FlatEnding.TheVariants.{Done, Stopped, Faulted, TooLong, WriteFailed}
 use Rattle.capture_flat.specs.declared.file.Draft.{Draft}

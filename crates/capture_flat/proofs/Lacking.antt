@@ -5,12 +5,13 @@ use Rattle.dev_io.specs.Device.{prepended}
 use Rattle.gathered_out.proofs.Gathers.{BreaksDue}
 use Rattle.gpu_capture.specs.Capture.{limit}
 use Rattle.gpu_capture.specs.declared.event.Event.{Event}
+use Rattle.event_play.specs.Pausing.{most_behind}
 use Rattle.event_play.specs.Replay.{Tale, next_number, raised}
 use Rattle.event_play.specs.RigState.{RigState, StandsFor}
 use Rattle.event_play.specs.Streams.{Streams}
 use Rattle.event_play.specs.Told.{told_notes}
 use Rattle.capture_flat.specs.Out.{begun, due_at, flat_file}
-use Rattle.capture_flat.specs.Passing.{AreNeeded, EndsFlat, Follows, SaysFirst, Way, most_behind}
+use Rattle.capture_flat.specs.Passing.{AreNeeded, EndsFlat, Follows, SaysFirst, Way}
 use Rattle.capture_flat.specs.declared.ending.FlatEnding.TheVariants.{WriteFailed}
 
 -- these bytes are due at the event of this number, one of these, behind those that were due before; the bytes that were

@@ -1,5 +1,5 @@
 -- One event that is played and written, and what is due behind the last one (our own rule).
-use Rattle.std.specs.Prelude.{◌≡◌, ◌≤◌, ◌<◌, ◌⊎◌, ℕ, List, [], ◌++◌, ◌+◌, Option, length}
+use Rattle.std.specs.Prelude.{◌≡◌, ◌≤◌, ◌<◌, ◌⊎◌, ℕ, List, ◌++◌, ◌+◌, Option, length}
 use Rattle.dev_io.specs.Device.{appended, AppendsPart}
 use Rattle.gathered_out.specs.Pieces.{Piece}
 use Rattle.gathered_out.specs.Puts.{BreaksPut, BreaksWriting, IsPut, IsWritten}
@@ -73,13 +73,6 @@ WritesBefore ending gathered before now result =
 abbrev pub EndsBehind : FlatEnding → List Piece → (before now : Option (List ℕ)) → FlatEnding → Type 0
 EndsBehind (WriteFailed number) gathered before now result = (result ≡ WriteFailed number) × (now ≡ before)
 EndsBehind ending gathered before now result = WritesBefore ending gathered before now result
-
--- Where the reader stands at this place and all was last written at another, gathering goes on for few bytes more, or all
--- is written here.
-abbrev pub Pauses : (place since : ℕ) → (old new : List Piece) → (before now : Option (List ℕ)) → (at : ℕ) → Type 0
-Pauses place since old new before now at =
-    ((at ≡ since) × (place < since + 4096) × (new ≡ old) × (now ≡ before))
-    ⊎ ((at ≡ place) × (new ≡ []) × IsWritten before now old)
 
 -- ---- a stop of the reader
 

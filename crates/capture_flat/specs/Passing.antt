@@ -9,6 +9,7 @@ use Rattle.gpu_capture.specs.declared.event.Event.{Event}
 use Rattle.gpu_capture.specs.declared.event.Stop.{Stop}
 use Rattle.gpu_capture.specs.declared.event.Stop.TheVariants.{End, ReadFault}
 use Rattle.event_play.specs.Ends.{IsNotEnd}
+use Rattle.event_play.specs.Pausing.{most_behind}
 use Rattle.event_play.specs.Playing.{whole}
 use Rattle.event_play.specs.Replay.{Tale, played_events, played_capture, next_number, raised}
 use Rattle.event_play.specs.RigState.{RigState, StandsFor}
@@ -59,10 +60,6 @@ SaysFirst way events = SaysThese capture way.version way.taken events
 -- what a capture of the bytes taken says where the reader stopped behind the events of the way
 abbrev pub SaysStop : Way → Stop → (left : Option (List ℕ)) → Type 0
 SaysStop way stop left = Stops capture way.version way.taken way.events stop left
-
--- So many bytes at most are taken while records are gathered: 4,096, and those of one answer of the reader.
-abbrev pub most_behind : ℕ
-most_behind = 4112
 
 -- ---- the endings
 

@@ -9,12 +9,10 @@ mod ending;
 mod file;
 pub mod laws;
 mod pass;
-mod pause;
 mod spell;
 mod whole;
 
 pub use ending::FlatEnding;
-pub use pause::write_at_pause;
 pub use whole::flat;
 
 #[cfg(test)]

@@ -10,9 +10,8 @@ ghost use Rattle.capture_flat.specs.Passing.{EndsFlat, MayReadFault, MayWriteFau
 use crate::ending::FlatEnding;
 use crate::file::{Draft, FlatFile};
 use crate::pass::{end_behind, end_reading, pass_event};
-use crate::pause::write_at_pause;
 use dev_io::{Sink, Source};
-use event_play::Rig;
+use event_play::{Rig, write_at_pause};
 use gathered_out::Gathered;
 use gpu_capture::EventReader;
 use gpu_taps::Listener;

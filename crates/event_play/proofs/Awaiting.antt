@@ -1,11 +1,15 @@
 -- How far playing a capture has come.
 use Rattle.std.proofs.Common.{◌≡◌, ◌≤◌, inl, inr, ℕ, suc, ◌+◌, ◌++◌, List, [], ◌∷◌, Option, Result, Ok, Err, OnOk, IfOk}
-use Rattle.std.proofs.Common.{IfErr, Bool, cond, nat_lt, replicate, refl, ap, subst, ◌∙◌, append_assoc, arith}
-use Rattle.dev_io.specs.Device.{appended, prepended, IsAtEnd}
+use Rattle.std.proofs.Common.{IfErr, Bool, cond, nat_lt, replicate, refl, ap, sym, subst, ◌∙◌, append_assoc, append-nil}
+use Rattle.std.proofs.Common.{◌<◌, ◌⊎◌, length, length-append, arith}
+use Rattle.dev_io.specs.Device.{prepended, IsAtEnd}
 use Rattle.dev_io.proofs.Appended.{appended-nil}
 use Rattle.dev_io.proofs.Parts.{taken_on}
+use Rattle.gathered_out.specs.Pieces.{Piece}
+use Rattle.gathered_out.proofs.Gathers.{Gathers, gathers_more, gathers_none, gathers_written}
 use Rattle.gpu_capture.specs.Capture.{Captured, ended, then_events, records, capture}
 use Rattle.gpu_capture.proofs.Steps.{split}
+use Rattle.gpu_capture.proofs.Taken.{few_between}
 use Rattle.gpu_capture.proofs.Versions.{version_from}
 use Rattle.gpu_capture.specs.Reader.{AreNeeded, Takes, StopsAt, SaysStop, capture_from, IsStart, work_left}
 use Rattle.gpu_capture.specs.declared.event.Event.{Event}
@@ -13,8 +17,9 @@ use Rattle.gpu_capture.specs.declared.event.Stop.{Stop}
 use Rattle.gpu_capture.specs.declared.event.Stop.TheVariants.{End, NotCapture, Truncated, BadRecord, TooLong, ReadFault}
 use Rattle.gpu_capture.specs.declared.progress.Progress.{Progress}
 use Rattle.gpu_taps.specs.Tally.{Reading}
-use Rattle.event_play.specs.Lines.{lines_cost}
+use Rattle.event_play.specs.Lines.{IsGathered, MayGather, lines_cost}
 use Rattle.event_play.specs.Out.{lines_of, tale_cost}
+use Rattle.event_play.specs.Pausing.{Pauses, most_behind}
 use Rattle.event_play.specs.Playing.{AreAllNeeded, plays}
 use Rattle.event_play.specs.Replay.{Tale, Played, Script, from_state, replayed, raised, played_from}
 use Rattle.event_play.specs.Replay.{played_behind, script_behind, script_from, script_of}
@@ -25,21 +30,26 @@ use Rattle.event_play.specs.Streams.{Streams, streams}
 use Rattle.event_play.specs.Told.{told_notes}
 use Rattle.event_play.specs.declared.ending.Mode.{Mode}
 use Rattle.event_play.proofs.Grows.{lines-none, lines_cost-none, cost_grows}
-use Rattle.event_play.proofs.Following.{ReadsTo, read_first, read_on}
+use Rattle.event_play.proofs.Following.{ReadsAll, ReadsTo, read_first, read_on, reads_all, reads_further, then_both}
 use Rattle.event_play.proofs.Firsts.{IsFirst, raised_first, from_first}
+use Rattle.event_play.proofs.Lacking.{WasDue, due_more}
 
--- The first bytes of the source were taken, and exactly what is due so far has been written and told. What the bytes
--- say of this tale is left open here.
-pub record Reaches (mode : Mode) (script : List ℕ → Script) (before now : Streams) (rig : RigState)
-    (Says : Tale → List ℕ → List Event → Type 0) : Type 0 where
+-- The first bytes of the source were taken, and exactly what is due so far was put and told. All was written where the
+-- first of these bytes were taken. What the bytes say of this tale is left open here.
+pub record Reaches (mode : Mode) (script : List ℕ → Script) (before now : Streams) (gathered : List Piece)
+    (rig : RigState) (Says : Tale → (taken behind : List ℕ) → List Event → Type 0) : Type 0 where
   pub taken : List ℕ
   pub bytes : before.left ≡ prepended taken now.left
   pub needed : AreAllNeeded (plays script) taken
   pub events : List Event
   pub tale : Tale
-  pub says : Says tale taken events
+  pub flushed : List ℕ
+  pub behind : List ℕ
+  pub taken_is : taken ≡ flushed ++ behind
+  pub says : Says tale taken behind events
   pub stands : StandsFor rig tale
-  pub held : now.held ≡ appended before.held (lines_of mode tale)
+  pub gathers : Gathers (WasDue mode script events flushed taken) before.held (lines_of mode tale) now.held gathered
+  pub free : MayGather mode gathered
   pub heard : now.heard ≡ told_notes tale.notes before.heard
   pub cost : now.steps ≤ before.steps + tale_cost mode tale
 
@@ -47,11 +57,25 @@ pub record Reaches (mode : Mode) (script : List ℕ → Script) (before now : St
 abbrev pub PlaysOn : (List ℕ → Script) → Progress → Tale → List ℕ → Type 0
 PlaysOn script p t taken = (rest : List ℕ) → plays script (taken ++ rest) ≡ replayed t (capture_from p rest)
 
+-- these bytes were taken between this place of the reader and where it stands
+pub record LiesBehind (since : ℕ) (p : Progress) (behind : List ℕ) : Type 0 where
+  pub at : Progress
+  pub known : 1 ≤ at.version
+  pub place : at.place ≡ since
+  pub events : List Event
+  pub says : (rest : List ℕ) → capture_from at (behind ++ rest) ≡ then_events events (capture_from p rest)
+
+-- few of them, where lines are gathered
+abbrev pub AreFew : Mode → List ℕ → Type 0
+AreFew mode behind = IsGathered mode → length behind ≤ most_behind
+
 -- and these events were read and played
-pub record GoesOn (script : List ℕ → Script) (p : Progress) (t : Tale) (taken : List ℕ) (events : List Event)
-    : Type 0 where
+pub record GoesOn (mode : Mode) (script : List ℕ → Script) (since : ℕ) (p : Progress) (t : Tale)
+    (taken behind : List ℕ) (events : List Event) : Type 0 where
   pub plays_on : PlaysOn script p t taken
   pub read : ReadsTo script p t taken events []
+  pub lies : LiesBehind since p behind
+  pub few : AreFew mode behind
 
 -- a replay that stays at a tale
 abbrev pub stopped : Tale → Stop → List ℕ → Played
@@ -66,19 +90,28 @@ SaysNext script p left (Err (Truncated byte)) t taken =
     (plays script taken ≡ stopped t (Truncated byte) []) × IsAtEnd left
 SaysNext script p left (Err stop) t taken = (rest : List ℕ) → plays script (taken ++ rest) ≡ stopped t stop rest
 
--- an event that is not played yet was read behind these events
+-- An event that is not played yet was read behind these events. Where the reader stopped, the bytes taken say them, if
+-- there are any.
 abbrev pub ReadsNext : (List ℕ → Script) → Progress → Result Event Stop → Tale → List ℕ → List Event → Type 0
 ReadsNext script p (Ok event) t taken events = ReadsTo script p t taken events (event ∷ [])
-ReadsNext script p (Err stop) t taken events = Unit {0}
+ReadsNext script p (Err stop) t taken events = (events ≡ []) ⊎ ReadsAll script t taken events
 
-pub record Answers (mode : Mode) (script : List ℕ → Script) (p : Progress) (left : Option (List ℕ))
-    (next : Result Event Stop) (t : Tale) (taken : List ℕ) (events : List Event) : Type 0 where
+abbrev pub LiesNext : (since : ℕ) → Progress → Result Event Stop → (behind : List ℕ) → Type 0
+LiesNext since p (Ok event) behind = LiesBehind since p behind
+LiesNext since p (Err stop) behind = Unit {0}
+
+pub record Answers (mode : Mode) (script : List ℕ → Script) (since : ℕ) (p : Progress) (left : Option (List ℕ))
+    (next : Result Event Stop) (t : Tale) (taken behind : List ℕ) (events : List Event) : Type 0 where
   pub says : SaysNext script p left next t taken
   pub read : ReadsNext script p next t taken events
   pub costs : (rest : List ℕ) → tale_cost mode t ≤ tale_cost mode (plays script (taken ++ rest)).tale
+  pub lies : LiesNext since p next behind
+  pub few : AreFew mode behind
 
-abbrev pub Awaits : Mode → (List ℕ → Script) → (before now : Streams) → RigState → Progress → Result Event Stop → Type 0
-Awaits mode script before now rig p next = Reaches mode script before now rig (Answers mode script p now.left next)
+abbrev pub Awaits : Mode → (List ℕ → Script) → (before now : Streams) → (gathered : List Piece) → (since : ℕ) → RigState
+    → Progress → Result Event Stop → Type 0
+Awaits mode script before now gathered since rig p next =
+    Reaches mode script before now gathered rig (Answers mode script since p now.left next)
 
 -- a bound on the events that are still to be played
 abbrev pub events_left : Progress → Result Event Stop → ℕ
@@ -115,7 +148,8 @@ stops_first first start new (TooLong byte) taken left says = λ rest. ap (played
 
 module _ (mode : Mode) (s : Machine) (played : ℕ) (left left_now held : Option (List ℕ)) (heard : List Reading)
     (steps : ℕ) (rig : RigState)
-    (start new : Progress) (stands : StandsFor rig (raised (from_state s played) new.version))
+    (start new : Progress) (gathered : List Piece) (since : ℕ) (empty : gathered ≡ []) (place : since ≡ new.place)
+    (stands : StandsFor rig (raised (from_state s played) new.version))
   where
     abbrev begun : Tale
     begun = from_state s played
@@ -129,25 +163,33 @@ module _ (mode : Mode) (s : Machine) (played : ℕ) (left left_now held : Option
     -- nothing was written, told or spent yet
     reached : (next : Result Event Stop) (taken : List ℕ) → left ≡ prepended taken left_now → AreNeeded start taken
         → SaysNext (script_behind begun start) new left_now next profiled taken
-        → ReadsNext (script_behind begun start) new next profiled taken []
+        → ReadsNext (script_behind begun start) new next profiled taken [] → LiesNext since new next []
         → Awaits mode (script_behind begun start) (streams left held heard steps) (streams left_now held heard steps)
-        rig new next
-    reached next taken bytes needed says read = record {
+        gathered since rig new next
+    reached next taken bytes needed says read lies = record {
       taken = taken;
       bytes = bytes;
       needed = first_needed begun start taken needed;
       events = [];
       tale = profiled;
+      flushed = taken;
+      behind = [];
+      taken_is = sym (append-nil taken);
       says = record {
         says = says;
         read = read;
+        lies = lies;
+        few = λ is. omega arith;
         costs = λ rest.
             let e = ap (λ frames. lines_cost mode frames profiled.strokes) none.frames
             ∙ ap (lines_cost mode []) none.strokes ∙ lines_cost-none mode in
             omega (arith, none.cost, e);
       };
       stands = stands;
-      held = rw (none.shown, none.frames, none.notes, none.strokes, lines-none mode, appended-nil held) refl;
+      gathers = rw empty
+          (gathers_none (WasDue mode (script_behind begun start) [] taken taken) held (lines_of mode profiled) held
+          (rw (none.shown, none.frames, none.notes, none.strokes, lines-none mode, appended-nil held) refl));
+      free = inr empty;
       heard = rw none.notes refl;
       cost = omega arith;
     }
@@ -165,14 +207,15 @@ module _ (mode : Mode) (s : Machine) (played : ℕ) (left left_now held : Option
         → OnOk next (1 ≤ new.version)
         → IfErr next (λ stop. StopsAt start new left left_now stop)
         → Awaits mode (script_behind begun start) (streams left held heard steps) (streams left_now held heard steps)
-        rig new next
+        gathered since rig new next
     starts (Ok event) takes known stops =
         reached (Ok event) takes.taken takes.bytes takes.needed
         (says_first begun start new event takes.taken known takes.says)
         (first_read event takes.taken known takes.needed takes.says)
+        (record { at = new; known = known; place = sym place; events = []; says = λ rest. refl })
     starts (Err stop) takes known stops =
         reached (Err stop) stops.taken stops.bytes stops.needed
-        (stops_first begun start new stop stops.taken left_now stops.says) tt
+        (stops_first begun start new stop stops.taken left_now stops.says) (inl refl) tt
 
 -- a new reader stands before a whole capture
 pub behind_start : (t : Tale) (p : Progress) → IsStart p → script_behind t p ≡ script_of t
@@ -217,9 +260,9 @@ stops_next script t old new xs ys left (BadRecord byte word) goes says =
 stops_next script t old new xs ys left (TooLong byte) goes says =
     λ rest. goes_past script t old xs ys rest (ended new.version (TooLong byte) rest) goes (says rest)
 
-module _ (mode : Mode) (script : List ℕ → Script) (before now : Streams) (rig : RigState) (old new : Progress)
-    (left : Option (List ℕ))
-    (reached : Reaches mode script before now rig (GoesOn script old)) where
+module _ (mode : Mode) (script : List ℕ → Script) (before now : Streams) (gathered : List Piece) (since : ℕ)
+    (rig : RigState) (old new : Progress) (left : Option (List ℕ))
+    (reached : Reaches mode script before now gathered rig (GoesOn mode script since old)) where
   abbrev read : Streams
   read = record now { left = left }
 
@@ -230,38 +273,134 @@ module _ (mode : Mode) (script : List ℕ → Script) (before now : Streams) (ri
       rw (goes_past script reached.tale old reached.taken ys rest c reached.says.plays_on refl)
       (cost_grows mode reached.tale c.events c.ending c.rest)
 
+  lies_on : (event : Event) (ys : List ℕ)
+      → ((rest : List ℕ) → capture_from old (ys ++ rest) ≡ then_events (event ∷ []) (capture_from new rest))
+      → LiesBehind since new (reached.behind ++ ys)
+  lies_on event ys says =
+      let lies = reached.says.lies in
+      record {
+        at = lies.at;
+        known = lies.known;
+        place = lies.place;
+        events = lies.events ++ event ∷ [];
+        says = λ rest.
+            ap (capture_from lies.at) (append_assoc reached.behind ys rest) ∙ lies.says (ys ++ rest)
+            ∙ ap (then_events lies.events) (says rest) ∙ then_both lies.events (event ∷ []) (capture_from new rest);
+      }
+
   answered : (next : Result Event Stop) (taken : List ℕ) → now.left ≡ prepended taken left → AreNeeded old taken
       → SaysNext script new left next reached.tale (reached.taken ++ taken)
       → ReadsNext script new next reached.tale (reached.taken ++ taken) reached.events
-      → Awaits mode script before read rig new next
-  answered next taken bytes needed says read = record {
+      → LiesNext since new next (reached.behind ++ taken) → AreFew mode (reached.behind ++ taken)
+      → Awaits mode script before read gathered since rig new next
+  answered next taken bytes needed says read lies few = record {
     taken = reached.taken ++ taken;
     bytes = taken_on before.left now.left left reached.taken taken reached.bytes bytes;
     needed = all_needed script reached.tale old reached.taken taken reached.says.plays_on reached.needed needed;
     events = reached.events;
     tale = reached.tale;
-    says = record { says = says; read = read; costs = costs_past taken };
+    flushed = reached.flushed;
+    behind = reached.behind ++ taken;
+    taken_is = ap (λ bs. bs ++ taken) reached.taken_is ∙ append_assoc reached.flushed reached.behind taken;
+    says = record { says = says; read = read; costs = costs_past taken; lies = lies; few = few };
     stands = reached.stands;
-    held = reached.held;
+    gathers = gathers_more (WasDue mode script reached.events reached.flushed reached.taken)
+        (WasDue mode script reached.events reached.flushed (reached.taken ++ taken)) before.held
+        (lines_of mode reached.tale) now.held gathered
+        (due_more mode script reached.events [] reached.events reached.flushed reached.taken taken
+        (sym (append-nil reached.events)))
+        reached.gathers;
+    free = reached.free;
     heard = reached.heard;
     cost = reached.cost;
   }
 
-  pub reads : (next : Result Event Stop) → IfOk next (λ event. Takes old new now.left left (event ∷ []))
-      → IfErr next (λ stop. StopsAt old new now.left left stop) → Awaits mode script before read rig new next
-  reads (Ok event) takes stops =
-      answered (Ok event) takes.taken takes.bytes takes.needed
-      (λ rest. goes_past script reached.tale old reached.taken takes.taken rest
-      (then_events (event ∷ []) (capture_from new rest)) reached.says.plays_on (takes.says rest))
-      (read_on script old new reached.tale reached.taken takes.taken reached.events event reached.says.read takes.needed
-      takes.says)
-  reads (Err stop) takes stops =
-      answered (Err stop) stops.taken stops.bytes stops.needed
-      (stops_next script reached.tale old new reached.taken stops.taken left stop reached.says.plays_on stops.says) tt
+  -- the reader stopped
+  pub stops : (stop : Stop) (at : StopsAt old new now.left left stop) → AreFew mode (reached.behind ++ at.taken)
+      → Awaits mode script before read gathered since rig new (Err stop)
+  stops stop at few =
+      answered (Err stop) at.taken at.bytes at.needed
+      (stops_next script reached.tale old new reached.taken at.taken left stop reached.says.plays_on at.says)
+      (inr (reads_further script reached.tale reached.taken at.taken reached.events
+      (reads_all script old reached.tale reached.taken reached.events reached.says.read)))
+      tt few
+
+  module _ (started : 1 ≤ old.version) (near : old.place < since + 4096) where
+    few_more : (ys : List ℕ) → AreNeeded old ys → AreFew mode (reached.behind ++ ys)
+    few_more ys needed is =
+        let lies = reached.says.lies in
+        let all = length-append reached.behind ys in
+        let place = lies.place in
+        let few = few_between lies.at old lies.events reached.behind ys lies.known started lies.says
+        (omega (arith, near, place)) needed in
+        omega (arith, all, few)
+
+    pub reads : (next : Result Event Stop) → IfOk next (λ event. Takes old new now.left left (event ∷ []))
+        → IfErr next (λ stop. StopsAt old new now.left left stop)
+        → Awaits mode script before read gathered since rig new next
+    reads (Ok event) takes stops_at =
+        answered (Ok event) takes.taken takes.bytes takes.needed
+        (λ rest. goes_past script reached.tale old reached.taken takes.taken rest
+        (then_events (event ∷ []) (capture_from new rest)) reached.says.plays_on (takes.says rest))
+        (read_on script old new reached.tale reached.taken takes.taken reached.events event reached.says.read
+        takes.needed takes.says)
+        (lies_on event takes.taken takes.says) (few_more takes.taken takes.needed)
+    reads (Err stop) takes stops_at = stops stop stops_at (few_more stops_at.taken stops_at.needed)
+
+-- ---- a pause
+
+-- it goes on where all was written, or where few bytes were taken since
+pub record Paused (mode : Mode) (script : List ℕ → Script) (before now : Streams) (gathered : List Piece) (since : ℕ)
+    (rig : RigState) (p : Progress) : Type 0 where
+  pub reached : Reaches mode script before now gathered rig (GoesOn mode script since p)
+  pub near : p.place < since + 4096
+
+pub pauses_on : (mode : Mode) (script : List ℕ → Script) (before now : Streams) (gathered new : List Piece)
+    (since at : ℕ) (rig : RigState) (p : Progress) (held : Option (List ℕ))
+    → Reaches mode script before now gathered rig (GoesOn mode script since p) → 1 ≤ p.version
+    → Pauses p.place since gathered new now.held held at
+    → Paused mode script before (record now { held = held }) new at rig p
+pauses_on mode script before now gathered new since at rig p held was started (inl on) = record {
+  reached = rw (on.0, on.2, on.3) was;
+  near = let e = on.0 in let lt = on.1 in omega (arith, e, lt);
+}
+pauses_on mode script before now gathered new since at rig p held was started (inr written) =
+    let all = lines_of mode was.tale in
+    let due = WasDue mode script was.events was.taken was.taken in
+    let e = written.0 in
+    record {
+      reached = record {
+        taken = was.taken;
+        bytes = was.bytes;
+        needed = was.needed;
+        events = was.events;
+        tale = was.tale;
+        flushed = was.taken;
+        behind = [];
+        taken_is = sym (append-nil was.taken);
+        says = record {
+          plays_on = was.says.plays_on;
+          read = was.says.read;
+          lies = record { at = p; known = started; place = sym e; events = []; says = λ rest. refl };
+          few = λ is. omega arith;
+        };
+        stands = was.stands;
+        gathers = rw written.1
+            (gathers_none due before.held all held
+            (gathers_written (WasDue mode script was.events was.flushed was.taken) before.held all now.held held
+            gathered was.gathers written.2));
+        free = inr written.1;
+        heard = was.heard;
+        cost = was.cost;
+      };
+      near = omega (arith, e);
+    }
 
 -- what is awaited, by what the reader has answered
-pub awaits_is : (mode : Mode) (script : List ℕ → Script) (before now : Streams) (rig : RigState) (p : Progress)
-    (next other : Result Event Stop)
-    → next ≡ other → Awaits mode script before now rig p next → Awaits mode script before now rig p other
-awaits_is mode script before now rig p next other is awaits =
-    let P : Result Event Stop → Type 0 = λ next. Awaits mode script before now rig p next in subst P is awaits
+pub awaits_is : (mode : Mode) (script : List ℕ → Script) (before now : Streams) (gathered : List Piece) (since : ℕ)
+    (rig : RigState) (p : Progress) (next other : Result Event Stop)
+    → next ≡ other → Awaits mode script before now gathered since rig p next
+    → Awaits mode script before now gathered since rig p other
+awaits_is mode script before now gathered since rig p next other is awaits =
+    let P : Result Event Stop → Type 0 = λ next. Awaits mode script before now gathered since rig p next in
+    subst P is awaits

@@ -1,13 +1,13 @@
 -- Works that are the steps of events.
 use Rattle.std.proofs.Common.{◌≡◌, ◌≤◌, ℕ, ◌+◌, List, [], Option, Ok, Err, refl, ap, sym, subst, ◌∙◌, arith}
-use Rattle.dev_io.specs.Device.{appended}
 use Rattle.gpu_capture.specs.declared.event.Event.{Event}
 use Rattle.gpu_core.specs.Kept.{kept_of}
 use Rattle.gpu_core.specs.Machine.{State}
 use Rattle.event_play.specs.Does.{Does}
-use Rattle.event_play.specs.Lines.{lines_while, lines_cost}
+use Rattle.event_play.specs.Fed.{fed_notes}
+use Rattle.event_play.specs.Lines.{lines_cost}
 use Rattle.event_play.specs.RigState.{RigState, Stands, machine_of}
-use Rattle.event_play.specs.Step.{Machine, Stepped, event_step, event_cost, done}
+use Rattle.event_play.specs.Step.{Machine, Stepped, asked_words, event_step, event_cost, event_words, done}
 use Rattle.event_play.specs.Stepping.{HasStepped}
 use Rattle.event_play.specs.Streams.{Outlets}
 use Rattle.event_play.specs.Strokes.{event_strokes}
@@ -16,6 +16,7 @@ use Rattle.event_play.specs.declared.ending.Mode.{Mode}
 use Rattle.event_play.specs.declared.ending.Mode.TheVariants.{Vram}
 use Rattle.event_play.specs.declared.fault.EventFault.{EventFault}
 use Rattle.event_play.specs.declared.work.Work.{Work}
+use Rattle.event_play.specs.declared.work.Work.TheVariants as work
 
 -- all but the drawing processor's state is the rig's
 pub stands_is : (rig : RigState) (s : Machine) → Stands rig s → machine_of rig s.gpu ≡ s
@@ -29,12 +30,26 @@ pub step_fault : (rig : RigState) (s : Machine) (number : ℕ) (event : Event) (
 unfolding event_step
 step_fault rig s number event fault stands asked = rw (stands.ram, stands.running, ← asked) refl
 
--- what was done for an event by so many steps, and what was written of its words by the others
+-- a work has the notes of the words that it feeds
+notes_are : (s : Machine) (number : ℕ) (asked : Work)
+    → (done s number asked).notes ≡ fed_notes s.gpu number (asked_words s.ram (Ok asked))
+notes_are s number work.Nothing = refl
+notes_are s number (work.Put address word) = refl
+notes_are s number (work.Feed asked next) = refl
+notes_are s number (work.Take block next) = refl
+notes_are s number (work.Control word) = refl
+notes_are s number work.Read = refl
+notes_are s number work.Skip = refl
+notes_are s number work.Stat = refl
+notes_are s number (work.Clear madr n) = refl
+notes_are s number (work.Begin next) = refl
+
+-- what was done for an event by so many steps, and by the others what was put of its words
 pub record HasDone (mode : Mode) (s : Machine) (number : ℕ) (event : Event) (shown : Option ℕ) (before now : Outlets)
     (rig : RigState) : Type 0 where
   pub at : ℕ
   pub step : HasStepped s number event shown before (record now { steps = at }) rig
-  pub held : now.held ≡ appended before.held (lines_while mode step.notes (event_strokes s number event))
+  pub asked_notes : step.notes ≡ fed_notes s.gpu number (event_words s event)
   pub spent : now.steps ≤ at + lines_cost mode [] (event_strokes s number event)
 
 -- where nothing is written, all steps are those of the event
@@ -73,7 +88,7 @@ module _ (mode : Mode) (was mid rig : RigState) (number counted : ℕ) (event : 
           heard = did.heard;
           cost = omega arith;
         };
-        held = rw (← is) did.held;
+        asked_notes = rw (← is) (notes_are m number asked);
         spent = rw (← is) (let c = did.cost in omega (arith, c));
       } in
       let P : Machine → Type 0 = λ s. HasDone mode s number event shown before now counts in

@@ -1,9 +1,10 @@
 -- Words that are fed, part by part.
-use Rattle.std.proofs.Common.{◌≡◌, ◌≤◌, ℕ, ◌+◌, ◌++◌, List, [], ◌∷◌, Option, None, Some, Ok, Err, option_to_list}
+use Rattle.std.proofs.Common.{◌≡◌, ◌≤◌, ◌⊎◌, inl, inr, ℕ, ◌+◌, ◌++◌, List, [], ◌∷◌, Option, None, Some, Ok, Err}
+use Rattle.std.proofs.Common.{option_to_list}
 use Rattle.std.proofs.Common.{flat_map, refl, ap, sym, subst, ◌∙◌, append_assoc, append-nil, arith}
 use Rattle.std.proofs.lemmas.List.Sums.{fold-append}
-use Rattle.dev_io.specs.Device.{appended, AppendsPart}
-use Rattle.dev_io.proofs.Appended.{appended-appended, appended-nil}
+use Rattle.gathered_out.specs.Pieces.{Piece}
+use Rattle.gathered_out.proofs.Puts.{HasPut, put_fails, put_none, put_on, puts_all}
 use Rattle.gp0_packets.specs.declared.note.Note.{Note}
 use Rattle.gpu_core.specs.Cost.{gp0_cost}
 use Rattle.gpu_core.specs.Kept.{Kept, kept_of}
@@ -13,14 +14,15 @@ use Rattle.px_num.specs.declared.shape.Cell.{Cell}
 use Rattle.packet_text.specs.Line.{listed}
 use Rattle.event_play.specs.Fed.{fed, fed_notes, fed_cost}
 use Rattle.event_play.specs.Feeding.{Feeds, StopsFeeding, FeedsWords, fed_lines, fed_lines_cost}
-use Rattle.event_play.specs.Lines.{lines_while, lines_cost}
+use Rattle.event_play.specs.Lines.{IsGathered, lines_while, lines_cost}
 use Rattle.event_play.specs.Streams.{Outlets}
-use Rattle.event_play.specs.Strokes.{stroke_of, fed_strokes, seen_cell, change_of}
+use Rattle.event_play.specs.Strokes.{Stroke, stroke_of, fed_strokes, seen_cell, change_of}
 use Rattle.event_play.specs.Told.{told_notes}
 use Rattle.event_play.specs.declared.ending.Mode.{Mode}
-use Rattle.event_play.specs.declared.ending.Mode.TheVariants.{Pixel}
-use Rattle.event_play.specs.declared.ending.Mode.TheVariants.{List as Listing}
+use Rattle.event_play.specs.declared.ending.Mode.TheVariants.{Vram, Shot, Report, Frames, Sums, Pixel}
+use Rattle.event_play.specs.declared.ending.Mode.TheVariants.{List as Listing, Play as Words}
 use Rattle.event_play.proofs.Grows.{lines-none, lines-append, lines_cost-append}
+use Rattle.event_play.proofs.Putting.{puts_none}
 
 -- ---- two lists of words, one after the other
 
@@ -73,14 +75,10 @@ fed_lines_cost-append mode s number xs ys =
 
 -- ---- no word, and one
 
-pub nothing_held : (mode : Mode) (held : Option (List ℕ)) → held ≡ appended held (lines_while mode [] [])
-nothing_held mode held = sym (ap (appended held) (lines-none mode) ∙ appended-nil held)
-
 pub feeds_none : (mode : Mode) (s : State) (number : ℕ) (at : Outlets) (gpu : Kept) → kept_of s ≡ gpu
     → Feeds mode s number [] at at gpu
 feeds_none mode s number at gpu stands = record {
   stands = stands;
-  held = nothing_held mode at.held;
   heard = refl;
   cost = omega arith;
 }
@@ -90,73 +88,105 @@ told_one : (note : Option Note) (readings : List Reading)
 told_one None readings = refl
 told_one (Some note) readings = refl
 
--- a word was fed, and the line of its note written or not
-pub word_feeds : (s : State) (number word : ℕ) (note : Option Note) (before now : Outlets) (gpu : Kept)
-    → kept_of (after_gp0 s word) ≡ gpu → gp0_note s number word ≡ note
-    → now.held ≡ appended before.held (flat_map listed (option_to_list note))
-    → now.heard ≡ told_option note before.heard → now.steps ≤ before.steps + gp0_cost s word
-    → Feeds Listing s number (word ∷ []) before now gpu
-word_feeds s number word note before now gpu stands noted wrote told cost =
-    let notes : fed_notes s number (word ∷ []) ≡ option_to_list note ++ [] = ap (λ n. option_to_list n ++ []) noted in
-    record {
-      stands = stands;
-      held = rw (notes, append-nil) wrote;
-      heard = told ∙ told_one note before.heard ∙ ap (λ ns. told_notes ns before.heard) (sym notes);
-      cost = omega (arith, cost);
-    }
+-- a word was fed, and the line of its note put or not
+module _ (mode : Mode) (s : State) (number word : ℕ) (note : Option Note) (before now : Outlets) (gpu : Kept)
+    (stands : kept_of (after_gp0 s word) ≡ gpu) (noted : gp0_note s number word ≡ note)
+    (told : now.heard ≡ told_option note before.heard) (cost : now.steps ≤ before.steps + gp0_cost s word) where
+  word_notes : fed_notes s number (word ∷ []) ≡ option_to_list note ++ []
+  word_notes = ap (λ n. option_to_list n ++ []) noted
 
-pub word_stops : (s : State) (number word : ℕ) (note : Option Note) (before now : Outlets) (gpu : Kept)
-    → kept_of (after_gp0 s word) ≡ gpu → gp0_note s number word ≡ note
-    → AppendsPart before.held now.held (flat_map listed (option_to_list note))
-    → now.heard ≡ told_option note before.heard → now.steps ≤ before.steps + gp0_cost s word
-    → StopsFeeding Listing s number (word ∷ []) before now gpu
-word_stops s number word note before now gpu stands noted part told cost =
-    let notes : fed_notes s number (word ∷ []) ≡ option_to_list note ++ [] = ap (λ n. option_to_list n ++ []) noted in
-    record {
-      before = [];
-      word = word;
-      after = [];
-      is = refl;
-      stands = stands;
-      held = rw (notes, append-nil, appended-nil) part;
-      heard = told ∙ told_one note before.heard ∙ ap (λ ns. told_notes ns before.heard) (sym notes);
-      cost = omega (arith, cost);
-    }
-
--- the same where a cell is looked at, and the line of its change was written or not
-module _ (cell : Cell) (s : State) (number word : ℕ) (note : Option Note) (was gpu : Kept) (old new : ℕ)
-    (before now : Outlets) (is : kept_of s ≡ was) (stands : kept_of (after_gp0 s word) ≡ gpu)
-    (noted : gp0_note s number word ≡ note)
-    (saw : old ≡ seen_cell cell was.parts.m) (sees : new ≡ seen_cell cell gpu.parts.m)
-    (told : now.heard ≡ told_option note before.heard) (cost : now.steps ≤ before.steps + gp0_cost s word + 2) where
-  watched_notes : fed_notes s number (word ∷ []) ≡ option_to_list note ++ []
-  watched_notes = ap (λ n. option_to_list n ++ []) noted
-
-  watched_lines : fed_lines (Pixel cell) s number (word ∷ []) ≡ change_of note old new
-  watched_lines =
-      let first : seen_cell cell s.parts.m ≡ old = ap (λ (k : Kept). seen_cell cell k.parts.m) is ∙ sym saw in
-      let last : seen_cell cell (after_gp0 s word).parts.m
-      ≡ new = ap (λ (k : Kept). seen_cell cell k.parts.m) stands ∙ sym sees in
-      append-nil _ ∙ rw (noted, first, last) refl
-
-  pub watched_feeds : now.held ≡ appended before.held (change_of note old new)
-      → Feeds (Pixel cell) s number (word ∷ []) before now gpu
-  watched_feeds wrote = record {
+  pub word_feeds : Feeds mode s number (word ∷ []) before now gpu
+  word_feeds = record {
     stands = stands;
-    held = wrote ∙ ap (appended before.held) (sym watched_lines);
-    heard = told ∙ told_one note before.heard ∙ ap (λ ns. told_notes ns before.heard) (sym watched_notes);
+    heard = told ∙ told_one note before.heard ∙ ap (λ ns. told_notes ns before.heard) (sym word_notes);
     cost = omega (arith, cost);
   }
 
-  pub watched_stops : AppendsPart before.held now.held (change_of note old new)
-      → StopsFeeding (Pixel cell) s number (word ∷ []) before now gpu
-  watched_stops part = record {
+  pub word_stops : StopsFeeding mode s number (word ∷ []) before now gpu
+  word_stops = record {
     before = [];
     word = word;
     after = [];
     is = refl;
     stands = stands;
-    held = rw (watched_lines, appended-nil) part;
+    heard = told ∙ told_one note before.heard ∙ ap (λ ns. told_notes ns before.heard) (sym word_notes);
+    cost = omega (arith, cost);
+  }
+
+-- the line of its note
+pub word_lines : (s : State) (number word : ℕ) (note : Option Note) → gp0_note s number word ≡ note
+    → flat_map listed (option_to_list note) ≡ fed_lines Listing s number (word ∷ [])
+word_lines s number word note noted =
+    let notes : fed_notes s number (word ∷ []) ≡ option_to_list note ++ [] = ap (λ n. option_to_list n ++ []) noted in
+    sym (rw (notes, append-nil) refl)
+
+-- ---- no line
+
+while_quiet : (mode : Mode) (notes : List Note) (strokes : List Stroke) → (IsGathered mode → ⊥)
+    → lines_while mode notes strokes ≡ []
+while_quiet Listing notes strokes not = absurd (not tt)
+while_quiet (Pixel cell) notes strokes not = absurd (not tt)
+while_quiet Words notes strokes not = refl
+while_quiet Vram notes strokes not = refl
+while_quiet Shot notes strokes not = refl
+while_quiet Report notes strokes not = refl
+while_quiet (Frames at) notes strokes not = refl
+while_quiet (Sums at) notes strokes not = refl
+
+-- a word was fed for which no line is due
+pub quiet_feeds : (mode : Mode) (number word : ℕ) (note : Option Note) (before now : Outlets) (was gpu : Kept)
+    → (IsGathered mode → ⊥)
+    → now.held ≡ before.held → now.faults ≡ before.faults → now.gathered ≡ before.gathered
+    → ((s : State) → kept_of s ≡ was → kept_of (after_gp0 s word) ≡ gpu)
+    → ((s : State) → kept_of s ≡ was → gp0_note s number word ≡ note)
+    → now.heard ≡ told_option note before.heard
+    → ((s : State) → kept_of s ≡ was → now.steps ≤ before.steps + gp0_cost s word)
+    → FeedsWords {Value = Unit {0}} mode number (word ∷ []) before now was gpu (Ok tt)
+quiet_feeds mode number word note before now was gpu not held faults gathered stands noted told cost = record {
+  ok = λ s is. word_feeds mode s number word note before now gpu (stands s is) (noted s is) told (cost s is);
+  failed = λ s is. tt;
+  puts = λ s is.
+      puts_none number (fed_lines mode s number (word ∷ [])) before now tt
+      (while_quiet mode (fed_notes s number (word ∷ [])) (fed_strokes s number (word ∷ [])) not) held faults gathered;
+  kept = inr gathered;
+  gathers = tt;
+  cause = tt;
+  faults = omega (arith, faults);
+}
+
+-- the line of what it changes of a cell
+pub watched_lines : (cell : Cell) (s : State) (number word : ℕ) (item : Option Note) (was gpu : Kept) (old new : ℕ)
+    → kept_of s ≡ was → kept_of (after_gp0 s word) ≡ gpu → gp0_note s number word ≡ item
+    → old ≡ seen_cell cell was.parts.m → new ≡ seen_cell cell gpu.parts.m
+    → change_of item old new ≡ fed_lines (Pixel cell) s number (word ∷ [])
+watched_lines cell s number word item was gpu old new is stands noted saw sees =
+    let first : seen_cell cell s.parts.m ≡ old = ap (λ (k : Kept). seen_cell cell k.parts.m) is ∙ sym saw in
+    let last : seen_cell cell (after_gp0 s word).parts.m
+    ≡ new = ap (λ (k : Kept). seen_cell cell k.parts.m) stands ∙ sym sees in
+    sym (append-nil _ ∙ rw (noted, first, last) refl)
+
+-- the same where a cell is looked at, and the line of its change was put or not
+module _ (cell : Cell) (s : State) (number word : ℕ) (note : Option Note) (gpu : Kept)
+    (before now : Outlets) (stands : kept_of (after_gp0 s word) ≡ gpu)
+    (noted : gp0_note s number word ≡ note)
+    (told : now.heard ≡ told_option note before.heard) (cost : now.steps ≤ before.steps + gp0_cost s word + 2) where
+  watched_notes : fed_notes s number (word ∷ []) ≡ option_to_list note ++ []
+  watched_notes = ap (λ n. option_to_list n ++ []) noted
+
+  pub watched_feeds : Feeds (Pixel cell) s number (word ∷ []) before now gpu
+  watched_feeds = record {
+    stands = stands;
+    heard = told ∙ told_one note before.heard ∙ ap (λ ns. told_notes ns before.heard) (sym watched_notes);
+    cost = omega (arith, cost);
+  }
+
+  pub watched_stops : StopsFeeding (Pixel cell) s number (word ∷ []) before now gpu
+  watched_stops = record {
+    before = [];
+    word = word;
+    after = [];
+    is = refl;
+    stands = stands;
     heard = told ∙ told_one note before.heard ∙ ap (λ ns. told_notes ns before.heard) (sym watched_notes);
     cost = omega (arith, cost);
   }
@@ -168,9 +198,6 @@ module _ (mode : Mode) (s : State) (number : ℕ) (xs ys : List ℕ) (before mid
   pub feeds_on : Feeds mode (fed s xs) number ys mid now gpu → Feeds mode s number (xs ++ ys) before now gpu
   feeds_on next = record {
     stands = ap kept_of (fed-append s xs ys) ∙ next.stands;
-    held = next.held ∙ ap (λ held. appended held (fed_lines mode (fed s xs) number ys)) first.held
-        ∙ appended-appended before.held (fed_lines mode s number xs) (fed_lines mode (fed s xs) number ys)
-        ∙ ap (appended before.held) (sym (fed_lines-append mode s number xs ys));
     heard = next.heard ∙ ap (told_notes (fed_notes (fed s xs) number ys)) first.heard
         ∙ sym (ap (λ notes. told_notes notes before.heard) (fed_notes-append s number xs ys)
         ∙ told-append (fed_notes s number xs) (fed_notes (fed s xs) number ys) before.heard);
@@ -182,20 +209,12 @@ module _ (mode : Mode) (s : State) (number : ℕ) (xs ys : List ℕ) (before mid
   stops_on next =
       let done = next.before ++ next.word ∷ [] in
       let all : (xs ++ next.before) ++ next.word ∷ [] ≡ xs ++ done = append_assoc xs next.before (next.word ∷ []) in
-      let P : Option (List ℕ) → Type 0 = λ held. AppendsPart held now.held
-      (fed_lines mode (fed (fed s xs) next.before) number (next.word ∷ [])) in
-      let was : appended mid.held (fed_lines mode (fed s xs) number next.before)
-      ≡ appended before.held (fed_lines mode s number (xs ++ next.before)) =
-      ap (λ held. appended held (fed_lines mode (fed s xs) number next.before)) first.held
-      ∙ appended-appended before.held (fed_lines mode s number xs) (fed_lines mode (fed s xs) number next.before)
-      ∙ ap (appended before.held) (sym (fed_lines-append mode s number xs next.before))
-      in record {
+      record {
         before = xs ++ next.before;
         word = next.word;
         after = next.after;
         is = ap (λ words. xs ++ words) next.is ∙ sym (append_assoc xs next.before (next.word ∷ next.after));
         stands = ap kept_of (ap (fed s) all ∙ fed-append s xs done) ∙ next.stands;
-        held = rw (fed-append s xs next.before) (subst P was next.held);
         heard = next.heard ∙ ap (told_notes (fed_notes (fed s xs) number done)) first.heard
             ∙ sym (ap (λ notes. told_notes notes before.heard)
             (ap (fed_notes s number) all ∙ fed_notes-append s number xs done)
@@ -214,7 +233,6 @@ stops_early mode s number words xs ys before now gpu are stop = record {
   after = stop.after ++ ys;
   is = are ∙ ap (λ words. words ++ ys) stop.is ∙ append_assoc stop.before (stop.word ∷ stop.after) ys;
   stands = stop.stands;
-  held = stop.held;
   heard = stop.heard;
   cost = stop.cost;
 }
@@ -228,45 +246,91 @@ feeds_same mode s number words xs before now gpu are feeds =
 
 -- ---- calls that feed words, for every state for which the drawing processor stands
 
--- these words were fed since the drawing processor kept this
-abbrev pub AreFed : Mode → ℕ → List ℕ → (before now : Outlets) → (was gpu : Kept) → Type 0
-AreFed mode number words before now was gpu = (s : State) → kept_of s ≡ was → Feeds mode s number words before now gpu
+-- these words were fed since the drawing processor kept this, and their lines put
+pub record AreFed (mode : Mode) (number : ℕ) (words : List ℕ) (before now : Outlets) (was gpu : Kept) : Type 0 where
+  pub feeds : (s : State) → kept_of s ≡ was → Feeds mode s number words before now gpu
+  pub put : (s : State) → kept_of s ≡ was → HasPut (λ (at : Outlets). at.held) (λ (at : Outlets). at.faults) number
+      (fed_lines mode s number words) before now before.gathered now.gathered
+  pub kept : IsGathered mode ⊎ (now.gathered ≡ before.gathered)
+  pub faults : before.faults ≤ now.faults
 
 pub fed_none : (mode : Mode) (number : ℕ) (at : Outlets) (gpu : Kept) → AreFed mode number [] at at gpu gpu
-fed_none mode number at gpu s is = feeds_none mode s number at gpu is
-
--- all words were fed
-pub words_fed : {Value Error : Type 0} (mode : Mode) (number : ℕ) (words xs : List ℕ) (before now : Outlets)
-    (was gpu : Kept) (v : Value)
-    → words ≡ xs → AreFed mode number xs before now was gpu → before.faults ≤ now.faults
-    → FeedsWords {Value = Value} {Error = Error} mode number words before now was gpu (Ok v)
-words_fed mode number words xs before now was gpu v are all le = record {
-  ok = λ s is. feeds_same mode s number words xs before now gpu are (all s is);
-  failed = λ s is. tt;
-  cause = tt;
-  faults = le;
+fed_none mode number at gpu = record {
+  feeds = λ s is. feeds_none mode s number at gpu is;
+  put = λ s is.
+      rw (lines-none mode)
+      (put_none (λ (at : Outlets). at.held) (λ (at : Outlets). at.faults) number at at.gathered);
+  kept = inr refl;
+  faults = omega arith;
 }
 
-module _ {Value Error : Type 0} (mode : Mode) (number : ℕ) (xs ys : List ℕ) (before mid now : Outlets)
+-- all words were fed
+pub words_fed : {Value : Type 0} (mode : Mode) (number : ℕ) (words xs : List ℕ) (before now : Outlets)
+    (was gpu : Kept) (v : Value)
+    → words ≡ xs → AreFed mode number xs before now was gpu
+    → FeedsWords {Value = Value} mode number words before now was gpu (Ok v)
+words_fed mode number words xs before now was gpu v are all = record {
+  ok = λ s is. feeds_same mode s number words xs before now gpu are (all.feeds s is);
+  failed = λ s is. tt;
+  puts = λ s is.
+      rw are
+      (puts_all (λ (at : Outlets). at.held) (λ (at : Outlets). at.faults) number before now before.gathered now.gathered
+      (fed_lines mode s number xs) v (all.put s is));
+  kept = all.kept;
+  gathers = tt;
+  cause = tt;
+  faults = all.faults;
+}
+
+kept_on : (mode : Mode) (before mid now : List Piece) → IsGathered mode ⊎ (mid ≡ before)
+    → IsGathered mode ⊎ (now ≡ mid) → IsGathered mode ⊎ (now ≡ before)
+kept_on mode before mid now (inl is) next = inl is
+kept_on mode before mid now (inr same) (inl is) = inl is
+kept_on mode before mid now (inr same) (inr next) = inr (next ∙ same)
+
+module _ {Value : Type 0} (mode : Mode) (number : ℕ) (xs ys : List ℕ) (before mid now : Outlets)
     (was at gpu : Kept)
     (first : AreFed mode number xs before mid was at) where
   -- more of them were fed
-  pub fed_on : (v : Value) → FeedsWords {Value = Value} {Error = Error} mode number ys mid now at gpu (Ok v)
+  pub fed_on : (v : Value) → FeedsWords {Value = Value} mode number ys mid now at gpu (Ok v)
       → AreFed mode number (xs ++ ys) before now was gpu
-  fed_on v next s is = let so_far = first s is in feeds_on mode s number xs ys before mid now at gpu so_far
-      (next.ok (fed s xs) so_far.stands)
+  fed_on v next = record {
+    feeds = λ s is.
+        let so_far = first.feeds s is in
+        feeds_on mode s number xs ys before mid now at gpu so_far (next.ok (fed s xs) so_far.stands);
+    put = λ s is.
+        let so_far = first.feeds s is in
+        rw (fed_lines-append mode s number xs ys)
+        (put_on (λ (at : Outlets). at.held) (λ (at : Outlets). at.faults) number before mid now before.gathered
+        mid.gathered now.gathered (fed_lines mode s number xs) (fed_lines mode (fed s xs) number ys) v
+        (first.put s is) (next.puts (fed s xs) so_far.stands));
+    kept = kept_on mode before.gathered mid.gathered now.gathered first.kept next.kept;
+    faults = let a = first.faults in let b = next.faults in omega (arith, a, b);
+  }
 
-  -- of more of them a line could not be written
-  pub words_stop : {Other : Type 0} (words zs : List ℕ) (e : Error) → words ≡ (xs ++ ys) ++ zs
-      → before.faults ≤ mid.faults
-      → FeedsWords {Value = Value} {Error = Error} mode number ys mid now at gpu (Err e)
-      → FeedsWords {Value = Other} {Error = Error} mode number words before now was gpu (Err e)
-  words_stop words zs e are le next = record {
+  -- of more of them a line could not be put
+  pub words_stop : {Other : Type 0} (words zs : List ℕ) (e : ℕ) → words ≡ (xs ++ ys) ++ zs
+      → FeedsWords {Value = Value} mode number ys mid now at gpu (Err e)
+      → FeedsWords {Value = Other} mode number words before now was gpu (Err e)
+  words_stop words zs e are next = record {
     ok = λ s is. tt;
     failed = λ s is.
-        let so_far = first s is in
+        let so_far = first.feeds s is in
         stops_early mode s number words (xs ++ ys) zs before now gpu are
         (stops_on mode s number xs ys before mid now at gpu so_far (next.failed (fed s xs) so_far.stands));
-    cause = omega (arith, le, next.cause);
-    faults = omega (arith, le, next.faults);
+    puts = λ s is.
+        let so_far = first.feeds s is in
+        let a = fed_lines mode s number xs in
+        let b = fed_lines mode (fed s xs) number ys in
+        let c = fed_lines mode (fed s (xs ++ ys)) number zs in
+        let all : fed_lines mode s number words ≡ a ++ (b ++ c) =
+        ap (fed_lines mode s number) are ∙ fed_lines-append mode s number (xs ++ ys) zs
+        ∙ ap (λ bs. bs ++ c) (fed_lines-append mode s number xs ys) ∙ append_assoc a b c in
+        rw all
+        (put_fails (λ (at : Outlets). at.held) (λ (at : Outlets). at.faults) number before mid now before.gathered
+        mid.gathered now.gathered now.gathered a b c e (first.put s is) (next.puts (fed s xs) so_far.stands));
+    kept = kept_on mode before.gathered mid.gathered now.gathered first.kept next.kept;
+    gathers = next.gathers;
+    cause = let a = first.faults in let b = next.cause in omega (arith, a, b);
+    faults = let a = first.faults in let b = next.faults in omega (arith, a, b);
   }

@@ -1,17 +1,18 @@
 -- What the bytes taken say in events, that none of them is one too many, and the tale to which the events lead.
 use Rattle.std.proofs.Common.{◌≡◌, ◌<◌, inl, inr, ◌+◌, ◌++◌, ℕ, zero, suc, List, [], ◌∷◌, Option, Ok, refl, ap, sym}
-use Rattle.std.proofs.Common.{◌∙◌, append_assoc, append-nil, take, length, subst, arith}
+use Rattle.std.proofs.Common.{◌∙◌, append_assoc, append-nil, add-zero, take, length, subst, arith}
 use Rattle.gpu_capture.specs.Capture.{Captured, ended, then_events}
 use Rattle.gpu_capture.specs.Reader.{AreNeeded as ReaderNeeds, capture_from}
-use Rattle.gpu_capture.specs.Reading.{AreNeeded, IsCutShort}
+use Rattle.gpu_capture.specs.Reading.{AreNeeded, IsCutShort, SaysFirst}
 use Rattle.gpu_capture.specs.Words.{TakesWords, word_events}
 use Rattle.gpu_capture.specs.declared.event.Event.{Event}
 use Rattle.gpu_capture.specs.declared.event.Event.TheVariants.{Gp0}
 use Rattle.gpu_capture.specs.declared.event.Stop.TheVariants.{Truncated}
 use Rattle.gpu_capture.specs.declared.progress.Progress.{Progress}
 use Rattle.gpu_capture.proofs.Steps.{split}
-use Rattle.event_play.specs.Playing.{Follows, IsReadTo, reads}
-use Rattle.event_play.specs.Replay.{Tale, Script, after_event, go_on, played_events, next_number}
+use Rattle.event_play.specs.Playing.{Follows, IsReadTo, IsUpTo, LeadsTo, reads}
+use Rattle.event_play.specs.Replay.{Tale, Script, after_event, go_on, part_fed, played_events, next_number}
+use Rattle.event_play.specs.Step.{event_words}
 use Rattle.event_play.specs.declared.ending.Ending.TheVariants.{Faulted}
 
 -- ---- tales
@@ -112,6 +113,84 @@ read_to script p t taken events event read = record {
   follows = read.follows;
 }
 
+-- The bytes taken say these events first, and these lead to the tale.
+pub record ReadsAll (script : List ℕ → Script) (t : Tale) (taken : List ℕ) (events : List Event) : Type 0 where
+  pub first : Tale
+  pub version : ℕ
+  pub begins : (rest : List ℕ) → (script (taken ++ rest)).first ≡ first
+  pub says : SaysFirst (reads script) version taken events
+  pub follows : Follows first events t
+
+pub reads_all : (script : List ℕ → Script) (p : Progress) (t : Tale) (taken : List ℕ) (events : List Event)
+    → ReadsTo script p t taken events [] → ReadsAll script t taken events
+reads_all script p t taken events read = record {
+  first = read.first;
+  version = read.version;
+  begins = read.begins;
+  says = λ rest. (
+    capture_from p rest,
+    read.says rest ∙ ap (λ (all : List Event). then_events all (capture_from p rest)) (append-nil events),
+    read.version_is rest,
+  );
+  follows = read.follows;
+}
+
+-- also where more bytes were taken
+pub reads_further : (script : List ℕ → Script) (t : Tale) (taken further : List ℕ) (events : List Event)
+    → ReadsAll script t taken events → ReadsAll script t (taken ++ further) events
+reads_further script t taken further events all = record {
+  first = all.first;
+  version = all.version;
+  begins = λ rest. ap (λ bytes. (script bytes).first) (append_assoc taken further rest) ∙ all.begins (further ++ rest);
+  says = λ rest.
+      let said = all.says (further ++ rest) in
+      (said.0, ap (reads script) (append_assoc taken further rest) ∙ said.1, said.2);
+  follows = all.follows;
+}
+
+-- ---- the last tale
+
+-- all events were played
+pub leads_all : (first t : Tale) (events : List Event) → Follows first events t → LeadsTo first events t
+leads_all first t events follows = record {
+  played = events;
+  unplayed = [];
+  are = sym (append-nil events);
+  tale = t;
+  follows = follows;
+  up_to = refl;
+}
+
+-- of the last one the first words were fed
+pub leads_part : (first t : Tale) (events : List Event) (event : Event) (words more : List ℕ)
+    → Follows first events t → event_words t.state event ≡ words ++ more
+    → LeadsTo first (events ++ event ∷ []) (part_fed t words)
+leads_part first t events event words more follows are = record {
+  played = events;
+  unplayed = event ∷ [];
+  are = refl;
+  tale = t;
+  follows = follows;
+  up_to = (words, more, are, refl);
+}
+
+-- none of them was
+pub leads_before : (first t : Tale) (events : List Event) (event : Event) → Follows first events t
+    → LeadsTo first (events ++ event ∷ []) t
+leads_before first t events event follows = record {
+  played = events;
+  unplayed = event ∷ [];
+  are = refl;
+  tale = t;
+  follows = follows;
+  up_to = (
+    [],
+    event_words t.state event,
+    refl,
+    sym (rw (append-nil t.notes, append-nil t.strokes, add-zero t.cost, add-zero t.box_cost) refl),
+  );
+}
+
 -- it was played
 pub read_played : (script : List ℕ → Script) (p : Progress) (t next : Tale) (taken : List ℕ) (events : List Event)
     (event : Event) → ReadsTo script p t taken events (event ∷ []) → after_event t event ≡ Ok next
@@ -126,7 +205,7 @@ read_played script p t next taken events event read is = record {
   follows = follows_on read.first t next events event read.follows is;
 }
 
-then_both : (events others : List Event) (c : Captured) → then_events events (then_events others c)
+pub then_both : (events others : List Event) (c : Captured) → then_events events (then_events others c)
     ≡ then_events (events ++ others) c
 then_both events others c =
     ap (λ (all : List Event). record { version = c.version; events = all; ending = c.ending; rest = c.rest })

@@ -2,10 +2,11 @@
 use Rattle.std.proofs.Common.{◌≡◌, ◌≤◌, inl, inr, ℕ, ◌+◌, ◌++◌, List, [], ◌∷◌, Option, Result, Ok, Err}
 use Rattle.std.proofs.Common.{OnOk, ◌<◌}
 use Rattle.std.proofs.Common.{option_to_list}
-use Rattle.std.proofs.Common.{refl, ap, sym, ◌∙◌, append-nil, add-zero, take, arith}
+use Rattle.std.proofs.Common.{refl, ap, sym, ◌∙◌, append_assoc, append-nil, add-zero, take, length, length-append, arith}
 use Rattle.std.proofs.lemmas.List.Sums.{fold-append}
-use Rattle.dev_io.specs.Device.{appended}
 use Rattle.dev_io.proofs.Parts.{taken_on}
+use Rattle.gathered_out.specs.Pieces.{Piece}
+use Rattle.gathered_out.proofs.Gathers.{Gathers, gathers_more}
 use Rattle.gpu_capture.specs.Capture.{Captured, ended, then_events}
 use Rattle.gpu_capture.specs.Reader.{capture_from, work_left}
 use Rattle.gpu_capture.specs.Words.{TakesWords, StopsBehind, word_events}
@@ -18,7 +19,7 @@ use Rattle.gpu_capture.proofs.Steps.{split}
 use Rattle.gpu_core.specs.Cost.{gp0_cost, gp0_box_cost}
 use Rattle.gpu_core.specs.Machine.{gp0_note}
 use Rattle.gpu_taps.specs.Tally.{Reading}
-use Rattle.event_play.specs.Lines.{lines_cost}
+use Rattle.event_play.specs.Lines.{IsGathered, lines_cost}
 use Rattle.event_play.specs.Out.{lines_of}
 use Rattle.event_play.specs.PlayedWords.{after_word, after_words, IsTold, AreQuiet}
 use Rattle.event_play.specs.Playing.{AreAllNeeded, IsShort, Follows, plays}
@@ -29,8 +30,10 @@ use Rattle.event_play.specs.Streams.{Outlets, Streams, streams, without_sink}
 use Rattle.event_play.specs.declared.ending.Mode.{Mode}
 use Rattle.event_play.specs.declared.ending.Mode.TheVariants.{Vram, Shot, Report, Frames, Sums, Pixel}
 use Rattle.event_play.specs.declared.ending.Mode.TheVariants.{List as Listing, Play as Words}
-use Rattle.event_play.proofs.Awaiting.{Reaches, GoesOn, PlaysOn, Awaits, goes_past, reads, events_left}
-use Rattle.event_play.proofs.Following.{follows_none, follows_on, follows_all, read_words}
+use Rattle.event_play.proofs.Awaiting.{AreFew, Awaits, GoesOn, LiesBehind, PlaysOn, Reaches, events_left, goes_past}
+use Rattle.event_play.proofs.Awaiting.{stops}
+use Rattle.event_play.proofs.Following.{follows_none, follows_on, follows_all, read_words, then_both}
+use Rattle.event_play.proofs.Lacking.{WasDue, due_more}
 use Rattle.event_play.proofs.Reaching.{goes_on}
 
 -- ---- tales
@@ -126,15 +129,70 @@ same_running : (t : Tale) (words : List ℕ) → (after_words t words).state.run
 same_running t [] = refl
 same_running t (word ∷ words) = same_running (after_word t word) words
 
+-- no byte is taken where no word is
+none_taken : (mode : Mode) (p q : Progress) (left after : Option (List ℕ)) (words : List ℕ) → IsGathered mode
+    → AreQuiet mode words → (takes : TakesWords p q left after words) → takes.taken ≡ []
+none_taken mode p q left after words is quiet takes = none_needed takes.taken (λ part more splits some.
+    let short = takes.needed part more splits some in
+    let fewer = short.fewer in
+    let none = ap length (no_words mode words is quiet) in omega (arith, fewer, none))
+  where
+    no_words : (mode : Mode) (words : List ℕ) → IsGathered mode → AreQuiet mode words → words ≡ []
+    no_words Listing words is quiet = quiet
+    no_words (Pixel cell) words is quiet = quiet
+    no_words Words words is quiet = absurd is
+    no_words Vram words is quiet = absurd is
+    no_words Shot words is quiet = absurd is
+    no_words Report words is quiet = absurd is
+    no_words (Frames at) words is quiet = absurd is
+    no_words (Sums at) words is quiet = absurd is
+
+    none_needed : (taken : List ℕ) → ((part more : List ℕ) → taken ≡ part ++ more → (more ≡ [] → ⊥) → ⊥) → taken ≡ []
+    none_needed [] needed = refl
+    none_needed (x ∷ taken) needed = absurd (needed [] (x ∷ taken) refl (λ none. cc))
+
 module _ (mode : Mode) (script : List ℕ → Script) (before : Streams) (left after held : Option (List ℕ))
-    (heard heard_now : List Reading) (steps steps_now : ℕ) (was rig : RigState) (p q : Progress) (words : List ℕ)
-    (reached : Reaches mode script before (streams left held heard steps) was (GoesOn script p))
+    (heard heard_now : List Reading) (steps steps_now : ℕ) (gathered : List Piece) (since : ℕ) (was rig : RigState)
+    (p q : Progress) (words : List ℕ)
+    (reached : Reaches mode script before (streams left held heard steps) gathered was (GoesOn mode script since p))
     (quiet : AreQuiet mode words) (ram : rig.ram ≡ was.ram) (running : rig.running ≡ was.running)
     (tells : (t : Tale) (first : Outlets) → IsTold t first (without_sink heard steps) was.gpu was.played
     → IsTold (after_words t words) first (without_sink heard_now steps_now) rig.gpu rig.played) where
+  lies_behind : (takes : TakesWords p q left after words) → LiesBehind since q (reached.behind ++ takes.taken)
+  lies_behind takes =
+      let lies = reached.says.lies in
+      record {
+        at = lies.at;
+        known = lies.known;
+        place = lies.place;
+        events = lies.events ++ word_events words;
+        says = λ rest.
+            ap (capture_from lies.at) (append_assoc reached.behind takes.taken rest)
+            ∙ lies.says (takes.taken ++ rest) ∙ ap (then_events lies.events) (takes.says rest)
+            ∙ then_both lies.events (word_events words) (capture_from q rest);
+      }
+
+  still_few : (takes : TakesWords p q left after words) → AreFew mode (reached.behind ++ takes.taken)
+  still_few takes is =
+      let none = ap length (none_taken mode p q left after words is quiet takes) in
+      let all = length-append reached.behind takes.taken in
+      let few = reached.says.few is in
+      omega (arith, none, all, few)
+
+  still_gathers : (takes : TakesWords p q left after words)
+      → Gathers (WasDue mode script (reached.events ++ word_events words) reached.flushed (reached.taken ++ takes.taken))
+      before.held (lines_of mode (after_words reached.tale words)) held gathered
+  still_gathers takes =
+      rw (quiet_lines mode reached.tale words quiet)
+      (gathers_more (WasDue mode script reached.events reached.flushed reached.taken)
+      (WasDue mode script (reached.events ++ word_events words) reached.flushed (reached.taken ++ takes.taken))
+      before.held (lines_of mode reached.tale) held gathered
+      (due_more mode script reached.events (word_events words) (reached.events ++ word_events words) reached.flushed
+      reached.taken takes.taken refl) reached.gathers)
+
   -- words were taken and played
   pub words_play : TakesWords p q left after words
-      → Reaches mode script before (streams after held heard_now steps_now) rig (GoesOn script q)
+      → Reaches mode script before (streams after held heard_now steps_now) gathered rig (GoesOn mode script since q)
   words_play takes =
       let t = reached.tale in
       let spent = lines_cost mode t.frames t.strokes in
@@ -150,6 +208,10 @@ module _ (mode : Mode) (script : List ℕ → Script) (before : Streams) (left a
         needed = all_needed script t p q left after reached.taken words reached.says.plays_on reached.needed takes;
         events = reached.events ++ word_events words;
         tale = after_words t words;
+        flushed = reached.flushed;
+        behind = reached.behind ++ takes.taken;
+        taken_is = ap (λ bs. bs ++ takes.taken) reached.taken_is
+            ∙ append_assoc reached.flushed reached.behind takes.taken;
         says = record {
           plays_on = λ rest.
               goes_past script t p reached.taken takes.taken rest
@@ -158,6 +220,8 @@ module _ (mode : Mode) (script : List ℕ → Script) (before : Streams) (left a
               ∙ words_are t words (capture_from q rest);
           read = read_words script p q left after t (after_words t words) reached.taken words reached.events
               reached.says.read takes (words_follow t words);
+          lies = lies_behind takes;
+          few = still_few takes;
         };
         stands = record {
           state = record {
@@ -167,26 +231,28 @@ module _ (mode : Mode) (script : List ℕ → Script) (before : Streams) (left a
           };
           played = told.number;
         };
-        held = reached.held ∙ ap (appended before.held) (sym (quiet_lines mode t words quiet));
+        gathers = still_gathers takes;
+        free = reached.free;
         heard = told.heard;
         cost = let e = quiet_cost mode t words quiet in let c = told.cost in omega (arith, e, c);
       }
 
--- words were taken and played, and then the reader stopped
-module _ (mode : Mode) (script : List ℕ → Script) (before : Streams) (left after held : Option (List ℕ))
-    (heard heard_now : List Reading) (steps steps_now : ℕ) (was rig : RigState) (p q : Progress) (words : List ℕ)
-    (stop : Stop)
-    (reached : Reaches mode script before (streams left held heard steps) was (GoesOn script p))
-    (quiet : AreQuiet mode words) (ram : rig.ram ≡ was.ram) (running : rig.running ≡ was.running)
-    (tells : (t : Tale) (first : Outlets) → IsTold t first (without_sink heard steps) was.gpu was.played
-    → IsTold (after_words t words) first (without_sink heard_now steps_now) rig.gpu rig.played) where
-  pub words_stop : StopsBehind p q left after words stop
-      → Awaits mode script before (streams after held heard_now steps_now) rig q (Err stop)
-  words_stop behind =
-      reads mode script before (streams behind.left held heard_now steps_now) rig behind.mid q after
-      (words_play mode script before left behind.left held heard heard_now steps steps_now was rig p behind.mid words
-      reached quiet ram running tells behind.takes)
-      (Err stop) tt behind.stops
+-- words were taken and played, and then the reader stopped, in a mode whose lines are not gathered
+pub words_stop : (mode : Mode) (script : List ℕ → Script) (before : Streams) (left after held : Option (List ℕ))
+    (heard heard_now : List Reading) (steps steps_now : ℕ) (gathered : List Piece) (since : ℕ) (was rig : RigState)
+    (p q : Progress) (words : List ℕ) (stop : Stop)
+    → Reaches mode script before (streams left held heard steps) gathered was (GoesOn mode script since p)
+    → AreQuiet mode words → rig.ram ≡ was.ram → rig.running ≡ was.running
+    → ((t : Tale) (first : Outlets) → IsTold t first (without_sink heard steps) was.gpu was.played
+    → IsTold (after_words t words) first (without_sink heard_now steps_now) rig.gpu rig.played)
+    → StopsBehind p q left after words stop → (IsGathered mode → ⊥)
+    → Awaits mode script before (streams after held heard_now steps_now) gathered since rig q (Err stop)
+words_stop mode script before left after held heard heard_now steps steps_now gathered since was rig p q words stop
+    reached quiet ram running tells behind not =
+    stops mode script before (streams behind.left held heard_now steps_now) gathered since rig behind.mid q after
+    (words_play mode script before left behind.left held heard heard_now steps steps_now gathered since was rig p
+    behind.mid words reached quiet ram running tells behind.takes)
+    stop behind.stops (λ is. absurd (not is))
 
 -- fewer events are still to be played
 pub left_less : (old mid new : Progress) (was next : Result Event Stop) (event : Event) → was ≡ Ok event

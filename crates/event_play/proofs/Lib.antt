@@ -5,11 +5,14 @@ pub mod Feeds
 pub mod Nodes
 pub mod Events
 pub mod Plays
+pub mod Putting
 pub mod Grows
+pub mod Lacking
 pub mod Parts
 pub mod Reaching
 pub mod Reports
 pub mod Turns
+pub mod Works
 pub mod Firsts
 pub mod Following
 pub mod InARow

@@ -23,7 +23,6 @@ use Rattle.event_play.specs.declared.ending.Mode.TheVariants.{List as Listing, P
 use Rattle.event_play.specs.declared.fault.EventFault.{EventFault}
 use Rattle.event_play.specs.declared.work.Work.{Work}
 use Rattle.event_play.specs.declared.work.Work.TheVariants as work
-use Rattle.event_play.specs.Playing.{DueIn, DueInside}
 use Rattle.event_play.proofs.Feeds.{fed_lines-append, fed_cost-append, fed_looks-append}
 use Rattle.event_play.proofs.Grows.{lines-append}
 
@@ -64,95 +63,6 @@ pub no_frames : (s : Machine) (event : Event) (number : ℕ) (parts : Parts) (be
     → event_words s event ≡ before ++ word ∷ after → frames_behind event number parts ≡ []
 no_frames s (event.Gp1 x) number parts before word after are = absurd (no_words before word after are)
 no_frames s other number parts before word after are = refl
-
--- ---- what was written and told of the first words
-
--- only the line of an item can fail while words are fed
-module _ (s : State) (number : ℕ) (words : List ℕ) (before now : Outlets) (gpu : Kept) (t start last : Tale)
-    (event : Event) where
-  pub due_inside : (mode : Mode) → StopsFeeding mode s number words before now gpu → DueInside t start last event
-      → DueIn mode t start last event
-  due_inside Listing stop due = due
-  due_inside (Pixel cell) stop due = due
-  due_inside Words stop due = let none : stop.held.count < 0 = stop.held.part in absurd (omega arith)
-  due_inside Vram stop due = let none : stop.held.count < 0 = stop.held.part in absurd (omega arith)
-  due_inside Shot stop due = let none : stop.held.count < 0 = stop.held.part in absurd (omega arith)
-  due_inside Report stop due = let none : stop.held.count < 0 = stop.held.part in absurd (omega arith)
-  due_inside (Frames at) stop due = let none : stop.held.count < 0 = stop.held.part in absurd (omega arith)
-  due_inside (Sums at) stop due = let none : stop.held.count < 0 = stop.held.part in absurd (omega arith)
-
--- the lines of a tale, and of words of its next event
-lines_with : (mode : Mode) (t : Tale) (words : List ℕ)
-    → lines_for mode (t.shown ++ []) (t.frames ++ [])
-    (t.notes ++ fed_notes t.state.gpu (next_number t.played) words)
-    (t.strokes ++ fed_strokes t.state.gpu (next_number t.played) words)
-    ≡ lines_of mode t ++ fed_lines mode t.state.gpu (next_number t.played) words
-lines_with mode t words = lines-append mode t.shown [] t.frames [] t.notes
-    (fed_notes t.state.gpu (next_number t.played) words) t.strokes
-    (fed_strokes t.state.gpu (next_number t.played) words)
-
--- the lines of a tale with the first words of an event
-lines_fed : (mode : Mode) (t : Tale) (words : List ℕ)
-    → lines_of mode (part_fed t words) ≡ lines_of mode t ++ fed_lines mode t.state.gpu (next_number t.played) words
-lines_fed mode t words =
-    let notes = t.notes ++ fed_notes t.state.gpu (next_number t.played) words in
-    let strokes = t.strokes ++ fed_strokes t.state.gpu (next_number t.played) words in
-    ap (λ shown. lines_for mode shown t.frames notes strokes) (sym (append-nil t.shown))
-    ∙ ap (λ frames. lines_for mode (t.shown ++ []) frames notes strokes) (sym (append-nil t.frames))
-    ∙ lines_with mode t words
-
--- the lines of a tale with more of an event's words are those with fewer, and those of the words between
-pub lines_fed_on : (mode : Mode) (t : Tale) (before words : List ℕ)
-    → lines_of mode (part_fed t (before ++ words)) ≡ lines_of mode (part_fed t before)
-    ++ fed_lines mode (fed t.state.gpu before) (next_number t.played) words
-lines_fed_on mode t before words =
-    let n = next_number t.played in
-    let s = t.state.gpu in
-    let first = fed_lines mode s n before in
-    let more = fed_lines mode (fed s before) n words in
-    lines_fed mode t (before ++ words)
-    ∙ ap (λ xs. lines_of mode t ++ xs) (fed_lines-append mode s n before words)
-    ∙ sym (append_assoc (lines_of mode t) first more)
-    ∙ ap (λ xs. xs ++ more) (sym (lines_fed mode t before))
-
-pub part_held : (mode : Mode) (t : Tale) (words : List ℕ) (held_before held_mid held_now : Option (List ℕ))
-    (due : List ℕ)
-    → held_mid ≡ appended held_before (lines_of mode t)
-    → AppendsPart (appended held_mid (fed_lines mode t.state.gpu (next_number t.played) words)) held_now due
-    → AppendsPart (appended held_before (lines_of mode (part_fed t words))) held_now due
-part_held mode t words held_before held_mid held_now due was part =
-    let lines = fed_lines mode t.state.gpu (next_number t.played) words in
-    let e : appended held_mid lines ≡ appended held_before (lines_of mode (part_fed t words)) =
-    ap (λ held. appended held lines) was ∙ appended-appended held_before (lines_of mode t) lines
-    ∙ ap (appended held_before) (sym (lines_fed mode t words)) in
-    let P : Option (List ℕ) → Type 0 = λ held. AppendsPart held held_now due in
-    subst P e part
-
--- all lines of an event, by those of the words before one, of that word, and of those behind it
-pub part_lines : (mode : Mode) (t : Tale) (before : List ℕ) (word : ℕ) (after more : List ℕ)
-    → (rest : List ℕ) × (lines_for mode (t.shown ++ []) (t.frames ++ [])
-    (t.notes ++ fed_notes t.state.gpu (next_number t.played) (before ++ word ∷ after))
-    (t.strokes ++ fed_strokes t.state.gpu (next_number t.played) (before ++ word ∷ after)) ++ more
-    ≡ lines_of mode (part_fed t before) ++
-    (fed_lines mode (fed t.state.gpu before) (next_number t.played) (word ∷ []) ++ rest))
-part_lines mode t before word after more =
-    let n = next_number t.played in
-    let s = t.state.gpu in
-    let first = fed_lines mode s n before in
-    let one = fed_lines mode (fed s before) n (word ∷ []) in
-    let rest = fed_lines mode (fed (fed s before) (word ∷ [])) n after in
-    let all : fed_lines mode s n (before ++ word ∷ after) ≡ first ++ (one ++ rest) =
-    fed_lines-append mode s n before (word ∷ after)
-    ∙ ap (λ xs. first ++ xs) (fed_lines-append mode (fed s before) n (word ∷ []) after) in (
-      rest ++ more,
-      ap (λ xs. xs ++ more)
-          (lines_with mode t (before ++ word ∷ after)
-          ∙ ap (λ xs. lines_of mode t ++ xs) all
-          ∙ sym (append_assoc (lines_of mode t) first (one ++ rest))
-          ∙ ap (λ xs. xs ++ (one ++ rest)) (sym (lines_fed mode t before)))
-          ∙ append_assoc (lines_of mode (part_fed t before)) (one ++ rest) more
-          ∙ ap (λ xs. lines_of mode (part_fed t before) ++ xs) (append_assoc one rest more),
-    )
 
 -- what the first words cost is within what the event costs
 pub part_cost : (mode : Mode) (s : State) (number : ℕ) (before : List ℕ) (word : ℕ) (after : List ℕ)

@@ -1,20 +1,23 @@
 -- Events that were played while their lines were written.
-use Rattle.std.proofs.Common.{◌≡◌, ◌≤◌, ◌+◌, ℕ, List, [], ◌∷◌, ◌++◌, Option, None, Ok, option_to_list, refl, ap, subst, ◌∙◌}
-use Rattle.std.proofs.Common.{append-nil, sym, arith}
+use Rattle.std.proofs.Common.{◌≡◌, ◌≤◌, ◌⊎◌, inl, inr, ◌+◌, ℕ, List, [], ◌∷◌, ◌++◌, Option, None, Ok, option_to_list}
+use Rattle.std.proofs.Common.{refl, ap, subst, ◌∙◌, append-nil, sym, arith}
 use Rattle.dev_io.specs.Device.{appended, AppendsPart}
-use Rattle.dev_io.proofs.Appended.{appended-appended}
-use Rattle.dev_io.proofs.Parts.{part_after}
+use Rattle.gathered_out.specs.Pieces.{Piece}
+use Rattle.dev_io.proofs.Appended.{appended-nil}
+use Rattle.gathered_out.specs.Puts.{BreaksPut, IsPut}
 use Rattle.gp0_packets.specs.declared.note.Note.{Note}
 use Rattle.gpu_capture.specs.declared.event.Event.{Event}
 use Rattle.gpu_core.specs.Kept.{Kept, kept_of}
 use Rattle.gpu_core.specs.Machine.{State}
-use Rattle.event_play.specs.Does.{Does}
-use Rattle.event_play.specs.Ends.{PlaysEvent, ShowsPart, event_lines, event_lines_cost}
-use Rattle.event_play.specs.Feeding.{Feeds}
+use Rattle.event_play.specs.Does.{Does, Stops, work_lines}
+use Rattle.event_play.specs.Ends.{FeedsPart, PlaysEvent, ShowsPart, event_lines, event_lines_cost}
+use Rattle.event_play.specs.Feeding.{Feeds, StopsFeeding, fed_lines}
 use Rattle.event_play.specs.Frames.{Frame, frames_behind}
-use Rattle.event_play.specs.Lines.{lines_for, lines_while, lines_behind, lines_cost, WritesBehind}
+use Rattle.event_play.specs.Lines.{IsGathered, MayGather, WritesBehind, lines_for, lines_while, lines_behind}
+use Rattle.event_play.specs.Lines.{lines_cost}
 use Rattle.event_play.specs.Replay.{Tale, next_number}
 use Rattle.event_play.specs.RigState.{RigState, StandsFor, machine_of}
+use Rattle.event_play.specs.Step.{asked_words, event_words}
 use Rattle.event_play.specs.Stepping.{HasStepped}
 use Rattle.event_play.specs.Streams.{Outlets}
 use Rattle.event_play.specs.Strokes.{Stroke, event_strokes}
@@ -26,6 +29,8 @@ use Rattle.event_play.specs.declared.work.Work.{Work}
 use Rattle.event_play.specs.declared.work.Work.TheVariants as work
 use Rattle.event_play.specs.declared.work.Words.TheVariants.{One}
 use Rattle.event_play.proofs.Events.{HasDone, has_done}
+use Rattle.event_play.proofs.Grows.{lines-none}
+use Rattle.event_play.proofs.Putting.{breaks_at, held_same, never_both, put_at, put_behind, put_both}
 
 -- first the lines of words, and then what is due behind the event
 pub lines_both : (mode : Mode) (shown : List ℕ) (frames : List Frame) (notes : List Note) (strokes : List Stroke)
@@ -50,12 +55,43 @@ costs_both Vram frames strokes = refl
 costs_both Shot frames strokes = refl
 costs_both Report frames strokes = refl
 
+-- what is written behind its event is no line of a word
+while_none : (mode : Mode) (notes : List Note) (strokes : List Stroke) → WritesBehind mode
+    → lines_while mode notes strokes ≡ []
+while_none Words notes strokes behind = refl
+while_none (Frames at) notes strokes behind = refl
+while_none (Sums at) notes strokes behind = refl
+while_none Listing notes strokes behind = absurd behind
+while_none (Pixel cell) notes strokes behind = absurd behind
+while_none Vram notes strokes behind = absurd behind
+while_none Shot notes strokes behind = absurd behind
+while_none Report notes strokes behind = absurd behind
+
+still_free : (mode : Mode) (old new : List Piece) → IsGathered mode ⊎ (new ≡ old) → MayGather mode old
+    → MayGather mode new
+still_free mode old new (inl is) free = inl is
+still_free mode old new (inr same) (inl is) = inl is
+still_free mode old new (inr same) (inr none) = inr (same ∙ none)
+
+-- no line of a word leaves the sink as it was where nothing is gathered
+unwritten : (mode : Mode) (number : ℕ) (bytes : List ℕ) (before now : Option (List ℕ)) (old new : List Piece)
+    → WritesBehind mode → IsGathered mode ⊎ (new ≡ old) → MayGather mode old → bytes ≡ []
+    → IsPut number bytes before now old new → now ≡ before
+unwritten mode number bytes before now old new behind (inl is) free none put = absurd (never_both mode behind is)
+unwritten mode number bytes before now old new behind (inr same) (inl is) none put =
+    absurd (never_both mode behind is)
+unwritten mode number bytes before now old new behind (inr same) (inr empty) none put =
+    held_same number before now (rw (none, same, empty) at put)
+
 module _ (mode : Mode) (was mid rig : RigState) (t : Tale) (counted : ℕ) (event : Event) (asked : Work)
     (shown : Option ℕ)
     (before now : Outlets) (held : Option (List ℕ)) (faults steps : ℕ)
     (is : Ok asked ≡ work_of was.ram was.running event) (same : mid ≡ rig) (stands : StandsFor was t)
     (number : counted ≡ next_number t.played)
-    (does : (s : State) → kept_of s ≡ was.gpu → Does mode (machine_of was s) counted asked shown before now rig) where
+    (does : (s : State) → kept_of s ≡ was.gpu → Does mode (machine_of was s) counted asked shown before now rig)
+    (put : (s : State) → kept_of s ≡ was.gpu
+    → IsPut counted (work_lines mode (machine_of was s) counted asked) before.held now.held before.gathered now.gathered)
+    (kept : IsGathered mode ⊎ (now.gathered ≡ before.gathered)) (free : MayGather mode before.gathered) where
   -- behind what is due behind the event
   abbrev written : Outlets
   written = record now { held = held; faults = faults; steps = steps }
@@ -103,6 +139,20 @@ module _ (mode : Mode) (was mid rig : RigState) (t : Tale) (counted : ℕ) (even
       ∙ ap (lines_for mode words (frames_behind event (next_number t.played) did.step.machine.gpu.parts)
       did.step.notes) strokes_are
 
+  asked_are : asked_words was.ram (Ok asked) ≡ event_words t.state event
+  asked_are = rw (stands.state.ram, stands.state.running, ← is) refl
+
+  -- those of its words were put
+  words_put : IsPut counted (lines_while mode did.step.notes strokes) before.held now.held before.gathered now.gathered
+  words_put =
+      put_at counted counted _ _ before.held now.held before.gathered now.gathered refl
+      (ap (fed_lines mode t.state.gpu counted) asked_are
+      ∙ ap (λ notes. lines_while mode notes strokes) (sym did.asked_notes))
+      (put t.state.gpu stands.state.gpu)
+
+  free_behind : MayGather mode now.gathered
+  free_behind = still_free mode before.gathered now.gathered kept free
+
   all_spent : steps ≤ now.steps + lines_cost mode frames []
       → steps ≤ did.at + event_lines_cost mode t event did.step.machine
   all_spent behind =
@@ -120,9 +170,11 @@ module _ (mode : Mode) (was mid rig : RigState) (t : Tale) (counted : ℕ) (even
     at = did.at;
     step = numbered did.at did.step;
     played = number;
-    held = wrote ∙ ap (λ held. appended held (lines_behind mode words frames)) did.held
-        ∙ appended-appended before.held (lines_while mode did.step.notes strokes) (lines_behind mode words frames)
-        ∙ ap (appended before.held) lines_are;
+    put = put_at counted (next_number t.played) _ _ before.held held before.gathered now.gathered number lines_are
+        (put_both counted (lines_while mode did.step.notes strokes) (lines_behind mode words frames) before.held now.held
+        held before.gathered now.gathered now.gathered words_put
+        (put_behind mode counted words frames now.held held now.gathered free_behind wrote));
+    free = free_behind;
     spent = all_spent spent;
   }
 
@@ -131,9 +183,11 @@ module _ (mode : Mode) (was mid rig : RigState) (t : Tale) (counted : ℕ) (even
       → ShowsPart mode t event before written counts
   shows_part behind part spent =
       let due = lines_behind mode words frames in
-      let all : lines_while mode did.step.notes strokes ++ (due ++ [])
-      ≡ event_lines mode t event did.step.machine shown did.step.notes =
-      ap (λ xs. lines_while mode did.step.notes strokes ++ xs) (append-nil due) ∙ lines_are in
+      let none : lines_while mode did.step.notes strokes ≡ [] = while_none mode did.step.notes strokes behind in
+      let all : due ≡ event_lines mode t event did.step.machine shown did.step.notes =
+      ap (λ xs. xs ++ due) (sym none) ∙ lines_are in
+      let same : now.held ≡ before.held = unwritten mode counted (lines_while mode did.step.notes strokes) before.held
+      now.held before.gathered now.gathered behind kept free none words_put in
       record {
         mode_is = behind;
         shown = shown;
@@ -141,10 +195,39 @@ module _ (mode : Mode) (was mid rig : RigState) (t : Tale) (counted : ℕ) (even
         step = numbered did.at did.step;
         played = number;
         held = let P : List ℕ → Type 0 = λ xs. AppendsPart before.held held xs in
-            subst P all (part_after before.held now.held held
-            (lines_while mode did.step.notes strokes) due [] did.held part);
+            let Q : Option (List ℕ) → Type 0 = λ h. AppendsPart h held due in
+            subst P all (subst Q same part);
         spent = all_spent spent;
       }
+
+-- its words were fed up to one whose line could not be put
+pub feeds_part : (mode : Mode) (was rig : RigState) (t : Tale) (counted : ℕ) (event : Event) (asked : Work)
+    (before now : Outlets) (lacking : ℕ) → Ok asked ≡ work_of was.ram was.running event → StandsFor was t
+    → counted ≡ next_number t.played → IsGathered mode
+    → BreaksPut counted (work_lines mode (machine_of was t.state.gpu) counted asked) before.held now.held before.gathered
+    lacking
+    → Stops mode (machine_of was t.state.gpu) counted asked before now rig → rig.played ≡ was.played
+    → FeedsPart mode t event before now rig lacking
+feeds_part mode was rig t counted event asked before now lacking is stands number gathers breaks stops played =
+    let asked_are : asked_words was.ram (Ok asked) ≡ event_words t.state event =
+    rw (stands.state.ram, stands.state.running, ← is) refl in
+    let P : ℕ → Type 0 = λ n. StopsFeeding mode t.state.gpu n (asked_words was.ram (Ok asked)) before now rig.gpu in
+    let Q : List ℕ → Type 0 = λ words. StopsFeeding mode t.state.gpu (next_number t.played) words before now rig.gpu in
+    record {
+      gathers = gathers;
+      breaks = breaks_at counted (next_number t.played) _ _ before.held now.held before.gathered lacking number
+          (ap (λ n. fed_lines mode t.state.gpu n (asked_words was.ram (Ok asked))) number
+          ∙ ap (fed_lines mode t.state.gpu (next_number t.played)) asked_are)
+          breaks;
+      feeding = subst Q asked_are (subst P number stops.feeding);
+      ram = stands.state.ram ∙ stops.ram;
+      running = stands.state.running ∙ stops.running;
+      played = stands.played ∙ sym played;
+    }
+
+-- nothing is written behind an event that neither shows a word nor is a moment
+pub nothing_behind : (mode : Mode) (held : Option (List ℕ)) → held ≡ appended held (lines_behind mode [] [])
+nothing_behind mode held = sym (ap (appended held) (lines-none mode) ∙ appended-nil held)
 
 -- ---- a word that is written to GP0
 
@@ -155,7 +238,6 @@ module _ (mode : Mode) (was : RigState) (counted word : ℕ) (before now : Outle
   word_done feeds = record {
     shows = refl;
     stands = record { gpu = feeds.stands; ram = refl; running = refl };
-    held = feeds.held;
     heard = feeds.heard;
     cost = feeds.cost;
   }

@@ -12,6 +12,7 @@ pub mod Lines
 pub mod Out
 pub mod PlayedWords
 pub mod OwnWords
+pub mod Pausing
 pub mod Playing
 pub mod Ports
 pub mod Replay

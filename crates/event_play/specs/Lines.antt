@@ -1,5 +1,6 @@
 -- What is written as the events come, by the mode (our own rule).
-use Rattle.std.specs.Prelude.{ℕ, List, [], flat_map}
+use Rattle.std.specs.Prelude.{◌≡◌, ◌⊎◌, ℕ, List, [], flat_map}
+use Rattle.gathered_out.specs.Pieces.{Piece}
 use Rattle.gp0_packets.specs.declared.note.Note.{Note}
 use Rattle.packet_text.specs.Line.{word_line, listed}
 use Rattle.event_play.specs.Frames.{Frame, picture_at, sum_at, frames_cost}
@@ -46,3 +47,13 @@ WritesBehind Words = Unit {0}
 WritesBehind (Frames at) = Unit {0}
 WritesBehind (Sums at) = Unit {0}
 WritesBehind mode = ⊥
+
+-- the lines of items are gathered
+abbrev pub IsGathered : Mode → Type 0
+IsGathered Listing = Unit {0}
+IsGathered (Pixel cell) = Unit {0}
+IsGathered mode = ⊥
+
+-- in no other mode anything is
+abbrev pub MayGather : Mode → List Piece → Type 0
+MayGather mode gathered = IsGathered mode ⊎ (gathered ≡ [])

@@ -3,12 +3,14 @@
 -- `script_behind t progress`.
 use Rattle.std.specs.Prelude.{◌≡◌, ◌≤◌, ◌⊎◌, ℕ, List, [], ◌∷◌, ◌++◌, ◌+◌, Ok}
 use Rattle.dev_io.specs.Device.{prepended, appended, AppendsPart, IsAtEnd}
-use Rattle.gpu_capture.specs.Reading.{Reading as HowRead, AreNeeded, SaysFirst}
+use Rattle.gpu_capture.specs.Reading.{Reading as HowRead, AreFewBehind, AreNeeded, SaysFirst}
 use Rattle.gpu_capture.specs.declared.event.Event.{Event}
 use Rattle.gpu_capture.specs.declared.event.Stop.{Stop}
 use Rattle.gpu_capture.specs.declared.event.Stop.TheVariants.{Truncated, ReadFault}
 use Rattle.gpu_taps.specs.Tally.{Reading}
+use Rattle.event_play.specs.Lines.{IsGathered}
 use Rattle.event_play.specs.Out.{lines_of, final_bytes, ending_under, out_bytes, out_cost, out_box_cost}
+use Rattle.event_play.specs.Pausing.{most_behind}
 use Rattle.event_play.specs.Replay.{Tale, Played, Script, after_event, part_fed, played_events, next_number}
 use Rattle.event_play.specs.Replay.{played_script}
 use Rattle.event_play.specs.RigState.{RigState, StandsFor}
@@ -18,7 +20,7 @@ use Rattle.event_play.specs.Told.{told_notes}
 use Rattle.event_play.specs.declared.ending.Ending.{Ending}
 use Rattle.event_play.specs.declared.ending.Ending.TheVariants.{Done, Stopped, Faulted, NoPicture, WriteFailed}
 use Rattle.event_play.specs.declared.ending.Mode.{Mode}
-use Rattle.event_play.specs.declared.ending.Mode.TheVariants.{List as Listing, Play as Words, Frames, Sums, Pixel}
+use Rattle.event_play.specs.declared.ending.Mode.TheVariants.{Play as Words, Frames, Sums}
 
 -- it ended for want of bytes
 abbrev pub IsShort : Ending → Type 0
@@ -44,21 +46,8 @@ whole t rest = record { tale = t; ending = Done; rest = rest }
 
 -- ---- what could not be written
 
--- The line of an item of an event was due. The tale has every word of the event before the one that completed the item,
--- and the last tale has that word too; neither counts the event.
-pub record DueInside (t start last : Tale) (event : Event) : Type 0 where
-  pub before : List ℕ
-  pub word : ℕ
-  pub after : List ℕ
-  pub is : event_words t.state event ≡ before ++ word ∷ after
-  pub start_is : start ≡ part_fed t before
-  pub last_is : last ≡ part_fed t (before ++ word ∷ [])
-
--- what was due at an event: the line of one of its items, the line of the word that it shows, or the picture behind
--- it or its sum
+-- what was due at an event: the line of the word that it shows, or the picture behind it or its sum
 abbrev pub DueIn : Mode → Tale → Tale → Tale → Event → Type 0
-DueIn Listing t start last event = DueInside t start last event
-DueIn (Pixel cell) t start last event = DueInside t start last event
 DueIn Words t start last event = (start ≡ t) × (after_event t event ≡ Ok last)
 DueIn (Frames at) t start last event = (start ≡ t) × (after_event t event ≡ Ok last)
 DueIn (Sums at) t start last event = (start ≡ t) × (after_event t event ≡ Ok last)
@@ -89,6 +78,48 @@ pub record DueAtEvent (mode : Mode) (script : List ℕ → Script) (t start last
   pub inside : DueIn mode t start last event
   pub lines : lines_of mode last ≡ lines_of mode start ++ due
 
+-- where playing stands behind a tale: there, or behind the first words of one event more, or none of its words
+abbrev pub IsUpTo : Tale → List Event → Tale → Type 0
+IsUpTo t [] last = last ≡ t
+IsUpTo t (event ∷ []) last = (words : List ℕ) × (more : List ℕ)
+    × (event_words t.state event ≡ words ++ more) × (last ≡ part_fed t words)
+IsUpTo t events last = ⊥
+
+-- these events lead from a tale to the last one, but perhaps for the last event
+pub record LeadsTo (first : Tale) (events : List Event) (last : Tale) : Type 0 where
+  pub played : List Event
+  pub unplayed : List Event
+  pub are : events ≡ played ++ unplayed
+  pub tale : Tale
+  pub follows : Follows first played tale
+  pub up_to : IsUpTo tale unplayed last
+
+-- How far a capture was read while lines were gathered: the bytes taken say these events, this one and those behind it,
+-- whatever bytes follow. Those before it lead to the tale, and all of them to the last one. Few bytes were taken behind
+-- those that this event needs.
+pub record IsReadPast (script : List ℕ → Script) (t last : Tale) (taken : List ℕ) (before : List Event) (event : Event)
+    (behind : List Event) : Type 0 where
+  pub first : Tale
+  pub version : ℕ
+  pub begins : (rest : List ℕ) → (script (taken ++ rest)).first ≡ first
+  pub says : SaysFirst (reads script) version taken (before ++ event ∷ behind)
+  pub follows : Follows first before t
+  pub leads : LeadsTo first (before ++ event ∷ behind) last
+  pub few : AreFewBehind (reads script) (before ++ event ∷ []) taken most_behind
+
+-- the lines of the items of this event are due, all of them, which were gathered with those of others
+pub record DueWhileGathered (mode : Mode) (script : List ℕ → Script) (t start last : Tale) (taken due : List ℕ)
+    : Type 0 where
+  pub gathers : IsGathered mode
+  pub before : List Event
+  pub event : Event
+  pub behind : List Event
+  pub is_read : IsReadPast script t last taken before event behind
+  pub next : Tale
+  pub next_is : after_event t event ≡ Ok next
+  pub start_is : start ≡ t
+  pub lines : lines_of mode next ≡ lines_of mode start ++ due
+
 -- every event was played, and these bytes are due behind the last one: all that is written after the end
 pub record DueAtEnd (mode : Mode) (heard : List Reading) (script : List ℕ → Script) (t start last : Tale)
     (taken due : List ℕ) : Type 0 where
@@ -106,7 +137,8 @@ pub record LacksBytes (mode : Mode) (script : List ℕ → Script) (t last : Tal
   pub start : Tale
   pub due : List ℕ
   pub place : DueAtEvent mode script t start last taken due
-      ⊎ DueAtEnd mode before.heard script t start last taken due
+      ⊎ (DueWhileGathered mode script t start last taken due
+      ⊎ DueAtEnd mode before.heard script t start last taken due)
   pub held : AppendsPart (appended before.held (lines_of mode start)) now.held due
   pub prefix : (rest : List ℕ) → (more : List ℕ)
       × (out_bytes mode before.heard (plays script (taken ++ rest)) ≡ lines_of mode start ++ (due ++ more))

@@ -1,17 +1,32 @@
 -- What playing works on besides its rig.
-use Rattle.std.specs.Prelude.{ℕ, List, Option, None}
+use Rattle.std.specs.Prelude.{ℕ, List, [], Option, None, Result}
+use Rattle.gathered_out.specs.Pieces.{Piece}
+use Rattle.gathered_out.specs.Puts.{Puts}
 use Rattle.gpu_taps.specs.Tally.{Reading}
 
--- the bytes that the sink holds (None where they are not told), how often it failed, what the taps say, and the store
--- steps
+-- the bytes that the sink holds (None where they are not told), how often it failed, what is gathered for it, what the
+-- taps say, and the store steps
 pub record Outlets : Type 0 where
   pub held : Option (List ℕ)
   pub faults : ℕ
+  pub gathered : List Piece
   pub heard : List Reading
   pub steps : ℕ
 
+-- where nothing is gathered
 abbrev pub outlets : (held : Option (List ℕ)) (faults : ℕ) (heard : List Reading) (steps : ℕ) → Outlets
-outlets held faults heard steps = record { held = held; faults = faults; heard = heard; steps = steps }
+outlets held faults heard steps =
+    record { held = held; faults = faults; gathered = []; heard = heard; steps = steps }
+
+-- where these pieces are
+abbrev pub gathering : List Piece → Outlets → Outlets
+gathering pieces at = record at { gathered = pieces }
+
+-- what a call that puts these bytes, due at the event of this number, does to the sink and to what is gathered for it
+abbrev pub PutsLines : {Value : Type 0} → (number : ℕ) → (bytes : List ℕ) → (before now : Outlets) → Result Value ℕ → Type 0
+PutsLines number bytes before now result =
+    Puts (λ (at : Outlets). at.held) (λ (at : Outlets). at.faults) number bytes before now before.gathered now.gathered
+    result
 
 -- those of a call that writes nothing
 abbrev pub without_sink : (heard : List Reading) (steps : ℕ) → Outlets

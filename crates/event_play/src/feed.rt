@@ -1,80 +1,86 @@
 // Words that go to GP0, one after another. A call that feeds words has more than five parameters, since a word reaches
-// all that playing works on: the drawing processor, main memory, the sink, the taps and the steps.
+// all that playing works on: the drawing processor, main memory, the lines that are gathered and their sink, the taps
+// and the steps.
 ghost use Rattle.std.specs.Prelude.{◌≡◌, ◌≤◌, ◌<◌, ◌^◌, ◌+◌, [], ◌∷◌, length, take, map, flat_map};
 ghost use Rattle.std.specs.Prelude.{option_to_list, IfSome};
-ghost use Rattle.dev_io.specs.Device.{Writes};
+ghost use Rattle.gathered_out.specs.Puts.{Puts};
 ghost use Rattle.list_dma.specs.Node.{node_words};
 ghost use Rattle.list_dma.specs.Walk.{chain, list_words};
-ghost use Rattle.packet_text.specs.Line.{listed};
+ghost use Rattle.packet_text.specs.Line.{change_line, listed, note_line};
 ghost use Rattle.event_play.specs.Block.{block_words, IsBlock};
 ghost use Rattle.event_play.specs.Feeding.{FeedsWords};
 ghost use Rattle.event_play.specs.PlayedWords.{IsTold, after_words, number_behind};
 ghost use Rattle.event_play.specs.Replay.{Tale};
 ghost use Rattle.event_play.specs.Step.{words_of};
-ghost use Rattle.event_play.specs.Streams.{Outlets, outlets, without_sink};
+ghost use Rattle.event_play.specs.Streams.{Outlets, gathering, outlets, without_sink};
 ghost use Rattle.event_play.specs.Strokes.{seen_cell, change_of};
 ghost use Rattle.event_play.specs.Work.{AreWords};
 
 use crate::block::{Block, address_in};
-use crate::ending::Mode;
+use crate::ending::{Mode, Within};
 use crate::work::Words;
-use dev_io::{Failed, Sink};
+use dev_io::Sink;
+use gathered_out::Gathered;
 use gp0_packets::Note;
 use gpu_core::Gpu;
 use gpu_taps::Listener;
 use list_dma::{WALK_LIMIT, next_node, node_at};
 use ot_clear_dma::Ram;
-use packet_text::{write_change, write_note};
+use packet_text::{change_text, note_text};
 use px_num::Cell;
 use std::sync::ledger::Ledger;
 use vram_store::Steps;
 
-/// Feeds words in the event of this number, and writes their lines as they come, if the mode asks for them. Where that
-/// fails, the words behind the item whose line it was are not fed.
+/// Feeds words in the event of this number, and puts their lines as they come, if the mode asks for them. Where that
+/// fails, the words behind the item whose line it was are not fed, and the answer is the number of the first event whose
+/// lines lack a byte.
 pub(crate) fn feed<K: Sink, T: Listener, L: Ledger>(
     gpu: &mut Gpu,
     ram: &Ram,
-    number: u64,
+    within: Within,
     words: Words,
+    lines: &mut Gathered,
     out: &mut K,
-    mode: Mode,
     taps: &mut Vec<T>,
     steps: &mut Steps<L>,
-) -> Result<(), Failed>
+) -> Result<(), u64>
     requires { AreWords words }
-    ensures { FeedsWords mode number (words_of ram.now words)
-        (outlets (K.held out.old) (K.faults out.old) (map T.heard taps.old.items) steps.old)
-        (outlets (K.held out.new) (K.faults out.new) (map T.heard taps.new.items) steps.new) gpu.old gpu.new result }
+    ensures { FeedsWords within.mode within.number (words_of ram.now words)
+        (gathering lines.old (outlets (K.held out.old) (K.faults out.old) (map T.heard taps.old.items) steps.old))
+        (gathering lines.new (outlets (K.held out.new) (K.faults out.new) (map T.heard taps.new.items) steps.new))
+        gpu.old gpu.new result }
 {
     match words {
-        Words::One { word } => feed_word(gpu, number, word, out, mode, taps, steps),
-        Words::Block { block } => feed_block(gpu, ram, number, block, out, mode, taps, steps),
-        Words::Node { node } => feed_node(gpu, ram, number, node, out, mode, taps, steps),
-        Words::List { start } => feed_list(gpu, ram, number, start, out, mode, taps, steps),
+        Words::One { word } => feed_word(gpu, within, word, lines, out, taps, steps),
+        Words::Block { block } => feed_block(gpu, ram, within, block, lines, out, taps, steps),
+        Words::Node { node } => feed_node(gpu, ram, within, node, lines, out, taps, steps),
+        Words::List { start } => feed_list(gpu, ram, within, start, lines, out, taps, steps),
     }
 }
 
-/// Feeds a word in the event of this number, and writes the line of its note, or of what it changes of a cell, if the
-/// mode asks for it. Where that fails, the word has been fed all the same.
+/// Feeds a word in the event of this number, and puts the line of its note, or of what it changes of a cell, if the mode
+/// asks for it. Where that fails, the word has been fed all the same.
 pub(crate) fn feed_word<K: Sink, T: Listener, L: Ledger>(
     gpu: &mut Gpu,
-    number: u64,
+    within: Within,
     word: u32,
+    lines: &mut Gathered,
     out: &mut K,
-    mode: Mode,
     taps: &mut Vec<T>,
     steps: &mut Steps<L>,
-) -> Result<(), Failed>
-    ensures { FeedsWords mode number (word ∷ [])
-        (outlets (K.held out.old) (K.faults out.old) (map T.heard taps.old.items) steps.old)
-        (outlets (K.held out.new) (K.faults out.new) (map T.heard taps.new.items) steps.new) gpu.old gpu.new result }
+) -> Result<(), u64>
+    ensures { FeedsWords within.mode within.number (word ∷ [])
+        (gathering lines.old (outlets (K.held out.old) (K.faults out.old) (map T.heard taps.old.items) steps.old))
+        (gathering lines.new (outlets (K.held out.new) (K.faults out.new) (map T.heard taps.new.items) steps.new))
+        gpu.old gpu.new result }
 {
-    match mode {
+    let number = within.number;
+    match within.mode {
         Mode::List => {
             let note = gpu.gp0(number, word, taps, steps);
-            write_listed(out, &note)
+            put_listed(number, &note, lines, out)
         }
-        Mode::Pixel { cell } => feed_watched(gpu, number, word, cell, out, taps, steps),
+        Mode::Pixel { cell } => feed_watched(gpu, number, word, cell, lines, out, taps, steps),
         _ => {
             let _ = gpu.gp0(number, word, taps, steps);
             Ok(())
@@ -88,18 +94,20 @@ fn feed_watched<K: Sink, T: Listener, L: Ledger>(
     number: u64,
     word: u32,
     cell: Cell,
+    lines: &mut Gathered,
     out: &mut K,
     taps: &mut Vec<T>,
     steps: &mut Steps<L>,
-) -> Result<(), Failed>
+) -> Result<(), u64>
     ensures { FeedsWords (Mode.Pixel cell) number (word ∷ [])
-        (outlets (K.held out.old) (K.faults out.old) (map T.heard taps.old.items) steps.old)
-        (outlets (K.held out.new) (K.faults out.new) (map T.heard taps.new.items) steps.new) gpu.old gpu.new result }
+        (gathering lines.old (outlets (K.held out.old) (K.faults out.old) (map T.heard taps.old.items) steps.old))
+        (gathering lines.new (outlets (K.held out.new) (K.faults out.new) (map T.heard taps.new.items) steps.new))
+        gpu.old gpu.new result }
 {
     let before = seen_cell(gpu, cell, steps);
     let note = gpu.gp0(number, word, taps, steps);
     let after = seen_cell(gpu, cell, steps);
-    write_changed(out, &note, before, after)
+    put_changed(number, &note, before, after, lines, out)
 }
 
 // The value of a cell, or 0 where video memory has no such cell.
@@ -115,51 +123,85 @@ fn seen_cell<L: Ledger>(gpu: &Gpu, cell: Cell, steps: &mut Steps<L>) -> u16
     }
 }
 
-// The line of an item that left another value in a cell than it found.
-fn write_changed<K: Sink>(
-    out: &mut K,
+// Puts the line of an item that left another value in a cell than it found.
+fn put_changed<K: Sink>(
+    number: u64,
     note: &Option<Note>,
     before: u16,
     after: u16,
-) -> Result<(), Failed>
-    ensures { Writes K.held K.faults out.old out.new (change_of note.now before after) result }
+    lines: &mut Gathered,
+    out: &mut K,
+) -> Result<(), u64>
+    ensures { Puts K.held K.faults number (change_of note.now before after) out.old out.new lines.old lines.new result }
 {
     match note {
-        Some(note) if before != after => write_change(out, note, before, after),
+        Some(note) if before != after => put_change(number, note, before, after, lines, out),
         _ => Ok(()),
     }
 }
 
-// The line of a note, unless it is that of pixels.
-fn write_listed<K: Sink>(out: &mut K, note: &Option<Note>) -> Result<(), Failed>
+// Puts the line of a note, unless it is that of pixels.
+fn put_listed<K: Sink>(
+    number: u64,
+    note: &Option<Note>,
+    lines: &mut Gathered,
+    out: &mut K,
+) -> Result<(), u64>
     requires { IfSome note.now (λ note. note.class ≤ 9) }
-    ensures { Writes K.held K.faults out.old out.new (flat_map listed (option_to_list note.now)) result }
+    ensures { Puts K.held K.faults number (flat_map listed (option_to_list note.now)) out.old out.new lines.old lines.new
+        result }
 {
     match note {
-        Some(note) if note.class != 9 => write_note(out, note),
+        Some(note) if note.class != 9 => put_note(number, note, lines, out),
         _ => Ok(()),
     }
+}
+
+// Puts the line of a note.
+fn put_note<K: Sink>(number: u64, note: &Note, lines: &mut Gathered, out: &mut K) -> Result<(), u64>
+    requires { note.now.class ≤ 9 }
+    ensures { Puts K.held K.faults number (note_line note.now) out.old out.new lines.old lines.new result }
+{
+    lines.put(number, note_text(note).as_slice(), out)
+}
+
+// Puts the line of what an item changed of a cell.
+fn put_change<K: Sink>(
+    number: u64,
+    note: &Note,
+    before: u16,
+    after: u16,
+    lines: &mut Gathered,
+    out: &mut K,
+) -> Result<(), u64>
+    ensures { Puts K.held K.faults number (change_line note.now before after) out.old out.new lines.old lines.new result }
+{
+    lines.put(number, change_text(note, before, after).as_slice(), out)
 }
 
 // Feeds the words of a block.
 fn feed_block<K: Sink, T: Listener, L: Ledger>(
     gpu: &mut Gpu,
     ram: &Ram,
-    number: u64,
+    within: Within,
     block: Block,
+    lines: &mut Gathered,
     out: &mut K,
-    mode: Mode,
     taps: &mut Vec<T>,
     steps: &mut Steps<L>,
-) -> Result<(), Failed>
+) -> Result<(), u64>
     requires { IsBlock block }
-    ensures { FeedsWords mode number (block_words ram.now block)
-        (outlets (K.held out.old) (K.faults out.old) (map T.heard taps.old.items) steps.old)
-        (outlets (K.held out.new) (K.faults out.new) (map T.heard taps.new.items) steps.new) gpu.old gpu.new result }
+    ensures { FeedsWords within.mode within.number (block_words ram.now block)
+        (gathering lines.old (outlets (K.held out.old) (K.faults out.old) (map T.heard taps.old.items) steps.old))
+        (gathering lines.new (outlets (K.held out.new) (K.faults out.new) (map T.heard taps.new.items) steps.new))
+        gpu.old gpu.new result }
 {
     for i in 0..block.n {
         let word = ram.get(address_in(block, i));
-        feed_word(gpu, number, word, out, mode, taps, steps)?;
+        match feed_word(gpu, within, word, lines, out, taps, steps) {
+            Ok(()) => {}
+            Err(lacking) => return Err(lacking),
+        }
     }
     Ok(())
 }
@@ -168,24 +210,25 @@ fn feed_block<K: Sink, T: Listener, L: Ledger>(
 fn feed_node<K: Sink, T: Listener, L: Ledger>(
     gpu: &mut Gpu,
     ram: &Ram,
-    number: u64,
+    within: Within,
     node: u32,
+    lines: &mut Gathered,
     out: &mut K,
-    mode: Mode,
     taps: &mut Vec<T>,
     steps: &mut Steps<L>,
-) -> Result<(), Failed>
+) -> Result<(), u64>
     requires { node ≤ 2 ^ 21 }
-    ensures { FeedsWords mode number (node_words ram.now node)
-        (outlets (K.held out.old) (K.faults out.old) (map T.heard taps.old.items) steps.old)
-        (outlets (K.held out.new) (K.faults out.new) (map T.heard taps.new.items) steps.new) gpu.old gpu.new result }
+    ensures { FeedsWords within.mode within.number (node_words ram.now node)
+        (gathering lines.old (outlets (K.held out.old) (K.faults out.old) (map T.heard taps.old.items) steps.old))
+        (gathering lines.new (outlets (K.held out.new) (K.faults out.new) (map T.heard taps.new.items) steps.new))
+        gpu.old gpu.new result }
 {
     let words = Block {
         at: node + 4,
         n: ram.get(node) >> 24,
         back: false,
     };
-    feed_block(gpu, ram, number, words, out, mode, taps, steps)
+    feed_block(gpu, ram, within, words, lines, out, taps, steps)
 }
 
 // Feeds the words of a list, node after node.
@@ -193,22 +236,23 @@ fn feed_node<K: Sink, T: Listener, L: Ledger>(
 fn feed_list<K: Sink, T: Listener, L: Ledger>(
     gpu: &mut Gpu,
     ram: &Ram,
-    number: u64,
+    within: Within,
     start: u32,
+    lines: &mut Gathered,
     out: &mut K,
-    mode: Mode,
     taps: &mut Vec<T>,
     steps: &mut Steps<L>,
-) -> Result<(), Failed>
-    ensures { FeedsWords mode number (list_words ram.now start)
-        (outlets (K.held out.old) (K.faults out.old) (map T.heard taps.old.items) steps.old)
-        (outlets (K.held out.new) (K.faults out.new) (map T.heard taps.new.items) steps.new) gpu.old gpu.new result }
+) -> Result<(), u64>
+    ensures { FeedsWords within.mode within.number (list_words ram.now start)
+        (gathering lines.old (outlets (K.held out.old) (K.faults out.old) (map T.heard taps.old.items) steps.old))
+        (gathering lines.new (outlets (K.held out.new) (K.faults out.new) (map T.heard taps.new.items) steps.new))
+        gpu.old gpu.new result }
 {
     let list = NodeList {
         start,
         limit: WALK_LIMIT,
     };
-    feed_nodes(gpu, ram, number, list, out, mode, taps, steps)
+    feed_nodes(gpu, ram, within, list, lines, out, taps, steps)
 }
 
 // The first nodes of a list: where it starts, and how many at the most.
@@ -222,16 +266,17 @@ struct NodeList {
 fn feed_nodes<K: Sink, T: Listener, L: Ledger>(
     gpu: &mut Gpu,
     ram: &Ram,
-    number: u64,
+    within: Within,
     list: NodeList,
+    lines: &mut Gathered,
     out: &mut K,
-    mode: Mode,
     taps: &mut Vec<T>,
     steps: &mut Steps<L>,
-) -> Result<(), Failed>
-    ensures { FeedsWords mode number (flat_map (node_words ram.now) (chain ram.now list.start list.limit))
-        (outlets (K.held out.old) (K.faults out.old) (map T.heard taps.old.items) steps.old)
-        (outlets (K.held out.new) (K.faults out.new) (map T.heard taps.new.items) steps.new) gpu.old gpu.new result }
+) -> Result<(), u64>
+    ensures { FeedsWords within.mode within.number (flat_map (node_words ram.now) (chain ram.now list.start list.limit))
+        (gathering lines.old (outlets (K.held out.old) (K.faults out.old) (map T.heard taps.old.items) steps.old))
+        (gathering lines.new (outlets (K.held out.new) (K.faults out.new) (map T.heard taps.new.items) steps.new))
+        gpu.old gpu.new result }
 {
     let mut next = node_at(list.start);
     'nodes: for k in 0..list.limit {
@@ -239,7 +284,10 @@ fn feed_nodes<K: Sink, T: Listener, L: Ledger>(
         match next {
             None => return Ok(()),
             Some(node) => {
-                feed_node(gpu, ram, number, node, out, mode, taps, steps)?;
+                match feed_node(gpu, ram, within, node, lines, out, taps, steps) {
+                    Ok(()) => {}
+                    Err(lacking) => return Err(lacking),
+                }
                 next = next_node(ram, node);
             }
         }

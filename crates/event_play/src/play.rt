@@ -1,25 +1,28 @@
 // A capture is played to its end.
-ghost use Rattle.std.specs.Prelude.{◌≡◌, ◌≤◌, ◌+◌, None, Some, map, true, OnOk, OnErr, IfErr};
+ghost use Rattle.std.specs.Prelude.{◌≡◌, ◌≤◌, None, map, OnOk, OnErr, IfErr};
 ghost use Rattle.dev_io.specs.Device.{Rose};
 ghost use Rattle.gpu_capture.specs.Reader.{IsReadFault, work_left};
 ghost use Rattle.gpu_capture.specs.Words.{TakesWords, StopsBehind};
 ghost use Rattle.gpu_core.specs.Kept.{kept_of};
 ghost use Rattle.gpu_core.specs.Machine.{State};
 ghost use Rattle.event_play.specs.Causes.{MayReadFault, MayWriteFault, IsEnding};
-ghost use Rattle.event_play.specs.Ends.{PlaysOrEnds, EndsAt};
+ghost use Rattle.event_play.specs.Ends.{PlaysOrEnds, EndsAt, EndsReading};
+ghost use Rattle.event_play.specs.Lines.{IsGathered};
 ghost use Rattle.event_play.specs.PlayedWords.{IsTold, AreQuiet, after_words};
 ghost use Rattle.event_play.specs.Playing.{EndsPlay};
 ghost use Rattle.event_play.specs.Replay.{Tale, script_of, script_behind, from_state, next_number, raised};
 ghost use Rattle.event_play.specs.RigState.{Stands, StandsFor};
 ghost use Rattle.event_play.specs.Step.{Machine};
-ghost use Rattle.event_play.specs.Streams.{Outlets, outlets, streams, without_sink};
+ghost use Rattle.event_play.specs.Streams.{Outlets, gathering, outlets, streams, without_sink};
 
-use crate::ending::{Ending, Mode};
+use crate::ending::{Ending, Mode, Within};
 use crate::feed::{feed_events, feed_word};
 use crate::finals::{lacks_picture, write_behind, write_finals};
+use crate::pause::{end_behind, write_at_pause};
 use crate::rig::Rig;
 use crate::work::judge;
 use dev_io::{Sink, Source};
+use gathered_out::Gathered;
 use gpu_capture::{Event, EventReader, Stop, WordBlock};
 use gpu_taps::Listener;
 use std::sync::ledger::Ledger;
@@ -32,9 +35,14 @@ impl Rig {
     /// Plays a capture to its End, and writes what the mode asks for. It goes on from what the rig has played, and its
     /// taps are told every note. A capture of version 3 is played in the tall profile.
     ///
+    /// Lines of items are gathered, up to 4,096 bytes, and written together: where there is no room for one more, before
+    /// a read that may have to wait, and before every ending. So a write that fails may show at a later event, and is
+    /// still that of the event whose lines lack a byte. At most 4,112 bytes of the capture are taken behind that event.
+    /// All else is written where it is due.
+    ///
     /// Done comes only where the capture is whole and all was written. After every ending but `WriteFailed` the rig is
-    /// the state after the events played. Where the line of an item could not be written, the words of its event behind
-    /// it were not fed, and the event does not count.
+    /// the state after the events played. Where the line of an item could not be put, the words of its event behind it
+    /// were not fed, and the event does not count.
     pub fn play<S: Source, K: Sink, T: Listener, L: Ledger>(
         &mut self,
         source: &mut S,
@@ -81,22 +89,30 @@ impl Rig {
         ensures write_faults { K.faults out.old ≤ K.faults out.new }
     {
         let mut block = WordBlock::new();
+        let mut lines = Gathered::new();
         let mut next = reader.next(source);
         self.raise(reader.version());
+        let mut since = reader.place();
         'events: loop {
             match next {
                 Ok(event) => {
-                    if let Err(ending) = self.play_event(&event, out, mode, taps, steps) {
-                        return ending;
+                    if let Err(ending) = self.play_event(
+                        &event, &mut lines, out, mode, taps, steps,
+                    ) {
+                        return end_behind(ending, &mut lines, out);
                     }
                     let read = read_words(reader, source, mode, &mut block);
                     self.play_words(block.as_slice(), taps, steps);
                     if let Err(stop) = read {
-                        return self.finish(stop, out, mode, taps, steps);
+                        return self.end_reading(stop, &mut lines, out, mode, taps, steps);
+                    }
+                    match write_at_pause(reader, source, since, &mut lines, out) {
+                        Ok(place) => since = place,
+                        Err(event) => return Ending::WriteFailed { event },
                     }
                     next = reader.next(source);
                 }
-                Err(stop) => return self.finish(stop, out, mode, taps, steps),
+                Err(stop) => return self.end_reading(stop, &mut lines, out, mode, taps, steps),
             }
         }
     }
@@ -110,23 +126,24 @@ impl Rig {
         }
     }
 
-    // Plays one event, and writes what is due for it.
+    // Plays one event, and puts or writes what is due for it.
     fn play_event<K: Sink, T: Listener, L: Ledger>(
         &mut self,
         event: &Event,
+        lines: &mut Gathered,
         out: &mut K,
         mode: Mode,
         taps: &mut Vec<T>,
         steps: &mut Steps<L>,
     ) -> Result<(), Ending>
         ensures { PlaysOrEnds mode event.now
-            (outlets (K.held out.old) (K.faults out.old) (map T.heard taps.old.items) steps.old)
-            (outlets (K.held out.new) (K.faults out.new) (map T.heard taps.new.items) steps.new)
+            (gathering lines.old (outlets (K.held out.old) (K.faults out.old) (map T.heard taps.old.items) steps.old))
+            (gathering lines.new (outlets (K.held out.new) (K.faults out.new) (map T.heard taps.new.items) steps.new))
             self.old self.new result }
     {
         match *event {
-            Event::Gp0 { word } => self.play_word(word, out, mode, taps, steps),
-            _ => self.play_other(event, out, mode, taps, steps),
+            Event::Gp0 { word } => self.play_word(word, lines, out, mode, taps, steps),
+            _ => self.play_other(event, lines, out, mode, taps, steps),
         }
     }
 
@@ -135,22 +152,26 @@ impl Rig {
     fn play_word<K: Sink, T: Listener, L: Ledger>(
         &mut self,
         word: u32,
+        lines: &mut Gathered,
         out: &mut K,
         mode: Mode,
         taps: &mut Vec<T>,
         steps: &mut Steps<L>,
     ) -> Result<(), Ending>
         ensures { PlaysOrEnds mode (Event.Gp0 word)
-            (outlets (K.held out.old) (K.faults out.old) (map T.heard taps.old.items) steps.old)
-            (outlets (K.held out.new) (K.faults out.new) (map T.heard taps.new.items) steps.new)
+            (gathering lines.old (outlets (K.held out.old) (K.faults out.old) (map T.heard taps.old.items) steps.old))
+            (gathering lines.new (outlets (K.held out.new) (K.faults out.new) (map T.heard taps.new.items) steps.new))
             self.old self.new result }
     {
-        let event = self.next_number();
-        let Ok(()) = feed_word(&mut self.gpu, event, word, out, mode, taps, steps) else {
-            return Err(Ending::WriteFailed { event });
-        };
-        self.played = event;
-        Ok(())
+        let number = self.next_number();
+        let within = Within { number, mode };
+        match feed_word(&mut self.gpu, within, word, lines, out, taps, steps) {
+            Ok(()) => {
+                self.played = number;
+                Ok(())
+            }
+            Err(event) => Err(Ending::WriteFailed { event }),
+        }
     }
 
     // Plays words that are written to GP0, an event each, for which no line is due.
@@ -174,14 +195,15 @@ impl Rig {
     fn play_other<K: Sink, T: Listener, L: Ledger>(
         &mut self,
         event: &Event,
+        lines: &mut Gathered,
         out: &mut K,
         mode: Mode,
         taps: &mut Vec<T>,
         steps: &mut Steps<L>,
     ) -> Result<(), Ending>
         ensures { PlaysOrEnds mode event.now
-            (outlets (K.held out.old) (K.faults out.old) (map T.heard taps.old.items) steps.old)
-            (outlets (K.held out.new) (K.faults out.new) (map T.heard taps.new.items) steps.new)
+            (gathering lines.old (outlets (K.held out.old) (K.faults out.old) (map T.heard taps.old.items) steps.old))
+            (gathering lines.new (outlets (K.held out.new) (K.faults out.new) (map T.heard taps.new.items) steps.new))
             self.old self.new result }
     {
         let number = self.next_number();
@@ -194,17 +216,46 @@ impl Rig {
                 });
             }
         };
-        let Ok(shown) = self.perform(number, work, out, mode, taps, steps) else {
-            return Err(Ending::WriteFailed { event: number });
-        };
-        self.played = number;
-        let Ok(()) = write_behind(&self.gpu, event, number, shown, out, mode, steps) else {
-            return Err(Ending::WriteFailed { event: number });
-        };
-        Ok(())
+        let within = Within { number, mode };
+        match self.perform(within, work, lines, out, taps, steps) {
+            Err(event) => Err(Ending::WriteFailed { event }),
+            Ok(shown) => {
+                self.played = number;
+                let Ok(()) = write_behind(&self.gpu, event, number, shown, out, mode, steps) else {
+                    return Err(Ending::WriteFailed { event: number });
+                };
+                Ok(())
+            }
+        }
     }
 
-    // Ends playing at a stop of the reader: at End, what is due behind the last event is written.
+    // Ends playing at a stop of the reader: what is gathered is written before.
+    fn end_reading<K: Sink, T: Listener, L: Ledger>(
+        &self,
+        stop: Stop,
+        lines: &mut Gathered,
+        out: &mut K,
+        mode: Mode,
+        taps: &Vec<T>,
+        steps: &mut Steps<L>,
+    ) -> Ending
+        ensures ends { (s : State) → kept_of s ≡ self.now.gpu →
+            EndsReading mode s (next_number self.now.played) stop
+            (gathering lines.old (outlets (K.held out.old) (K.faults out.old) (map T.heard taps.now.items) steps.old))
+            (outlets (K.held out.new) (K.faults out.new) (map T.heard taps.now.items) steps.new) result }
+        ensures known { IsEnding result }
+        ensures stopped { MayReadFault result → IsReadFault stop }
+        ensures cause { MayWriteFault result → Rose (K.faults out.old) (K.faults out.new) }
+        ensures faults { K.faults out.old ≤ K.faults out.new }
+    {
+        match lines.write(out) {
+            Ok(()) => self.finish(stop, out, mode, taps, steps),
+            Err(event) => Ending::WriteFailed { event },
+        }
+    }
+
+    // Ends playing at a stop of the reader where nothing is gathered: at End, what is due behind the last event is
+    // written.
     fn finish<K: Sink, T: Listener, L: Ledger>(
         &self,
         stop: Stop,
@@ -246,6 +297,8 @@ fn read_words<S: Source>(
     block: &mut WordBlock,
 ) -> Result<(), Stop>
     requires { reader.old.stop ≡ None }
+    ensures version { reader.new.progress.version ≡ reader.old.progress.version }
+    ensures gathers { OnErr result (IsGathered mode → ⊥) }
     ensures quiet { AreQuiet mode block.new }
     ensures takes { OnOk result (TakesWords reader.old.progress reader.new.progress
         (S.left source.old) (S.left source.new) block.new) }

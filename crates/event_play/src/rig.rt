@@ -2,21 +2,22 @@
 ghost use Rattle.std.specs.Prelude.{◌≡◌, ◌≤◌, ◌+◌, List, None, map, IfOk, IfErr, OnOk, OnErr, Ok, Err};
 ghost use Rattle.gpu_core.specs.Kept.{kept_of};
 ghost use Rattle.list_dma.specs.Plans.{IsRun};
-ghost use Rattle.event_play.specs.Does.{Performs};
+ghost use Rattle.event_play.specs.Does.{Performs, PutsWork};
 ghost use Rattle.event_play.specs.Replay.{next_number};
 ghost use Rattle.event_play.specs.RigState.{RigState, first_rig, Stands, machine_of};
 ghost use Rattle.event_play.specs.Step.{Machine, event_step, tall_machine};
 ghost use Rattle.event_play.specs.Stepping.{HasStepped};
-ghost use Rattle.event_play.specs.Streams.{outlets, without_sink};
+ghost use Rattle.event_play.specs.Streams.{gathering, outlets, without_sink};
 ghost use Rattle.event_play.specs.Work.{work_of, IsWork};
 
-use crate::ending::Mode;
+use crate::ending::{Mode, Within};
 use crate::fault::EventFault;
 use crate::feed::feed;
 use crate::nowhere::Nowhere;
 use crate::take::take_block;
 use crate::work::{Work, judge};
-use dev_io::{Failed, Sink};
+use dev_io::Sink;
+use gathered_out::Gathered;
 use gpu_capture::Event;
 use gpu_core::Gpu;
 use gpu_taps::Listener;
@@ -96,11 +97,15 @@ impl Rig {
     {
         match judge(event, &mut self.walk, &self.ram, self.running) {
             Ok(work) => {
-                let number = self.next_number();
+                let within = Within {
+                    number: self.next_number(),
+                    mode: Mode::Vram,
+                };
+                let mut lines = Gathered::new();
                 let mut nowhere = Nowhere {};
-                match self.perform(number, work, &mut nowhere, Mode::Vram, taps, steps) {
+                match self.perform(within, work, &mut lines, &mut nowhere, taps, steps) {
                     Ok(shown) => {
-                        self.played = number;
+                        self.played = within.number;
                         Ok(shown)
                     }
                     Err(_) => unreachable!(),
@@ -119,22 +124,27 @@ impl Rig {
         judge(event, &mut self.walk, &self.ram, self.running)
     }
 
-    /// Does a work in the event of this number, and writes the lines of its notes as they come, if the mode asks for
-    /// them. Where a line can't be written, the words behind its item are not fed.
+    /// Does a work in the event of this number, and puts the lines of its notes as they come, if the mode asks for
+    /// them. Where one can't be put, the words behind its item are not fed, and the answer is the number of the first
+    /// event whose lines lack a byte.
     pub(crate) fn perform<K: Sink, T: Listener, L: Ledger>(
         &mut self,
-        number: u64,
+        within: Within,
         work: Work,
+        lines: &mut Gathered,
         out: &mut K,
-        mode: Mode,
         taps: &mut Vec<T>,
         steps: &mut Steps<L>,
-    ) -> Result<Option<u32>, Failed>
+    ) -> Result<Option<u32>, u64>
         requires { IsWork work }
-        ensures { Performs mode number work
-            (outlets (K.held out.old) (K.faults out.old) (map T.heard taps.old.items) steps.old)
-            (outlets (K.held out.new) (K.faults out.new) (map T.heard taps.new.items) steps.new)
+        ensures performs { Performs within.mode within.number work
+            (gathering lines.old (outlets (K.held out.old) (K.faults out.old) (map T.heard taps.old.items) steps.old))
+            (gathering lines.new (outlets (K.held out.new) (K.faults out.new) (map T.heard taps.new.items) steps.new))
             self.old self.new result }
+        ensures puts { PutsWork within.mode within.number work
+            (gathering lines.old (outlets (K.held out.old) (K.faults out.old) (map T.heard taps.old.items) steps.old))
+            (gathering lines.new (outlets (K.held out.new) (K.faults out.new) (map T.heard taps.new.items) steps.new))
+            self.old result }
     {
         match work {
             Work::Nothing => Ok(None),
@@ -143,18 +153,22 @@ impl Rig {
                 Ok(None)
             }
             Work::Feed { words, next } => {
-                feed(
+                match feed(
                     &mut self.gpu,
                     &self.ram,
-                    number,
+                    within,
                     words,
+                    lines,
                     out,
-                    mode,
                     taps,
                     steps,
-                )?;
-                self.running = next;
-                Ok(None)
+                ) {
+                    Ok(()) => {
+                        self.running = next;
+                        Ok(None)
+                    }
+                    Err(lacking) => Err(lacking),
+                }
             }
             Work::Take { block, next } => {
                 take_block(&mut self.gpu, &mut self.ram, block, steps);

@@ -278,3 +278,99 @@ few_at_first p taken start needed = elim (cases_lt 24 (length taken)) [
       absurd (subst IsTold short.is told refl tt)
   | inr le ↦ le
 ]
+
+-- ---- between two places
+
+-- of bytes up to this place: where they are cut short, that is the place, and where they are too long, it is no more than
+-- so far before those that are left
+abbrev Reach : (n most : ℕ) → Stop → List ℕ → Type 0
+Reach n most (Truncated byte) rest = byte ≡ n
+Reach n most (TooLong byte) rest = n ≤ most + length rest
+Reach n most other rest = Unit {0}
+
+word_reaches : (n most : ℕ) (stop : Stop) (rest : List ℕ) → IsWordStop stop → Reach n most stop rest
+word_reaches n most End rest is = tt
+word_reaches n most (BadRecord byte word) rest is = tt
+word_reaches n most (NotCapture byte) rest is = absurd is
+word_reaches n most (Truncated byte) rest is = absurd is
+word_reaches n most (TooLong byte) rest is = absurd is
+word_reaches n most (ReadFault byte) rest is = absurd is
+
+behind_reaches : (n most k version : ℕ) (step : Step) (on : Due → Captured) (bytes : List ℕ) → Leads k step
+    → ((next : Due) → Reach n most (on next).ending (on next).rest)
+    → Reach n most (after_step version step on bytes).ending (after_step version step on bytes).rest
+behind_reaches n most k version (Opens next) on bytes leads later = later next
+behind_reaches n most k version (Gives e count next) on bytes leads later = later next
+behind_reaches n most k version (Closes stop) on bytes leads later = word_reaches n most stop bytes leads
+
+records_reach : (bytes : List ℕ) (n most version : ℕ) (at : Due) (place : ℕ) → n ≡ place + length bytes → place ≤ most
+    → limit + 3 ≤ most
+    → Reach n most (records version at place bytes).ending (records version at place bytes).rest
+records_reach [] n most version at place count le far = elim (cases_Bool (nat_lt place limit)) [
+  | inl is ↦ rw is (sym count)
+  | inr is ↦ rw is (omega (arith, count, le))
+]
+records_reach (a ∷ []) n most version at place count le far = elim (cases_Bool (nat_lt place limit)) [
+  | inl is ↦ rw is (sym count)
+  | inr is ↦ rw is (omega (arith, count, le))
+]
+records_reach (a ∷ b ∷ []) n most version at place count le far = elim (cases_Bool (nat_lt place limit)) [
+  | inl is ↦ rw is (sym count)
+  | inr is ↦ rw is (omega (arith, count, le))
+]
+records_reach (a ∷ b ∷ c ∷ []) n most version at place count le far = elim (cases_Bool (nat_lt place limit)) [
+  | inl is ↦ rw is (sym count)
+  | inr is ↦ rw is (omega (arith, count, le))
+]
+records_reach (a ∷ b ∷ c ∷ d ∷ bytes) n most version at place count le far =
+    elim (cases_Bool (nat_lt place limit)) [
+      | inl is ↦
+          let lt : place < limit = grind (arith, nat_tests, is) in
+          rw is (behind_reaches n most (words_to at) version _ (λ next. records version next (place + 4) bytes) bytes
+          (step_leads version at place _)
+          (λ next. records_reach bytes n most version next (place + 4) (omega (arith, count)) (omega (arith, lt, far)) far))
+      | inr is ↦ rw is (omega (arith, count, le))
+    ]
+
+from_reaches : (p : Progress) (bytes : List ℕ) (most : ℕ) → 1 ≤ p.version → p.place ≤ most → limit + 3 ≤ most
+    → Reach (p.place + length bytes) most (capture_from p bytes).ending (capture_from p bytes).rest
+from_reaches p bytes most started le far = rw (known p.version started)
+    (records_reach bytes (p.place + length bytes) most p.version p.due p.place refl le far)
+
+-- at the limit no more bytes are needed
+none_at_limit : (p : Progress) (more : List ℕ) → 1 ≤ p.version → nat_lt p.place limit ≡ false → AreNeeded p more
+    → length more ≡ 0
+none_at_limit p [] started is needed = refl
+none_at_limit p (x ∷ more) started is needed =
+    let short = needed [] (x ∷ more) refl (λ none. cc) in
+    let P : Captured → Type 0 = λ c. IsCut c.ending in
+    let cut : IsCut (capture_from p []).ending = subst P (sym short.is) tt in
+    let no : ⊥ = rw (known p.version started, is) at cut in
+    absurd no
+
+-- Between two places of a reader that are less than 4,096 apart, and for one answer more, few bytes are taken.
+pub few_between : (p q : Progress) (events : List Event) (taken more : List ℕ) → 1 ≤ p.version → 1 ≤ q.version
+    → ((rest : List ℕ) → capture_from p (taken ++ rest) ≡ then_events events (capture_from q rest))
+    → q.place < p.place + 4096 → AreNeeded q more → length taken + length more ≤ 4112
+few_between p q events taken more started known_there says near needed =
+    let is : capture_from p taken ≡ then_events events (capture_from q []) =
+    ap (capture_from p) (sym (append-nil taken)) ∙ says [] in
+    elim (cases_Bool (nat_lt q.place limit)) [
+      | inl below ↦
+          let most = p.place + limit + 3 in
+          let P : Captured → Type 0 = λ c. Reach (p.place + length taken) most c.ending c.rest in
+          let there : Reach (p.place + length taken) most (capture_from q []).ending (capture_from q []).rest =
+          subst P is (from_reaches p taken most started (omega arith) (omega arith)) in
+          let at : q.place + 0 ≡ p.place + length taken = rw (known q.version known_there, below) at there in
+          let few = few_at_once q more known_there needed in
+          omega (arith, at, few, near)
+      | inr past ↦
+          let ge : limit ≤ q.place = grind (arith, nat_tests, past) in
+          let most = p.place + 4098 in
+          let P : Captured → Type 0 = λ c. Reach (p.place + length taken) most c.ending c.rest in
+          let there : Reach (p.place + length taken) most (capture_from q []).ending (capture_from q []).rest =
+          subst P is (from_reaches p taken most started (omega arith) (omega (arith, ge, near))) in
+          let le : p.place + length taken ≤ most + 0 = rw (known q.version known_there, past) at there in
+          let none = none_at_limit q more known_there past needed in
+          omega (arith, le, none)
+    ]

@@ -67,7 +67,8 @@ Starved mode heard before now =
     (λ bytes. StarvedRun mode heard bytes before now)
 
 -- status 4: out failed. What was written begins all that there is to write, and lacks a byte that is due at the event
--- on the line. None of the bytes taken is one too many for that event, or for the End behind which it was due.
+-- on the line. None of the bytes taken is one too many for that event, or for the End behind which it was due; but where
+-- lines are gathered, few bytes may have been taken behind it.
 pub record BlockedRun (mode : Mode) (heard : List Reading) (bytes : List ℕ) (before now : Outside) : Type 0 where
   pub taken : List ℕ
   pub rest : List ℕ

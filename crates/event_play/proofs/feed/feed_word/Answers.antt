@@ -1,5 +1,8 @@
+use Rattle.std.proofs.Common.{inl, refl, rules}
 use Rattle.std.proofs.lemmas.Result.{on_ok_weaker, on_err_weaker}
-use Rattle.event_play.proofs.Feeds.{word_feeds, word_stops}
+use Rattle.event_play.specs.Lines.{IsGathered}
+use Rattle.event_play.proofs.Feeds.{quiet_feeds, word_feeds, word_lines, word_stops}
+use Rattle.event_play.proofs.Putting.{lines_put, puts_same}
 use Rattle.event_play.proofs.feed.feed_word.Goals as goal
 
 pub returns-in-List : goal.returns-in-List
@@ -7,15 +10,28 @@ returns-in-List g c =
     let fed = c.gp0-note.ensures in
     rw c.in-List.is (record {
       ok = λ s e.
-          on_ok_weaker c.write_listed.result
-          (λ wrote. word_feeds s c.args.number c.args.word c.gp0-note.result _ _ _ (fed.feed s e)
-          (fed.note s e) wrote fed.taps (fed.cost s e))
-          c.write_listed.ensures.ok;
+          on_ok_weaker c.put_listed.result
+          (λ put. word_feeds _ s c.args.within.number c.args.word c.gp0-note.result _ _ _ (fed.feed s e)
+          (fed.note s e) fed.taps (fed.cost s e))
+          c.put_listed.ensures.ok;
       failed = λ s e.
-          on_err_weaker c.write_listed.result
-          (λ part. word_stops s c.args.number c.args.word c.gp0-note.result _ _ _ (fed.feed s e)
-          (fed.note s e) part fed.taps (fed.cost s e))
-          c.write_listed.ensures.failed;
-      cause = c.write_listed.ensures.cause;
-      faults = c.write_listed.ensures.faults;
+          on_err_weaker c.put_listed.result
+          (λ part. word_stops _ s c.args.within.number c.args.word c.gp0-note.result _ _ _ (fed.feed s e)
+          (fed.note s e) fed.taps (fed.cost s e))
+          c.put_listed.ensures.cause;
+      puts = λ s e.
+          puts_same _ _ _ _ _ c.put_listed.result
+          (word_lines s c.args.within.number c.args.word c.gp0-note.result (fed.note s e))
+          (lines_put _ _ _ _ _ _ _ _ _ _ _ _ c.put_listed.result c.put_listed.ensures);
+      kept = inl tt;
+      gathers = on_err_weaker c.put_listed.result (λ part. tt) c.put_listed.ensures.cause;
+      cause = c.put_listed.ensures.cause;
+      faults = c.put_listed.ensures.faults;
     })
+
+pub returns-in_default : goal.returns-in_default
+returns-in_default g c =
+    let fed = c.gp0.ensures in
+    let not : IsGathered c.args.within.mode → ⊥ = search rules in
+    quiet_feeds c.args.within.mode c.args.within.number c.args.word c.gp0.result _ _ _ _ not refl refl refl fed.feed
+    fed.note fed.taps fed.cost

@@ -18,9 +18,18 @@ returns-in-Ok-perform-clause-stepped g c =
       played =
           c.self-in-Ok.inside.played;
     } in
-    let did = has_done _ was mid _ c.next_number-number.result _ _ _ _ _ _ c.in-Ok.ensures.value c.self-in-Ok.view_is
-    c.in-Ok-perform.ensures.ok in
-    rw (← c.self.view_is, ← c.next_number-number.ensures) (λ s stands. only_stepped _ _ _ _ _ _ _ (did s stands))
+    let did = has_done _ was mid _ c.next_number.result _ _ _ _ _ _ c.in-Ok.ensures.value c.self-in-Ok.view_is
+    c.in-Ok-perform.ensures.performs.ok in
+    rw (← c.self.view_is, ← c.next_number.ensures) (λ s stands.
+    let step = only_stepped _ _ _ _ _ _ _ (did s stands) in
+    record {
+      machine = step.machine;
+      notes = step.notes;
+      is = step.is;
+      stands = step.stands;
+      heard = step.heard;
+      cost = step.cost;
+    })
 
 pub returns-in-Err-clause-fault : goal.returns-in-Err-clause-fault
 returns-in-Err-clause-fault g c = rw (← c.self.view_is) (λ s stands. step_fault _ s _ _ _ stands c.in-Err.ensures.value)

@@ -15,8 +15,9 @@ invariant-events g l = record {
       (streams (g.S.Source.left l.fn.source) (g.K.Sink.held l.fn.out)
       (map g.T.Listener.heard l.fn.taps.items) l.fn.steps)
       (streams (g.S.Source.left l.source) (g.K.Sink.held l.out) (map g.T.Listener.heard l.taps.items) l.steps)
-      l.self l.reader.progress l.next;
+      l.lines l.since l.self l.reader.progress l.next;
   running : OnOk l.next (l.reader.stop ≡ None);
+  known : OnOk l.next (1 ≤ l.reader.progress.version);
   read_cause : IfErr l.next
       (λ stop. IsReadFault stop → Rose (g.S.Source.faults l.fn.source) (g.S.Source.faults l.source));
   read_faults : g.S.Source.faults l.fn.source ≤ g.S.Source.faults l.source;

@@ -1,30 +1,56 @@
-use Rattle.std.proofs.Common.{◌∙◌, ap, sym, subst, refl, None, arith}
+use Rattle.std.proofs.Common.{◌∙◌, ap, sym, subst, refl, inl, None, arith}
 use Rattle.event_play.specs.Replay.{next_number}
 use Rattle.event_play.specs.RigState.{RigState, StandsFor}
-use Rattle.event_play.proofs.Feeds.{nothing_held}
-use Rattle.event_play.proofs.Plays.{plays, word_done}
+use Rattle.event_play.specs.declared.work.Work.TheVariants as work
+use Rattle.event_play.specs.declared.work.Words.TheVariants.{One}
+use Rattle.event_play.proofs.Plays.{feeds_part, nothing_behind, plays, word_done}
 use Rattle.event_play.proofs.rig.Rig.play_word.Goals as goal
 
-pub returns : goal.returns
-returns g c =
+pub returns-in-Ok : goal.returns-in-Ok
+returns-in-Ok g c =
     let was : RigState = record {
       gpu = c.self.inside.gpu;
       ram = c.self.inside.ram;
       running = c.self.inside.running;
-      played =
-          c.self.inside.played;
+      played = c.self.inside.played;
     } in
     let fed : RigState = record was { gpu = c.feed_word.new.gpu } in
     record {
-      ok = λ t stands.
-          let number = c.next_number-event.ensures ∙ ap next_number (sym stands.played) in
+      ok = λ t stands free.
+          let number = c.next_number-number.ensures ∙ ap next_number (sym stands.played) in
           let Q : RigState → Type 0 = λ rig. StandsFor rig t in
           let inside : StandsFor was t = subst Q (sym c.self.view_is) stands in
-          plays _ was fed fed t c.next_number-event.result _ _ None _ _ _ _ _ refl refl inside number
-          (λ s e. word_done _ was c.next_number-event.result c.args.word _ _ _ s (c.in-Ok.ensures.ok s e))
-          (nothing_held c.args.mode _) (omega arith);
-      ends = λ t stands. tt;
+          plays _ was fed fed t c.next_number-number.result _ (work.Feed (One c.args.word) was.running) None _ _ _ _ _
+          refl refl inside number
+          (λ s e. word_done _ was c.next_number-number.result c.args.word _ _ _ s (c.in-Ok.ensures.ok s e))
+          (λ s e. (c.in-Ok.ensures.puts s e).ok) c.in-Ok.ensures.kept free
+          (nothing_behind c.args.mode _) (omega arith);
+      ends = λ t stands free. tt;
       known = tt;
       cause = tt;
       faults = c.in-Ok.ensures.faults;
+    }
+
+pub returns-in-Err : goal.returns-in-Err
+returns-in-Err g c =
+    let was : RigState = record {
+      gpu = c.self.inside.gpu;
+      ram = c.self.inside.ram;
+      running = c.self.inside.running;
+      played = c.self.inside.played;
+    } in
+    record {
+      ok = λ t stands free. tt;
+      ends = λ t stands free.
+          let number = c.next_number-number.ensures ∙ ap next_number (sym stands.played) in
+          let Q : RigState → Type 0 = λ rig. StandsFor rig t in
+          let inside : StandsFor was t = subst Q (sym c.self.view_is) stands in
+          inl (feeds_part _ was _ t c.next_number-number.result _ (work.Feed (One c.args.word) was.running) _ _ _ refl
+          inside number c.in-Err.ensures.gathers
+          (c.in-Err.ensures.puts t.state.gpu inside.state.gpu).failed
+          (record { feeding = c.in-Err.ensures.failed t.state.gpu inside.state.gpu; ram = refl; running = refl })
+          refl);
+      known = (tt, λ x. x);
+      cause = λ x. c.in-Err.ensures.cause;
+      faults = c.in-Err.ensures.faults;
     }

@@ -1,9 +1,11 @@
-// What is gathered is written where the reading may pause.
-ghost use Rattle.std.specs.Prelude.{◌≡◌, ◌≤◌, [], IfErr, IfOk, OnErr};
+// Lines that are gathered are written where the reading may pause, and before an ending.
+ghost use Rattle.std.specs.Prelude.{◌≡◌, ◌≤◌, ◌⊎◌, [], IfErr, IfOk, OnErr};
 ghost use Rattle.dev_io.specs.Device.{Rose};
 ghost use Rattle.gathered_out.specs.Puts.{BreaksWriting};
-ghost use Rattle.capture_flat.specs.OneEvent.{Pauses};
+ghost use Rattle.event_play.specs.Causes.{MayReadFault, MayWriteFault, IsEnding};
+ghost use Rattle.event_play.specs.Pausing.{EndsBehind, Pauses};
 
+use crate::ending::Ending;
 use dev_io::{Sink, Source};
 use gathered_out::Gathered;
 use gpu_capture::EventReader;
@@ -30,5 +32,22 @@ pub fn write_at_pause<S: Source, K: Sink>(
         }
     } else {
         Ok(since)
+    }
+}
+
+/// Ends so, behind what is gathered: that is written before, unless a write has failed already.
+pub(crate) fn end_behind<K: Sink>(ending: Ending, gathered: &mut Gathered, out: &mut K) -> Ending
+    requires { IsEnding ending × (MayReadFault ending → ⊥) }
+    ensures ends { EndsBehind ending gathered.old (K.held out.old) (K.held out.new) result }
+    ensures known { IsEnding result × (MayReadFault result → ⊥) }
+    ensures cause { MayWriteFault result → MayWriteFault ending ⊎ Rose (K.faults out.old) (K.faults out.new) }
+    ensures faults { K.faults out.old ≤ K.faults out.new }
+{
+    match ending {
+        Ending::WriteFailed { .. } => ending,
+        _ => match gathered.write(out) {
+            Ok(()) => ending,
+            Err(event) => Ending::WriteFailed { event },
+        },
     }
 }

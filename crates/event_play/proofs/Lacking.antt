@@ -1,0 +1,195 @@
+-- Lines of an event that were gathered, and could not be written.
+use Rattle.std.proofs.Common.{◌≡◌, ◌≤◌, inl, inr, ◌+◌, ◌++◌, ℕ, List, [], ◌∷◌, Option, Ok, length, length-append, refl}
+use Rattle.std.proofs.Common.{ap, sym, subst, ◌∙◌, append_assoc, append-nil, arith}
+use Rattle.gathered_out.proofs.Gathers.{BreaksDue}
+use Rattle.gpu_capture.specs.Capture.{Captured, then_events}
+use Rattle.gpu_capture.specs.Reading.{AreNeeded, SaysFirst}
+use Rattle.gpu_capture.specs.declared.event.Event.{Event}
+use Rattle.gpu_capture.specs.declared.event.Stop.{Stop}
+use Rattle.gpu_taps.specs.Tally.{Reading}
+use Rattle.event_play.specs.Lines.{IsGathered}
+use Rattle.event_play.specs.Out.{lines_of, out_bytes}
+use Rattle.event_play.specs.Pausing.{most_behind}
+use Rattle.event_play.specs.Playing.{Follows, LacksBytes, LeadsTo, plays, reads}
+use Rattle.event_play.specs.Replay.{Tale, Played, Script, after_event, go_on, played_events, replayed, next_number}
+use Rattle.event_play.specs.Streams.{Streams}
+use Rattle.event_play.specs.declared.ending.Ending.TheVariants.{Faulted}
+use Rattle.event_play.specs.declared.ending.Mode.{Mode}
+use Rattle.event_play.proofs.Grows.{out_grows}
+
+-- these lines are due at the event of this number, one of these, behind those that were due before; the bytes that were
+-- taken up to it begin with those that were when all was last written
+pub record WasDue (mode : Mode) (script : List ℕ → Script) (read : List Event) (flushed taken : List ℕ) (number : ℕ)
+    (was due : List ℕ) : Type 0 where
+  pub first : Tale
+  pub begins : (rest : List ℕ) → (script (taken ++ rest)).first ≡ first
+  pub earlier : List Event
+  pub event : Event
+  pub later : List Event
+  pub are : read ≡ earlier ++ event ∷ later
+  pub tale : Tale
+  pub follows : Follows first earlier tale
+  pub next : Tale
+  pub next_is : after_event tale event ≡ Ok next
+  pub number_is : number ≡ next_number tale.played
+  pub was_is : was ≡ lines_of mode tale
+  pub due_is : lines_of mode next ≡ was ++ due
+  pub between : List ℕ
+  pub rest : List ℕ
+  pub taken_is : taken ≡ (flushed ++ between) ++ rest
+  pub needed : AreNeeded (reads script) (earlier ++ event ∷ []) (flushed ++ between)
+
+-- where more events come, and more bytes are taken
+pub due_more : (mode : Mode) (script : List ℕ → Script) (events more all : List Event) (flushed taken further : List ℕ)
+    → all ≡ events ++ more → (number : ℕ) (was due : List ℕ)
+    → WasDue mode script events flushed taken number was due
+    → WasDue mode script all flushed (taken ++ further) number was due
+due_more mode script events more all flushed taken further all_are number was due is = record {
+  first = is.first;
+  begins = λ rest.
+      ap (λ bytes. (script bytes).first) (append_assoc taken further rest) ∙ is.begins (further ++ rest);
+  earlier = is.earlier;
+  event = is.event;
+  later = is.later ++ more;
+  are = all_are ∙ ap (λ (es : List Event). es ++ more) is.are
+      ∙ append_assoc is.earlier (is.event ∷ is.later) more;
+  tale = is.tale;
+  follows = is.follows;
+  next = is.next;
+  next_is = is.next_is;
+  number_is = is.number_is;
+  was_is = is.was_is;
+  due_is = is.due_is;
+  between = is.between;
+  rest = is.rest ++ further;
+  taken_is = ap (λ bs. bs ++ further) is.taken_is ∙ append_assoc (flushed ++ is.between) is.rest further;
+  needed = is.needed;
+}
+
+-- where more events come
+pub due_on : (mode : Mode) (script : List ℕ → Script) (events more : List Event) (flushed taken : List ℕ)
+    (number : ℕ) (was due : List ℕ)
+    → WasDue mode script events flushed taken number was due
+    → WasDue mode script (events ++ more) flushed taken number was due
+due_on mode script events more flushed taken number was due is =
+    let P : List ℕ → Type 0 = λ all. WasDue mode script (events ++ more) flushed all number was due in
+    subst P (append-nil taken)
+    (due_more mode script events more (events ++ more) flushed taken [] refl number was due is)
+
+-- the last of the events
+pub due_here : (mode : Mode) (script : List ℕ → Script) (first t next : Tale) (events : List Event) (event : Event)
+    (flushed behind taken due : List ℕ) → ((rest : List ℕ) → (script (taken ++ rest)).first ≡ first)
+    → Follows first events t → taken ≡ flushed ++ behind
+    → AreNeeded (reads script) (events ++ event ∷ []) taken → after_event t event ≡ Ok next
+    → lines_of mode next ≡ lines_of mode t ++ due
+    → WasDue mode script (events ++ event ∷ []) flushed taken (next_number t.played) (lines_of mode t) due
+due_here mode script first t next events event flushed behind taken due begins follows taken_is needed is lines =
+    record {
+      first = first;
+      begins = begins;
+      earlier = events;
+      event = event;
+      later = [];
+      are = refl;
+      tale = t;
+      follows = follows;
+      next = next;
+      next_is = is;
+      number_is = refl;
+      was_is = refl;
+      due_is = lines;
+      between = behind;
+      rest = [];
+      taken_is = taken_is ∙ sym (append-nil (flushed ++ behind));
+      needed = rw (← taken_is) needed;
+    }
+
+-- ---- all that is written
+
+same_first : (first other : Tale) (events : List Event) (t : Tale) → first ≡ other → Follows first events t
+    → Follows other events t
+same_first first other events t same follows =
+    let P : Tale → Type 0 = λ start. Follows start events t in subst P same follows
+
+-- the replay goes on behind an event
+plays_behind : (script : List ℕ → Script) (first t next : Tale) (bytes : List ℕ) (earlier : List Event) (event : Event)
+    (later read : List Event) (c : Captured) → (script bytes).first ≡ first → reads script bytes ≡ then_events read c
+    → read ≡ earlier ++ event ∷ later → Follows first earlier t → after_event t event ≡ Ok next
+    → plays script bytes ≡ played_events next (later ++ c.events) c.ending c.rest
+plays_behind script first t next bytes earlier event later read c begins says are follows is =
+    ap (λ (start : Tale). replayed start (script bytes).captured) begins
+    ∙ ap (replayed first) says
+    ∙ ap (λ (all : List Event). played_events first (all ++ c.events) c.ending c.rest) are
+    ∙ ap (λ (all : List Event). played_events first all c.ending c.rest)
+    (append_assoc earlier (event ∷ later) c.events)
+    ∙ follows.replays (event ∷ (later ++ c.events)) c.ending c.rest
+    ∙ ap (λ r. go_on r (λ next. played_events next (later ++ c.events) c.ending c.rest)
+    (λ fault. record { tale = t; ending = Faulted (next_number t.played) fault; rest = c.rest })) is
+
+-- what is due at an event begins what is written behind the tale before it
+writes_behind : (mode : Mode) (heard : List Reading) (script : List ℕ → Script) (t next : Tale) (bytes due : List ℕ)
+    (events : List Event) (stop : Stop) (rest : List ℕ)
+    → plays script bytes ≡ played_events next events stop rest → lines_of mode next ≡ lines_of mode t ++ due
+    → (more : List ℕ) × (out_bytes mode heard (plays script bytes) ≡ lines_of mode t ++ (due ++ more))
+writes_behind mode heard script t next bytes due events stop rest is lines =
+    let grows = out_grows mode heard next events stop rest in (
+      grows.0,
+      ap (out_bytes mode heard) is ∙ grows.1 ∙ ap (λ bs. bs ++ grows.0) lines
+          ∙ append_assoc (lines_of mode t) due grows.0,
+    )
+
+-- ---- what lacks a byte
+
+module _ (mode : Mode) (script : List ℕ → Script) (before now : Streams) (first last : Tale) (version : ℕ)
+    (read : List Event) (flushed taken : List ℕ) (number : ℕ)
+    (breaks : BreaksDue (WasDue mode script read flushed taken) before.held now.held number) where
+  pub lacks_lines : IsGathered mode → ((rest : List ℕ) → (script (taken ++ rest)).first ≡ first)
+      → SaysFirst (reads script) version taken read → LeadsTo first read last
+      → length taken ≤ length flushed + most_behind
+      → LacksBytes mode script breaks.is.tale last taken number before now
+  lacks_lines gathers begins says leads few =
+      let is = breaks.is in
+      let same : is.first ≡ first = sym (is.begins []) ∙ begins [] in
+      let lines : lines_of mode is.next ≡ lines_of mode is.tale ++ breaks.due =
+      is.due_is ∙ ap (λ bs. bs ++ breaks.due) is.was_is in
+      record {
+        number_is = is.number_is;
+        start = is.tale;
+        due = breaks.due;
+        place = inr (inl (record {
+          gathers = gathers;
+          before = is.earlier;
+          event = is.event;
+          behind = is.later;
+          is_read = record {
+            first = first;
+            version = version;
+            begins = begins;
+            says = rw (← is.are) says;
+            follows = same_first is.first first is.earlier is.tale same is.follows;
+            leads = rw (← is.are) leads;
+            few = record {
+              needed = flushed ++ is.between;
+              later = is.rest;
+              are = is.taken_is;
+              are_needed = is.needed;
+              few = let a = ap length is.taken_is in
+                  let b = length-append (flushed ++ is.between) is.rest in
+                  let d = length-append flushed is.between in
+                  omega (arith, a, b, d, few);
+            };
+          };
+          next = is.next;
+          next_is = is.next_is;
+          start_is = refl;
+          lines = lines;
+        }));
+        held = rw is.was_is at breaks.held;
+        prefix = λ rest.
+            let said = says rest in
+            writes_behind mode before.heard script is.tale is.next (taken ++ rest) breaks.due
+            (is.later ++ said.0.events) said.0.ending said.0.rest
+            (plays_behind script first is.tale is.next (taken ++ rest) is.earlier is.event is.later read said.0
+            (begins rest) said.1 is.are (same_first is.first first is.earlier is.tale same is.follows) is.next_is)
+            lines;
+      }

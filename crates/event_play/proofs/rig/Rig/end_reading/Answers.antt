@@ -1,0 +1,9 @@
+use Rattle.std.proofs.Common.{refl, inl, map}
+use Rattle.event_play.specs.Streams.{Outlets, outlets}
+use Rattle.event_play.proofs.rig.Rig.end_reading.Goals as goal
+
+pub returns-in-Ok-clause-ends : goal.returns-in-Ok-clause-ends
+returns-in-Ok-clause-ends g c = λ s e.
+    let mid : Outlets = outlets (g.K.Sink.held c.write.new.out) (g.K.Sink.faults c.write.new.out)
+    (map g.T.Listener.heard c.args.taps.now.items) c.args.steps.now in
+    inl (mid, record { stands = c.in-Ok.ensures.ok }, refl, refl, c.finish.ensures.ends s e)
