@@ -1,5 +1,5 @@
 -- How playing ends, where bytes were taken before it that lead to it.
-use Rattle.std.proofs.Common.{◌≡◌, ◌≤◌, ◌++◌, List, [], ◌∷◌, ℕ, Option, refl, ap, ◌∙◌, arith, inl, inr}
+use Rattle.std.proofs.Common.{◌≡◌, ◌≤◌, ◌++◌, List, [], ◌∷◌, ℕ, Option, refl, ap, sym, ◌∙◌, arith, inl, inr}
 use Rattle.std.proofs.Common.{append_assoc}
 use Rattle.dev_io.specs.Device.{prepended}
 use Rattle.dev_io.proofs.Parts.{taken_on}
@@ -10,7 +10,8 @@ use Rattle.gpu_capture.specs.declared.event.Stop.TheVariants.{End, NotCapture, B
 use Rattle.gpu_capture.proofs.Steps.{split}
 use Rattle.gpu_taps.specs.Tally.{Reading}
 use Rattle.event_play.specs.Out.{out_bytes}
-use Rattle.event_play.specs.Playing.{AreAllNeeded, IsShort, IsReadTo, DueAtEvent, DueAtEnd, LacksBytes, SaysEnding}
+use Rattle.event_play.specs.Playing.{AreAllNeeded, IsShort, IsReadTo, IsReadPast, DueAtEvent, DueAtEnd}
+use Rattle.event_play.specs.Playing.{DueWhileGathered, LacksBytes, SaysEnding}
 use Rattle.event_play.specs.Playing.{EndsPlay, plays, reads}
 use Rattle.event_play.specs.Replay.{Tale, Played, Script, played_script}
 use Rattle.event_play.specs.RigState.{RigState}
@@ -112,6 +113,40 @@ module _ (mode : Mode) (script inner : List ℕ → Script) (front : List ℕ)
     lines = was.lines;
   }
 
+  past_moved : (t last : Tale) (taken : List ℕ) (before : List Event) (event : Event) (behind : List Event)
+      → StopsShort script front → IsReadPast inner t last taken before event behind
+      → IsReadPast script t last (front ++ taken) before event behind
+  past_moved t last taken before event behind first was = record {
+    first = was.first;
+    version = was.version;
+    begins = λ rest. ap (λ (s : Script). s.first) (same taken rest) ∙ was.begins rest;
+    says = λ rest. let come = was.says rest in (come.0, ap captured_of (same taken rest) ∙ come.1, come.2);
+    follows = was.follows;
+    leads = was.leads;
+    few = record {
+      needed = front ++ was.few.needed;
+      later = was.few.later;
+      are = ap (λ bytes. front ++ bytes) was.few.are ∙ sym (append_assoc front was.few.needed was.few.later);
+      are_needed = read_needed before event was.few.needed first was.few.are_needed;
+      few = was.few.few;
+    };
+  }
+
+  gathered_moved : (t start last : Tale) (taken due : List ℕ) → StopsShort script front
+      → DueWhileGathered mode inner t start last taken due
+      → DueWhileGathered mode script t start last (front ++ taken) due
+  gathered_moved t start last taken due first was = record {
+    gathers = was.gathers;
+    before = was.before;
+    event = was.event;
+    behind = was.behind;
+    is_read = past_moved t last taken was.before was.event was.behind first was.is_read;
+    next = was.next;
+    next_is = was.next_is;
+    start_is = was.start_is;
+    lines = was.lines;
+  }
+
   end_moved : (t start last : Tale) (taken due : List ℕ) → DueAtEnd mode heard inner t start last taken due
       → DueAtEnd mode heard script t start last (front ++ taken) due
   end_moved t start last taken due was = record {
@@ -131,7 +166,10 @@ module _ (mode : Mode) (script inner : List ℕ → Script) (front : List ℕ)
     due = was.due;
     place = elim was.place [
       | inl event ↦ inl (event_moved t was.start last taken was.due first event)
-      | inr end ↦ inr (end_moved t was.start last taken was.due end)
+      | inr later ↦ inr (elim later [
+        | inl lines ↦ inl (gathered_moved t was.start last taken was.due first lines)
+        | inr end ↦ inr (end_moved t was.start last taken was.due end)
+      ])
     ];
     held = was.held;
     prefix = λ rest. let p = was.prefix rest in (p.0, ap (out_bytes mode heard) (move taken rest) ∙ p.1);
