@@ -60,7 +60,7 @@ class Bad(Corpus):
         self.write('in/a.capture', 'good\n')
         self.write('in/hang.capture', 'hang\n')
         child = subprocess.Popen([sys.executable, os.path.join(for_tests.HERE, 'corpus.py'), 'record', 'in',
-                                  '--golden', 'golden', '--player', './moody', '--limit', '600'],
+                                  '--golden', 'golden', '--player', './moody', '--limit', '25'],
                                  cwd=self.folder, text=True, stdout=subprocess.PIPE, stderr=subprocess.PIPE)
         until = time.monotonic() + 60
         while time.monotonic() < until and not self.has_a_row():
