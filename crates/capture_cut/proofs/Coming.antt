@@ -1,7 +1,6 @@
 -- Events that are not played, whose records were put, one after another.
 use Rattle.std.proofs.Common.{◌≡◌, ◌≤◌, ◌+◌, ◌++◌, ℕ, List, [], ◌∷◌, Option, min, length, refl, ap, sym, ◌∙◌, append_assoc}
 use Rattle.std.proofs.Common.{◌<◌, append-nil, arith, inl, inr, subst}
-use Rattle.dev_io.specs.Device.{appended}
 use Rattle.gathered_out.specs.Pieces.{Piece}
 use Rattle.gathered_out.proofs.Gathers.{Gathers, gathers_none, gathers_written}
 use Rattle.gathered_out.specs.Puts.{IsWritten}

@@ -1,5 +1,5 @@
 -- An event whose records were gathered, and could not be written.
-use Rattle.std.proofs.Common.{◌≡◌, ◌≤◌, inl, ◌+◌, ◌++◌, ℕ, List, [], ◌∷◌, Option, length, length-append, refl, ap, sym}
+use Rattle.std.proofs.Common.{◌≡◌, ◌≤◌, inl, ◌+◌, ◌++◌, ℕ, List, [], ◌∷◌, length, length-append, refl, ap, sym}
 use Rattle.std.proofs.Common.{◌∙◌, append_assoc, append-nil, arith}
 use Rattle.dev_io.specs.Device.{prepended}
 use Rattle.gathered_out.proofs.Gathers.{BreaksDue}

@@ -2,7 +2,7 @@
 use Rattle.std.proofs.Common.{◌≡◌, ◌<◌, ◌⊎◌, inl, inr, Some, ◌≤◌, ◌+◌, ◌++◌, ◌==◌, ℕ, List, [], ◌∷◌, Option, true}
 use Rattle.std.proofs.Common.{false, length, length-append, refl, ap, sym, ◌∙◌, append_assoc, append-nil, subst, arith}
 use Rattle.dev_io.specs.Device.{appended, AppendsPart}
-use Rattle.dev_io.proofs.Appended.{appended-appended, appended-nil}
+use Rattle.dev_io.proofs.Appended.{appended-appended}
 use Rattle.gpu_capture.specs.Capture.{head_of, limit}
 use Rattle.gpu_capture.specs.Written.{spelled, spelled_end, written, tag_of}
 use Rattle.gpu_capture.proofs.Written.{word_length}

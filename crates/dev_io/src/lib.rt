@@ -22,6 +22,3 @@ pub use fail_sink::FailSink;
 pub use mem_sink::MemSink;
 pub use mem_source::MemSource;
 pub use pieces::{write_all, write_pieces};
-
-#[cfg(test)]
-mod tests;

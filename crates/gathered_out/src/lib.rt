@@ -9,6 +9,3 @@ mod extent;
 mod gathered;
 
 pub use gathered::Gathered;
-
-#[cfg(test)]
-mod tests;

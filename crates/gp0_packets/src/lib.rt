@@ -20,6 +20,3 @@ pub use decoder::{decode, decode_line, decode_polygon, decode_rectangle, decode_
 pub use note::{Note, class_of, class_of_word, head_of};
 pub use packet::Packet;
 pub use polygon::{Carried, carried_by};
-
-#[cfg(test)]
-mod tests;

@@ -23,6 +23,3 @@ pub use resuming::is_polyline;
 pub use size::{height_of, width_of};
 pub use splitter::Splitter;
 pub use words::Words;
-
-#[cfg(test)]
-mod tests;

@@ -15,6 +15,3 @@ mod words;
 pub use drawing::{Flips, Offset};
 pub use regs::{Regs, clears};
 pub use words::allows;
-
-#[cfg(test)]
-mod tests;

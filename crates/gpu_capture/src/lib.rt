@@ -21,6 +21,3 @@ pub use progress::Progress;
 pub use reader::EventReader;
 pub use record::Due;
 pub use write::{RECORD_MOST, head_bytes, record_bytes, write_end, write_event, write_start};
-
-#[cfg(test)]
-mod tests;

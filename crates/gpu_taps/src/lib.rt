@@ -16,6 +16,3 @@ pub use cover::Cover;
 pub use listener::{Listener, tell_all, tell_all_bare};
 pub use tap::{Tap, bare_note};
 pub use trace::Trace;
-
-#[cfg(test)]
-mod tests;

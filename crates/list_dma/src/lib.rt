@@ -17,6 +17,3 @@ pub use node::{next_node, node_at};
 pub use plan::{DmaFault, Plan, block_plan};
 pub use run::{Run, start_run};
 pub use walk::{ListLoop, WALK_LIMIT, Walk};
-
-#[cfg(test)]
-mod tests;

@@ -7,6 +7,3 @@
 mod ram;
 
 pub use ram::{MEMORY_WORDS, Ram, cut};
-
-#[cfg(test)]
-mod tests;

@@ -15,6 +15,3 @@ pub use number::{address_digits, decimal_text, hex_digits};
 pub use sums::{write_frame_sum, write_vram_sum};
 pub use tap::{write_last, write_sum, write_tap};
 pub use text::LineText;
-
-#[cfg(test)]
-mod tests;

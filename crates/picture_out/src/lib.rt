@@ -1,8 +1,6 @@
 //! What video memory looks like from outside: the dump of all its cells, the shown picture, and the SHA-256 of each.
 #![tactic(auto)]
 
-ghost use Rattle.std.specs.Prelude.{◌≡◌, ◌<◌};
-
 mod dump;
 mod picture;
 mod sums;
@@ -10,6 +8,3 @@ mod sums;
 pub use dump::write_vram;
 pub use picture::{shape, write_ppm};
 pub use sums::{picture_sum, vram_sum};
-
-#[cfg(test)]
-mod tests;

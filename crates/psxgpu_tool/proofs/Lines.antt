@@ -1,6 +1,6 @@
 -- A line for each tap of a list.
 use Rattle.std.proofs.Common.{◌≡◌, ◌≤◌, ◌<◌, ◌+◌, ◌++◌, ℕ, zero, suc, List, [], ◌∷◌, length, drop, get_or, map}
-use Rattle.std.proofs.Common.{flat_map, arith, refl, ap, sym, ◌∙◌}
+use Rattle.std.proofs.Common.{flat_map, arith, refl, ap}
 use Rattle.std.proofs.lemmas.List.{drop_all, length-map}
 
 -- the next line

@@ -1,5 +1,5 @@
 -- What a person types (our own rule).
-use Rattle.std.specs.Prelude.{◌≡◌, List, [], ◌∷◌, ◌++◌, Vec, String, Option, None, Some}
+use Rattle.std.specs.Prelude.{◌≡◌, [], ◌∷◌, ◌++◌, Vec, String, Option, None, Some}
 use Rattle.std.specs.declared.alloc.Global.{Global}
 use Rattle.psxgpu_tool.specs.Command.{Names, IsUsage}
 use Rattle.psxgpu_tool.specs.declared.command.Command.{Command}

@@ -17,6 +17,3 @@ pub use height::{SHORT_HEIGHT, TALL_HEIGHT, height_of_profile};
 pub use number::{floor_div, sign11, wrap_at, wrap_x, wrap_y};
 pub use shape::{Box2, Cell, Strip, Vertex};
 pub use word::{bit, bits};
-
-#[cfg(test)]
-mod tests;

@@ -26,6 +26,3 @@ pub use read::read_texels;
 pub use table::{Table, entries_at, table_of};
 pub use texel::read_texel;
 pub use texture::Texture;
-
-#[cfg(test)]
-mod tests;

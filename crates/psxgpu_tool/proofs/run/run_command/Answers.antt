@@ -1,5 +1,4 @@
-use Rattle.std.proofs.Common.{refl, ap, subst, ◌∙◌}
-use Rattle.event_play.specs.RigState.{RigState}
+use Rattle.std.proofs.Common.{refl, subst, ◌∙◌}
 use Rattle.event_play.specs.Step.{first_machine}
 use Rattle.psxgpu_tool.specs.Command.{IsCommand}
 use Rattle.psxgpu_tool.proofs.First.{first_stands}

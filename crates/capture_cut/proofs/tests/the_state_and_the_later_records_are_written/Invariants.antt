@@ -1,4 +1,0 @@
-use Rattle.capture_cut.proofs.tests.the_state_and_the_later_records_are_written.Given as goal
-
-abbrev pub ghosts-cut_behind : goal.ghosts-cut_behind
-ghosts-cut_behind g a = record { name = a.blank.name; parts = a.blank.parts }

@@ -1,0 +1,17 @@
+// Captures in memory.
+ghost use Rattle.std.specs.Prelude.{◌≤◌};
+
+use std::alloc::Global;
+use std::test::Fail;
+
+/// The bytes of the head of a version and of words.
+pub(crate) fn capture_of(alloc: Global, version: u8, words: &[u32]) -> Result<Vec<u8>, Fail>
+    requires { version ≤ 3 }
+{
+    let mut bytes = b"PSXGPUC".to_vec(alloc)?;
+    bytes.push(b'0' + version)?;
+    for word in words {
+        bytes.extend_from_slice(&word.to_le_bytes())?;
+    }
+    Ok(bytes)
+}

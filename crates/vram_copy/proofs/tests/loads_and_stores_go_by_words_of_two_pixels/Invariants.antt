@@ -1,4 +1,0 @@
-use Rattle.vram_copy.proofs.tests.loads_and_stores_go_by_words_of_two_pixels.Given as goal
-
-abbrev pub ghosts-moved : goal.ghosts-moved
-ghosts-moved g a = record { name = a.blank.name; parts = a.blank.parts }
