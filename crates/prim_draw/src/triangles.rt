@@ -22,7 +22,7 @@ use crate::style::Style;
 use edge_walk::{RowWalk, Tri};
 use gp1_status::Regs;
 use px_num::{Box2, Vertex};
-use span_lanes::{Paint, Pen, StretchPen};
+use span_lanes::{BlockPen, Paint, Pen};
 use std::marker::Model;
 use std::sync::ledger::Ledger;
 use vram_store::{Steps, Vram};
@@ -106,7 +106,7 @@ impl RowPen for Pen {
     }
 }
 
-impl RowPen for StretchPen {
+impl RowPen for BlockPen {
     ghost use Rattle.span_lanes.specs.Pen.{IsFresh};
     ghost use Rattle.prim_draw.specs.Walks.{LiesInBlock, coat_of_ink};
 
@@ -142,7 +142,7 @@ impl Coat {
         ensures { DrawsRows self.now tri.now (block_of clip.now) (block_of clip.now).h
             (record { m = vram.old; steps = steps.old }) (record { m = vram.new; steps = steps.new }) }
     {
-        match StretchPen::new(&self.paint, &self.brush, &block_of(clip)) {
+        match BlockPen::new(&self.paint, &self.brush, &block_of(clip)) {
             Some(pen) => draw_rows(vram, pen, tri, clip, steps),
             None => draw_rows(vram, Pen::new(&self.paint, &self.brush), tri, clip, steps),
         }

@@ -1,10 +1,12 @@
 -- Colours by their channels.
 use Rattle.std.proofs.Common.{◌≡◌, ◌≤◌, ◌<◌, ℕ, ◌+◌, ◌*◌, ◌%◌, ◌^◌, ◌∙◌, ap, refl, Bool, false, List, map, length}
-use Rattle.std.proofs.Common.{get_or, pos, ℤ, to_z, of_z, w16, SFits, arith}
+use Rattle.std.proofs.Common.{get_or, pos, ℤ, to_z, of_z, w16, SFits, arith, [], ◌/◌}
+use Rattle.std.specs.List.{range_with_len}
+use Rattle.std.proofs.lemmas.List.FromFn.{get_or-map-range_with_len}
 use Rattle.std.proofs.lemmas.Int.{ints, to_z-of_z}
 use Rattle.std.proofs.lemmas.List.{get_or-map, length-map}
 use Rattle.px_num.specs.Lanes.{EachLane}
-use Rattle.blend_dither.specs.Color.{red_of, green_of, blue_of, IsShift}
+use Rattle.blend_dither.specs.Color.{red_of, green_of, blue_of, IsShift, dither_offset}
 use Rattle.span_lanes.specs.declared.span.Paint.{Paint}
 use Rattle.span_lanes.specs.declared.span.Paint.TheVariants.{Flat, Shaded, TexturedTri, TexturedRow}
 use Rattle.edge_walk.specs.Triangle.{Corners}
@@ -59,11 +61,33 @@ pub no_shift : (dither : Bool) (x y : ℕ) → dither ≡ false → shift_of dit
 unfolding shift_of
 no_shift dither x y none = rw none refl
 
+abbrev pub dither_row : ℕ → List ℤ
+dither_row p = map (λ i. dither_offset (p % 4 + i) (p / 4)) (range_with_len 0 16)
+
+-- rows of sixteen of them
+pub row_read : (rows : List (List ℤ)) → rows ≡ map dither_row (range_with_len 0 16) → (p i : ℕ) → p < 16 → i < 16
+    → get_or (get_or rows p []) i (pos 0) ≡ dither_offset (p % 4 + i) (p / 4)
+row_read rows same p i lt less =
+    rw (same, get_or-map-range_with_len dither_row 0 16 p p [] lt (omega arith))
+    (get_or-map-range_with_len (λ j. dither_offset (p % 4 + j) (p / 4)) 0 16 i i (pos 0) less (omega arith))
+
+pub row_long : (rows : List (List ℤ)) → rows ≡ map dither_row (range_with_len 0 16) → (p : ℕ) → p < 16
+    → length (get_or rows p []) ≡ 16
+row_long rows same p lt =
+    rw (same, get_or-map-range_with_len dither_row 0 16 p p [] lt (omega arith)) refl
+
 -- they repeat after four cells
 pub shift_again : (dither : Bool) (x next y j : ℕ) → next % 4 ≡ (x + j) % 4 → shift_of dither (x + j) y
     ≡ shift_of dither next y
 unfolding shift_of
 shift_again dither x next y j e = rw e refl
+
+pub dither_again : (x y i : ℕ) → dither_offset ((4 * (y % 4) + x % 4) % 4 + i) ((4 * (y % 4) + x % 4) / 4)
+    ≡ dither_offset (x + i) y
+dither_again x y i =
+    let column : ((4 * (y % 4) + x % 4) % 4 + i) % 4 ≡ (x + i) % 4 = omega arith in
+    let row : (4 * (y % 4) + x % 4) / 4 % 4 ≡ y % 4 = omega arith in
+    rw (column, row) refl
 
 -- a triangle of one colour
 pub one_in : (tri : Corners) (x y color : ℕ) → color < 2 ^ 24 → HasColor tri (pos x) (pos y) color

@@ -1,10 +1,13 @@
 -- Spans that are drawn part by part, where each part spares some steps.
-use Rattle.std.proofs.Common.{◌≡◌, ◌<◌, ◌≤◌, ℕ, zero, suc, List, ◌+◌, ◌-◌, ◌*◌, ◌/◌, min, length, sym, subst, arith}
+use Rattle.std.proofs.Common.{◌≡◌, ◌<◌, ◌≤◌, ℕ, zero, suc, List, ◌+◌, ◌-◌, ◌*◌, ◌/◌, min, length, sym, subst, arith, ◌∙◌}
 use Rattle.span_lanes.specs.declared.part.Part.{Part}
 use Rattle.span_lanes.specs.declared.span.Span.{Span}
 use Rattle.texel_lanes.specs.declared.texture.Texture.{Texture}
 use Rattle.span_lanes.specs.Draws.{CanDraw, CanSample, DrawsPart, DrawsSpan, at_stage}
+use Rattle.span_lanes.specs.Cells.{Stage}
+use Rattle.span_lanes.specs.Pen.{DrawsCells, Ink, ink_span}
 use Rattle.span_lanes.specs.Shade.{LiesIn}
+use Rattle.span_lanes.proofs.CellsLemmas.{span_law}
 use Rattle.span_lanes.proofs.ChunkLemmas.{AreDrawn, drawn_begun, drawn_next, all_cells, all_cost}
 
 spares_more : (spared c : ℕ) → spared * (c + 1) ≡ spared * c + spared
@@ -47,3 +50,12 @@ sample_stays is long = record { can = draw_stays is.can long; texture = is.textu
 
 pub none_spared : {steps most : ℕ} → steps + 0 ≤ most → steps ≤ most
 none_spared le = omega (arith, le)
+
+-- a span by its number of cells is the cells of its row
+pub draws_cells : (ink : Ink) (x y n : ℕ) (before after : Stage) → DrawsSpan (ink_span ink x y n) 0 before after
+    → DrawsCells ink x y n before after
+draws_cells ink x y n before after drawn = record {
+  cells = drawn.cells ∙ span_law (ink_span ink x y n) n before.m;
+  long = drawn.long;
+  cost = none_spared drawn.cost;
+}

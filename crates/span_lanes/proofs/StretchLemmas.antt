@@ -1,7 +1,7 @@
 -- Texels that stand side by side.
-use Rattle.std.proofs.Common.{◌≡◌, ◌<◌, ◌≤◌, ℕ, List, Bool, false, ◌+◌, ◌-◌, ◌*◌, ◌/◌, ◌%◌, get_or, refl, sym, ap, ◌∙◌}
+use Rattle.std.proofs.Common.{◌≡◌, ◌<◌, ◌≤◌, ℕ, List, Bool, false, ◌+◌, ◌-◌, ◌*◌, ◌/◌, ◌%◌, get_or, refl, sym, ◌∙◌}
 use Rattle.std.proofs.Common.{pos, IsTrue, arith}
-use Rattle.texture_page.specs.Page.{texel_place, clut_place, column, windowed, index_in}
+use Rattle.texture_page.specs.Page.{texel_place, clut_place, windowed, index_in}
 use Rattle.edge_walk.specs.Attribute.{IsUnscaled}
 use Rattle.edge_walk.specs.Line.{line_value}
 use Rattle.edge_walk.specs.Plane.{IsPlane}

@@ -1,3 +1,4 @@
+pub mod BlockPen
 pub mod Cells
 pub mod Chunk
 pub mod Cost
@@ -12,10 +13,10 @@ pub mod Paints
 pub mod Pen
 pub mod Plan
 pub mod Shade
+pub mod Sheet
 pub mod Solid
 pub mod Spans
 pub mod Stretch
-pub mod StretchPen
 pub mod Strips
 pub mod Swatches
 pub mod Toned

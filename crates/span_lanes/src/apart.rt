@@ -5,7 +5,7 @@ ghost use Rattle.span_lanes.specs.Shade.{IsSpan, texture_of};
 ghost use Rattle.span_lanes.specs.Guard.{IsApart, IsInOtherRow, LiesBeside, page_width};
 ghost use Rattle.span_lanes.specs.Frame.{IsBlock, IsInBlock};
 ghost use Rattle.span_lanes.specs.Spans.{nth_span, AreBelow};
-ghost use Rattle.span_lanes.specs.StretchPen.{IsBlockApart};
+ghost use Rattle.span_lanes.specs.Frame.{IsBlockApart};
 
 use crate::spans::Spans;
 use crate::{Block, Span, Texture};

@@ -1,10 +1,10 @@
 // The colours and dither offsets of the cells of a chunk.
-ghost use Rattle.std.specs.Prelude.{◌≡◌, ◌≤◌, ◌<◌, ◌+◌, ◌%◌, ◌^◌, ℕ, length, slice_index, slice_index_or, pos};
+ghost use Rattle.std.specs.Prelude.{◌≡◌, ◌≤◌, ◌<◌, ◌+◌, ◌/◌, ◌%◌, ◌*◌, ◌^◌, ℕ, length, slice_index, slice_index_or, pos};
 ghost use Rattle.blend_dither.specs.Color.{dither_offset, tone_of, modulated_of};
 ghost use Rattle.px_num.specs.Lanes.{EachLane};
 ghost use Rattle.span_lanes.specs.Lanes.{AreChannels, HasColors, AreShifts, AreShiftsAt};
 
-use blend_dither::{modulate_lanes, shift_at, tone_lanes};
+use blend_dither::{modulate_lanes, tone_lanes};
 use px_num::lanes::splat;
 use std::simd::prelude::*;
 
@@ -49,18 +49,42 @@ pub(crate) fn no_shifts() -> Shifts
     }
 }
 
+// The dither offsets of sixteen cells of a row, by the row and then by the column of the first, both modulo 4.
+const DITHER_ROWS: [[i16; 16]; 16] = [
+    [-4, 0, -3, 1, -4, 0, -3, 1, -4, 0, -3, 1, -4, 0, -3, 1],
+    [0, -3, 1, -4, 0, -3, 1, -4, 0, -3, 1, -4, 0, -3, 1, -4],
+    [-3, 1, -4, 0, -3, 1, -4, 0, -3, 1, -4, 0, -3, 1, -4, 0],
+    [1, -4, 0, -3, 1, -4, 0, -3, 1, -4, 0, -3, 1, -4, 0, -3],
+    [2, -2, 3, -1, 2, -2, 3, -1, 2, -2, 3, -1, 2, -2, 3, -1],
+    [-2, 3, -1, 2, -2, 3, -1, 2, -2, 3, -1, 2, -2, 3, -1, 2],
+    [3, -1, 2, -2, 3, -1, 2, -2, 3, -1, 2, -2, 3, -1, 2, -2],
+    [-1, 2, -2, 3, -1, 2, -2, 3, -1, 2, -2, 3, -1, 2, -2, 3],
+    [-3, 1, -4, 0, -3, 1, -4, 0, -3, 1, -4, 0, -3, 1, -4, 0],
+    [1, -4, 0, -3, 1, -4, 0, -3, 1, -4, 0, -3, 1, -4, 0, -3],
+    [-4, 0, -3, 1, -4, 0, -3, 1, -4, 0, -3, 1, -4, 0, -3, 1],
+    [0, -3, 1, -4, 0, -3, 1, -4, 0, -3, 1, -4, 0, -3, 1, -4],
+    [3, -1, 2, -2, 3, -1, 2, -2, 3, -1, 2, -2, 3, -1, 2, -2],
+    [-1, 2, -2, 3, -1, 2, -2, 3, -1, 2, -2, 3, -1, 2, -2, 3],
+    [2, -2, 3, -1, 2, -2, 3, -1, 2, -2, 3, -1, 2, -2, 3, -1],
+    [-2, 3, -1, 2, -2, 3, -1, 2, -2, 3, -1, 2, -2, 3, -1, 2],
+];
+
+// A row of them.
+fn dither_row(place: usize) -> [i16; 16]
+    requires { place < 16 }
+    ensures long { length result ≡ 16 }
+    ensures value { EachLane (λ i. slice_index_or result i (pos 0) ≡ dither_offset (place % 4 + i) (place / 4)) }
+{
+    DITHER_ROWS[place]
+}
+
 // The dither offsets of sixteen cells from (x, y) on.
 fn dithered(x: u16, y: u16) -> Shifts
-    requires { x ≤ 1024 }
     ensures small { AreShifts result.lanes }
     ensures value { EachLane (λ i. slice_index_or result.lanes i (pos 0) ≡ dither_offset (x + i) y) }
 {
-    let mut shifts = [0i16; 16];
-    for j in 0..16u16 {
-        shifts[j as usize] = shift_at(x + j, y) as i16;
-    }
     Shifts {
-        lanes: i16x16::from_array(shifts),
+        lanes: i16x16::from_array(dither_row((4 * (y % 4) + x % 4) as usize)),
     }
 }
 

@@ -7,15 +7,18 @@
 // - `Solid`, in `draw_ready` and `draw_solid`: all cells become one halfword, and nothing is read. [triangle flat]
 // - `Toned`, in `draw_one`: one colour that is blended, tested or dithered; its channels are known. [rectangle B+F]
 // - `Toned`, in `draw_lines`: colours along the row, three lines a part. [triangle gouraud]
-// - `Kept<Stretch>`, in `StretchPen::draw`: a palette coloured once, as it is; it stands in the loop over the rows.
+// - `Kept<Stretch>`, in `BlockPen::draw`: a palette coloured once, as it is; it stands in the loop over the rows.
 //   [triangle 4-bit modulated]
+// - `Kept<Track>` and `Shaded<Track>`, in `draw_plain` of scaled.rt: by the coordinates of each texel under one colour,
+//   apart from what is written. No line belongs to them.
+// - `Shaded<Track>`, in `draw_mixed` of scaled.rt: the same under several. [triangle turned, gouraud, dithered, half]
 // - `Kept<Stretch>`, four in `draw_strip`: the same of other spans, raw or not, as it is or not: two look-ups or four.
 // - `Raw<Fours>`, `Raw<Eights>`, `Raw<Wholes>`, each as it is or not, in `draw_raw`: texels side by side without a
 //   colour. [triangle 15-bit raw]
 // - `Shaded` of the same three, each as it is or not, in `draw_shaded`: under colours. [rectangle 8-bit modulated]
-// - `Kept<&Track>` and `Plan`, by the coordinates of each texel, in `draw_plain_sheet` under one colour and in
-//   `draw_mixed_sheet` under several [triangle 4-bit gouraud, of other than whole steps], and in `draw_planned_row`, to
-//   which no line belongs. [rectangle that is flipped]
+// - `Kept<&Track>` and `Plan`, by the coordinates of each texel where the block of a triangle is not known to lie apart:
+//   in `draw_plain_sheet` under one colour and in `draw_mixed_sheet` under several, to which no line belongs, and in
+//   `draw_planned_row`. [rectangle that is flipped]
 //
 // Rectangles whose palette is coloured once for all rows have four more of `Kept<Stretch>`, in `draw_strips`.
 // [rectangle, sprite 4-bit]

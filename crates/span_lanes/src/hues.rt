@@ -3,11 +3,12 @@ ghost use Rattle.std.specs.Prelude.{◌+◌, ◌*◌, ℕ, pos, IsTrue};
 ghost use Rattle.edge_walk.specs.Line.{line_value};
 ghost use Rattle.edge_walk.specs.Plane.{IsPlane};
 ghost use Rattle.edge_walk.specs.Triangle.{Corners, is_inside};
+ghost use Rattle.span_lanes.specs.declared.hues.Hues.TheVariants.{One};
 ghost use Rattle.span_lanes.specs.declared.tint.Tint.TheVariants.{Planes};
 ghost use Rattle.span_lanes.specs.Shade.{IsSpan};
 ghost use Rattle.span_lanes.specs.Hues.{hue_at, AreHues, AreHuesOf, IsLineOf};
 ghost use Rattle.span_lanes.specs.Lanes.{HasColors};
-ghost use Rattle.span_lanes.specs.Pen.{IsTint, IsTintOf};
+ghost use Rattle.span_lanes.specs.Pen.{AreSeveral, IsOne, IsTint, IsTintOf};
 
 use crate::Span;
 use crate::colors::{Colors, one_color};
@@ -57,6 +58,34 @@ pub(crate) fn hues_of(span: &Span, tint: &Tint) -> Hues
 {
     match tint {
         Tint::Plain { color } => Hues::One { color: *color },
+        Tint::Planes { red, green, blue } => tri_lines(red, green, blue, span.x, span.y),
+    }
+}
+
+// The colour of a span that has one.
+#[inline(always)]
+pub(crate) fn one_of(span: &Span, tint: &Tint) -> u32
+    requires span { IsSpan span.now }
+    requires tint { IsTint span.now.paint tint.now }
+    requires one { IsOne tint.now }
+    ensures { AreHues span.now.paint span.now.x span.now.y span.now.n (One result) }
+{
+    match tint {
+        Tint::Plain { color } => *color,
+        Tint::Planes { .. } => unreachable!(),
+    }
+}
+
+// The colours of a span that has several.
+#[inline(always)]
+pub(crate) fn several_of(span: &Span, tint: &Tint) -> Hues
+    requires span { IsSpan span.now }
+    requires tint { IsTint span.now.paint tint.now }
+    requires several { AreSeveral tint.now }
+    ensures { AreHues span.now.paint span.now.x span.now.y span.now.n result }
+{
+    match tint {
+        Tint::Plain { .. } => unreachable!(),
         Tint::Planes { red, green, blue } => tri_lines(red, green, blue, span.x, span.y),
     }
 }

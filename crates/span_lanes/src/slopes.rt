@@ -17,7 +17,8 @@ pub(crate) struct Slopes {
     pub(crate) unscaled: bool,
 }
 
-fn tri_slopes(tri: &Tri) -> Slopes
+#[inline(always)]
+pub(crate) fn tri_slopes(tri: &Tri) -> Slopes
     ensures { AreSlopes tri.now result }
 {
     let divisor = tri.area_divisor();

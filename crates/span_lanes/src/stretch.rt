@@ -6,7 +6,7 @@ ghost use Rattle.span_lanes.specs.Pen.{AreSlopes};
 ghost use Rattle.texel_lanes.specs.Texture.{IsTexture};
 ghost use Rattle.span_lanes.specs.Shade.{IsSpan};
 ghost use Rattle.span_lanes.specs.Stretch.{IsRising, IsStretch};
-ghost use Rattle.span_lanes.specs.StretchPen.{AreSideBySide};
+ghost use Rattle.span_lanes.specs.BlockPen.{AreSideBySide};
 
 use crate::part::Part;
 use crate::row::TexelRow;

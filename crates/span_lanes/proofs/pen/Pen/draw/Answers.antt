@@ -1,19 +1,12 @@
-use Rattle.std.proofs.Common.{◌∙◌, arith}
-use Rattle.span_lanes.proofs.CellsLemmas.{span_law}
+use Rattle.span_lanes.proofs.PartLemmas.{draws_cells}
 use Rattle.span_lanes.proofs.SwatchLemmas.{fresh_of_kept, kept_of_fresh}
+use Rattle.span_lanes.specs.Pen.{ink_of}
 use Rattle.span_lanes.proofs.pen.Pen.draw.Goals as goal
 
 pub returns-clause-drawn : goal.returns-clause-drawn
 returns-clause-drawn g c =
-    let held = c.self.inside.span in
-    let drawn = c.draw_ready.ensures.drawn.cells
-    ∙ span_law (record { x = c.args.x; y = c.args.y; n = c.args.n; paint = held.paint; brush = held.brush })
-    c.args.n c.args.vram.now in
-    rw (← c.self.view_is) (record {
-      cells = drawn;
-      long = c.draw_ready.ensures.drawn.long;
-      cost = omega (arith, c.draw_ready.ensures.drawn.cost);
-    })
+    rw (← c.self.view_is)
+    (draws_cells (ink_of c.self.inside.span) c.args.x c.args.y c.args.n _ _ c.draw_ready.ensures.drawn)
 
 pub draw_ready-requires-clause-last : goal.draw_ready-requires-clause-last
 draw_ready-requires-clause-last g c =

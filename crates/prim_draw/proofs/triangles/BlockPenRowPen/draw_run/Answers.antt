@@ -1,7 +1,7 @@
 use Rattle.std.proofs.Common.{◌∙◌}
 use Rattle.prim_draw.specs.Walks.{coat_of_ink}
 use Rattle.prim_draw.proofs.RowLemmas.{span_of_row, span_pixels}
-use Rattle.prim_draw.proofs.triangles.StretchPenRowPen.draw_run.Goals as goal
+use Rattle.prim_draw.proofs.triangles.BlockPenRowPen.draw_run.Goals as goal
 
 pub returns-in-Some-clause-drawn : goal.returns-in-Some-clause-drawn
 returns-in-Some-clause-drawn g c =

@@ -1,0 +1,63 @@
+-- Pens for the triangles with a texture that lie in a block apart from it.
+use Rattle.std.specs.Prelude.{ℕ, ◌≡◌, ◌≤◌, ◌+◌, ◌/◌, ◌&&◌, not, false, IfSome, Option}
+use Rattle.edge_walk.specs.Attribute.{IsUnscaled}
+use Rattle.edge_walk.specs.Plane.{IsPlane}
+use Rattle.edge_walk.specs.Triangle.{Corners}
+use Rattle.edge_walk.specs.declared.plane.Plane.{Plane}
+use Rattle.span_lanes.specs.declared.block.Block.{Block}
+use Rattle.span_lanes.specs.declared.sheet.Sheet.{Sheet}
+use Rattle.span_lanes.specs.declared.sheet.Way.{Way}
+use Rattle.span_lanes.specs.declared.sheet.Way.TheVariants.{Strip, Beside, Scaled}
+use Rattle.texel_lanes.specs.declared.texture.Texture.{Texture}
+use Rattle.span_lanes.specs.declared.swatches.Swatches.{Swatches}
+use Rattle.span_lanes.specs.declared.tint.Tint.TheVariants.{Plain}
+use Rattle.span_lanes.specs.Frame.{Framed, IsBlockApart}
+use Rattle.span_lanes.specs.Sheet.{IsSheet, sheet_ink}
+use Rattle.texel_lanes.specs.Texture.{IsTexture}
+use Rattle.span_lanes.specs.Swatches.{AreColored, entries_of}
+
+-- a page whose texels of any column, and those that are read with them, stand in cells that do not wrap
+pub record HasRoom (t : Texture) : Type 0 where
+  pub wholes : 2 ≤ t.page.depth → t.page.x + 256 ≤ 1024
+  pub eights : t.page.depth ≡ 1 → t.page.x + 256 / 2 + 16 ≤ 1024
+  pub fours : t.page.depth ≡ 0 → t.page.x + 256 / 4 + 16 ≤ 1024
+
+-- the texels of a triangle stand side by side in each row, wherever that is in their page
+pub record AreSideBySide (tri : Corners) (t : Texture) (u v : Plane) : Type 0 where
+  pub texture : IsTexture t
+  pub clear : t.window.mask_x ≡ 0
+  pub room : HasRoom t
+  pub unscaled : IsUnscaled tri
+  pub across : IsPlane tri 3 u
+  pub down : IsPlane tri 4 v
+
+-- the palette can be coloured once under this colour, which is that of all cells, and pixels are stored as they are
+pub record IsPlain (sheet : Sheet) (color : ℕ) : Type 0 where
+  pub one : sheet.tint ≡ Plain color
+  pub depth : sheet.texture.page.depth ≡ 0
+  pub even : (sheet.brush.dither && not sheet.texture.raw) ≡ false
+  pub mask : sheet.brush.mask ≡ 0
+  pub semi : sheet.brush.semi ≡ false
+
+-- the texels of a triangle made ready stand side by side
+abbrev pub IsBeside : Sheet → Type 0
+IsBeside sheet = AreSideBySide sheet.tri sheet.texture sheet.slopes.u sheet.slopes.v
+
+-- rows may be drawn in a way
+abbrev pub IsWay : Sheet → Way → Type 0
+IsWay sheet (Strip color) = IsBeside sheet × IsPlain sheet color
+IsWay sheet Beside = IsBeside sheet
+IsWay sheet Scaled = Unit {0}
+
+-- what is one for all spans of a triangle in a block, and a palette under a colour, if it is kept
+pub record IsBlockPen (sheet : Sheet) (b : Block) (way : Way) (last : Option Swatches) : Type 0 where
+  pub ready : IsSheet sheet
+  pub rows : IsWay sheet way
+  pub apart : IsBlockApart b sheet.texture
+  pub colored : IfSome last AreColored
+
+abbrev pub framed_of : Sheet → Block → Option Swatches → Framed
+framed_of sheet b last = record {
+  loaded = record { ink = sheet_ink sheet; palette = entries_of last };
+  block = b;
+}

@@ -1,0 +1,177 @@
+// Pens for the triangles with a texture that lie in a block apart from it.
+ghost use Rattle.std.specs.Prelude.{◌≡◌, IfSome, IsTrue};
+ghost use Rattle.span_lanes.specs.BlockPen.{IsBeside, IsPlain, IsWay};
+ghost use Rattle.span_lanes.specs.Frame.{IsBlock, framed_in};
+ghost use Rattle.texel_lanes.specs.Texture.{IsTexture};
+ghost use Rattle.span_lanes.specs.Shade.{texture_of};
+ghost use Rattle.span_lanes.specs.Sheet.{IsSheet};
+
+use crate::apart::is_block_apart;
+use crate::draw::draw_beside_row;
+use crate::plainly::is_plain;
+use crate::scaled::draw_scaled;
+use crate::shading::has_even_palette;
+use crate::sheet::{Sheet, Way, row_span, sheet_of};
+use crate::stretch::{has_room, place_row};
+use crate::strip::draw_plain_strip;
+use crate::swatches::Swatches;
+use crate::tint::Tint;
+use crate::{Block, Brush, Paint, Texture};
+use std::marker::Model;
+use std::sync::ledger::Ledger;
+use vram_store::{Steps, Vram};
+
+// The one colour of a triangle, where a palette of sixteen entries can be coloured once and pixels are stored as they
+// are.
+#[inline(always)]
+fn plain_color(sheet: &Sheet) -> Option<u32>
+    ensures { IfSome result (IsPlain sheet.now) }
+{
+    let Tint::Plain { color } = sheet.tint else {
+        return None;
+    };
+    if has_even_palette(&sheet.texture, &sheet.brush) && is_plain(&sheet.brush) {
+        Some(color)
+    } else {
+        None
+    }
+}
+
+// Whether the texels of each row are known to stand side by side.
+#[inline(always)]
+fn is_beside(sheet: &Sheet) -> bool
+    requires ready { IsSheet sheet.now }
+    requires texture { IsTexture sheet.now.texture }
+    ensures { IsTrue result → IsBeside sheet.now }
+{
+    let room = has_room(&sheet.texture, 0, 256);
+    sheet.slopes.unscaled && sheet.texture.window.mask_x == 0 && room
+}
+
+// How rows are drawn that read nothing that they write.
+#[inline(always)]
+fn way_of(sheet: &Sheet) -> Way
+    requires ready { IsSheet sheet.now }
+    requires texture { IsTexture sheet.now.texture }
+    ensures { IsWay sheet.now result }
+{
+    if !is_beside(sheet) {
+        return Way::Scaled;
+    }
+    match plain_color(sheet) {
+        Some(color) => Way::Strip { color },
+        None => Way::Beside,
+    }
+}
+
+/// A pen for the spans of a triangle with a texture that lie in a block of cells, none of which is one of the texture page
+/// or of the palette: what is one for all of them is asked once.
+#[derive(Drop)]
+pub struct BlockPen {
+    sheet: Sheet,
+    block: Block,
+    way: Way,
+    // the palette that was seen, and what a colour makes of it
+    last: Option<Swatches>,
+}
+
+impl Model for BlockPen {
+    ghost use Rattle.span_lanes.specs.Frame.{Framed};
+    ghost use Rattle.span_lanes.specs.BlockPen.{IsBlockPen, framed_of};
+
+    ghost Value = { Framed };
+
+    ghost view = { λ pen. framed_of pen.sheet pen.block pen.last };
+
+    ghost invariant = { λ pen. IsBlockPen pen.sheet pen.block pen.way pen.last };
+}
+
+impl BlockPen {
+    ghost use Rattle.std.specs.Prelude.{◌≡◌, IfSome};
+    ghost use Rattle.vram_store.specs.Vram.{height_of};
+    ghost use Rattle.span_lanes.specs.Frame.{IsBlock, IsInBlock, framed_in};
+    ghost use Rattle.span_lanes.specs.Pen.{DrawsCells, IsFresh, ink_span};
+    ghost use Rattle.texel_lanes.specs.Texture.{IsTexture};
+    ghost use Rattle.span_lanes.specs.Shade.{IsSpan, LiesIn, texture_of};
+
+    /// A pen for a paint and a brush in a block. None for other paints than triangles with a texture, and where the block
+    /// is not known to lie apart: [`Pen`](crate::Pen) draws them all.
+    #[inline(always)]
+    pub fn new(paint: &Paint, brush: &Brush, block: &Block) -> Option<BlockPen>
+        requires block { IsBlock 1024 block.now }
+        requires texture { IfSome (texture_of paint.now) IsTexture }
+        ensures { IfSome result (λ pen. pen ≡ framed_in paint.now brush.now block.now) }
+    {
+        let Paint::TexturedTri { tri, texture } = paint else {
+            return None;
+        };
+        if !is_block_apart(block, texture) {
+            return None;
+        }
+        let sheet = sheet_of(tri, texture, brush);
+        Some(BlockPen {
+            sheet,
+            block: *block,
+            way: way_of(&sheet),
+            last: None,
+        })
+    }
+
+    /// Draws n cells from (x, y) to the right, which lie in the block, as [`draw_span`](crate::draw_span) does.
+    #[inline(always)]
+    pub fn draw<L: Ledger>(&mut self, vram: &mut Vram, x: u16, y: u16, n: u16, steps: &mut Steps<L>)
+        requires span { IsSpan (ink_span self.old.loaded.ink x y n) }
+        requires height { LiesIn (height_of vram.old) (ink_span self.old.loaded.ink x y n) }
+        requires block { IsInBlock self.old.block x y n }
+        requires fresh { IsFresh self.old.loaded vram.old }
+        ensures ink { self.new.loaded.ink ≡ self.old.loaded.ink }
+        ensures block { self.new.block ≡ self.old.block }
+        ensures fresh { IsFresh self.new.loaded vram.new }
+        ensures drawn { DrawsCells self.old.loaded.ink x y n
+            (record { m = vram.old; steps = steps.old }) (record { m = vram.new; steps = steps.new }) }
+    {
+        match self.way {
+            Way::Strip { color } => {
+                let sheet = &self.sheet;
+                let span = row_span(sheet, x, y, n);
+                let stretch = place_row(
+                    &span,
+                    &sheet.tri,
+                    &sheet.texture,
+                    &sheet.slopes.u,
+                    &sheet.slopes.v,
+                );
+                draw_plain_strip(
+                    vram,
+                    &span,
+                    &sheet.texture,
+                    &stretch,
+                    color,
+                    &mut self.last,
+                    steps,
+                )
+            }
+            Way::Beside => {
+                let sheet = &self.sheet;
+                let span = row_span(sheet, x, y, n);
+                let stretch = place_row(
+                    &span,
+                    &sheet.tri,
+                    &sheet.texture,
+                    &sheet.slopes.u,
+                    &sheet.slopes.v,
+                );
+                draw_beside_row(
+                    vram,
+                    &span,
+                    &sheet.texture,
+                    &stretch,
+                    &sheet.tint,
+                    &mut self.last,
+                    steps,
+                )
+            }
+            Way::Scaled => draw_scaled(vram, &self.sheet, x, y, n, &mut self.last, steps),
+        }
+    }
+}
