@@ -1,37 +1,58 @@
--- The words of blocks and of lists, part by part.
-use Rattle.std.proofs.Common.{◌≡◌, ◌<◌, ℕ, zero, suc, ◌+◌, ◌-◌, ◌*◌, ◌++◌, List, [], ◌∷◌, Option, None, Some, true}
-use Rattle.std.proofs.Common.{false, flat_map, refl, ap, sym, ◌∙◌, append_assoc, append-nil, arith, inl, inr}
+-- The words of blocks and of nodes, one after another.
+use Rattle.std.proofs.Common.{◌≡◌, ◌≤◌, ◌<◌, ℕ, zero, suc, ◌+◌, ◌-◌, ◌*◌, ◌++◌, List, [], ◌∷◌, Option, None, Some, true, false}
+use Rattle.std.proofs.Common.{flat_map, refl, ap, sym, ◌∙◌, append_assoc, append-nil, arith, inl, inr}
 use Rattle.std.proofs.lemmas.Bool.{cases_Bool}
 use Rattle.ot_clear_dma.specs.Ram.{cut, word_at, place_of}
 use Rattle.list_dma.specs.Node.{is_end, next_of, node_of, words_behind, node_words, word_count}
 use Rattle.list_dma.specs.Walk.{chain}
 use Rattle.event_play.specs.Block.{address_in, first_words, block_words}
+use Rattle.event_play.specs.Cursor.{IsNextNode, behind_words, nodes_words, words_from, words_left}
 use Rattle.event_play.specs.declared.block.Block.{Block}
+use Rattle.event_play.specs.declared.words.Behind.{Behind}
+use Rattle.event_play.specs.declared.words.Behind.TheVariants.{Nodes}
+use Rattle.event_play.specs.declared.words.Node.{Node}
+use Rattle.event_play.specs.declared.words.NodeList.{NodeList}
 
 -- ---- blocks
 
 -- the first words of a block, and those behind them
-words_split : (ram : List ℕ) (block : Block) (i more : ℕ) → (behind : List ℕ)
-    × (first_words ram block (i + more) ≡ first_words ram block i ++ behind)
-words_split ram block i zero = let e : i + 0 ≡ i = omega arith in ([], rw (e, append-nil) refl)
-words_split ram block i (suc more) =
-    let rest = words_split ram block i more in
-    let last = word_at ram (address_in block (i + more)) ∷ [] in
-    let e : i + suc more ≡ suc (i + more) = omega arith in
-    (rest.0 ++ last, rw e (ap (λ words. words ++ last) rest.1 ∙ append_assoc (first_words ram block i) rest.0 last))
+words_split : (ram : List ℕ) (block : Block) (i count : ℕ)
+    → first_words ram block (i + count) ≡ first_words ram block i ++ words_from ram block i count
+words_split ram block i zero = let e : i + 0 ≡ i = omega arith in rw (e, append-nil) refl
+words_split ram block i (suc count) =
+    let word = word_at ram (address_in block i) in
+    let rest = words_from ram block (i + 1) count in
+    let e : i + suc count ≡ i + 1 + count = omega arith in
+    let one : first_words ram block (i + 1) ≡ first_words ram block i ++ word ∷ [] =
+    let next : i + 1 ≡ suc i = omega arith in rw next refl in
+    ap (first_words ram block) e ∙ words_split ram block (i + 1) count
+    ∙ ap (λ words. words ++ rest) one ∙ append_assoc (first_words ram block i) (word ∷ []) rest
 
--- one word more
-pub words_next : (ram : List ℕ) (block : Block) (i word : ℕ) → word ≡ word_at ram (address_in block i)
-    → first_words ram block (i + 1) ≡ first_words ram block i ++ word ∷ []
-words_next ram block i word is = let e : i + 1 ≡ suc i = omega arith in rw (e, is) refl
+-- all words of a block, and what comes behind it
+pub left_whole : (ram : List ℕ) (block : Block) (behind : Behind)
+    → words_left ram block 0 behind ≡ block_words ram block ++ behind_words ram behind
+left_whole ram block behind =
+    let count : block.n - 0 ≡ block.n = omega arith in
+    let end : 0 + block.n ≡ block.n = omega arith in
+    ap (λ words. words ++ behind_words ram behind)
+    (ap (words_from ram block 0) count ∙ sym (words_split ram block 0 block.n) ∙ ap (first_words ram block) end)
 
--- all words of a block, by the first, one more and those behind it
-pub block_split : (ram : List ℕ) (block : Block) (i word : ℕ) → i < block.n → word ≡ word_at ram (address_in block i)
-    → (behind : List ℕ) × (block_words ram block ≡ (first_words ram block i ++ word ∷ []) ++ behind)
-block_split ram block i word below is =
-    let rest = words_split ram block (i + 1) (block.n - (i + 1)) in
-    let e : i + 1 + (block.n - (i + 1)) ≡ block.n = omega arith in
-    (rest.0, (rw e at rest.1) ∙ ap (λ words. words ++ rest.0) (words_next ram block i word is))
+-- a word of it, and those that are left then
+pub left_goes : (ram : List ℕ) (block : Block) (at : ℕ) (behind : Behind) (word : ℕ) → at < block.n
+    → word ≡ word_at ram (address_in block at)
+    → words_left ram block at behind ≡ word ∷ words_left ram block (at + 1) behind
+left_goes ram block at behind word below is =
+    let more : block.n - at ≡ suc (block.n - (at + 1)) = omega (arith, below) in rw (more, is) refl
+
+-- a block has no word left, and its nodes have words
+pub left_enters : (ram : List ℕ) (block : Block) (at : ℕ) (list : NodeList) (node : Node) (word : ℕ) → block.n ≤ at
+    → IsNextNode ram list node → word ≡ word_at ram (address_in node.words 0)
+    → words_left ram block at (Nodes list) ≡ word ∷ words_left ram node.words 1 node.behind
+left_enters ram block at list node word none next is =
+    let end : block.n - at ≡ 0 = omega (arith, none) in
+    ap (λ count. words_from ram block at count ++ nodes_words ram list) end
+    ∙ next.words ∙ sym (left_whole ram node.words node.behind)
+    ∙ left_goes ram node.words 0 node.behind word next.some is
 
 -- ---- nodes
 
@@ -63,19 +84,13 @@ pub node_block : (ram : List ℕ) (node n : ℕ) → n ≡ word_count ram node
     → block_words ram (record { at = node + 4; n = n; back = false }) ≡ node_words ram node
 node_block ram node n is = node_first ram node n n ∙ ap (words_behind ram node) is
 
--- ---- walks
+-- a node that has none
+pub node_none : (ram : List ℕ) (node : ℕ) (block : Block) → block_words ram block ≡ node_words ram node → block.n ≤ 0
+    → node_words ram node ≡ []
+node_none ram node block are none =
+    let end : block.n ≡ 0 = omega (arith, none) in sym are ∙ ap (first_words ram block) end
 
--- what is still to be fed of the words of a list: all of them are those that were fed, and then those of the nodes to
--- come
-pub record OnWay (ram all : List ℕ) (next : Option ℕ) (left : ℕ) (done : List ℕ) : Type 0 where
-  pub address : ℕ
-  pub at : next ≡ node_of address
-  pub are : all ≡ done ++ flat_map (node_words ram) (chain ram address left)
-
-pub way_starts : (ram : List ℕ) (start limit : ℕ) (next : Option ℕ) → next ≡ node_of start
-    → OnWay ram (flat_map (node_words ram) (chain ram start limit)) next (limit - 0) []
-way_starts ram start limit next at = let e : limit - 0 ≡ limit =
-    omega arith in record { address = start; at = at; are = rw e refl }
+-- ---- lists
 
 ends_there : (address : ℕ) → None ≡ node_of address → is_end address ≡ true
 ends_there address at = elim (cases_Bool (is_end address))
@@ -96,34 +111,22 @@ unfolding chain
 chain_goes ram address zero next e on = absurd (omega (arith, e))
 chain_goes ram address (suc n) next e on = let same : next ≡ n = omega (arith, e) in rw (on, same) refl
 
--- at the end of a list every word was fed
-pub way_ends : (ram all : List ℕ) (next : Option ℕ) (left : ℕ) (done : List ℕ) → next ≡ None
-    → OnWay ram all next left done → all ≡ done
-way_ends ram all next left done end way =
-    way.are ∙ ap (λ nodes. done ++ flat_map (node_words ram) nodes)
-    (chain_ends ram way.address left (ends_there way.address (sym end ∙ way.at))) ∙ append-nil done
-
--- and also where no more nodes are looked at
-pub way_stops : (ram all : List ℕ) (next : Option ℕ) (done : List ℕ) (left : ℕ) → left ≡ 0
-    → OnWay ram all next left done → all ≡ done
+-- no more nodes are looked at
+pub nodes_none : (ram : List ℕ) (start limit : ℕ) → limit ≡ 0
+    → nodes_words ram (record { start = start; limit = limit }) ≡ []
 unfolding chain
-way_stops ram all next done left none way = let are = rw none at way.are in are ∙ append-nil done
+nodes_none ram start limit none = rw none refl
+
+-- the list ends
+pub nodes_end : (ram : List ℕ) (start limit : ℕ) → None ≡ node_of start
+    → nodes_words ram (record { start = start; limit = limit }) ≡ []
+nodes_end ram start limit at = ap (flat_map (node_words ram)) (chain_ends ram start limit (ends_there start at))
 
 -- a node, and those behind it
-pub way_node : (ram all : List ℕ) (here : Option ℕ) (node left next : ℕ) (done : List ℕ) → next + 1 ≡ left
-    → here ≡ Some node → OnWay ram all here left done
-    → all ≡ (done ++ node_words ram node) ++ flat_map (node_words ram) (chain ram (next_of ram node) next)
-way_node ram all here node left next done e is way =
-    let on = goes_there way.address node (sym is ∙ way.at) in
-    let rest = flat_map (node_words ram) (chain ram (next_of ram node) next) in
-    let goes : chain ram way.address left ≡ node ∷ chain ram (next_of ram node) next =
-    rw on.1 (chain_goes ram way.address left next e on.0) in
-    way.are ∙ ap (λ nodes. done ++ flat_map (node_words ram) nodes) goes
-    ∙ sym (append_assoc done (node_words ram node) rest)
-
-pub way_on : (ram all : List ℕ) (here : Option ℕ) (node left next : ℕ) (done : List ℕ) (then : Option ℕ)
-    → next + 1 ≡ left → here ≡ Some node
-    → OnWay ram all here left done → then ≡ node_of (next_of ram node)
-    → OnWay ram all then next (done ++ node_words ram node)
-way_on ram all here node left next done then e is way at =
-    record { address = next_of ram node; at = at; are = way_node ram all here node left next done e is way }
+pub nodes_go : (ram : List ℕ) (start node limit next then : ℕ) → next + 1 ≡ limit → Some node ≡ node_of start
+    → then ≡ next_of ram node
+    → nodes_words ram (record { start = start; limit = limit })
+    ≡ node_words ram node ++ nodes_words ram (record { start = then; limit = next })
+nodes_go ram start node limit next then e at is =
+    let on = goes_there start node at in
+    rw (is, on.1) (ap (flat_map (node_words ram)) (chain_goes ram start limit next e on.0))

@@ -4,24 +4,22 @@ use Rattle.std.proofs.Common.{subst, ◌∙◌, append-nil, arith, option_to_lis
 use Rattle.dev_io.specs.Device.{appended}
 use Rattle.dev_io.proofs.Appended.{appended-appended, appended-nil}
 use Rattle.gathered_out.specs.Pieces.{AreOut, Piece, bytes_of, piece}
-use Rattle.gathered_out.specs.Puts.{ArePieces, BreaksPut, IsPut, Puts}
+use Rattle.gathered_out.specs.Puts.{ArePieces, BreaksPut, IsPut}
 use Rattle.gathered_out.proofs.Pieces.{bytes_append}
 use Rattle.gathered_out.proofs.Puts.{put_none, put_on, puts_all, HasPut}
 use Rattle.gpu_taps.specs.Tally.{Reading}
 use Rattle.event_play.specs.Frames.{Frame}
 use Rattle.event_play.specs.Lines.{IsGathered, MayGather, WritesBehind, lines_behind}
-use Rattle.event_play.specs.Streams.{Outlets, PutsLines, gathering, outlets}
+use Rattle.event_play.specs.Streams.{Outlets, PutsLine, PutsLines, SinkState, with_sink}
 use Rattle.event_play.specs.declared.ending.Mode.{Mode}
 use Rattle.event_play.specs.declared.ending.Mode.TheVariants.{Vram, Shot, Report, Frames, Sums, Pixel}
 use Rattle.event_play.specs.declared.ending.Mode.TheVariants.{List as Listing, Play as Words}
 
 -- what a call puts into a sink, by what playing works on
-pub lines_put : {Value Sink : Type 0} (held : Sink → Option (List ℕ)) (failures : Sink → ℕ) (number : ℕ)
-    (bytes : List ℕ) (was is : Sink) (old new : List Piece) (heard heard_now : List Reading) (steps steps_now : ℕ)
-    (result : Result Value ℕ) → Puts held failures number bytes was is old new result
-    → PutsLines number bytes (gathering old (outlets (held was) (failures was) heard steps))
-    (gathering new (outlets (held is) (failures is) heard_now steps_now)) result
-lines_put held failures number bytes was is old new heard heard_now steps steps_now result puts =
+pub lines_put : {Value : Type 0} (number : ℕ) (bytes : List ℕ) (was is : SinkState) (heard heard_now : List Reading)
+    (steps steps_now : ℕ) (result : Result Value ℕ) → PutsLine number bytes was is result
+    → PutsLines number bytes (with_sink was heard steps) (with_sink is heard_now steps_now) result
+lines_put number bytes was is heard heard_now steps steps_now result puts =
     record { ok = puts.ok; failed = puts.failed; cause = puts.cause; faults = puts.faults }
 
 -- the same bytes
@@ -89,7 +87,7 @@ never_both (Frames at) behind is = is
 never_both (Sums at) behind is = is
 
 -- bytes that are written where nothing is gathered
-put_through : (number : ℕ) (bytes : List ℕ) (before now : Option (List ℕ)) → now ≡ appended before bytes
+pub put_through : (number : ℕ) (bytes : List ℕ) (before now : Option (List ℕ)) → now ≡ appended before bytes
     → IsPut number bytes before now [] []
 put_through number bytes before now wrote = record {
   parts = piece number bytes ∷ [];

@@ -9,12 +9,13 @@ mod feed;
 mod film;
 mod finals;
 pub mod laws;
-mod nowhere;
+mod outlet;
 mod pause;
 mod play;
 mod rig;
 mod state;
 mod take;
+mod words;
 mod work;
 
 pub use block::{Block, address_in};

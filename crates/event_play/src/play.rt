@@ -18,6 +18,7 @@ ghost use Rattle.event_play.specs.Streams.{Outlets, gathering, outlets, streams,
 use crate::ending::{Ending, Mode, Within};
 use crate::feed::{feed_events, feed_word};
 use crate::finals::{lacks_picture, write_behind, write_finals};
+use crate::outlet::Lines;
 use crate::pause::{end_behind, write_at_pause};
 use crate::rig::Rig;
 use crate::work::judge;
@@ -141,9 +142,13 @@ impl Rig {
             (gathering lines.new (outlets (K.held out.new) (K.faults out.new) (map T.heard taps.new.items) steps.new))
             self.old self.new result }
     {
+        let lines = &mut Lines {
+            gathered: lines,
+            out,
+        };
         match *event {
-            Event::Gp0 { word } => self.play_word(word, lines, out, mode, taps, steps),
-            _ => self.play_other(event, lines, out, mode, taps, steps),
+            Event::Gp0 { word } => self.play_word(word, mode, lines, taps, steps),
+            _ => self.play_other(event, mode, lines, taps, steps),
         }
     }
 
@@ -152,20 +157,23 @@ impl Rig {
     fn play_word<K: Sink, T: Listener, L: Ledger>(
         &mut self,
         word: u32,
-        lines: &mut Gathered,
-        out: &mut K,
         mode: Mode,
+        lines: &mut Lines<K>,
         taps: &mut Vec<T>,
         steps: &mut Steps<L>,
     ) -> Result<(), Ending>
-        ensures { PlaysOrEnds mode (Event.Gp0 word)
-            (gathering lines.old (outlets (K.held out.old) (K.faults out.old) (map T.heard taps.old.items) steps.old))
-            (gathering lines.new (outlets (K.held out.new) (K.faults out.new) (map T.heard taps.new.items) steps.new))
+        ensures plays { PlaysOrEnds mode (Event.Gp0 word)
+            (gathering lines.old.gathered.now (outlets (K.held lines.old.out.now) (K.faults lines.old.out.now)
+            (map T.heard taps.old.items) steps.old))
+            (gathering lines.new.gathered.now (outlets (K.held lines.new.out.now) (K.faults lines.new.out.now)
+            (map T.heard taps.new.items) steps.new))
             self.old self.new result }
+        ensures gathered { lines.new.gathered.ghost_name ≡ lines.old.gathered.ghost_name }
+        ensures out { lines.new.out.ghost_name ≡ lines.old.out.ghost_name }
     {
         let number = self.next_number();
         let within = Within { number, mode };
-        match feed_word(&mut self.gpu, within, word, lines, out, taps, steps) {
+        match feed_word(&mut self.gpu, within, word, lines, taps, steps) {
             Ok(()) => {
                 self.played = number;
                 Ok(())
@@ -195,16 +203,19 @@ impl Rig {
     fn play_other<K: Sink, T: Listener, L: Ledger>(
         &mut self,
         event: &Event,
-        lines: &mut Gathered,
-        out: &mut K,
         mode: Mode,
+        lines: &mut Lines<K>,
         taps: &mut Vec<T>,
         steps: &mut Steps<L>,
     ) -> Result<(), Ending>
-        ensures { PlaysOrEnds mode event.now
-            (gathering lines.old (outlets (K.held out.old) (K.faults out.old) (map T.heard taps.old.items) steps.old))
-            (gathering lines.new (outlets (K.held out.new) (K.faults out.new) (map T.heard taps.new.items) steps.new))
+        ensures plays { PlaysOrEnds mode event.now
+            (gathering lines.old.gathered.now (outlets (K.held lines.old.out.now) (K.faults lines.old.out.now)
+            (map T.heard taps.old.items) steps.old))
+            (gathering lines.new.gathered.now (outlets (K.held lines.new.out.now) (K.faults lines.new.out.now)
+            (map T.heard taps.new.items) steps.new))
             self.old self.new result }
+        ensures gathered { lines.new.gathered.ghost_name ≡ lines.old.gathered.ghost_name }
+        ensures out { lines.new.out.ghost_name ≡ lines.old.out.ghost_name }
     {
         let number = self.next_number();
         let work = match judge(event, &mut self.walk, &self.ram, self.running) {
@@ -217,11 +228,12 @@ impl Rig {
             }
         };
         let within = Within { number, mode };
-        match self.perform(within, work, lines, out, taps, steps) {
+        match self.perform(within, work, lines, taps, steps) {
             Err(event) => Err(Ending::WriteFailed { event }),
             Ok(shown) => {
                 self.played = number;
-                let Ok(()) = write_behind(&self.gpu, event, number, shown, out, mode, steps) else {
+                let Ok(()) = write_behind(&self.gpu, event, number, shown, lines.out, mode, steps)
+                else {
                     return Err(Ending::WriteFailed { event: number });
                 };
                 Ok(())

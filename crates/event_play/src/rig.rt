@@ -7,17 +7,16 @@ ghost use Rattle.event_play.specs.Replay.{next_number};
 ghost use Rattle.event_play.specs.RigState.{RigState, first_rig, Stands, machine_of};
 ghost use Rattle.event_play.specs.Step.{Machine, event_step, tall_machine};
 ghost use Rattle.event_play.specs.Stepping.{HasStepped};
-ghost use Rattle.event_play.specs.Streams.{gathering, outlets, without_sink};
+ghost use Rattle.event_play.specs.Streams.{with_sink, without_sink};
 ghost use Rattle.event_play.specs.Work.{work_of, IsWork};
 
 use crate::ending::{Mode, Within};
 use crate::fault::EventFault;
 use crate::feed::feed;
-use crate::nowhere::Nowhere;
+use crate::outlet::{NoLines, Outlet};
 use crate::take::take_block;
+use crate::words::WordCursor;
 use crate::work::{Work, judge};
-use dev_io::Sink;
-use gathered_out::Gathered;
 use gpu_capture::Event;
 use gpu_core::Gpu;
 use gpu_taps::Listener;
@@ -101,9 +100,7 @@ impl Rig {
                     number: self.next_number(),
                     mode: Mode::Vram,
                 };
-                let mut lines = Gathered::new();
-                let mut nowhere = Nowhere {};
-                match self.perform(within, work, &mut lines, &mut nowhere, taps, steps) {
+                match self.perform(within, work, &mut NoLines {}, taps, steps) {
                     Ok(shown) => {
                         self.played = within.number;
                         Ok(shown)
@@ -127,24 +124,22 @@ impl Rig {
     /// Does a work in the event of this number, and puts the lines of its notes as they come, if the mode asks for
     /// them. Where one can't be put, the words behind its item are not fed, and the answer is the number of the first
     /// event whose lines lack a byte.
-    pub(crate) fn perform<K: Sink, T: Listener, L: Ledger>(
+    pub(crate) fn perform<O: Outlet, T: Listener, L: Ledger>(
         &mut self,
         within: Within,
         work: Work,
-        lines: &mut Gathered,
-        out: &mut K,
+        lines: &mut O,
         taps: &mut Vec<T>,
         steps: &mut Steps<L>,
     ) -> Result<Option<u32>, u64>
         requires { IsWork work }
         ensures performs { Performs within.mode within.number work
-            (gathering lines.old (outlets (K.held out.old) (K.faults out.old) (map T.heard taps.old.items) steps.old))
-            (gathering lines.new (outlets (K.held out.new) (K.faults out.new) (map T.heard taps.new.items) steps.new))
-            self.old self.new result }
+            (with_sink (O.state lines.old) (map T.heard taps.old.items) steps.old)
+            (with_sink (O.state lines.new) (map T.heard taps.new.items) steps.new) self.old self.new result }
         ensures puts { PutsWork within.mode within.number work
-            (gathering lines.old (outlets (K.held out.old) (K.faults out.old) (map T.heard taps.old.items) steps.old))
-            (gathering lines.new (outlets (K.held out.new) (K.faults out.new) (map T.heard taps.new.items) steps.new))
-            self.old result }
+            (with_sink (O.state lines.old) (map T.heard taps.old.items) steps.old)
+            (with_sink (O.state lines.new) (map T.heard taps.new.items) steps.new) self.old result }
+        ensures same { O.same lines.old lines.new }
     {
         match work {
             Work::Nothing => Ok(None),
@@ -153,16 +148,8 @@ impl Rig {
                 Ok(None)
             }
             Work::Feed { words, next } => {
-                match feed(
-                    &mut self.gpu,
-                    &self.ram,
-                    within,
-                    words,
-                    lines,
-                    out,
-                    taps,
-                    steps,
-                ) {
+                let words = WordCursor::new(&self.ram, words);
+                match feed(&mut self.gpu, within, words, lines, taps, steps) {
                     Ok(()) => {
                         self.running = next;
                         Ok(None)

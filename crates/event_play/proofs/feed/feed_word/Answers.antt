@@ -5,32 +5,32 @@ use Rattle.event_play.proofs.Feeds.{quiet_feeds, word_feeds, word_lines, word_st
 use Rattle.event_play.proofs.Putting.{lines_put, puts_same}
 use Rattle.event_play.proofs.feed.feed_word.Goals as goal
 
-pub returns-in-List : goal.returns-in-List
-returns-in-List g c =
+pub returns-in-List-clause-feeds : goal.returns-in-List-clause-feeds
+returns-in-List-clause-feeds g c =
     let fed = c.gp0-note.ensures in
     rw c.in-List.is (record {
       ok = λ s e.
           on_ok_weaker c.put_listed.result
           (λ put. word_feeds _ s c.args.within.number c.args.word c.gp0-note.result _ _ _ (fed.feed s e)
           (fed.note s e) fed.taps (fed.cost s e))
-          c.put_listed.ensures.ok;
+          c.put_listed.ensures.puts.ok;
       failed = λ s e.
           on_err_weaker c.put_listed.result
           (λ part. word_stops _ s c.args.within.number c.args.word c.gp0-note.result _ _ _ (fed.feed s e)
           (fed.note s e) fed.taps (fed.cost s e))
-          c.put_listed.ensures.cause;
+          c.put_listed.ensures.puts.cause;
       puts = λ s e.
           puts_same _ _ _ _ _ c.put_listed.result
           (word_lines s c.args.within.number c.args.word c.gp0-note.result (fed.note s e))
-          (lines_put _ _ _ _ _ _ _ _ _ _ _ _ c.put_listed.result c.put_listed.ensures);
+          (lines_put _ _ _ _ _ _ _ _ c.put_listed.result c.put_listed.ensures.puts);
       kept = inl tt;
-      gathers = on_err_weaker c.put_listed.result (λ part. tt) c.put_listed.ensures.cause;
-      cause = c.put_listed.ensures.cause;
-      faults = c.put_listed.ensures.faults;
+      gathers = on_err_weaker c.put_listed.result (λ part. tt) c.put_listed.ensures.puts.cause;
+      cause = c.put_listed.ensures.puts.cause;
+      faults = c.put_listed.ensures.puts.faults;
     })
 
-pub returns-in_default : goal.returns-in_default
-returns-in_default g c =
+pub returns-in_default-clause-feeds : goal.returns-in_default-clause-feeds
+returns-in_default-clause-feeds g c =
     let fed = c.gp0.ensures in
     let not : IsGathered c.args.within.mode → ⊥ = search rules in
     quiet_feeds c.args.within.mode c.args.within.number c.args.word c.gp0.result _ _ _ _ not refl refl refl fed.feed

@@ -5,8 +5,8 @@ use Rattle.event_play.proofs.Events.{step_fault}
 use Rattle.event_play.proofs.Plays.{feeds_part, plays, shows_part}
 use Rattle.event_play.proofs.rig.Rig.play_other.Goals as goal
 
-pub returns-in-Err : goal.returns-in-Err
-returns-in-Err g c =
+pub returns-in-Err-clause-plays : goal.returns-in-Err-clause-plays
+returns-in-Err-clause-plays g c =
     let was : RigState = record {
       gpu = c.self.inside.gpu;
       ram = c.self.inside.ram;
@@ -32,8 +32,8 @@ returns-in-Err g c =
       faults = omega arith;
     }
 
-pub returns-in-Err-perform : goal.returns-in-Err-perform
-returns-in-Err-perform g c =
+pub returns-in-Err-perform-clause-plays : goal.returns-in-Err-perform-clause-plays
+returns-in-Err-perform-clause-plays g c =
     let was : RigState = record {
       gpu = c.self.inside.gpu;
       ram = c.self.inside.ram;
@@ -54,8 +54,8 @@ returns-in-Err-perform g c =
       faults = c.in-Err-perform.ensures.performs.faults;
     }
 
-pub returns-in_default : goal.returns-in_default
-returns-in_default g c =
+pub returns-in_default-clause-plays : goal.returns-in_default-clause-plays
+returns-in_default-clause-plays g c =
     let was : RigState = record {
       gpu = c.self.inside.gpu;
       ram = c.self.inside.ram;
@@ -89,8 +89,8 @@ returns-in_default g c =
       faults = omega (arith, c.in-Ok-perform.ensures.performs.faults, c.in_default.ensures.writes.faults);
     }
 
-pub returns-in-Ok-write_behind : goal.returns-in-Ok-write_behind
-returns-in-Ok-write_behind g c =
+pub returns-in-Ok-write_behind-clause-plays : goal.returns-in-Ok-write_behind-clause-plays
+returns-in-Ok-write_behind-clause-plays g c =
     let was : RigState = record {
       gpu = c.self.inside.gpu;
       ram = c.self.inside.ram;

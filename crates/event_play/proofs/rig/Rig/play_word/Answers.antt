@@ -6,8 +6,8 @@ use Rattle.event_play.specs.declared.work.Words.TheVariants.{One}
 use Rattle.event_play.proofs.Plays.{feeds_part, nothing_behind, plays, word_done}
 use Rattle.event_play.proofs.rig.Rig.play_word.Goals as goal
 
-pub returns-in-Ok : goal.returns-in-Ok
-returns-in-Ok g c =
+pub returns-in-Ok-clause-plays : goal.returns-in-Ok-clause-plays
+returns-in-Ok-clause-plays g c =
     let was : RigState = record {
       gpu = c.self.inside.gpu;
       ram = c.self.inside.ram;
@@ -22,17 +22,17 @@ returns-in-Ok g c =
           let inside : StandsFor was t = subst Q (sym c.self.view_is) stands in
           plays _ was fed fed t c.next_number-number.result _ (work.Feed (One c.args.word) was.running) None _ _ _ _ _
           refl refl inside number
-          (λ s e. word_done _ was c.next_number-number.result c.args.word _ _ _ s (c.in-Ok.ensures.ok s e))
-          (λ s e. (c.in-Ok.ensures.puts s e).ok) c.in-Ok.ensures.kept free
+          (λ s e. word_done _ was c.next_number-number.result c.args.word _ _ _ s (c.in-Ok.ensures.feeds.ok s e))
+          (λ s e. (c.in-Ok.ensures.feeds.puts s e).ok) c.in-Ok.ensures.feeds.kept free
           (nothing_behind c.args.mode _) (omega arith);
       ends = λ t stands free. tt;
       known = tt;
       cause = tt;
-      faults = c.in-Ok.ensures.faults;
+      faults = c.in-Ok.ensures.feeds.faults;
     }
 
-pub returns-in-Err : goal.returns-in-Err
-returns-in-Err g c =
+pub returns-in-Err-clause-plays : goal.returns-in-Err-clause-plays
+returns-in-Err-clause-plays g c =
     let was : RigState = record {
       gpu = c.self.inside.gpu;
       ram = c.self.inside.ram;
@@ -46,11 +46,11 @@ returns-in-Err g c =
           let Q : RigState → Type 0 = λ rig. StandsFor rig t in
           let inside : StandsFor was t = subst Q (sym c.self.view_is) stands in
           inl (feeds_part _ was _ t c.next_number-number.result _ (work.Feed (One c.args.word) was.running) _ _ _ refl
-          inside number c.in-Err.ensures.gathers
-          (c.in-Err.ensures.puts t.state.gpu inside.state.gpu).failed
-          (record { feeding = c.in-Err.ensures.failed t.state.gpu inside.state.gpu; ram = refl; running = refl })
+          inside number c.in-Err.ensures.feeds.gathers
+          (c.in-Err.ensures.feeds.puts t.state.gpu inside.state.gpu).failed
+          (record { feeding = c.in-Err.ensures.feeds.failed t.state.gpu inside.state.gpu; ram = refl; running = refl })
           refl);
       known = (tt, λ x. x);
-      cause = λ x. c.in-Err.ensures.cause;
-      faults = c.in-Err.ensures.faults;
+      cause = λ x. c.in-Err.ensures.feeds.cause;
+      faults = c.in-Err.ensures.feeds.faults;
     }

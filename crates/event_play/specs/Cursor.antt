@@ -1,0 +1,36 @@
+-- The words that are left of those that a work feeds.
+use Rattle.std.specs.Prelude.{◌≡◌, ◌<◌, ◌+◌, ◌-◌, ◌++◌, ℕ, zero, suc, List, [], ◌∷◌, flat_map}
+use Rattle.ot_clear_dma.specs.Ram.{word_at}
+use Rattle.list_dma.specs.Node.{node_words}
+use Rattle.list_dma.specs.Walk.{chain}
+use Rattle.event_play.specs.Block.{address_in, block_words, IsBlock}
+use Rattle.event_play.specs.declared.block.Block.{Block}
+use Rattle.event_play.specs.declared.words.Behind.{Behind}
+use Rattle.event_play.specs.declared.words.Behind.TheVariants.{Nothing, Word, Nodes}
+use Rattle.event_play.specs.declared.words.Node.{Node}
+use Rattle.event_play.specs.declared.words.NodeList.{NodeList}
+
+-- so many words of a block, from a place on
+abbrev pub words_from : List ℕ → Block → (at count : ℕ) → List ℕ
+words_from ram block at zero = []
+words_from ram block at (suc count) = word_at ram (address_in block at) ∷ words_from ram block (at + 1) count
+
+-- the words of the first nodes of a list
+abbrev pub nodes_words : List ℕ → NodeList → List ℕ
+nodes_words ram list = flat_map (node_words ram) (chain ram list.start list.limit)
+
+-- the words that come behind a block
+abbrev pub behind_words : List ℕ → Behind → List ℕ
+behind_words ram Nothing = []
+behind_words ram (Word word) = word ∷ []
+behind_words ram (Nodes list) = nodes_words ram list
+
+-- the words of a block from a place on, and what comes behind it
+abbrev pub words_left : List ℕ → Block → (at : ℕ) → Behind → List ℕ
+words_left ram block at behind = words_from ram block at (block.n - at) ++ behind_words ram behind
+
+-- the first node of a list that has words
+pub record IsNextNode (ram : List ℕ) (list : NodeList) (node : Node) : Type 0 where
+  pub some : 0 < node.words.n
+  pub bounds : IsBlock node.words
+  pub words : nodes_words ram list ≡ block_words ram node.words ++ behind_words ram node.behind

@@ -1,0 +1,172 @@
+// The words that a work feeds, one after another.
+ghost use Rattle.std.specs.Prelude.{◌≡◌, ◌≤◌, ◌^◌, ◌++◌, ◌∷◌, [], MatchOption};
+ghost use Rattle.list_dma.specs.Node.{next_of, node_words};
+ghost use Rattle.event_play.specs.Block.{block_words, IsBlock};
+ghost use Rattle.event_play.specs.Cursor.{IsNextNode, behind_words, nodes_words};
+ghost use Rattle.event_play.specs.Step.{words_of};
+ghost use Rattle.event_play.specs.Work.{AreWords};
+
+use crate::block::{Block, address_in};
+use crate::work::Words;
+use list_dma::{WALK_LIMIT, node_at};
+use ot_clear_dma::Ram;
+use std::marker::Model;
+
+/// The words that a work feeds, one after another. Contracts see the list of the words that are left.
+#[derive(Drop)]
+pub(crate) struct WordCursor<'a> {
+    ram: &'a Ram,
+    block: Block,
+    at: u32,
+    behind: Behind,
+}
+
+impl<'a> Model for WordCursor<'a> {
+    ghost use Rattle.std.specs.Prelude.{ℕ, List, ◌≤◌};
+    ghost use Rattle.event_play.specs.Block.{IsBlock};
+    ghost use Rattle.event_play.specs.Cursor.{words_left};
+
+    ghost Value = { List ℕ };
+
+    ghost view = { λ c. words_left c.ram.now c.block c.at c.behind };
+
+    ghost invariant = { λ c. IsBlock c.block × (c.at ≤ c.block.n) };
+}
+
+// What comes behind a block.
+#[derive(Clone, Copy)]
+enum Behind {
+    Nothing,
+    /// A word that the processor writes.
+    Word { word: u32 },
+    /// The nodes of a list from an address on, so many at the most.
+    Nodes { list: NodeList },
+}
+
+// The first nodes of a list: where it starts, and how many at the most.
+#[derive(Clone, Copy)]
+struct NodeList {
+    start: u32,
+    limit: u32,
+}
+
+// The words of a node, and what comes behind it.
+#[derive(Clone, Copy)]
+struct Node {
+    words: Block,
+    behind: Behind,
+}
+
+// No word of main memory.
+const NO_BLOCK: Block = Block {
+    at: 0,
+    n: 0,
+    back: false,
+};
+
+impl<'a> WordCursor<'a> {
+    /// These words, none of them taken yet.
+    #[tactic(auto, unfolding(list_dma::specs::Walk::list_words, list_dma::specs::Walk::walk_of))]
+    pub(crate) fn new(ram: &'a Ram, words: Words) -> WordCursor<'a>
+        requires { AreWords words }
+        ensures { result ≡ words_of ram.now words }
+    {
+        match words {
+            Words::One { word } => WordCursor::of(ram, NO_BLOCK, Behind::Word { word }),
+            Words::Block { block } => WordCursor::of(ram, block, Behind::Nothing),
+            Words::Node { node } => WordCursor::of(ram, block_at(ram, node), Behind::Nothing),
+            Words::List { start } => {
+                let list = NodeList {
+                    start,
+                    limit: WALK_LIMIT,
+                };
+                WordCursor::of(ram, NO_BLOCK, Behind::Nodes { list })
+            }
+        }
+    }
+
+    // The words of a block, and of what comes behind it.
+    fn of(ram: &'a Ram, block: Block, behind: Behind) -> WordCursor<'a>
+        requires { IsBlock block }
+        ensures { result ≡ block_words ram.now block ++ behind_words ram.now behind }
+    {
+        WordCursor {
+            ram,
+            block,
+            at: 0,
+            behind,
+        }
+    }
+
+    /// Takes the next word. None comes exactly where none is left.
+    #[inline(always)]
+    pub(crate) fn next(&mut self) -> Option<u32>
+        ensures { MatchOption result (self.old ≡ []) (λ word. self.old ≡ word ∷ self.new) }
+    {
+        if self.at < self.block.n {
+            let word = self.ram.get(address_in(self.block, self.at));
+            self.at += 1;
+            return Some(word);
+        }
+        match self.behind {
+            Behind::Nothing => None,
+            Behind::Word { word } => {
+                self.behind = Behind::Nothing;
+                Some(word)
+            }
+            Behind::Nodes { list } => match next_node(self.ram, list) {
+                None => None,
+                Some(node) => {
+                    self.block = node.words;
+                    self.at = 1;
+                    self.behind = node.behind;
+                    Some(self.ram.get(address_in(node.words, 0)))
+                }
+            },
+        }
+    }
+}
+
+// The words of a node, as a block.
+fn block_at(ram: &Ram, node: u32) -> Block
+    requires { node ≤ 2 ^ 21 }
+    ensures words { block_words ram.now result ≡ node_words ram.now node }
+    ensures bounds { IsBlock result }
+{
+    Block {
+        at: node + 4,
+        n: ram.get(node) >> 24,
+        back: false,
+    }
+}
+
+// The address in the header of a node.
+fn next_address(ram: &Ram, node: u32) -> u32
+    ensures { result ≡ next_of ram.now node }
+{
+    ram.get(node) & 0xff_ffff
+}
+
+// The first node of a list that has words. None comes where no node has any.
+fn next_node(ram: &Ram, list: NodeList) -> Option<Node>
+    ensures { MatchOption result (nodes_words ram.now list ≡ []) (IsNextNode ram.now list) }
+{
+    let mut start = list.start;
+    'nodes: for k in 0..list.limit {
+        match node_at(start) {
+            None => return None,
+            Some(node) => {
+                let words = block_at(ram, node);
+                start = next_address(ram, node);
+                if 0 < words.n {
+                    let limit = list.limit - (k + 1);
+                    let behind = Behind::Nodes {
+                        list: NodeList { start, limit },
+                    };
+                    return Some(Node { words, behind });
+                }
+            }
+        }
+    }
+    None
+}
