@@ -20,3 +20,4 @@ pub mod OwnWords
 pub mod AlikeStates
 pub mod Splits
 pub mod Shots
+pub mod Stopping

@@ -1,21 +1,17 @@
 // Words that go to GP0, one after another. A call that feeds words has six parameters, since a word reaches all that
 // playing works on: the drawing processor, what puts lines, the taps and the steps.
-ghost use Rattle.std.specs.Prelude.{◌≡◌, ◌≤◌, ◌<◌, ◌+◌, [], ◌∷◌, length, take, map, flat_map};
-ghost use Rattle.std.specs.Prelude.{option_to_list, IfSome};
-ghost use Rattle.packet_text.specs.Line.{change_line, listed, note_line};
+ghost use Rattle.std.specs.Prelude.{◌≡◌, ◌≤◌, ◌<◌, ◌+◌, [], ◌∷◌, length, take, map};
 ghost use Rattle.event_play.specs.Feeding.{FeedsWords};
 ghost use Rattle.event_play.specs.PlayedWords.{IsTold, after_words, number_behind};
 ghost use Rattle.event_play.specs.Replay.{Tale};
-ghost use Rattle.event_play.specs.Streams.{Outlets, PutsLine, with_sink, without_sink};
-ghost use Rattle.event_play.specs.Strokes.{seen_cell, change_of};
+ghost use Rattle.event_play.specs.Streams.{Outlets, with_sink, without_sink};
+ghost use Rattle.event_play.specs.Strokes.{seen_cell};
 
 use crate::ending::{Mode, Within};
-use crate::outlet::Outlet;
+use crate::outlet::{Outlet, put_changed, put_listed};
 use crate::words::WordCursor;
-use gp0_packets::Note;
 use gpu_core::Gpu;
 use gpu_taps::Listener;
-use packet_text::{change_text, note_text};
 use px_num::Cell;
 use std::sync::ledger::Ledger;
 use vram_store::Steps;
@@ -113,58 +109,6 @@ fn seen_cell<L: Ledger>(gpu: &Gpu, cell: Cell, steps: &mut Steps<L>) -> u16
     } else {
         0
     }
-}
-
-// Puts the line of an item that left another value in a cell than it found.
-fn put_changed<O: Outlet>(
-    number: u64,
-    note: &Option<Note>,
-    before: u16,
-    after: u16,
-    lines: &mut O,
-) -> Result<(), u64>
-    ensures puts { PutsLine number (change_of note.now before after) (O.state lines.old) (O.state lines.new) result }
-    ensures same { O.same lines.old lines.new }
-{
-    match note {
-        Some(note) if before != after => put_change(number, note, before, after, lines),
-        _ => Ok(()),
-    }
-}
-
-// Puts the line of a note, unless it is that of pixels.
-fn put_listed<O: Outlet>(number: u64, note: &Option<Note>, lines: &mut O) -> Result<(), u64>
-    requires { IfSome note.now (λ note. note.class ≤ 9) }
-    ensures puts { PutsLine number (flat_map listed (option_to_list note.now)) (O.state lines.old) (O.state lines.new) result }
-    ensures same { O.same lines.old lines.new }
-{
-    match note {
-        Some(note) if note.class != 9 => put_note(number, note, lines),
-        _ => Ok(()),
-    }
-}
-
-// Puts the line of a note.
-fn put_note<O: Outlet>(number: u64, note: &Note, lines: &mut O) -> Result<(), u64>
-    requires { note.now.class ≤ 9 }
-    ensures puts { PutsLine number (note_line note.now) (O.state lines.old) (O.state lines.new) result }
-    ensures same { O.same lines.old lines.new }
-{
-    lines.put(number, note_text(note).as_slice())
-}
-
-// Puts the line of what an item changed of a cell.
-fn put_change<O: Outlet>(
-    number: u64,
-    note: &Note,
-    before: u16,
-    after: u16,
-    lines: &mut O,
-) -> Result<(), u64>
-    ensures puts { PutsLine number (change_line note.now before after) (O.state lines.old) (O.state lines.new) result }
-    ensures same { O.same lines.old lines.new }
-{
-    lines.put(number, change_text(note, before, after).as_slice())
 }
 
 /// Feeds words, an event each, behind so many events, and says how many were played then. No line is written for them.

@@ -4,6 +4,7 @@
 mod block;
 mod direct;
 mod ending;
+mod event;
 mod fault;
 mod feed;
 mod film;
@@ -14,6 +15,7 @@ mod pause;
 mod play;
 mod rig;
 mod state;
+mod stop;
 mod take;
 mod words;
 mod work;

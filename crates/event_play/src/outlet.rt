@@ -1,9 +1,13 @@
 // What puts the lines of items.
-ghost use Rattle.std.specs.Prelude.{◌≤◌, length};
+ghost use Rattle.std.specs.Prelude.{◌≤◌, flat_map, length, option_to_list, IfSome};
+ghost use Rattle.packet_text.specs.Line.{change_line, listed, note_line};
 ghost use Rattle.event_play.specs.Streams.{PutsLine, SinkState};
+ghost use Rattle.event_play.specs.Strokes.{change_of};
 
 use dev_io::Sink;
 use gathered_out::Gathered;
+use gp0_packets::Note;
+use packet_text::{change_text, note_text};
 
 /// What puts the lines of items.
 pub(crate) trait Outlet {
@@ -66,4 +70,60 @@ impl Outlet for NoLines {
     ghost same_at_first = { λ x. tt };
 
     ghost same_on = { λ x y z first then. tt };
+}
+
+/// Puts the line of an item that left another value in a cell than it found.
+pub(crate) fn put_changed<O: Outlet>(
+    number: u64,
+    note: &Option<Note>,
+    before: u16,
+    after: u16,
+    lines: &mut O,
+) -> Result<(), u64>
+    ensures puts { PutsLine number (change_of note.now before after) (O.state lines.old) (O.state lines.new) result }
+    ensures same { O.same lines.old lines.new }
+{
+    match note {
+        Some(note) if before != after => put_change(number, note, before, after, lines),
+        _ => Ok(()),
+    }
+}
+
+/// Puts the line of a note, unless it is that of pixels.
+pub(crate) fn put_listed<O: Outlet>(
+    number: u64,
+    note: &Option<Note>,
+    lines: &mut O,
+) -> Result<(), u64>
+    requires { IfSome note.now (λ note. note.class ≤ 9) }
+    ensures puts { PutsLine number (flat_map listed (option_to_list note.now)) (O.state lines.old) (O.state lines.new) result }
+    ensures same { O.same lines.old lines.new }
+{
+    match note {
+        Some(note) if note.class != 9 => put_note(number, note, lines),
+        _ => Ok(()),
+    }
+}
+
+// Puts the line of a note.
+fn put_note<O: Outlet>(number: u64, note: &Note, lines: &mut O) -> Result<(), u64>
+    requires { note.now.class ≤ 9 }
+    ensures puts { PutsLine number (note_line note.now) (O.state lines.old) (O.state lines.new) result }
+    ensures same { O.same lines.old lines.new }
+{
+    lines.put(number, note_text(note).as_slice())
+}
+
+// Puts the line of what an item changed of a cell.
+fn put_change<O: Outlet>(
+    number: u64,
+    note: &Note,
+    before: u16,
+    after: u16,
+    lines: &mut O,
+) -> Result<(), u64>
+    ensures puts { PutsLine number (change_line note.now before after) (O.state lines.old) (O.state lines.new) result }
+    ensures same { O.same lines.old lines.new }
+{
+    lines.put(number, change_text(note, before, after).as_slice())
 }

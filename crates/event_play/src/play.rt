@@ -3,28 +3,23 @@ ghost use Rattle.std.specs.Prelude.{◌≡◌, ◌≤◌, None, map, OnOk, OnErr
 ghost use Rattle.dev_io.specs.Device.{Rose};
 ghost use Rattle.gpu_capture.specs.Reader.{IsReadFault, work_left};
 ghost use Rattle.gpu_capture.specs.Words.{TakesWords, StopsBehind};
-ghost use Rattle.gpu_core.specs.Kept.{kept_of};
-ghost use Rattle.gpu_core.specs.Machine.{State};
 ghost use Rattle.event_play.specs.Causes.{MayReadFault, MayWriteFault, IsEnding};
-ghost use Rattle.event_play.specs.Ends.{PlaysOrEnds, EndsAt, EndsReading};
 ghost use Rattle.event_play.specs.Lines.{IsGathered};
 ghost use Rattle.event_play.specs.PlayedWords.{IsTold, AreQuiet, after_words};
 ghost use Rattle.event_play.specs.Playing.{EndsPlay};
-ghost use Rattle.event_play.specs.Replay.{Tale, script_of, script_behind, from_state, next_number, raised};
+ghost use Rattle.event_play.specs.Replay.{Tale, script_of, script_behind, from_state, raised};
 ghost use Rattle.event_play.specs.RigState.{Stands, StandsFor};
 ghost use Rattle.event_play.specs.Step.{Machine};
-ghost use Rattle.event_play.specs.Streams.{Outlets, gathering, outlets, streams, without_sink};
+ghost use Rattle.event_play.specs.Streams.{Outlets, streams, without_sink};
 
-use crate::ending::{Ending, Mode, Within};
-use crate::feed::{feed_events, feed_word};
-use crate::finals::{lacks_picture, write_behind, write_finals};
+use crate::ending::{Ending, Mode};
+use crate::feed::feed_events;
 use crate::outlet::Lines;
 use crate::pause::{end_behind, write_at_pause};
 use crate::rig::Rig;
-use crate::work::judge;
 use dev_io::{Sink, Source};
 use gathered_out::Gathered;
-use gpu_capture::{Event, EventReader, Stop, WordBlock};
+use gpu_capture::{EventReader, Stop, WordBlock};
 use gpu_taps::Listener;
 use std::sync::ledger::Ledger;
 use vram_store::Steps;
@@ -127,61 +122,6 @@ impl Rig {
         }
     }
 
-    // Plays one event, and puts or writes what is due for it.
-    fn play_event<K: Sink, T: Listener, L: Ledger>(
-        &mut self,
-        event: &Event,
-        lines: &mut Gathered,
-        out: &mut K,
-        mode: Mode,
-        taps: &mut Vec<T>,
-        steps: &mut Steps<L>,
-    ) -> Result<(), Ending>
-        ensures { PlaysOrEnds mode event.now
-            (gathering lines.old (outlets (K.held out.old) (K.faults out.old) (map T.heard taps.old.items) steps.old))
-            (gathering lines.new (outlets (K.held out.new) (K.faults out.new) (map T.heard taps.new.items) steps.new))
-            self.old self.new result }
-    {
-        let lines = &mut Lines {
-            gathered: lines,
-            out,
-        };
-        match *event {
-            Event::Gp0 { word } => self.play_word(word, mode, lines, taps, steps),
-            _ => self.play_other(event, mode, lines, taps, steps),
-        }
-    }
-
-    // The same for a word that is written to GP0. It asks for no judgement, and touches nothing of the rig but the
-    // drawing processor.
-    fn play_word<K: Sink, T: Listener, L: Ledger>(
-        &mut self,
-        word: u32,
-        mode: Mode,
-        lines: &mut Lines<K>,
-        taps: &mut Vec<T>,
-        steps: &mut Steps<L>,
-    ) -> Result<(), Ending>
-        ensures plays { PlaysOrEnds mode (Event.Gp0 word)
-            (gathering lines.old.gathered.now (outlets (K.held lines.old.out.now) (K.faults lines.old.out.now)
-            (map T.heard taps.old.items) steps.old))
-            (gathering lines.new.gathered.now (outlets (K.held lines.new.out.now) (K.faults lines.new.out.now)
-            (map T.heard taps.new.items) steps.new))
-            self.old self.new result }
-        ensures gathered { lines.new.gathered.ghost_name ≡ lines.old.gathered.ghost_name }
-        ensures out { lines.new.out.ghost_name ≡ lines.old.out.ghost_name }
-    {
-        let number = self.next_number();
-        let within = Within { number, mode };
-        match feed_word(&mut self.gpu, within, word, lines, taps, steps) {
-            Ok(()) => {
-                self.played = number;
-                Ok(())
-            }
-            Err(event) => Err(Ending::WriteFailed { event }),
-        }
-    }
-
     // Plays words that are written to GP0, an event each, for which no line is due.
     fn play_words<T: Listener, L: Ledger>(
         &mut self,
@@ -197,107 +137,6 @@ impl Rig {
         ensures running { self.new.running ≡ self.old.running }
     {
         self.played = feed_events(&mut self.gpu, self.played, words, taps, steps);
-    }
-
-    // The same for any event.
-    fn play_other<K: Sink, T: Listener, L: Ledger>(
-        &mut self,
-        event: &Event,
-        mode: Mode,
-        lines: &mut Lines<K>,
-        taps: &mut Vec<T>,
-        steps: &mut Steps<L>,
-    ) -> Result<(), Ending>
-        ensures plays { PlaysOrEnds mode event.now
-            (gathering lines.old.gathered.now (outlets (K.held lines.old.out.now) (K.faults lines.old.out.now)
-            (map T.heard taps.old.items) steps.old))
-            (gathering lines.new.gathered.now (outlets (K.held lines.new.out.now) (K.faults lines.new.out.now)
-            (map T.heard taps.new.items) steps.new))
-            self.old self.new result }
-        ensures gathered { lines.new.gathered.ghost_name ≡ lines.old.gathered.ghost_name }
-        ensures out { lines.new.out.ghost_name ≡ lines.old.out.ghost_name }
-    {
-        let number = self.next_number();
-        let work = match judge(event, &mut self.walk, &self.ram, self.running) {
-            Ok(work) => work,
-            Err(fault) => {
-                return Err(Ending::Faulted {
-                    event: number,
-                    fault,
-                });
-            }
-        };
-        let within = Within { number, mode };
-        match self.perform(within, work, lines, taps, steps) {
-            Err(event) => Err(Ending::WriteFailed { event }),
-            Ok(shown) => {
-                self.played = number;
-                let Ok(()) = write_behind(&self.gpu, event, number, shown, lines.out, mode, steps)
-                else {
-                    return Err(Ending::WriteFailed { event: number });
-                };
-                Ok(())
-            }
-        }
-    }
-
-    // Ends playing at a stop of the reader: what is gathered is written before.
-    fn end_reading<K: Sink, T: Listener, L: Ledger>(
-        &self,
-        stop: Stop,
-        lines: &mut Gathered,
-        out: &mut K,
-        mode: Mode,
-        taps: &Vec<T>,
-        steps: &mut Steps<L>,
-    ) -> Ending
-        ensures ends { (s : State) → kept_of s ≡ self.now.gpu →
-            EndsReading mode s (next_number self.now.played) stop
-            (gathering lines.old (outlets (K.held out.old) (K.faults out.old) (map T.heard taps.now.items) steps.old))
-            (outlets (K.held out.new) (K.faults out.new) (map T.heard taps.now.items) steps.new) result }
-        ensures known { IsEnding result }
-        ensures stopped { MayReadFault result → IsReadFault stop }
-        ensures cause { MayWriteFault result → Rose (K.faults out.old) (K.faults out.new) }
-        ensures faults { K.faults out.old ≤ K.faults out.new }
-    {
-        match lines.write(out) {
-            Ok(()) => self.finish(stop, out, mode, taps, steps),
-            Err(event) => Ending::WriteFailed { event },
-        }
-    }
-
-    // Ends playing at a stop of the reader where nothing is gathered: at End, what is due behind the last event is
-    // written.
-    fn finish<K: Sink, T: Listener, L: Ledger>(
-        &self,
-        stop: Stop,
-        out: &mut K,
-        mode: Mode,
-        taps: &Vec<T>,
-        steps: &mut Steps<L>,
-    ) -> Ending
-        ensures ends { (s : State) → kept_of s ≡ self.now.gpu →
-            EndsAt mode s (next_number self.now.played) stop
-            (outlets (K.held out.old) (K.faults out.old) (map T.heard taps.now.items) steps.old)
-            (outlets (K.held out.new) (K.faults out.new) (map T.heard taps.now.items) steps.new) result }
-        ensures known { IsEnding result }
-        ensures stopped { MayReadFault result → IsReadFault stop }
-        ensures cause { MayWriteFault result → Rose (K.faults out.old) (K.faults out.new) }
-        ensures faults { K.faults out.old ≤ K.faults out.new }
-    {
-        let event = self.next_number();
-        match stop {
-            Stop::End => {
-                if lacks_picture(&self.gpu, mode) {
-                    return Ending::NoPicture { event };
-                }
-                match write_finals(&self.gpu, event, out, mode, taps, steps) {
-                    Ok(()) => Ending::Done,
-                    Err(_) => Ending::WriteFailed { event },
-                }
-            }
-            _ => Ending::Stopped { event, stop },
-        }
     }
 }
 

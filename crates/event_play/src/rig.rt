@@ -183,35 +183,6 @@ impl Rig {
         }
     }
 
-    /// How many events were played. It stays at 2^64 - 1 once there.
-    pub fn played(&self) -> u64
-        ensures { result ≡ self.now.played }
-    {
-        self.played
-    }
-
-    /// The drawing processor.
-    pub fn gpu(&self) -> &Gpu
-        ensures { result.now ≡ self.now.gpu }
-    {
-        &self.gpu
-    }
-
-    /// Main memory.
-    pub fn ram(&self) -> &Ram
-        ensures { result.now ≡ self.now.ram }
-    {
-        &self.ram
-    }
-
-    /// The transfer that runs.
-    pub fn running(&self) -> Run
-        ensures value { result ≡ self.now.running }
-        ensures bounds { IsRun result }
-    {
-        self.running
-    }
-
     /// The number of the next event.
     pub(crate) fn next_number(&self) -> u64
         ensures { result ≡ next_number self.now.played }

@@ -9,13 +9,44 @@ ghost use Rattle.event_play.specs.RigState.{with_gpu};
 use crate::rig::Rig;
 use gp0_words::Pending;
 use gp1_status::Regs;
+use gpu_core::Gpu;
 use list_dma::Run;
+use ot_clear_dma::Ram;
 use std::simd::prelude::*;
 use std::sync::ledger::Ledger;
 use vram_copy::Transfer;
 use vram_store::Steps;
 
 impl Rig {
+    /// How many events were played. It stays at 2^64 - 1 once there.
+    pub fn played(&self) -> u64
+        ensures { result ≡ self.now.played }
+    {
+        self.played
+    }
+
+    /// The drawing processor.
+    pub fn gpu(&self) -> &Gpu
+        ensures { result.now ≡ self.now.gpu }
+    {
+        &self.gpu
+    }
+
+    /// Main memory.
+    pub fn ram(&self) -> &Ram
+        ensures { result.now ≡ self.now.ram }
+    {
+        &self.ram
+    }
+
+    /// The transfer that runs.
+    pub fn running(&self) -> Run
+        ensures value { result ≡ self.now.running }
+        ensures bounds { IsRun result }
+    {
+        self.running
+    }
+
     /// The open load. None exactly where none is open.
     pub fn load_job(&self) -> Option<Transfer>
         ensures value { result ≡ self.now.gpu.parts.load }

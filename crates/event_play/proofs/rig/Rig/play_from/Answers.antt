@@ -4,7 +4,8 @@ use Rattle.event_play.specs.Replay.{from_state}
 use Rattle.event_play.specs.Streams.{gathering, outlets}
 use Rattle.event_play.proofs.Awaiting.{awaits_is, pauses_on, reads, starts}
 use Rattle.event_play.proofs.BoxCosts.{from_small}
-use Rattle.event_play.proofs.Reaching.{event_ends, pause_ends, plays_on, reading_ends}
+use Rattle.event_play.proofs.Reaching.{event_ends, plays_on}
+use Rattle.event_play.proofs.Stopping.{pause_ends, reading_ends}
 use Rattle.event_play.proofs.InARow.{words_play, words_stop, left_less}
 use Rattle.event_play.proofs.rig.Rig.play_from.Goals as goal
 

@@ -1,0 +1,117 @@
+// Events of a capture are played one by one, with what is due for them.
+ghost use Rattle.std.specs.Prelude.{◌≡◌, map};
+ghost use Rattle.event_play.specs.Ends.{PlaysOrEnds};
+ghost use Rattle.event_play.specs.Replay.{next_number};
+ghost use Rattle.event_play.specs.Streams.{gathering, outlets};
+
+use crate::ending::{Ending, Mode, Within};
+use crate::feed::feed_word;
+use crate::finals::write_behind;
+use crate::outlet::Lines;
+use crate::rig::Rig;
+use crate::work::judge;
+use dev_io::Sink;
+use gathered_out::Gathered;
+use gpu_capture::Event;
+use gpu_taps::Listener;
+use std::sync::ledger::Ledger;
+use vram_store::Steps;
+
+impl Rig {
+    /// Plays one event, and puts or writes what is due for it.
+    pub(crate) fn play_event<K: Sink, T: Listener, L: Ledger>(
+        &mut self,
+        event: &Event,
+        lines: &mut Gathered,
+        out: &mut K,
+        mode: Mode,
+        taps: &mut Vec<T>,
+        steps: &mut Steps<L>,
+    ) -> Result<(), Ending>
+        ensures { PlaysOrEnds mode event.now
+            (gathering lines.old (outlets (K.held out.old) (K.faults out.old) (map T.heard taps.old.items) steps.old))
+            (gathering lines.new (outlets (K.held out.new) (K.faults out.new) (map T.heard taps.new.items) steps.new))
+            self.old self.new result }
+    {
+        let lines = &mut Lines {
+            gathered: lines,
+            out,
+        };
+        match *event {
+            Event::Gp0 { word } => self.play_word(word, mode, lines, taps, steps),
+            _ => self.play_other(event, mode, lines, taps, steps),
+        }
+    }
+
+    // The same for a word that is written to GP0. It asks for no judgement, and touches nothing of the rig but the
+    // drawing processor.
+    fn play_word<K: Sink, T: Listener, L: Ledger>(
+        &mut self,
+        word: u32,
+        mode: Mode,
+        lines: &mut Lines<K>,
+        taps: &mut Vec<T>,
+        steps: &mut Steps<L>,
+    ) -> Result<(), Ending>
+        ensures plays { PlaysOrEnds mode (Event.Gp0 word)
+            (gathering lines.old.gathered.now (outlets (K.held lines.old.out.now) (K.faults lines.old.out.now)
+            (map T.heard taps.old.items) steps.old))
+            (gathering lines.new.gathered.now (outlets (K.held lines.new.out.now) (K.faults lines.new.out.now)
+            (map T.heard taps.new.items) steps.new))
+            self.old self.new result }
+        ensures gathered { lines.new.gathered.ghost_name ≡ lines.old.gathered.ghost_name }
+        ensures out { lines.new.out.ghost_name ≡ lines.old.out.ghost_name }
+    {
+        let number = self.next_number();
+        let within = Within { number, mode };
+        match feed_word(&mut self.gpu, within, word, lines, taps, steps) {
+            Ok(()) => {
+                self.played = number;
+                Ok(())
+            }
+            Err(event) => Err(Ending::WriteFailed { event }),
+        }
+    }
+
+    // The same for any other event.
+    fn play_other<K: Sink, T: Listener, L: Ledger>(
+        &mut self,
+        event: &Event,
+        mode: Mode,
+        lines: &mut Lines<K>,
+        taps: &mut Vec<T>,
+        steps: &mut Steps<L>,
+    ) -> Result<(), Ending>
+        ensures plays { PlaysOrEnds mode event.now
+            (gathering lines.old.gathered.now (outlets (K.held lines.old.out.now) (K.faults lines.old.out.now)
+            (map T.heard taps.old.items) steps.old))
+            (gathering lines.new.gathered.now (outlets (K.held lines.new.out.now) (K.faults lines.new.out.now)
+            (map T.heard taps.new.items) steps.new))
+            self.old self.new result }
+        ensures gathered { lines.new.gathered.ghost_name ≡ lines.old.gathered.ghost_name }
+        ensures out { lines.new.out.ghost_name ≡ lines.old.out.ghost_name }
+    {
+        let number = self.next_number();
+        let work = match judge(event, &mut self.walk, &self.ram, self.running) {
+            Ok(work) => work,
+            Err(fault) => {
+                return Err(Ending::Faulted {
+                    event: number,
+                    fault,
+                });
+            }
+        };
+        let within = Within { number, mode };
+        match self.perform(within, work, lines, taps, steps) {
+            Err(event) => Err(Ending::WriteFailed { event }),
+            Ok(shown) => {
+                self.played = number;
+                let Ok(()) = write_behind(&self.gpu, event, number, shown, lines.out, mode, steps)
+                else {
+                    return Err(Ending::WriteFailed { event: number });
+                };
+                Ok(())
+            }
+        }
+    }
+}

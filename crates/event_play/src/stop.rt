@@ -1,0 +1,81 @@
+// Playing ends where the reader stops.
+ghost use Rattle.std.specs.Prelude.{◌≡◌, ◌≤◌, map};
+ghost use Rattle.dev_io.specs.Device.{Rose};
+ghost use Rattle.gpu_capture.specs.Reader.{IsReadFault};
+ghost use Rattle.gpu_core.specs.Kept.{kept_of};
+ghost use Rattle.gpu_core.specs.Machine.{State};
+ghost use Rattle.event_play.specs.Causes.{MayReadFault, MayWriteFault, IsEnding};
+ghost use Rattle.event_play.specs.Ends.{EndsAt, EndsReading};
+ghost use Rattle.event_play.specs.Replay.{next_number};
+ghost use Rattle.event_play.specs.Streams.{gathering, outlets};
+
+use crate::ending::{Ending, Mode};
+use crate::finals::{lacks_picture, write_finals};
+use crate::rig::Rig;
+use dev_io::Sink;
+use gathered_out::Gathered;
+use gpu_capture::Stop;
+use gpu_taps::Listener;
+use std::sync::ledger::Ledger;
+use vram_store::Steps;
+
+impl Rig {
+    /// Ends playing at a stop of the reader: what is gathered is written before.
+    pub(crate) fn end_reading<K: Sink, T: Listener, L: Ledger>(
+        &self,
+        stop: Stop,
+        lines: &mut Gathered,
+        out: &mut K,
+        mode: Mode,
+        taps: &Vec<T>,
+        steps: &mut Steps<L>,
+    ) -> Ending
+        ensures ends { (s : State) → kept_of s ≡ self.now.gpu →
+            EndsReading mode s (next_number self.now.played) stop
+            (gathering lines.old (outlets (K.held out.old) (K.faults out.old) (map T.heard taps.now.items) steps.old))
+            (outlets (K.held out.new) (K.faults out.new) (map T.heard taps.now.items) steps.new) result }
+        ensures known { IsEnding result }
+        ensures stopped { MayReadFault result → IsReadFault stop }
+        ensures cause { MayWriteFault result → Rose (K.faults out.old) (K.faults out.new) }
+        ensures faults { K.faults out.old ≤ K.faults out.new }
+    {
+        match lines.write(out) {
+            Ok(()) => self.finish(stop, out, mode, taps, steps),
+            Err(event) => Ending::WriteFailed { event },
+        }
+    }
+
+    // Ends playing at a stop of the reader where nothing is gathered: at End, what is due behind the last event is
+    // written.
+    fn finish<K: Sink, T: Listener, L: Ledger>(
+        &self,
+        stop: Stop,
+        out: &mut K,
+        mode: Mode,
+        taps: &Vec<T>,
+        steps: &mut Steps<L>,
+    ) -> Ending
+        ensures ends { (s : State) → kept_of s ≡ self.now.gpu →
+            EndsAt mode s (next_number self.now.played) stop
+            (outlets (K.held out.old) (K.faults out.old) (map T.heard taps.now.items) steps.old)
+            (outlets (K.held out.new) (K.faults out.new) (map T.heard taps.now.items) steps.new) result }
+        ensures known { IsEnding result }
+        ensures stopped { MayReadFault result → IsReadFault stop }
+        ensures cause { MayWriteFault result → Rose (K.faults out.old) (K.faults out.new) }
+        ensures faults { K.faults out.old ≤ K.faults out.new }
+    {
+        let event = self.next_number();
+        match stop {
+            Stop::End => {
+                if lacks_picture(&self.gpu, mode) {
+                    return Ending::NoPicture { event };
+                }
+                match write_finals(&self.gpu, event, out, mode, taps, steps) {
+                    Ok(()) => Ending::Done,
+                    Err(_) => Ending::WriteFailed { event },
+                }
+            }
+            _ => Ending::Stopped { event, stop },
+        }
+    }
+}
