@@ -1,16 +1,18 @@
-// Words of GP0 of a program that has no capture.
-ghost use Rattle.std.specs.Prelude.{◌≡◌, map};
+// Words of GP0, an event each, without what a capture asks for beside them.
+ghost use Rattle.std.specs.Prelude.{◌≡◌, map, None};
 ghost use Rattle.gpu_core.specs.Machine.{gp0_note};
 ghost use Rattle.event_play.specs.OwnWords.{Tells};
 ghost use Rattle.event_play.specs.PlayedWords.{after_word, after_words};
 ghost use Rattle.event_play.specs.Replay.{from_state, next_number};
 ghost use Rattle.event_play.specs.RigState.{Stands};
 ghost use Rattle.event_play.specs.Step.{Machine};
+ghost use Rattle.event_play.specs.Stepping.{HasStepped};
 ghost use Rattle.event_play.specs.Streams.{without_sink};
 
 use crate::feed::feed_events;
 use crate::rig::Rig;
 use gp0_packets::Note;
+use gpu_capture::Event;
 use gpu_taps::Listener;
 use std::sync::ledger::Ledger;
 use vram_store::Steps;
@@ -33,6 +35,25 @@ impl Rig {
         let number = self.next_number();
         self.played = number;
         self.gpu.gp0(number, word, taps, steps)
+    }
+
+    /// Plays the event of a word that is written to GP0. It asks for no judgement, and touches nothing of the rig but the
+    /// drawing processor.
+    pub(crate) fn event_word<T: Listener, L: Ledger>(
+        &mut self,
+        word: u32,
+        taps: &mut Vec<T>,
+        steps: &mut Steps<L>,
+    )
+        ensures stepped { (s : Machine) → Stands self.old s →
+            HasStepped s (next_number self.old.played) (Event.Gp0 word) None
+            (without_sink (map T.heard taps.old.items) steps.old)
+            (without_sink (map T.heard taps.new.items) steps.new) self.new }
+        ensures played { self.new.played ≡ next_number self.old.played }
+    {
+        let number = self.next_number();
+        self.played = number;
+        let _ = self.gpu.gp0(number, word, taps, steps);
     }
 
     /// Takes words of GP0, an event each. Words that belong together are taken at once.

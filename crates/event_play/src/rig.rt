@@ -94,6 +94,10 @@ impl Rig {
         ensures untold { OnErr result (map T.heard taps.new.items ≡ map T.heard taps.old.items) }
         ensures free { OnErr result (steps.new ≡ steps.old) }
     {
+        if let Event::Gp0 { word } = *event {
+            self.event_word(word, taps, steps);
+            return Ok(None);
+        }
         match judge(event, &mut self.walk, &self.ram, self.running) {
             Ok(work) => {
                 let within = Within {
