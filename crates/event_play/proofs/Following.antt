@@ -1,5 +1,5 @@
 -- What the bytes taken say in events, that none of them is one too many, and the tale to which the events lead.
-use Rattle.std.proofs.Common.{◌≡◌, ◌<◌, inl, inr, ◌+◌, ◌++◌, ℕ, zero, suc, List, [], ◌∷◌, Option, Ok, refl, ap, sym}
+use Rattle.std.proofs.Common.{◌≡◌, ◌<◌, inl, inr, ◌++◌, ℕ, zero, suc, List, [], ◌∷◌, Option, Ok, refl, ap, sym}
 use Rattle.std.proofs.Common.{◌∙◌, append_assoc, append-nil, add-zero, take, length, subst, arith}
 use Rattle.gpu_capture.specs.Capture.{Captured, ended, then_events}
 use Rattle.gpu_capture.specs.Reader.{AreNeeded as ReaderNeeds, capture_from}
@@ -10,7 +10,7 @@ use Rattle.gpu_capture.specs.declared.event.Event.TheVariants.{Gp0}
 use Rattle.gpu_capture.specs.declared.event.Stop.TheVariants.{Truncated}
 use Rattle.gpu_capture.specs.declared.progress.Progress.{Progress}
 use Rattle.gpu_capture.proofs.Steps.{split}
-use Rattle.event_play.specs.Playing.{Follows, IsReadTo, IsUpTo, LeadsTo, reads}
+use Rattle.event_play.specs.Playing.{Follows, IsReadTo, LeadsTo, reads}
 use Rattle.event_play.specs.Replay.{Tale, Script, after_event, go_on, part_fed, played_events, next_number}
 use Rattle.event_play.specs.Step.{event_words}
 use Rattle.event_play.specs.declared.ending.Ending.TheVariants.{Faulted}

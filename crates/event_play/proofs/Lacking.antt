@@ -1,5 +1,5 @@
 -- Lines of an event that were gathered, and could not be written.
-use Rattle.std.proofs.Common.{◌≡◌, ◌≤◌, inl, inr, ◌+◌, ◌++◌, ℕ, List, [], ◌∷◌, Option, Ok, length, length-append, refl}
+use Rattle.std.proofs.Common.{◌≡◌, ◌≤◌, inl, inr, ◌+◌, ◌++◌, ℕ, List, [], ◌∷◌, Ok, length, length-append, refl}
 use Rattle.std.proofs.Common.{ap, sym, subst, ◌∙◌, append_assoc, append-nil, arith}
 use Rattle.gathered_out.proofs.Gathers.{BreaksDue}
 use Rattle.gpu_capture.specs.Capture.{Captured, then_events}
@@ -11,7 +11,7 @@ use Rattle.event_play.specs.Lines.{IsGathered}
 use Rattle.event_play.specs.Out.{lines_of, out_bytes}
 use Rattle.event_play.specs.Pausing.{most_behind}
 use Rattle.event_play.specs.Playing.{Follows, LacksBytes, LeadsTo, plays, reads}
-use Rattle.event_play.specs.Replay.{Tale, Played, Script, after_event, go_on, played_events, replayed, next_number}
+use Rattle.event_play.specs.Replay.{Tale, Script, after_event, go_on, played_events, replayed, next_number}
 use Rattle.event_play.specs.Streams.{Streams}
 use Rattle.event_play.specs.declared.ending.Ending.TheVariants.{Faulted}
 use Rattle.event_play.specs.declared.ending.Mode.{Mode}

@@ -1,5 +1,5 @@
 -- Words that are fed to a rig with no capture.
-use Rattle.std.proofs.Common.{◌≡◌, ◌≤◌, ◌+◌, ℕ, List, [], ◌∷◌, refl, ◌∙◌, arith}
+use Rattle.std.proofs.Common.{◌≡◌, ℕ, List, [], ◌∷◌, refl, ◌∙◌, arith}
 use Rattle.gpu_core.specs.Kept.{Kept}
 use Rattle.gpu_taps.specs.Tally.{Reading}
 use Rattle.event_play.specs.OwnWords.{Tells}

@@ -1,30 +1,21 @@
 -- Events of which only the first words were fed.
-use Rattle.std.proofs.Common.{◌≡◌, ◌≤◌, ◌<◌, ℕ, ◌+◌, ◌++◌, List, [], ◌∷◌, Option, None, Result, Ok, refl, ap, sym}
-use Rattle.std.proofs.Common.{subst, ◌∙◌, append_assoc, append-nil, arith}
-use Rattle.dev_io.specs.Device.{appended, AppendsPart}
-use Rattle.dev_io.proofs.Appended.{appended-appended}
+use Rattle.std.proofs.Common.{◌≡◌, ◌≤◌, ℕ, ◌+◌, ◌++◌, List, [], ◌∷◌, None, Result, Ok, refl, ap, sym}
+use Rattle.std.proofs.Common.{◌∙◌, append_assoc, arith}
 use Rattle.gpu_capture.specs.declared.event.Event.{Event}
 use Rattle.gpu_capture.specs.declared.event.Event.TheVariants as event
-use Rattle.gpu_core.specs.Kept.{Kept}
 use Rattle.gpu_core.specs.Machine.{State, Parts}
-use Rattle.event_play.specs.Fed.{fed, fed_notes, fed_cost}
-use Rattle.event_play.specs.Feeding.{StopsFeeding, fed_lines, fed_lines_cost}
+use Rattle.event_play.specs.Fed.{fed_notes, fed_cost}
+use Rattle.event_play.specs.Feeding.{fed_lines_cost}
 use Rattle.event_play.specs.Frames.{frames_behind}
-use Rattle.event_play.specs.Lines.{lines_for, lines_cost}
-use Rattle.event_play.specs.Out.{lines_of}
-use Rattle.event_play.specs.Replay.{Tale, part_fed, next_number}
+use Rattle.event_play.specs.Lines.{lines_cost}
 use Rattle.event_play.specs.Step.{Machine, event_step, event_cost, event_words, asked_words, done, stepped, step_cost}
-use Rattle.event_play.specs.Streams.{Outlets}
 use Rattle.event_play.specs.Strokes.{fed_strokes}
 use Rattle.event_play.specs.Work.{work_of}
 use Rattle.event_play.specs.declared.ending.Mode.{Mode}
-use Rattle.event_play.specs.declared.ending.Mode.TheVariants.{Vram, Shot, Report, Frames, Sums, Pixel}
-use Rattle.event_play.specs.declared.ending.Mode.TheVariants.{List as Listing, Play as Words}
 use Rattle.event_play.specs.declared.fault.EventFault.{EventFault}
 use Rattle.event_play.specs.declared.work.Work.{Work}
 use Rattle.event_play.specs.declared.work.Work.TheVariants as work
-use Rattle.event_play.proofs.Feeds.{fed_lines-append, fed_cost-append, fed_looks-append}
-use Rattle.event_play.proofs.Grows.{lines-append}
+use Rattle.event_play.proofs.Feeds.{fed_cost-append, fed_looks-append}
 
 -- ---- an event that feeds words does nothing else
 

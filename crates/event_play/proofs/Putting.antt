@@ -1,12 +1,12 @@
 -- Lines that are put for events, and what is written behind them.
-use Rattle.std.proofs.Common.{◌≡◌, ◌≤◌, ◌⊎◌, inl, inr, ℕ, List, [], ◌∷◌, ◌++◌, Option, Result, Ok, Err, refl, ap, sym}
-use Rattle.std.proofs.Common.{subst, ◌∙◌, append-nil, arith, option_to_list}
+use Rattle.std.proofs.Common.{◌≡◌, inl, inr, ℕ, List, [], ◌∷◌, ◌++◌, Option, Result, Ok, refl, ap, sym}
+use Rattle.std.proofs.Common.{◌∙◌, append-nil, arith}
 use Rattle.dev_io.specs.Device.{appended}
 use Rattle.dev_io.proofs.Appended.{appended-appended, appended-nil}
-use Rattle.gathered_out.specs.Pieces.{AreOut, Piece, bytes_of, piece}
-use Rattle.gathered_out.specs.Puts.{ArePieces, BreaksPut, IsPut}
+use Rattle.gathered_out.specs.Pieces.{Piece, bytes_of, piece}
+use Rattle.gathered_out.specs.Puts.{BreaksPut, IsPut}
 use Rattle.gathered_out.proofs.Pieces.{bytes_append}
-use Rattle.gathered_out.proofs.Puts.{put_none, put_on, puts_all, HasPut}
+use Rattle.gathered_out.proofs.Puts.{put_on}
 use Rattle.gpu_taps.specs.Tally.{Reading}
 use Rattle.event_play.specs.Frames.{Frame}
 use Rattle.event_play.specs.Lines.{IsGathered, MayGather, WritesBehind, lines_behind}

@@ -1,4 +1,4 @@
-use Rattle.std.proofs.Common.{◌≡◌, ◌∙◌, ap, sym}
+use Rattle.std.proofs.Common.{◌∙◌, ap, sym}
 use Rattle.ot_clear_dma.specs.Ram.{word_at}
 use Rattle.event_play.proofs.Nodes.{left_goes, left_enters}
 use Rattle.event_play.proofs.words.WordCursor.next.Goals as goal
