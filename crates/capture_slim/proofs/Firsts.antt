@@ -5,14 +5,13 @@ use Rattle.std.proofs.Common.{subst, arith, inl, inr}
 use Rattle.std.proofs.Math.Seq.{take-append-add}
 use Rattle.std.proofs.lemmas.Bool.{ltb-false}
 use Rattle.dev_io.specs.Device.{appended, AppendsPart}
+use Rattle.px_num.specs.declared.shape.Box2.{Box2}
 use Rattle.gpu_capture.specs.Written.{spelled_end, HoldsWords}
 use Rattle.gpu_capture.specs.declared.event.Event.{Event}
 use Rattle.gpu_capture.specs.declared.event.Stop.{Stop}
 use Rattle.capture_flat.proofs.Pieces.{wrote_on}
 use Rattle.gpu_capture.specs.declared.event.Event.TheVariants as event
-use Rattle.gpu_core.specs.Machine.{is_idle}
 use Rattle.event_play.specs.Ports.{IsAtPorts, AreAtPorts}
-use Rattle.dead_drawing.specs.Control.{Control}
 use Rattle.dead_drawing.specs.Dead.{is_droppable}
 use Rattle.dead_drawing.specs.Slim.{slim_events}
 use Rattle.capture_slim.specs.Came.{Came, ClosesFile, EndsPushed, EndsRefused, EndsStop, HoldWords, IsAll, FailsAny}
@@ -21,19 +20,18 @@ use Rattle.capture_slim.specs.File.{begun, head_due, IsDraft, IsFile, Fails, Fai
 use Rattle.capture_slim.specs.Passing.{FailsAt}
 use Rattle.capture_slim.specs.Places.{kept_of, places}
 use Rattle.capture_slim.specs.Stream.{outs, window_behind, leaving, leaving_from, staying, staying_from}
-use Rattle.capture_slim.specs.Window.{Window, kept, kept_words, with_words, with_event, with_word, pushed_by, pushed}
+use Rattle.capture_slim.specs.Window.{Window, kept, kept_words, taken_up, with_event, with_word, added, heeded, pushed}
 use Rattle.capture_slim.specs.Window.{first_window, all_left, left_of, waiting}
 use Rattle.capture_slim.specs.declared.ending.SlimEnding.{SlimEnding}
 use Rattle.capture_slim.specs.declared.ending.SlimEnding.TheVariants.{Done, Stopped, NotFlat, TooLong, WriteFailed}
 use Rattle.capture_slim.specs.declared.file.Draft.{Draft}
 use Rattle.capture_slim.specs.declared.file.SlimFile.{SlimFile}
+use Rattle.capture_slim.specs.declared.queue.Queue.{Queue}
 use Rattle.capture_slim.specs.declared.slot.Slot.{Slot}
 use Rattle.capture_slim.proofs.Files.{head_same, begun_end, fails_wider, written_most}
 use Rattle.capture_slim.proofs.Rests.{kept_append, left_long}
-use Rattle.capture_slim.proofs.SettlingLemmas.{kept_count}
 use Rattle.capture_slim.proofs.StreamLaw.{stream_law, leaves_law, places_law}
-use Rattle.capture_slim.proofs.WindowLaw.{judged_long}
-use Rattle.capture_slim.proofs.WindowLemmas.{settled_long}
+use Rattle.capture_slim.proofs.WindowLemmas.{kept_long, judged_long, settled_long}
 
 abbrev Outs : Type 0
 Outs = List (Option Event)
@@ -58,43 +56,46 @@ behind_more (x ∷ events) e w = behind_more events e (staying (pushed w x))
 abbrev pub size : Window → ℕ
 size w = length w.slots + length w.words
 
-words_size : (slots more : List Slot) (words : List ℕ) (now : Control) (part : Bool) → length more ≡ length words
-    → size (cond {A = Window} part (record { slots = slots; words = words; control = now })
-    (record { slots = slots ++ more; words = []; control = now })) ≡ length slots + length words
-words_size slots more words now true same = refl
-words_size slots more words now false same = omega (arith, same, length-append slots more)
+abbrev queue_size : Queue → ℕ
+queue_size q = length q.slots + length q.words
 
-event_size : (words : List ℕ) (slots : List Slot) (now : Control) (e : Event) → size (with_event words slots now e)
+words_size : (slots more : List Slot) (words : List ℕ) (part : Bool) → length more ≡ length words
+    → queue_size (cond part (record { slots = slots; words = words })
+    (record { slots = slots ++ more; words = [] })) ≡ length slots + length words
+words_size slots more words true same = refl
+words_size slots more words false same = omega (arith, same, length-append slots more)
+
+event_size : (slots : List Slot) (words : List ℕ) (e : Event) → queue_size (with_event slots words e)
     ≡ suc (length slots + length words)
-event_size words slots now e = omega (
+event_size slots words e = omega (
   arith,
   length-append slots (kept_words words ++ kept e ∷ []),
   length-append (kept_words words)
       (kept e ∷ []),
-  kept_count words,
+  kept_long words,
 )
 
-word_size : (c : Control) (words : List ℕ) (slots : List Slot) (now : Control) (word : ℕ)
-    → size (with_word c words slots now word) ≡ suc (length slots + length words)
-word_size c (v ∷ vs) slots now word =
-    words_size slots _ ((v ∷ vs) ++ word ∷ []) now _ (judged_long ((v ∷ vs) ++ word ∷ []) _)
+word_size : (words : List ℕ) (slots : List Slot) (word : ℕ) (idle : Bool) (area : Option Box2)
+    → queue_size (with_word slots words word idle area) ≡ suc (length slots + length words)
+word_size (v ∷ vs) slots word idle area =
+    words_size slots _ ((v ∷ vs) ++ word ∷ []) _ (judged_long ((v ∷ vs) ++ word ∷ []) area)
     ∙ (omega (arith, length-append (v ∷ vs) (word ∷ [])))
-word_size c [] slots now word = by_test (is_idle c.pending && is_droppable word)
+word_size [] slots word idle area = by_test (idle && is_droppable word)
   where
     by_test : (b : Bool)
-        → size (cond b (with_words c slots now (word ∷ [])) (with_event [] slots now (event.Gp0 word)))
+        → queue_size (cond b (taken_up slots (word ∷ []) area) (with_event slots [] (event.Gp0 word)))
         ≡ suc (length slots + length {A = ℕ} [])
-    by_test true = words_size slots _ (word ∷ []) now _ (judged_long (word ∷ []) _) ∙ omega arith
-    by_test false = event_size [] slots now (event.Gp0 word)
+    by_test true = words_size slots _ (word ∷ []) _ (judged_long (word ∷ []) area) ∙ omega arith
+    by_test false = event_size slots [] (event.Gp0 word)
 
-by_size : (c : Control) (words : List ℕ) (e : Event) (slots : List Slot) (now : Control)
-    → size (pushed_by c words e slots now) ≡ suc (length slots + length words)
-by_size c words (event.Gp0 word) slots now = word_size c words slots now word
-by_size c words other slots now = event_size words slots now other
+added_size : (q : Queue) (e : Event) (idle : Bool) (area : Option Box2) → queue_size (added q e idle area)
+    ≡ suc (queue_size q)
+added_size q (event.Gp0 word) idle area = word_size q.words q.slots word idle area
+added_size q other idle area = event_size q.slots q.words other
 
 pub pushed_size : (w : Window) (e : Event) → size (pushed w e) ≡ suc (size w)
 unfolding pushed
-pushed_size w e = by_size w.control w.words e _ _ ∙ ap (λ n. suc (n + length w.words))
+pushed_size w e = added_size (heeded w e) e _ _ ∙ ap (λ n. suc (n + length w.words))
     (settled_long w.slots (length w.words) w.control e)
 
 pub leaves_size : (slots : List Slot) (words : List ℕ)
@@ -123,7 +124,7 @@ counts (e ∷ events) w =
     )
 
 pub waiting_size : (w : Window) → length (waiting w) ≡ size w
-waiting_size w = omega (arith, length-append w.slots (kept_words w.words), kept_count w.words)
+waiting_size w = omega (arith, length-append w.slots (kept_words w.words), kept_long w.words)
 
 -- ---- an event of the list, in its place
 

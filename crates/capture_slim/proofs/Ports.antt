@@ -4,15 +4,15 @@ use Rattle.std.proofs.Common.{cond, IfSome, option_to_list, length, subst}
 use Rattle.px_num.specs.declared.shape.Box2.{Box2}
 use Rattle.gpu_capture.specs.declared.event.Event.{Event}
 use Rattle.gpu_capture.specs.declared.event.Event.TheVariants as event
-use Rattle.gpu_core.specs.Machine.{is_idle}
 use Rattle.event_play.specs.Ports.{IsAtPorts}
 use Rattle.dead_drawing.specs.Control.{Control}
 use Rattle.dead_drawing.specs.Dead.{is_droppable}
 use Rattle.capture_slim.specs.Places.{kept_of}
 use Rattle.capture_slim.specs.Stream.{leaving_from, staying_from}
 use Rattle.capture_slim.specs.Telling.{HoldPorts}
-use Rattle.capture_slim.specs.Window.{Window, settled, kept, kept_words, judged, dropped_words, open_words, with_words}
-use Rattle.capture_slim.specs.Window.{with_event, with_word, pushed_by, pushed, left_of}
+use Rattle.capture_slim.specs.Window.{Window, settled, kept, kept_words, judged, dropped_words, open_words, taken_up}
+use Rattle.capture_slim.specs.Window.{with_event, with_word, added, heeded, pushed, left_of}
+use Rattle.capture_slim.specs.declared.queue.Queue.{Queue}
 use Rattle.capture_slim.specs.declared.slot.Mark.{Mark}
 use Rattle.capture_slim.specs.declared.slot.Mark.TheVariants.{Kept, Dropped, Open}
 use Rattle.capture_slim.specs.declared.slot.Slot.{Slot}
@@ -42,38 +42,37 @@ judged_ports : (words : List ℕ) (area : Option Box2) → HoldPorts (judged wor
 judged_ports words None = dropped_ports words
 judged_ports words (Some area) = open_ports words 0 area
 
-words_ports : (slots more : List Slot) (words : List ℕ) (now : Control) (part : Bool) → HoldPorts slots → HoldPorts more
-    → HoldPorts (cond {A = Window} part (record { slots = slots; words = words; control = now })
-    (record { slots = slots ++ more; words = []; control = now })).slots
-words_ports slots more words now true are added = are
-words_ports slots more words now false are added = ports_append slots more are added
+words_ports : (slots more : List Slot) (words : List ℕ) (part : Bool) → HoldPorts slots → HoldPorts more
+    → HoldPorts (cond {A = Queue} part (record { slots = slots; words = words })
+    (record { slots = slots ++ more; words = [] })).slots
+words_ports slots more words true are added = are
+words_ports slots more words false are added = ports_append slots more are added
 
-event_ports : (words : List ℕ) (slots : List Slot) (now : Control) (e : Event) → HoldPorts slots → IsAtPorts e
-    → HoldPorts (with_event words slots now e).slots
-event_ports words slots now e are port =
+event_ports : (slots : List Slot) (words : List ℕ) (e : Event) → HoldPorts slots → IsAtPorts e
+    → HoldPorts (with_event slots words e).slots
+event_ports slots words e are port =
     ports_append slots (kept_words words ++ kept e ∷ []) are
     (ports_append (kept_words words) (kept e ∷ []) (kept_ports words) (port, tt))
 
-word_ports : (c : Control) (words : List ℕ) (slots : List Slot) (now : Control) (word : ℕ) → HoldPorts slots
-    → HoldPorts (with_word c words slots now word).slots
-word_ports c (v ∷ vs) slots now word are = words_ports slots _ _ now _ are (judged_ports ((v ∷ vs) ++ word ∷ []) _)
-word_ports c [] slots now word are = by_test (is_idle c.pending && is_droppable word)
+word_ports : (words : List ℕ) (slots : List Slot) (word : ℕ) (idle : Bool) (area : Option Box2) → HoldPorts slots
+    → HoldPorts (with_word slots words word idle area).slots
+word_ports (v ∷ vs) slots word idle area are = words_ports slots _ _ _ are (judged_ports ((v ∷ vs) ++ word ∷ []) area)
+word_ports [] slots word idle area are = by_test (idle && is_droppable word)
   where
     by_test : (b : Bool)
-        → HoldPorts (cond b (with_words c slots now (word ∷ [])) (with_event [] slots now (event.Gp0 word))).slots
-    by_test true = words_ports slots _ _ now _ are (judged_ports (word ∷ []) _)
-    by_test false = event_ports [] slots now (event.Gp0 word) are tt
+        → HoldPorts (cond b (taken_up slots (word ∷ []) area) (with_event slots [] (event.Gp0 word))).slots
+    by_test true = words_ports slots _ _ _ are (judged_ports (word ∷ []) area)
+    by_test false = event_ports slots [] (event.Gp0 word) are tt
 
-by_ports : (c : Control) (words : List ℕ) (e : Event) (slots : List Slot) (now : Control) → HoldPorts slots
-    → IsAtPorts e
-    → HoldPorts (pushed_by c words e slots now).slots
-by_ports c words (event.Gp0 word) slots now are port = word_ports c words slots now word are
-by_ports c words other slots now are port = event_ports words slots now other are port
+added_ports : (q : Queue) (e : Event) (idle : Bool) (area : Option Box2) → HoldPorts q.slots → IsAtPorts e
+    → HoldPorts (added q e idle area).slots
+added_ports q (event.Gp0 word) idle area are port = word_ports q.words q.slots word idle area are
+added_ports q other idle area are port = event_ports q.slots q.words other are port
 
 pub pushed_ports : (w : Window) (e : Event) → HoldPorts w.slots → IsAtPorts e → HoldPorts (pushed w e).slots
 unfolding pushed
 pushed_ports w e are port =
-    by_ports w.control w.words e _ _ (settled_ports w.slots (length w.words) w.control e are) port
+    added_ports (heeded w e) e _ _ (settled_ports w.slots (length w.words) w.control e are) port
 
 pub staying_ports : (slots : List Slot) (words : List ℕ) → HoldPorts slots → HoldPorts (staying_from slots words)
 staying_ports [] words are = tt

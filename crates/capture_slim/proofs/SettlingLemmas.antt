@@ -1,10 +1,10 @@
 -- Slots that are settled by what an event says.
 use Rattle.std.proofs.Common.{◌≡◌, ◌<◌, ◌≤◌, ◌+◌, ◌-◌, not, ltb, ℕ, suc, List, [], ◌∷◌, ◌++◌, Option, None, Some, Bool}
 use Rattle.std.proofs.Common.{true, false, cond, length, take, drop, slice_get, get_or, option_to_list, refl, sym, ap}
-use Rattle.std.proofs.Common.{subst, ◌∙◌, arith, append_assoc}
+use Rattle.std.proofs.Common.{◌∙◌, arith, append_assoc}
 use Rattle.std.proofs.lemmas.Bool.{lt-ltb, le-ltb}
 use Rattle.std.proofs.lemmas.List.{length-append, drop_more, take_more}
-use Rattle.circular_buffer.specs.Buffer.{keep_last}
+use Rattle.circular_buffer.specs.Buffer.{Buffer, buffer, keep_last}
 use Rattle.px_num.specs.declared.shape.Box2.{Box2}
 use Rattle.gp0_words.specs.Next.{next_item}
 use Rattle.gp0_words.specs.declared.item.Item.{Item}
@@ -16,12 +16,11 @@ use Rattle.gpu_capture.specs.declared.event.Event.TheVariants as event
 use Rattle.prim_draw.specs.Areas.{moved_box}
 use Rattle.dead_drawing.specs.Control.{Control}
 use Rattle.capture_slim.specs.Saying.{cover_of, loud_if, said, said_by, said_at, covers, is_quiet, settle_by}
-use Rattle.capture_slim.specs.Settling.{all_shut, shut, mark_of, settled_by, turned}
+use Rattle.capture_slim.specs.Settling.{IsSettled, AreSettled, KeepsSlots, all_shut, shut, mark_of, settled_by, turned}
 use Rattle.dead_drawing.specs.Dead.{holds_in, fills, fills_by, fills_at, is_calm, is_calm_by, is_calm_at}
 use Rattle.capture_slim.specs.Window.{left_of, dropped_words, judged, kept_words, open_words, settle, settled}
 use Rattle.capture_slim.specs.Places.{kept_of}
-use Rattle.capture_slim.specs.Stream.{leaving_from, staying_from}
-use Rattle.capture_slim.specs.Telling.{IsSettled, AreSettled}
+use Rattle.capture_slim.specs.Stream.{first_left, leaving_from, staying_from}
 use Rattle.capture_slim.specs.declared.saying.Saying.{Saying}
 use Rattle.capture_slim.specs.declared.saying.Saying.TheVariants.{Quiet, Loud, Cover}
 use Rattle.capture_slim.specs.declared.slot.Mark.{Mark}
@@ -107,6 +106,11 @@ settled_by_push (x ∷ slots) s behind say =
 -- what fits is kept whole
 pub keep_all : {X : Type 0} (n : ℕ) (xs : List X) → length xs ≤ n → keep_last n xs ≡ xs
 keep_all n xs le = let none : length xs - n ≡ 0 = omega (arith, le) in ap (λ (k : ℕ). drop k xs) none
+
+pub goes_last : (b now : Buffer Slot) (s : Slot) → length b.items < b.capacity
+    → now ≡ buffer (keep_last b.capacity (b.items ++ s ∷ [])) b.capacity → now ≡ buffer (b.items ++ s ∷ []) b.capacity
+goes_last b now s lt is = is ∙ ap (λ (l : List Slot). buffer l b.capacity)
+    (keep_all b.capacity (b.items ++ s ∷ []) (omega (arith, lt, length-append b.items (s ∷ []))))
 
 -- the first of some slots is settled and goes to the end
 pub turned_is : (items : List Slot) (s : Slot) (n age : ℕ) (say : Saying) → Some s ≡ slice_get items 0
@@ -228,22 +232,6 @@ pub judged_push : (area : Option Box2) (words : List ℕ) (w n : ℕ) → n ≡ 
 judged_push None words w n e = dropped_push words w
 judged_push (Some b) words w n e = open_push words w 0 n b (omega (arith, e))
 
-pub kept_count : (words : List ℕ) → length (kept_words words) ≡ length words
-kept_count [] = refl
-kept_count (w ∷ ws) = ap suc (kept_count ws)
-
-dropped_count : (words : List ℕ) → length (dropped_words words) ≡ length words
-dropped_count [] = refl
-dropped_count (w ∷ ws) = ap suc (dropped_count ws)
-
-open_count : (words : List ℕ) (i : ℕ) (b : Box2) → length (open_words words i b) ≡ length words
-open_count [] i b = refl
-open_count (w ∷ ws) i b = ap suc (open_count ws (suc i) b)
-
-pub judged_count : (area : Option Box2) (words : List ℕ) → length (judged words area) ≡ length words
-judged_count None words = dropped_count words
-judged_count (Some b) words = open_count words 0 b
-
 -- ---- slots that move
 
 -- one slot more is shut
@@ -269,19 +257,17 @@ none_leaves (s ∷ slots) words few =
     let lt = lt-ltb (length slots + length words) 4096 (omega (arith, few)) in
     (rw lt refl, rw lt refl)
 
--- the first one leaves
-pub first_leaves : (all : List Slot) (words : List ℕ) (slot : Slot) → 4096 < length all + length words
-    → Some slot ≡ slice_get all 0
-    → (leaving_from all words ≡ left_of slot.event slot.mark ∷ []) × (staying_from all words ≡ drop 1 all)
-first_leaves [] words slot many is = absurd cc
-first_leaves (s ∷ slots) words slot many is =
-    let same : s ≡ slot = cc in
-    let le = le-ltb (length slots + length words) 4096 (omega (arith, many)) in
-    (rw le (ap (λ (t : Slot). left_of t.event t.mark ∷ []) same), rw le refl)
-
-pub one_kept : (out : Option Event) → option_to_list out ≡ kept_of (out ∷ [])
+one_kept : (out : Option Event) → option_to_list out ≡ kept_of (out ∷ [])
 one_kept None = refl
 one_kept (Some e) = refl
+
+-- the first one leaves
+pub first_leaves : (all : List Slot) (words : List ℕ) → 4096 < length all + length words
+    → (option_to_list (first_left all) ≡ kept_of (leaving_from all words)) × (drop 1 all ≡ staying_from all words)
+first_leaves [] words many = (refl, refl)
+first_leaves (s ∷ slots) words many =
+    let le = le-ltb (length slots + length words) 4096 (omega (arith, many)) in
+    (rw le (one_kept (left_of s.event s.mark)), rw le refl)
 
 -- ---- a settled slot goes behind those that are settled
 
@@ -289,13 +275,22 @@ settled_more : (old : List Slot) (s : Slot) → AreSettled old → IsSettled s.m
 settled_more [] s are is = (is, tt)
 settled_more (x ∷ old) s are is = (are.0, settled_more old s are.1 is)
 
-pub passed : (old items : List Slot) (s : Slot) (n : ℕ) → Some s ≡ slice_get items 0 → length old + length items ≤ n
-    → AreSettled old → AreSettled (take 1 items) → AreSettled (keep_last n (old ++ s ∷ []))
-passed old [] s n is fits are first = absurd cc
-passed old (x ∷ items) s n is fits are first =
+-- the first slot behind the settled ones, which is settled too, goes to them
+pub passes : (old items : List Slot) (n m : ℕ) (s : Slot) (settled recent : Buffer Slot)
+    → KeepsSlots (buffer old n) (buffer items m) → AreSettled (take 1 items) → Some s ≡ slice_get items 0
+    → settled ≡ buffer (keep_last n (old ++ s ∷ [])) n → recent ≡ buffer (drop 1 items) m
+    → KeepsSlots settled recent × (settled.items ++ recent.items ≡ old ++ items)
+passes old [] n m s settled recent keeps first is to from = absurd cc
+passes old (x ∷ items) n m s settled recent keeps first is to from =
     let same : s ≡ x = cc in
-    let P : List Slot → Type 0 = λ l. AreSettled l in
-    let all : keep_last n (old ++ s ∷ []) ≡ old ++ x ∷ [] =
-    keep_all n (old ++ s ∷ []) (omega (arith, fits, length-append old (s ∷ [])))
-    ∙ ap (λ (y : Slot). old ++ y ∷ []) same in
-    subst P (sym all) (settled_more old x are first.0)
+    let put : settled ≡ buffer (old ++ x ∷ []) n = goes_last (buffer old n) settled s
+    (omega (arith, keeps.fits, keeps.settled_room)) to ∙ ap (λ (y : Slot). buffer (old ++ y ∷ []) n) same in
+    rw (put, from) (
+      record {
+        settled_room = keeps.settled_room;
+        recent_room = keeps.recent_room;
+        fits = omega (arith, keeps.fits, length-append old (x ∷ []));
+        are = settled_more old x keeps.are first.0;
+      },
+      append_assoc old (x ∷ []) items,
+    )

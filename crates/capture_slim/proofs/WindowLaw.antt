@@ -23,15 +23,17 @@ use Rattle.capture_slim.specs.Places.{placed_by, places_from}
 use Rattle.capture_slim.specs.declared.slot.Mark.{Mark}
 use Rattle.capture_slim.specs.declared.slot.Mark.TheVariants.{Kept, Dropped, Open}
 use Rattle.capture_slim.specs.declared.slot.Slot.{Slot}
-use Rattle.capture_slim.specs.Window.{Window, settled, kept, kept_words, judged, dropped_words, with_words, with_event}
-use Rattle.capture_slim.specs.Window.{with_word, pushed_by, pushed, out_of, resolved, start_of, value, left_of}
+use Rattle.capture_slim.specs.declared.queue.Queue.{Queue}
+use Rattle.capture_slim.specs.Window.{Window, settled, kept, kept_words, judged, within, taken_up}
+use Rattle.capture_slim.specs.Window.{with_event, with_word, added, area_behind, pushed, out_of, resolved, start_of}
+use Rattle.capture_slim.specs.Window.{value, left_of}
 use Rattle.capture_slim.specs.Window.{all_left, waiting, IsBegun}
 use Rattle.dead_drawing.specs.OnePacket.{IsDroppable}
 use Rattle.dead_drawing.proofs.Droppable.{shape_of, plain_kind, packet_is}
 use Rattle.dead_drawing.proofs.PacketWords.{held_of, first_of_all}
 use Rattle.dead_drawing.proofs.SlimLaw.{control_last, control_part, control_stays, whole_regs}
 use Rattle.capture_slim.proofs.WindowLemmas.{word_kept, word_gone, covered_zero, settled_is, resolved_append}
-use Rattle.capture_slim.proofs.WindowLemmas.{kept_resolved, dropped_resolved, open_resolved, open_long}
+use Rattle.capture_slim.proofs.WindowLemmas.{kept_resolved, dropped_resolved, open_resolved, kept_long, judged_long}
 
 abbrev Outs : Type 0
 Outs = List (Option Event)
@@ -233,23 +235,11 @@ begun_stays c w ws behind begun cut =
 
 -- ---- one event more
 
-kept_long : (words : List ℕ) → length (kept_words words) ≡ length words
-kept_long [] = refl
-kept_long (w ∷ ws) = ap suc (kept_long ws)
-
-dropped_long : (words : List ℕ) → length (dropped_words words) ≡ length words
-dropped_long [] = refl
-dropped_long (w ∷ ws) = ap suc (dropped_long ws)
-
-pub judged_long : (words : List ℕ) (area : Option Box2) → length (judged words area) ≡ length words
-judged_long words None = dropped_long words
-judged_long words (Some b) = open_long words 0 b
-
--- what is added behind the slots
-added : (slots more : List Slot) (n : ℕ) (c : Control) (behind : List Event) → length more ≡ n
+-- what is put behind the slots
+put_behind : (slots more : List Slot) (n : ℕ) (c : Control) (behind : List Event) → length more ≡ n
     → resolved (slots ++ more) 0 c behind ++ places_from behind c 0
     ≡ resolved slots n c behind ++ (resolved more 0 c behind ++ places_from behind c 0)
-added slots more n c behind long =
+put_behind slots more n c behind long =
     let all : length more + 0 ≡ n = omega (arith, long) in
     ap (λ (outs : Outs). outs ++ places_from behind c 0) (resolved_append slots more 0 c behind)
     ∙ append_assoc (resolved slots (length more + 0) c behind) (resolved more 0 c behind) (places_from behind c 0)
@@ -261,7 +251,7 @@ event_value : (slots : List Slot) (words : List ℕ) (c : Control) (e : Event) (
     ≡ map word_kept words ++ Some e ∷ places_from behind (controlled c e) 0
     → resolved slots (suc (length words)) (controlled c e) behind ++ places_from (map event.Gp0 words ++ e ∷ behind)
     (start_of words c) 0
-    ≡ value (with_event words slots (controlled c e) e) behind
+    ≡ value (within (with_event slots words e) (controlled c e)) behind
 event_value slots words c e behind stays =
     let now = controlled c e in
     let more = kept_words words ++ kept e ∷ [] in
@@ -273,7 +263,7 @@ event_value slots words c e behind stays =
     ap (λ (outs : Outs). resolved slots (suc (length words)) now behind ++ outs)
     (stays ∙ sym (append_assoc (map word_kept words) (Some e ∷ []) (places_from behind now 0))
     ∙ ap (λ (outs : Outs). outs ++ places_from behind now 0) (sym all))
-    ∙ sym (added slots more (suc (length words)) now behind long)
+    ∙ sym (put_behind slots more (suc (length words)) now behind long)
 
 -- a word of a packet that may be dropped
 start_some : (done : List ℕ) (w : ℕ) (c : Control) → start_of (done ++ w ∷ []) c
@@ -314,7 +304,8 @@ now_part c done word t part =
 words_value : (slots : List Slot) (c : Control) (done : List ℕ) (word : ℕ) (behind : List Event) → IsTaken c done word
     → resolved slots (length (done ++ word ∷ [])) (controlled c (event.Gp0 word)) behind
     ++ places_from (map event.Gp0 (done ++ word ∷ []) ++ behind) (record { regs = c.regs; pending = pending.Idle }) 0
-    ≡ value (with_words c slots (controlled c (event.Gp0 word)) (done ++ word ∷ [])) behind
+    ≡ value (within (taken_up slots (done ++ word ∷ []) (area_behind c done (event.Gp0 word)))
+    (controlled c (event.Gp0 word))) behind
 words_value slots c done word behind t = by_test
     (ltb (length (done ++ word ∷ [])) (first_len_of (slice_index (done ++ word ∷ []) 0))) refl
   where
@@ -322,14 +313,9 @@ words_value slots c done word behind t = by_test
         → resolved slots (length (done ++ word ∷ [])) (controlled c (event.Gp0 word)) behind
         ++ places_from (map event.Gp0 (done ++ word ∷ []) ++ behind)
         (record { regs = c.regs; pending = pending.Idle }) 0
-        ≡ value (cond b (record { slots = slots; words = done ++ word ∷ []; control = controlled c (event.Gp0 word) })
-        (record {
-          slots = slots ++ judged (done ++ word ∷ [])
-              (area_of c.regs (whole_of c.regs.height (done ++ word ∷ [])));
-          words = [];
-          control = controlled c
-              (event.Gp0 word);
-        })) behind
+        ≡ value (within (cond b (record { slots = slots; words = done ++ word ∷ [] })
+        (record { slots = slots ++ judged (done ++ word ∷ []) (area_behind c done (event.Gp0 word)); words = [] }))
+        (controlled c (event.Gp0 word))) behind
     by_test true e =
         let part : length (done ++ word ∷ []) < first_len_of (slice_index (done ++ word ∷ []) 0) = ltb-true _ _ e in
         let start : start_of (done ++ word ∷ []) (controlled c (event.Gp0 word))
@@ -350,7 +336,7 @@ words_value slots c done word behind t = by_test
         (judged_any s words behind refl (record { kind = t.kind; whole = whole }))
         ∙ ap (λ (d : Control). resolved slots (length words) (controlled c (event.Gp0 word)) behind ++
         (resolved more 0 d behind ++ places_from behind d 0)) (sym now)
-        ∙ sym (added slots more (length words) (controlled c (event.Gp0 word)) behind
+        ∙ sym (put_behind slots more (length words) (controlled c (event.Gp0 word)) behind
         (judged_long words (area_of c.regs (whole_of c.regs.height words))))
 
 cut_stays : (words : List ℕ) (c : Control) (e : Event) (behind : List Event) → IsBegun words c → IsCut (e ∷ behind)
@@ -371,7 +357,8 @@ more_words (w ∷ ws) word behind = ap (λ (es : List Event). event.Gp0 w ∷ es
 taken_value : (slots : List Slot) (c : Control) (done : List ℕ) (word : ℕ) (behind : List Event) → IsTaken c done word
     → resolved slots (suc (length done)) (controlled c (event.Gp0 word)) behind
     ++ places_from (map event.Gp0 done ++ event.Gp0 word ∷ behind) (record { regs = c.regs; pending = pending.Idle }) 0
-    ≡ value (with_words c slots (controlled c (event.Gp0 word)) (done ++ word ∷ [])) behind
+    ≡ value (within (taken_up slots (done ++ word ∷ []) (area_behind c done (event.Gp0 word)))
+    (controlled c (event.Gp0 word))) behind
 taken_value slots c done word behind t =
     let long : suc (length done) ≡ length (done ++ word ∷ []) = omega (arith, length-append done (word ∷ [])) in
     ap (λ (n : ℕ). resolved slots n (controlled c (event.Gp0 word)) behind ++ places_from
@@ -396,14 +383,15 @@ taken_first c word is =
 word_value : (words : List ℕ) (slots : List Slot) (c : Control) (word : ℕ) (behind : List Event) → IsBegun words c
     → resolved slots (suc (length words)) (controlled c (event.Gp0 word)) behind ++ places_from
     (map event.Gp0 words ++ event.Gp0 word ∷ behind) (start_of words c) 0
-    ≡ value (with_word c words slots (controlled c (event.Gp0 word)) word) behind
+    ≡ value (within (with_word slots words word (is_idle c.pending) (area_behind c words (event.Gp0 word)))
+    (controlled c (event.Gp0 word))) behind
 word_value (v ∷ vs) slots c word behind begun = taken_value slots c (v ∷ vs) word behind (taken_more c v vs word begun)
 word_value [] slots c word behind begun = by_test (is_idle c.pending && is_droppable word) refl
   where
     by_test : (b : Bool) → (is_idle c.pending && is_droppable word) ≡ b
         → resolved slots 1 (controlled c (event.Gp0 word)) behind ++ places_from (event.Gp0 word ∷ behind) c 0
-        ≡ value (cond b (with_words c slots (controlled c (event.Gp0 word)) (word ∷ []))
-        (with_event [] slots (controlled c (event.Gp0 word)) (event.Gp0 word))) behind
+        ≡ value (within (cond b (taken_up slots (word ∷ []) (area_behind c [] (event.Gp0 word)))
+        (with_event slots [] (event.Gp0 word))) (controlled c (event.Gp0 word))) behind
     by_test true is =
         let t = taken_first c word is in
         ap (λ (p : Pending). resolved slots 1 (controlled c (event.Gp0 word)) behind ++ places_from
@@ -416,7 +404,8 @@ word_value [] slots c word behind begun = by_test (is_idle c.pending && is_dropp
 pushed_value : (slots : List Slot) (words : List ℕ) (c : Control) (e : Event) (behind : List Event) → IsBegun words c
     → resolved slots (suc (length words)) (controlled c e) behind ++ places_from (map event.Gp0 words ++ e ∷ behind)
     (start_of words c) 0
-    ≡ value (pushed_by c words e slots (controlled c e)) behind
+    ≡ value (within (added (record { slots = slots; words = words }) e (is_idle c.pending) (area_behind c words e))
+    (controlled c e)) behind
 pushed_value slots words c (event.Gp0 word) behind begun = word_value words slots c word behind begun
 pushed_value slots words c other behind begun =
     event_value slots words c other behind (cut_stays words c other behind begun tt (no_front c (other ∷ behind) refl))
@@ -437,24 +426,16 @@ begun_some : (done : List ℕ) (word : ℕ) (d : Control) → d.pending ≡ held
 begun_some [] word d held kind part = (held, kind, part)
 begun_some (v ∷ vs) word d held kind part = (held, kind, part)
 
-abbrev AreBegun : Window → Type 0
-AreBegun w = IsBegun w.words w.control
-
 taken_begun : (slots : List Slot) (c : Control) (done : List ℕ) (word : ℕ) → IsTaken c done word
-    → AreBegun (with_words c slots (controlled c (event.Gp0 word)) (done ++ word ∷ []))
+    → IsBegun (taken_up slots (done ++ word ∷ []) (area_behind c done (event.Gp0 word))).words
+    (controlled c (event.Gp0 word))
 taken_begun slots c done word t = by_test
     (ltb (length (done ++ word ∷ [])) (first_len_of (slice_index (done ++ word ∷ []) 0))) refl
   where
     by_test : (b : Bool) → ltb (length (done ++ word ∷ [])) (first_len_of (slice_index (done ++ word ∷ []) 0)) ≡ b
-        → AreBegun (cond b
-        (record { slots = slots; words = done ++ word ∷ []; control = controlled c (event.Gp0 word) })
-        (record {
-          slots = slots ++ judged (done ++ word ∷ [])
-              (area_of c.regs (whole_of c.regs.height (done ++ word ∷ [])));
-          words = [];
-          control = controlled c
-              (event.Gp0 word);
-        }))
+        → IsBegun (cond {A = Queue} b (record { slots = slots; words = done ++ word ∷ [] })
+        (record { slots = slots ++ judged (done ++ word ∷ []) (area_behind c done (event.Gp0 word)); words = [] })).words
+        (controlled c (event.Gp0 word))
     by_test true e =
         let part : length (done ++ word ∷ []) < first_len_of (slice_index (done ++ word ∷ []) 0) = ltb-true _ _ e in
         begun_some done word (controlled c (event.Gp0 word))
@@ -462,13 +443,14 @@ taken_begun slots c done word t = by_test
     by_test false e = tt
 
 word_begun : (words : List ℕ) (slots : List Slot) (c : Control) (word : ℕ) → IsBegun words c
-    → AreBegun (with_word c words slots (controlled c (event.Gp0 word)) word)
+    → IsBegun (with_word slots words word (is_idle c.pending) (area_behind c words (event.Gp0 word))).words
+    (controlled c (event.Gp0 word))
 word_begun (v ∷ vs) slots c word begun = taken_begun slots c (v ∷ vs) word (taken_more c v vs word begun)
 word_begun [] slots c word begun = by_test (is_idle c.pending && is_droppable word) refl
   where
     by_test : (b : Bool) → (is_idle c.pending && is_droppable word) ≡ b
-        → AreBegun (cond b (with_words c slots (controlled c (event.Gp0 word)) (word ∷ []))
-        (with_event [] slots (controlled c (event.Gp0 word)) (event.Gp0 word)))
+        → IsBegun (cond b (taken_up slots (word ∷ []) (area_behind c [] (event.Gp0 word)))
+        (with_event slots [] (event.Gp0 word))).words (controlled c (event.Gp0 word))
     by_test true is = taken_begun slots c [] word (taken_first c word is)
     by_test false is = tt
 

@@ -11,7 +11,7 @@ use Rattle.dead_drawing.specs.Dead.{fills_at, is_calm_at, is_covered}
 use Rattle.capture_slim.specs.declared.slot.Mark.{Mark}
 use Rattle.capture_slim.specs.declared.slot.Mark.TheVariants.{Kept, Dropped, Open}
 use Rattle.capture_slim.specs.declared.slot.Slot.{Slot}
-use Rattle.capture_slim.specs.Window.{settle, settled, kept_words, dropped_words, open_words, out_of, resolved}
+use Rattle.capture_slim.specs.Window.{settle, settled, kept_words, dropped_words, judged, open_words, out_of, resolved}
 
 -- a word that stays, and one that goes
 abbrev pub word_kept : ℕ → Option Event
@@ -88,9 +88,21 @@ dropped_resolved [] after c behind = refl
 dropped_resolved (w ∷ ws) after c behind =
     ap (λ (outs : List (Option Event)). None ∷ outs) (dropped_resolved ws after c behind)
 
-pub open_long : (words : List ℕ) (i : ℕ) (b : Box2) → length (open_words words i b) ≡ length words
+pub kept_long : (words : List ℕ) → length (kept_words words) ≡ length words
+kept_long [] = refl
+kept_long (w ∷ ws) = ap suc (kept_long ws)
+
+dropped_long : (words : List ℕ) → length (dropped_words words) ≡ length words
+dropped_long [] = refl
+dropped_long (w ∷ ws) = ap suc (dropped_long ws)
+
+open_long : (words : List ℕ) (i : ℕ) (b : Box2) → length (open_words words i b) ≡ length words
 open_long [] i b = refl
 open_long (w ∷ ws) i b = ap suc (open_long ws (suc i) b)
+
+pub judged_long : (words : List ℕ) (area : Option Box2) → length (judged words area) ≡ length words
+judged_long words None = dropped_long words
+judged_long words (Some b) = open_long words 0 b
 
 -- a packet's words stay or go together
 pub open_resolved : (words : List ℕ) (i : ℕ) (b : Box2) (c : Control) (behind : List Event) (t : Bool)

@@ -1,14 +1,8 @@
--- Slots that are settled by what an event says, and events that are put behind them (our own rule).
-use Rattle.std.specs.Prelude.{ℕ, ◌+◌, ◌&&◌, Bool, Option, Some, None, List, [], ◌∷◌, ◌++◌, if◌then◌else◌, nat_lt}
-use Rattle.std.specs.Prelude.{length, slice_index}
+-- Slots that are settled by what an event says (our own rule).
+use Rattle.std.specs.Prelude.{◌≡◌, ◌≤◌, ℕ, ◌+◌, Option, Some, None, List, [], ◌∷◌, ◌++◌, length}
 use Rattle.px_num.specs.declared.shape.Box2.{Box2}
-use Rattle.circular_buffer.specs.Buffer.{Buffer, buffer}
-use Rattle.gp0_words.specs.Kinds.{first_len_of}
-use Rattle.gpu_capture.specs.declared.event.Event.{Event}
-use Rattle.gpu_capture.specs.declared.event.Event.TheVariants as event
-use Rattle.dead_drawing.specs.Dead.{is_droppable}
+use Rattle.circular_buffer.specs.Buffer.{Buffer}
 use Rattle.capture_slim.specs.Saying.{settle_by}
-use Rattle.capture_slim.specs.Window.{judged, kept, kept_words}
 use Rattle.capture_slim.specs.declared.saying.Saying.{Saying}
 use Rattle.capture_slim.specs.declared.saying.Saying.TheVariants.{Loud}
 use Rattle.capture_slim.specs.declared.slot.Mark.{Mark}
@@ -39,26 +33,22 @@ abbrev pub mark_of : Option Box2 → ℕ → Mark
 mark_of None i = Dropped
 mark_of (Some area) i = Open area i
 
--- the slots that may still change, and the words of a packet that isn't whole
-pub record Kept : Type 0 where
-  pub slots : Buffer Slot
-  pub words : List ℕ
+-- a mark that no event changes
+abbrev pub IsSettled : Mark → Type 0
+IsSettled (Open area i) = ⊥
+IsSettled other = Unit {0}
 
-abbrev pub taken_up : Buffer Slot → List ℕ → (word : ℕ) → Option Box2 → Kept
-taken_up slots words word area =
-    if nat_lt (length (words ++ word ∷ [])) (first_len_of (slice_index (words ++ word ∷ []) 0))
-    then record { slots = slots; words = words ++ word ∷ [] }
-    else record { slots = buffer (slots.items ++ judged (words ++ word ∷ []) area) slots.capacity; words = [] }
+abbrev pub AreSettled : List Slot → Type 0
+AreSettled [] = Unit {0}
+AreSettled (s ∷ slots) = IsSettled s.mark × AreSettled slots
 
-abbrev pub put_event : Buffer Slot → List ℕ → Event → Kept
-put_event slots words e =
-    record { slots = buffer (slots.items ++ (kept_words words ++ kept e ∷ [])) slots.capacity; words = [] }
+-- how many slots there is room for: those of the window, with the words of a packet more
+abbrev pub room : ℕ
+room = 4128
 
-abbrev pub put_word : Buffer Slot → List ℕ → (word : ℕ) → (idle : Bool) → Option Box2 → Kept
-put_word slots [] word idle area =
-    if idle && is_droppable word then taken_up slots [] word area else put_event slots [] (event.Gp0 word)
-put_word slots (v ∷ vs) word idle area = taken_up slots (v ∷ vs) word area
-
-abbrev pub added : Buffer Slot → List ℕ → Event → (idle : Bool) → Option Box2 → Kept
-added slots words (event.Gp0 word) idle area = put_word slots words word idle area
-added slots words other idle area = put_event slots words other
+-- slots that are settled, and those behind them that may be open: either part has room for all
+pub record KeepsSlots (settled recent : Buffer Slot) : Type 0 where
+  pub settled_room : settled.capacity ≡ room
+  pub recent_room : recent.capacity ≡ room
+  pub fits : length settled.items + length recent.items ≤ room
+  pub are : AreSettled settled.items

@@ -1,5 +1,5 @@
 -- Events that wait for a fill: what is known of them when only the events up to now are known (our own rule).
-use Rattle.std.specs.Prelude.{◌≡◌, ◌<◌, ℕ, suc, ◌+◌, ◌-◌, ◌&&◌, true, List, [], ◌∷◌, ◌++◌, Option, Some, None}
+use Rattle.std.specs.Prelude.{◌≡◌, ◌<◌, ℕ, suc, ◌+◌, ◌-◌, ◌&&◌, Bool, true, List, [], ◌∷◌, ◌++◌, Option, Some, None}
 use Rattle.std.specs.Prelude.{if◌then◌else◌, nat_lt, length, map, slice_index}
 use Rattle.px_num.specs.declared.shape.Box2.{Box2}
 use Rattle.gp0_words.specs.Kinds.{first_len_of}
@@ -11,6 +11,7 @@ use Rattle.gpu_core.specs.Machine.{is_idle}
 use Rattle.prim_draw.specs.Areas.{area_of}
 use Rattle.dead_drawing.specs.Control.{Control, controlled, first_control}
 use Rattle.dead_drawing.specs.Dead.{fills_at, is_calm_at, is_covered, is_droppable, window_events}
+use Rattle.capture_slim.specs.declared.queue.Queue.{Queue}
 use Rattle.capture_slim.specs.declared.slot.Mark.{Mark}
 use Rattle.capture_slim.specs.declared.slot.Mark.TheVariants.{Kept, Dropped, Open}
 use Rattle.capture_slim.specs.declared.slot.Slot.{Slot}
@@ -21,6 +22,9 @@ pub record Window : Type 0 where
   pub slots : List Slot
   pub words : List ℕ
   pub control : Control
+
+abbrev pub within : Queue → Control → Window
+within q c = record { slots = q.slots; words = q.words; control = c }
 
 -- ---- an event comes
 
@@ -58,32 +62,38 @@ abbrev pub judged : List ℕ → Option Box2 → List Slot
 judged words None = dropped_words words
 judged words (Some area) = open_words words 0 area
 
-abbrev pub with_words : Control → List Slot → Control → (words : List ℕ) → Window
-with_words c slots now words =
-    if nat_lt (length words) (first_len_of (slice_index words 0))
-    then record { slots = slots; words = words; control = now }
-    else record {
-      slots = slots ++ judged words (area_of c.regs (whole_of c.regs.height words));
-      words = [];
-      control = now;
-    }
+-- these words are of a packet that may be dropped, and where they are all of it this is its area
+abbrev pub taken_up : List Slot → (words : List ℕ) → Option Box2 → Queue
+taken_up slots words area =
+    if nat_lt (length words) (first_len_of (slice_index words 0)) then record { slots = slots; words = words }
+    else record { slots = slots ++ judged words area; words = [] }
 
--- no packet that may be dropped is begun
-abbrev pub with_event : List ℕ → List Slot → Control → Event → Window
-with_event words slots now e = record { slots = slots ++ (kept_words words ++ kept e ∷ []); words = []; control = now }
+-- an event that is no word of such a packet; nor are the words before it
+abbrev pub with_event : List Slot → (words : List ℕ) → Event → Queue
+with_event slots words e = record { slots = slots ++ (kept_words words ++ kept e ∷ []); words = [] }
 
-abbrev pub with_word : Control → List ℕ → List Slot → Control → (word : ℕ) → Window
-with_word c [] slots now word =
-    if is_idle c.pending && is_droppable word then with_words c slots now (word ∷ [])
-    else with_event [] slots now (event.Gp0 word)
-with_word c (v ∷ vs) slots now word = with_words c slots now ((v ∷ vs) ++ word ∷ [])
+-- a word, where nothing is pending or something is
+abbrev pub with_word : List Slot → (words : List ℕ) → (word : ℕ) → (idle : Bool) → Option Box2 → Queue
+with_word slots [] word idle area =
+    if idle && is_droppable word then taken_up slots (word ∷ []) area else with_event slots [] (event.Gp0 word)
+with_word slots (v ∷ vs) word idle area = taken_up slots ((v ∷ vs) ++ word ∷ []) area
 
-abbrev pub pushed_by : Control → List ℕ → Event → List Slot → Control → Window
-pushed_by c words (event.Gp0 word) slots now = with_word c words slots now word
-pushed_by c words other slots now = with_event words slots now other
+abbrev pub added : Queue → Event → (idle : Bool) → Option Box2 → Queue
+added q (event.Gp0 word) idle area = with_word q.slots q.words word idle area
+added q other idle area = with_event q.slots q.words other
+
+-- the area of the packet that these words and one more are
+abbrev pub area_behind : Control → (words : List ℕ) → Event → Option Box2
+area_behind c words (event.Gp0 word) = area_of c.regs (whole_of c.regs.height (words ++ word ∷ []))
+area_behind c words other = None
+
+-- the slots are settled by what an event says
+abbrev pub heeded : Window → Event → Queue
+heeded w e = record { slots = settled w.slots (length w.words) w.control e; words = w.words }
 
 unfoldable pub pushed : Window → Event → Window
-pushed w e = pushed_by w.control w.words e (settled w.slots (length w.words) w.control e) (controlled w.control e)
+pushed w e = within (added (heeded w e) e (is_idle w.control.pending) (area_behind w.control w.words e))
+    (controlled w.control e)
 
 -- ---- what it comes to, whatever follows
 

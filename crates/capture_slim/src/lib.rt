@@ -5,12 +5,14 @@ mod ending;
 mod file;
 pub mod laws;
 mod pass;
+mod queue;
 mod record;
 mod rest;
 mod saying;
 mod settling;
 mod slim;
 mod slot;
+mod slots;
 mod track;
 mod waiting;
 

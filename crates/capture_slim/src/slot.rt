@@ -1,4 +1,7 @@
 // Events that wait.
+ghost use Rattle.std.specs.Prelude.{◌≡◌};
+ghost use Rattle.capture_slim.specs.Window.{left_of};
+
 use gpu_capture::Event;
 use px_num::Box2;
 
@@ -18,4 +21,16 @@ pub enum Mark {
 pub struct Slot {
     pub event: Event,
     pub mark: Mark,
+}
+
+impl Slot {
+    /// The event, if it stays where no event follows.
+    pub(crate) fn left(self) -> Option<Event>
+        ensures { result ≡ left_of self.event self.mark }
+    {
+        match self.mark {
+            Mark::Dropped => None,
+            Mark::Kept | Mark::Open { .. } => Some(self.event),
+        }
+    }
 }
