@@ -32,9 +32,10 @@ use Rattle.capture_slim.proofs.Firsts.{pushed_size}
 use Rattle.capture_slim.proofs.Ports.{pushed_ports, staying_ports}
 use Rattle.capture_slim.proofs.WindowLaw.{IsTaken, taken_more, taken_first, pushed_begun}
 
+-- the area that an event tells is that of the words
 whole_area : (c : Control) (done : List ℕ) (word : ℕ) → IsTaken c done word → length (done ++ word ∷ [])
     ≡ first_len_of (slice_index (done ++ word ∷ []) 0)
-    → area_by c.regs (next_item c.pending word) ≡ area_of c.regs (whole_of c.regs.height (done ++ word ∷ []))
+    → area_at c (event.Gp0 word) ≡ area_behind c done (event.Gp0 word)
 whole_area c done word t whole =
     let words = done ++ word ∷ [] in
     let first = slice_index words 0 in
@@ -44,7 +45,6 @@ whole_area c done word t whole =
     ∙ last_item (first_len_of first) words whole in
     ap (area_by c.regs) item ∙ ap (area_of c.regs) (packet_is c.regs.height words whole)
 
--- the area that an event tells is that of the words
 taken_same : (slots : List Slot) (c : Control) (done : List ℕ) (word : ℕ) → IsTaken c done word
     → taken_up slots (done ++ word ∷ []) (area_at c (event.Gp0 word))
     ≡ taken_up slots (done ++ word ∷ []) (area_behind c done (event.Gp0 word))
