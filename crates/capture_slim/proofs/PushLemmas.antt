@@ -9,7 +9,6 @@ use Rattle.gp0_words.specs.Next.{next_item, collected_item}
 use Rattle.gp0_words.specs.declared.item.Item.TheVariants.{Whole}
 use Rattle.gp0_words.specs.declared.kind.Kind.{Kind}
 use Rattle.gp0_words.specs.declared.pending.Pending.{Pending}
-use Rattle.gp0_packets.specs.Packets.{whole_of}
 use Rattle.gpu_capture.specs.declared.event.Event.{Event}
 use Rattle.gpu_capture.specs.declared.event.Event.TheVariants as event
 use Rattle.event_play.specs.Ports.{IsAtPorts}
