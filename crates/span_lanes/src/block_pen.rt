@@ -64,8 +64,8 @@ fn way_of(sheet: &Sheet) -> Way
     }
 }
 
-/// A pen for the spans of a triangle with a texture that lie in a block of cells, none of which is one of the texture page
-/// or of the palette: what is one for all of them is asked once.
+/// A pen for the spans of a triangle with a texture that lie in a block of cells, none of which is one of the texture
+/// page or of the palette: what is one for all of them is asked once.
 #[derive(Drop)]
 pub struct BlockPen {
     sheet: Sheet,
@@ -94,8 +94,8 @@ impl BlockPen {
     ghost use Rattle.texel_lanes.specs.Texture.{IsTexture};
     ghost use Rattle.span_lanes.specs.Shade.{IsSpan, LiesIn, texture_of};
 
-    /// A pen for a paint and a brush in a block. None for other paints than triangles with a texture, and where the block
-    /// is not known to lie apart: [`Pen`](crate::Pen) draws them all.
+    /// A pen for a paint and a brush in a block. None for other paints than triangles with a texture, and where the
+    /// block is not known to lie apart: [`Pen`](crate::Pen) draws them all.
     #[inline(always)]
     pub fn new(paint: &Paint, brush: &Brush, block: &Block) -> Option<BlockPen>
         requires block { IsBlock 1024 block.now }

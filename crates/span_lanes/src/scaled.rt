@@ -45,7 +45,8 @@ fn draw_shaded<L: Ledger>(
     hues: Hues,
     steps: &mut Steps<L>,
 )
-    requires take { CanTake span.now texture.now (IsTrack span.now.paint span.now.x span.now.y span.now.n track) vram.old }
+    requires take { CanTake span.now texture.now
+        (IsTrack span.now.paint span.now.x span.now.y span.now.n track) vram.old }
     requires hues { AreHues span.now.paint span.now.x span.now.y span.now.n hues }
     ensures { DrawsSpan span.now 0 (at_stage vram.old steps.old) (at_stage vram.new steps.new) }
 {
@@ -68,7 +69,8 @@ fn draw_kept<L: Ledger>(
     last: &mut Option<Swatches>,
     steps: &mut Steps<L>,
 )
-    requires take { CanTake span.now texture.now (IsTrack span.now.paint span.now.x span.now.y span.now.n track) vram.old }
+    requires take { CanTake span.now texture.now
+        (IsTrack span.now.paint span.now.x span.now.y span.now.n track) vram.old }
     requires hues { AreHues span.now.paint span.now.x span.now.y span.now.n (One color) }
     requires suits { SuitsPalette span.now texture.now }
     requires last { IsKept span.now.paint vram.old last.old }
