@@ -51,7 +51,7 @@ pub(crate) fn no_shifts() -> Shifts
 }
 
 // The dither offsets of sixteen cells of a row, by the row and then by the column of the first, both modulo 4.
-const DITHER_ROWS: [[i16; 16]; 16] = [
+static DITHER_ROWS: [[i16; 16]; 16] = [
     [-4, 0, -3, 1, -4, 0, -3, 1, -4, 0, -3, 1, -4, 0, -3, 1],
     [0, -3, 1, -4, 0, -3, 1, -4, 0, -3, 1, -4, 0, -3, 1, -4],
     [-3, 1, -4, 0, -3, 1, -4, 0, -3, 1, -4, 0, -3, 1, -4, 0],

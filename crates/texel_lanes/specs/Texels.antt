@@ -30,12 +30,7 @@ abbrev pub AreTexels : Texture → Coordinates → (k : ℕ) → (m lanes : List
 AreTexels t at k m lanes =
     (j : ℕ) → j < k → slice_index lanes j ≡ texel t (slice_index at.us j) (slice_index at.vs j) m
 
--- sixteen cells of a row from (x, y) on, side by side
-abbrev pub StandInRow : (xs ys : List ℕ) → (x y : ℕ) → Type 0
-StandInRow xs ys x y =
-    (x + 16 ≤ 1024) × EachLane (λ i. slice_index xs i ≡ x + i) × EachLane (λ i. slice_index ys i ≡ y)
-
--- cells among those sixteen
+-- cells among the sixteen of a row from (x, y) on
 abbrev pub StandNear : (xs ys : List ℕ) → (x y : ℕ) → Type 0
 StandNear xs ys x y =
     (x + 16 ≤ 1024)

@@ -2,10 +2,10 @@
 ghost use Rattle.std.specs.Prelude.{◌≡◌, IsTrue, ◌≤◌, ◌<◌, ◌+◌, ℕ, length, slice_index};
 ghost use Rattle.px_num.specs.Lanes.{EachLane};
 ghost use Rattle.vram_store.specs.Vram.{at, height_of};
-ghost use Rattle.texel_lanes.specs.Texels.{StandInRow, StandNear};
+ghost use Rattle.texel_lanes.specs.Texels.{StandNear};
 
 use crate::table::halfwords_at;
-use px_num::lanes::{add, ramp, same, shifted_down, splat, sub_or_zero};
+use px_num::lanes::{add, same, shifted_down, splat, sub_or_zero};
 use std::simd::prelude::*;
 use std::sync::ledger::Ledger;
 use vram_store::{Steps, Vram};
@@ -33,18 +33,6 @@ pub(crate) fn gather<L: Ledger>(
         halfwords[j as usize] = vram.get(xs[j as usize], ys[j as usize], steps);
     }
     u16x16::from_array(halfwords)
-}
-
-// Whether sixteen cells stand side by side, from (x, y) on.
-#[inline(always)]
-fn stand_in_row(xs: u16x16, ys: u16x16, x: u16, y: u16) -> bool
-    requires long { (length xs ≡ 16) × (length ys ≡ 16) }
-    requires x { x < 1024 }
-    ensures { IsTrue result → StandInRow xs ys x y }
-{
-    let first = same(xs, add(splat(x), ramp()));
-    let second = same(ys, splat(y));
-    x + 16 <= 1024 && first && second
 }
 
 // Whether sixteen cells stand in a row of sixteen cells from (x, y) on.
@@ -85,7 +73,7 @@ fn near_halfwords<L: Ledger>(
 
 // The halfwords of k cells: at once where they stand close by.
 #[inline(always)]
-fn close_halfwords<L: Ledger>(
+pub(crate) fn halfwords_of<L: Ledger>(
     vram: &Vram,
     xs: u16x16,
     ys: u16x16,
@@ -107,32 +95,5 @@ fn close_halfwords<L: Ledger>(
         near_halfwords(vram, xs, x, y, steps)
     } else {
         gather(vram, xs, ys, k, steps)
-    }
-}
-
-// The halfwords of k cells: at once where they stand side by side.
-#[inline(always)]
-pub(crate) fn halfwords_of<L: Ledger>(
-    vram: &Vram,
-    xs: u16x16,
-    ys: u16x16,
-    k: u8,
-    steps: &mut Steps<L>,
-) -> u16x16
-    requires some { 1 ≤ k }
-    requires few { k ≤ 16 }
-    requires long { (length xs ≡ 16) × (length ys ≡ 16) }
-    requires in_row { EachLane (λ i. slice_index xs i < 1024) }
-    requires in_height { EachLane (λ i. slice_index ys i < height_of vram.now) }
-    ensures long { length result ≡ 16 }
-    ensures value { (j : ℕ) → j < k → slice_index result j ≡ at vram.now (slice_index xs j) (slice_index ys j) }
-    ensures cost { steps.new ≤ steps.old + k }
-{
-    let x = xs.to_array()[0];
-    let y = ys.to_array()[0];
-    if stand_in_row(xs, ys, x, y) {
-        vram.load16(x, y, k, steps)
-    } else {
-        close_halfwords(vram, xs, ys, k, steps)
     }
 }
