@@ -47,8 +47,8 @@ pub record IsStored (old : List ℕ) (start n : ℕ) (lanes : List ℕ) (mask : 
   pub masked : (j : ℕ) → j < n → bit mask j ≢ 1 → slice_index new (start + j) ≡ slice_index old (start + j)
   pub others : (k : ℕ) → (k < start) ⊎ (start + n ≤ k) → slice_index new k ≡ slice_index old k
 
--- the sixteen cells from number start on have become these lanes, and all others stayed
-pub record IsPut (old : List ℕ) (start : ℕ) (lanes new : List ℕ) : Type 0 where
+-- the n cells from number start on have become the first lanes, and all others stayed
+pub record IsPut (old : List ℕ) (start n : ℕ) (lanes new : List ℕ) : Type 0 where
   pub count : length new ≡ length old
-  pub written : (j : ℕ) → j < 16 → slice_index new (start + j) ≡ slice_index lanes j
-  pub others : (k : ℕ) → (k < start) ⊎ (start + 16 ≤ k) → slice_index new k ≡ slice_index old k
+  pub written : (j : ℕ) → j < n → slice_index new (start + j) ≡ slice_index lanes j
+  pub others : (k : ℕ) → (k < start) ⊎ (start + n ≤ k) → slice_index new k ≡ slice_index old k
