@@ -52,11 +52,14 @@ pub(crate) fn draw_parts<C: Chunks, L: Ledger>(
         chunks.draw_part(vram, span, part, steps);
     }
     let rest = span.n % 16;
-    if rest > 0 {
-        let part = Part {
-            first: 16 * whole,
-            k: rest as u8,
-        };
+    let part = Part {
+        first: 16 * whole,
+        k: rest as u8,
+    };
+    // A rest of at most eight cells is compiled apart: nothing is reckoned for the other eight lanes.
+    if rest > 8 {
+        chunks.draw_part(vram, span, part, steps);
+    } else if rest > 0 {
         chunks.draw_part(vram, span, part, steps);
     }
 }
