@@ -157,7 +157,7 @@ fn scattered_indexes<L: Ledger>(
     nibbles(places.across, halfwords)
 }
 
-/// The indexes of k texels of four bits by their coordinates.
+/// The indexes of k texels of four bits by their coordinates: at once where there are many and they stand side by side.
 #[inline(always)]
 pub fn indexes_of<L: Ledger>(
     vram: &Vram,
@@ -174,7 +174,7 @@ pub fn indexes_of<L: Ledger>(
     ensures indexes { AreIndexes texture.now at.now k vram.now result }
     ensures cost { steps.new ≤ steps.old + k }
 {
-    if are_beside(texture, at) {
+    if k > 8 && are_beside(texture, at) {
         beside_indexes(vram, texture, at, steps)
     } else {
         scattered_indexes(vram, texture, at, k, steps)

@@ -71,7 +71,8 @@ fn near_halfwords<L: Ledger>(
     halfwords_at(cells, sub_or_zero(xs, splat(x)))
 }
 
-// The halfwords of k cells: at once where they stand close by.
+// The halfwords of k cells: at once where there are many and they stand close by. For few the look costs more than
+// it spares.
 #[inline(always)]
 pub(crate) fn halfwords_of<L: Ledger>(
     vram: &Vram,
@@ -91,7 +92,7 @@ pub(crate) fn halfwords_of<L: Ledger>(
 {
     let x = xs.to_array()[0].min(xs.to_array()[15]);
     let y = ys.to_array()[0];
-    if stand_near(xs, ys, x, y) {
+    if k > 8 && stand_near(xs, ys, x, y) {
         near_halfwords(vram, xs, x, y, steps)
     } else {
         gather(vram, xs, ys, k, steps)

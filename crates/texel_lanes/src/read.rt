@@ -85,7 +85,7 @@ fn read_scattered<L: Ledger>(
     halfwords_of(vram, places.xs, places.ys, k, steps)
 }
 
-// k texels of fifteen bits.
+// k texels of fifteen bits: at once where there are many and they stand side by side.
 #[inline(always)]
 fn read_wholes<L: Ledger>(
     vram: &Vram,
@@ -103,7 +103,7 @@ fn read_wholes<L: Ledger>(
     ensures value { AreTexels texture.now at.now k vram.now result }
     ensures cost { steps.new ≤ steps.old + k }
 {
-    if are_beside(texture, at) {
+    if k > 8 && are_beside(texture, at) {
         read_beside(vram, texture, at, k, steps)
     } else {
         read_scattered(vram, texture, at, k, steps)
