@@ -1,7 +1,7 @@
 // Records of events that stay, one after another.
 ghost use Rattle.std.specs.Prelude.{◌≡◌, ◌≤◌, ◌<◌, ◌+◌, ◌*◌, ◌^◌, ◌++◌, ◌∷◌, [], List, ℕ, Option, Some, length, IfErr};
-ghost use Rattle.std.specs.Prelude.{OnOk, OnErr};
-ghost use Rattle.dev_io.specs.Device.{Rose, Writes};
+ghost use Rattle.std.specs.Prelude.{OnOk};
+ghost use Rattle.dev_io.specs.Device.{Writes};
 ghost use Rattle.gpu_capture.specs.Capture.{IsVersion};
 ghost use Rattle.gpu_capture.specs.Written.{spelled, spelled_end};
 ghost use Rattle.gpu_capture.specs.declared.event.Event.{Event as SpecEvent};

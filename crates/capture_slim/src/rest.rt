@@ -1,7 +1,5 @@
 // The events that wait are written where no event follows.
 ghost use Rattle.std.specs.Prelude.{◌≡◌, ◌≤◌, ◌+◌, ◌++◌, ◌^◌, List, ℕ, Option, drop, take, length, IfErr, OnOk};
-ghost use Rattle.dev_io.specs.Device.{Rose};
-ghost use Rattle.gpu_capture.specs.Capture.{IsVersion};
 ghost use Rattle.gpu_capture.specs.declared.event.Event.{Event as SpecEvent};
 ghost use Rattle.capture_slim.specs.File.{FailsFirst, FailsRest, HasRoom, IsDraft, IsFile};
 ghost use Rattle.capture_slim.specs.Passing.{EndsWriting};

@@ -1,5 +1,5 @@
 // A source in memory that gives its bytes in pieces, and fails where it is told to.
-ghost use Rattle.std.specs.Prelude.{◌≡◌, ◌≤◌, ◌<◌, ◌↔◌, List, ℕ, Some, drop, length, Contains, IfOk, IsErr, OnErr};
+ghost use Rattle.std.specs.Prelude.{◌≡◌, ◌≤◌, ◌<◌, ◌↔◌, Some, drop, length, Contains, IfOk, IsErr, OnErr};
 ghost use Rattle.std.specs.Prelude.{MatchResult};
 ghost use Rattle.std.specs.Vec.{vec_len};
 ghost use Rattle.dev_io.specs.Cut.{CutState, most_of, gives_now, after_giving, after_failing};

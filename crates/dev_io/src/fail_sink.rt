@@ -1,5 +1,5 @@
 // A sink in memory that fails where it is told to.
-ghost use Rattle.std.specs.Prelude.{◌≡◌, ◌≤◌, ◌<◌, ◌↔◌, ◌⊎◌, List, ℕ, [], Some, length, Contains, IfOk, IsErr, OnErr};
+ghost use Rattle.std.specs.Prelude.{◌≡◌, ◌≤◌, ◌<◌, ◌↔◌, ◌⊎◌, [], Some, length, Contains, IfOk, IsErr, OnErr};
 ghost use Rattle.std.specs.Prelude.{MatchResult};
 ghost use Rattle.dev_io.specs.Device.{Rose, Accepts};
 ghost use Rattle.dev_io.specs.Memory.{FailState, takes_next, after_part, after_fault};

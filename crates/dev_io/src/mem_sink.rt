@@ -1,5 +1,5 @@
 // A sink in memory, which tells its bytes.
-ghost use Rattle.std.specs.Prelude.{◌≡◌, ◌≤◌, ◌<◌, ◌↔◌, List, ℕ, [], Some, length, IfOk, IsErr, OnErr, MatchResult};
+ghost use Rattle.std.specs.Prelude.{◌≡◌, ◌≤◌, ◌<◌, ◌↔◌, [], Some, length, IfOk, IsErr, OnErr, MatchResult};
 ghost use Rattle.std.specs.Vec.{vec_len, vec_capacity};
 ghost use Rattle.dev_io.specs.Device.{Rose, Accepts};
 ghost use Rattle.dev_io.specs.Memory.{SinkState, takes_now, after_taking, after_refusing};

@@ -1,5 +1,5 @@
 // The registers: their values, and what writes them.
-ghost use Rattle.std.specs.Prelude.{◌≡◌, MatchOption, IfSome, ℕ, ◌+◌, ◌-◌, ◌*◌, ◌/◌, ◌%◌, ◌^◌, ◌<◌, ◌≤◌, true};
+ghost use Rattle.std.specs.Prelude.{◌≡◌, MatchOption, IfSome, ◌+◌, ◌-◌, ◌*◌, ◌/◌, ◌%◌, ◌^◌, ◌<◌, ◌≤◌, true};
 ghost use Rattle.px_num.specs.Height.{IsHeight, short_height, tall_height, height_of_profile};
 ghost use Rattle.gp1_status.specs.Registers.{bit, opcode_of, reset, info_of, env_of, page_of, gp1_of, is_clearing};
 ghost use Rattle.gp1_status.specs.Words.{AreAllowed, words_of, registers_in};

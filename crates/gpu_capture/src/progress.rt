@@ -1,6 +1,6 @@
 // How far a reader has come, and the steps by which it goes on.
-ghost use Rattle.std.specs.Prelude.{◌≡◌, ◌<◌, ◌≤◌, ◌+◌, ◌^◌, None, [], ◌∷◌, IfSome, IfOk, IfErr, OnOk, OnErr};
-ghost use Rattle.std.specs.Prelude.{option_to_list, true, false, IsNone, IsSome};
+ghost use Rattle.std.specs.Prelude.{◌≡◌, ◌<◌, ◌≤◌, ◌+◌, ◌^◌, None, [], ◌∷◌, IfSome, IfOk, IfErr, OnOk};
+ghost use Rattle.std.specs.Prelude.{option_to_list};
 ghost use Rattle.dev_io.specs.Device.{Rose};
 ghost use Rattle.gpu_capture.specs.Record.{IsEvent};
 ghost use Rattle.gpu_capture.specs.Capture.{head_version, IsVersion};

@@ -1,6 +1,6 @@
 // What a word does, by the record that is open where it stands.
-ghost use Rattle.std.specs.Prelude.{◌≡◌, ◌<◌, ◌^◌, ◌/◌};
-ghost use Rattle.gpu_capture.specs.Record.{IsDue, IsStep, word_step, tag_step, address_step, ram_due, gp0_due};
+ghost use Rattle.std.specs.Prelude.{◌≡◌, ◌<◌, ◌/◌};
+ghost use Rattle.gpu_capture.specs.Record.{IsDue, IsStep, word_step, tag_step, address_step, gp0_due};
 ghost use Rattle.gpu_capture.specs.Record.{started_by, IsBy, IsEvent};
 
 use crate::event::{Event, Stop};

@@ -1,7 +1,6 @@
 // The first 8 bytes of a file.
 ghost use Rattle.std.specs.Prelude.{◌≡◌, ◌≤◌, ◌<◌, IfOk, IfErr};
 ghost use Rattle.dev_io.specs.Device.{Rose};
-ghost use Rattle.gpu_capture.specs.Capture.{IsVersion};
 ghost use Rattle.gpu_capture.specs.Reader.{IsReadFault};
 ghost use Rattle.gpu_snapshot.specs.Head.{file_head, IsFileHead, TakesHead, StopsInHead};
 

@@ -1,7 +1,6 @@
 // Both memories of a state.
 ghost use Rattle.std.specs.Prelude.{◌≡◌, ◌≤◌, ◌<◌, ◌+◌, ◌*◌, ◌^◌, OnOk, IfErr};
 ghost use Rattle.dev_io.specs.Device.{Rose};
-ghost use Rattle.event_play.specs.RigState.{RigState};
 ghost use Rattle.snapshot_words.specs.Taking.{IsReadFault};
 ghost use Rattle.gpu_snapshot.specs.Memories.{HasMemories, TakesMemories, LacksWords, with_memories};
 

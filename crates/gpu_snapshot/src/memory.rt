@@ -1,7 +1,6 @@
 // Main memory, read word by word.
 ghost use Rattle.std.specs.Prelude.{◌≡◌, ◌≤◌, ◌<◌, ◌+◌, ◌*◌, ◌^◌, length, OnOk, IfErr};
 ghost use Rattle.dev_io.specs.Device.{Rose};
-ghost use Rattle.event_play.specs.RigState.{RigState};
 ghost use Rattle.snapshot_words.specs.Taking.{IsReadFault};
 ghost use Rattle.gpu_snapshot.specs.Memories.{TakesWords, LacksWords};
 

@@ -5,9 +5,6 @@ ghost use Rattle.event_play.specs.Replay.{from_state};
 ghost use Rattle.event_play.specs.RigState.{first_rig, Stands};
 ghost use Rattle.event_play.specs.Step.{Machine};
 ghost use Rattle.event_play.specs.Streams.{streams};
-ghost use Rattle.snapshot_words.specs.Taking.{IsReadFault};
-ghost use Rattle.gpu_snapshot.specs.Intake.{intake};
-ghost use Rattle.gpu_snapshot.specs.Opening.{Refuses};
 ghost use Rattle.gpu_snapshot.specs.PlayAny.{EndsAny, IsAnyEnding, AnyMayReadFault, AnyMayWriteFault, any_ending_of};
 
 use crate::ending::AnyEnding;

@@ -1,6 +1,5 @@
 // A state is read into a rig.
-ghost use Rattle.std.specs.Prelude.{◌≡◌, ◌≤◌, ◌==◌, if◌then◌else◌, IfOk, IfErr};
-ghost use Rattle.px_num.specs.Height.{IsHeight};
+ghost use Rattle.std.specs.Prelude.{◌≡◌, ◌≤◌, ◌==◌, IfOk, IfErr};
 ghost use Rattle.dev_io.specs.Device.{Rose};
 ghost use Rattle.gpu_capture.specs.Capture.{IsVersion};
 ghost use Rattle.event_play.specs.RigState.{first_rig};

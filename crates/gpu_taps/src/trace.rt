@@ -34,7 +34,7 @@ impl Trace {
 
 impl Tap for Trace {
     ghost use Rattle.std.specs.Prelude.{◌≡◌, ◌<◌, ◌+◌, length, slice_index};
-    ghost use Rattle.gpu_taps.specs.Bare.{bare_notes, after_notes};
+    ghost use Rattle.gpu_taps.specs.Bare.{bare_notes};
     ghost use Rattle.gpu_taps.specs.Tally.{trace_numbers, reading_after};
 
     ghost reading = { λ t. record { kind = 1; numbers = trace_numbers t.notes.items } };

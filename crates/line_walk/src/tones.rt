@@ -1,5 +1,5 @@
 // The colour along a segment, step by step.
-ghost use Rattle.std.specs.Prelude.{◌≡◌, ◌≤◌, ◌<◌, ◌+◌, ◌*◌, ◌^◌, ℕ, pos, max, unsigned_abs};
+ghost use Rattle.std.specs.Prelude.{◌≡◌, ◌≤◌, ◌<◌, ◌+◌, ◌^◌, ℕ, pos, max, unsigned_abs};
 ghost use Rattle.line_walk.specs.Line.{color_along};
 ghost use Rattle.line_walk.specs.Walk.{AreBytes, AreTones, IsByte, IsSlope, tint_of, value_of};
 

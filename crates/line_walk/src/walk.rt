@@ -30,7 +30,7 @@ impl Model for Walk {
 }
 
 impl Walk {
-    ghost use Rattle.std.specs.Prelude.{◌≡◌, ◌<◌, ◌≤◌, ◌+◌, ◌^◌};
+    ghost use Rattle.std.specs.Prelude.{◌≡◌, ◌<◌, ◌+◌, ◌^◌};
     ghost use Rattle.line_walk.specs.Line.{ends, len_of, point_of, steps_of, IsNear, IsBetweenEnds};
     ghost use Rattle.line_walk.specs.Walk.{Walking};
 

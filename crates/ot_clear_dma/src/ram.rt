@@ -1,5 +1,5 @@
 // The words of main memory.
-ghost use Rattle.std.specs.Prelude.{◌≡◌, ◌≤◌, ◌<◌, ◌+◌, ◌*◌, ◌/◌, ◌%◌, ◌^◌, ℕ, List, length, vec_len, slice_index};
+ghost use Rattle.std.specs.Prelude.{◌≡◌, ◌≤◌, ◌<◌, ◌*◌, ◌/◌, ◌^◌, ℕ, List, length, vec_len, slice_index};
 ghost use Rattle.std.specs.Prelude.{IfOk};
 ghost use Rattle.ot_clear_dma.specs.Ram.{word_at, set, place_of, memory_words, first_memory, cut};
 ghost use Rattle.px_num.specs.Zeros.{zeros};

@@ -1,5 +1,5 @@
 // The lines of taps and sums.
-ghost use Rattle.std.specs.Prelude.{◌≡◌, ◌++◌, codes, decimal};
+ghost use Rattle.std.specs.Prelude.{◌++◌, codes, decimal};
 ghost use Rattle.dev_io.specs.Device.{Writes};
 ghost use Rattle.packet_text.specs.Tap.{number_text, numbers_text, tap_line, sum_line, item_line, item_lines};
 ghost use Rattle.packet_text.specs.Tap.{last_numbers, last_lines};

@@ -1,7 +1,6 @@
 // The shown picture as PPM.
 ghost use Rattle.std.specs.Prelude.{◌≡◌, ◌≤◌, ◌<◌, ◌+◌, ◌*◌, ◌/◌, ◌%◌, ◌^◌, take, decimal, IsSome, OnOk};
 ghost use Rattle.dev_io.specs.Device.{Writes};
-ghost use Rattle.vram_store.specs.Vram.{height_of};
 ghost use Rattle.gp1_status.specs.Shape.{shape_of};
 ghost use Rattle.picture_out.specs.Picture.{display_of, shown_cell, channel_byte, color_bytes, deep_bytes};
 ghost use Rattle.picture_out.specs.Picture.{numbered_pixel};

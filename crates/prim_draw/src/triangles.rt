@@ -8,7 +8,7 @@ ghost use Rattle.texel_lanes.specs.Texture.{IsTexture};
 ghost use Rattle.span_lanes.specs.Shade.{texture_of};
 ghost use Rattle.prim_draw.specs.Boxes.{IsOnScreen, LiesIn, block_of};
 ghost use Rattle.prim_draw.specs.Costs.{triangle_cost};
-ghost use Rattle.prim_draw.specs.Triangles.{draws, drawn_triangle, placed_corners};
+ghost use Rattle.prim_draw.specs.Triangles.{drawn_triangle, placed_corners};
 ghost use Rattle.prim_draw.specs.Triangles.{triangle_box, triangle_coat, triangle_paint, FitsTriangle, IsAlike};
 ghost use Rattle.prim_draw.specs.Triangles.{IsCoat};
 ghost use Rattle.prim_draw.specs.Walks.{DrawsRows, IsOnRow, TakesRow};

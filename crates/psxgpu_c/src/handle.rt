@@ -1,5 +1,5 @@
 // A handle that C holds.
-ghost use Rattle.std.specs.Prelude.{◌≡◌, ℕ, Option, Some, None};
+ghost use Rattle.std.specs.Prelude.{◌≡◌, Option, Some, None};
 ghost use Rattle.std.specs.Option.{MatchOption};
 ghost use Rattle.std.specs.Coded.{coded_option};
 ghost use Rattle.psxgpu_c.specs.Handle.{row, holds, IsOpen, mark_of};

@@ -1,5 +1,5 @@
 // What is seen of a rig: video memory and the shown picture, as bytes.
-ghost use Rattle.std.specs.Prelude.{◌≡◌, ◌<◌, ◌≤◌, ◌^◌, IfOk, IsSome, Some};
+ghost use Rattle.std.specs.Prelude.{◌≡◌, ◌<◌, ◌^◌, IfOk, IsSome, Some};
 ghost use Rattle.gp1_status.specs.Shape.{shape_of};
 ghost use Rattle.picture_out.specs.Dump.{dump};
 ghost use Rattle.picture_out.specs.Picture.{picture};

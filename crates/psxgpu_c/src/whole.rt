@@ -1,7 +1,6 @@
 // A whole capture or snapshot is played by a machine of its own.
-ghost use Rattle.std.specs.Prelude.{◌≡◌, ◌/◌, ◌%◌, ◌^◌};
-ghost use Rattle.std.specs.Option.{MatchOption};
-ghost use Rattle.psxgpu_c.specs.Whole.{PlaysInto, PlaysMode, at_end, at_ending, cell_in, mode_named};
+ghost use Rattle.std.specs.Prelude.{◌≡◌};
+ghost use Rattle.psxgpu_c.specs.Whole.{PlaysMode, at_end, at_ending, cell_in, mode_named};
 
 use crate::ended::{Ended, at_place, numbers, of_fault, of_refusal, of_stop};
 use crate::refusal::Refusal;

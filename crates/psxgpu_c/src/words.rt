@@ -1,9 +1,5 @@
 // Words are fed to a rig, and events played on it. Nobody listens, and the count of store steps is let go.
 ghost use Rattle.std.specs.Prelude.{◌≡◌, ◌<◌, ◌∷◌, []};
-ghost use Rattle.event_play.specs.PlayedWords.{after_words};
-ghost use Rattle.event_play.specs.Replay.{from_state};
-ghost use Rattle.event_play.specs.RigState.{Stands, StandsFor};
-ghost use Rattle.event_play.specs.Step.{Machine};
 ghost use Rattle.psxgpu_c.specs.Calls.{HasPlayed, Takes};
 
 use crate::refusal::Refusal;

@@ -1,5 +1,5 @@
 // A demo: packets of the program's own are played, and what they did is told.
-ghost use Rattle.std.specs.Prelude.{◌≡◌, ◌≤◌, ◌<◌, ◌+◌, ◌++◌, [], ◌∷◌, ℕ, List, map, OnOk};
+ghost use Rattle.std.specs.Prelude.{◌≡◌, ◌≤◌, ◌<◌, ◌+◌, ◌++◌, [], ◌∷◌, ℕ, List, map};
 ghost use Rattle.dev_io.specs.Device.{Writes};
 ghost use Rattle.event_play.specs.Replay.{Tale, next_number};
 ghost use Rattle.event_play.specs.Streams.{Outlets, without_sink};

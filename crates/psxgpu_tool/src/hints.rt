@@ -1,5 +1,4 @@
 // What a person at a terminal is told beside the lines that programs read.
-ghost use Rattle.std.specs.Prelude.{◌≡◌, ◌≤◌, length};
 
 /// What is wrong with words that name no command.
 pub fn usage_hint(words: &Vec<String>) -> &'static str {

@@ -1,5 +1,4 @@
 // The lines of refusals.
-ghost use Rattle.std.specs.Prelude.{◌≡◌, codes};
 ghost use Rattle.dev_io.specs.Device.{Writes};
 ghost use Rattle.psxgpu_tool.specs.Line.{event_line, place_line, word_line, too_long_line, list_loop_line};
 ghost use Rattle.psxgpu_tool.specs.Line.{fault_line, stop_line};

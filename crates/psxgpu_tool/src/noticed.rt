@@ -1,5 +1,5 @@
 // A reader and a writer that notice what a person is told about when a run has failed.
-ghost use Rattle.std.specs.Prelude.{◌≡◌, ◌≤◌, length};
+ghost use Rattle.std.specs.Prelude.{◌≤◌};
 
 use std::io;
 use std::io::{Error, Read, Write};

@@ -1,6 +1,5 @@
 // What a person at the terminal is told beside the lines that programs read. None of it is written where standard error
 // is no terminal, but for the line of a file that cannot be opened.
-ghost use Rattle.std.specs.Prelude.{◌≡◌, ◌≤◌, length};
 
 use crate::command::read_command;
 use crate::hints::{input_hint, usage_hint};

@@ -1,5 +1,5 @@
 // Whole parts that are read.
-ghost use Rattle.std.specs.Prelude.{◌≡◌, ◌≤◌, ◌<◌, ◌+◌, ◌*◌, ◌^◌, [], IfOk, IfErr};
+ghost use Rattle.std.specs.Prelude.{◌≡◌, ◌≤◌, ◌<◌, ◌+◌, ◌^◌, [], IfOk, IfErr};
 ghost use Rattle.dev_io.specs.Device.{Rose};
 ghost use Rattle.gp0_words.specs.Next.{IsPending};
 ghost use Rattle.gp1_status.specs.Words.{words_of, AreAllowed as RegisterBits};

@@ -1,5 +1,5 @@
 // A state but for its memories, read part by part.
-ghost use Rattle.std.specs.Prelude.{◌≡◌, ◌≤◌, ◌<◌, ◌+◌, ◌*◌, ◌^◌, IfOk, IfErr};
+ghost use Rattle.std.specs.Prelude.{◌≤◌, ◌<◌, ◌+◌, ◌^◌, IfOk, IfErr};
 ghost use Rattle.dev_io.specs.Device.{Rose};
 ghost use Rattle.snapshot_words.specs.Outline.{IsOutline};
 ghost use Rattle.snapshot_words.specs.Reading.{outline_from};

@@ -1,6 +1,6 @@
 // What the words of whole parts are.
-ghost use Rattle.std.specs.Prelude.{◌≡◌, ◌≤◌, ◌<◌, ◌+◌, ◌-◌, ◌/◌, ◌*◌, ◌^◌, length, slice_index};
-ghost use Rattle.gp1_status.specs.Words.{words_of, AreAllowed as RegisterBits};
+ghost use Rattle.std.specs.Prelude.{◌≡◌, ◌≤◌, ◌<◌, ◌+◌, ◌-◌, ◌/◌, ◌*◌, ◌^◌, length};
+ghost use Rattle.gp1_status.specs.Words.{words_of};
 ghost use Rattle.gpu_core.specs.Kept.{IsJob, IsOpen};
 ghost use Rattle.px_num.specs.Height.{IsHeight, height_of_profile};
 ghost use Rattle.snapshot_words.specs.Shapes.{IsFront, IsRegisters, IsStore, IsPendingPart};

@@ -1,5 +1,5 @@
 // A state but for its memories, written as words.
-ghost use Rattle.std.specs.Prelude.{◌≡◌, ◌≤◌, ◌<◌, ◌+◌, ◌*◌, ◌^◌, ◌++◌, ◌∷◌, None, length};
+ghost use Rattle.std.specs.Prelude.{◌≡◌, ◌≤◌, ◌<◌, ◌+◌, ◌*◌, ◌++◌, ◌∷◌, None, length};
 ghost use Rattle.dev_io.specs.Device.{Writes};
 ghost use Rattle.gp0_words.specs.Next.{IsPending};
 ghost use Rattle.gpu_capture.specs.Written.{word_bytes};

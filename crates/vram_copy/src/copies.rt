@@ -1,5 +1,5 @@
 // Copies in chunks of up to sixteen cells, under the guard.
-ghost use Rattle.std.specs.Prelude.{◌≡◌, ◌≤◌, ◌<◌, ◌+◌, ◌-◌, ◌*◌, ℕ, false, min, length};
+ghost use Rattle.std.specs.Prelude.{◌≡◌, ◌≤◌, ◌<◌, ◌+◌, ◌-◌, ◌*◌, false, min, length};
 ghost use Rattle.overlap_guard.specs.Hazard.{has_copy_hazard};
 ghost use Rattle.vram_store.specs.Vram.{height_of};
 ghost use Rattle.vram_copy.specs.Copy.{copied_rectangle, copied_row, copied_run};
