@@ -24,7 +24,7 @@ pub struct Tri {
 }
 
 impl Model for Tri {
-    ghost use Rattle.std.specs.Prelude.{◌≡◌};
+    ghost use Rattle.std.specs.Prelude.{◌≡◌, pos};
     ghost use Rattle.std.proofs.Common.{ap, sym, ◌∙◌};
     ghost use Rattle.edge_walk.specs.Triangle.{Corners, corners, IsDrawn};
     ghost use Rattle.edge_walk.specs.Held.{IsHeld, is_turned, size_of};

@@ -1,6 +1,6 @@
 // Attributes of a single cell, mixed by its edge values.
 ghost use Rattle.std.specs.Prelude.{◌≡◌, ◌+◌, ◌*◌, ◌/◌, ◌≤◌, pos, ◌≤ℤ◌, IsTrue};
-ghost use Rattle.edge_walk.specs.Triangle.{IsNear, edge, is_within};
+ghost use Rattle.edge_walk.specs.Triangle.{IsNear, doubled_area, edge, is_within};
 ghost use Rattle.edge_walk.specs.Divisor.{IsDivisor};
 ghost use Rattle.edge_walk.specs.Upright.{corners_of};
 
