@@ -13,3 +13,4 @@ mod whole;
 
 pub use steps::Steps;
 pub use vram::Vram;
+pub use whole::wanted_lanes;

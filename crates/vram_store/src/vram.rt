@@ -5,7 +5,7 @@ ghost use Rattle.px_num.specs.Zeros.{zeros};
 ghost use Rattle.vram_store.specs.Vram.{at, height_of, set, blank, tall, IsLoaded, IsStored};
 
 use crate::steps::Steps;
-use crate::whole::{first_lanes, load_whole, masked_lanes, store_half, store_whole};
+use crate::whole::{first_lanes, load_whole, masked_lanes, store_half, store_whole, wanted_lanes};
 use px_num::OutOfMemory;
 use px_num::lanes::splat;
 use std::alloc::{AllocError, Global};
@@ -160,11 +160,12 @@ impl Vram {
         ensures cost { steps.new ≡ steps.old + 1 }
     {
         steps.tick();
+        let kept = wanted_lanes(n, lanes);
         let start = 1024 * y as usize + x as usize;
         if start + 16 <= self.cells.len() {
-            store_first(&mut self.cells, start, n, lanes, mask);
+            store_first(&mut self.cells, start, n, kept, mask);
         } else {
-            store_lanes(&mut self.cells, start, n as usize, &lanes.to_array(), mask);
+            store_lanes(&mut self.cells, start, n as usize, &kept.to_array(), mask);
         }
     }
 }
