@@ -1,5 +1,5 @@
 -- The words of blocks and of nodes, one after another.
-use Rattle.std.proofs.Common.{◌≡◌, ◌≤◌, ◌<◌, ℕ, zero, suc, ◌+◌, ◌-◌, ◌*◌, ◌++◌, List, [], ◌∷◌, Option, None, Some, true}
+use Rattle.std.proofs.Common.{◌≡◌, ◌≤◌, ◌<◌, ℕ, zero, suc, ◌+◌, ◌-◌, ◌*◌, ◌++◌, List, [], ◌∷◌, None, Some, true}
 use Rattle.std.proofs.Common.{false, flat_map, refl, ap, sym, ◌∙◌, append_assoc, append-nil, arith, inl, inr}
 use Rattle.std.proofs.lemmas.Bool.{cases_Bool}
 use Rattle.ot_clear_dma.specs.Ram.{cut, word_at, place_of}
@@ -16,7 +16,7 @@ use Rattle.event_play.specs.declared.words.NodeList.{NodeList}
 -- ---- blocks
 
 -- one word more
-pub words_next : (ram : List ℕ) (block : Block) (i word : ℕ) → word ≡ word_at ram (address_in block i)
+words_next : (ram : List ℕ) (block : Block) (i word : ℕ) → word ≡ word_at ram (address_in block i)
     → first_words ram block (i + 1) ≡ first_words ram block i ++ word ∷ []
 words_next ram block i word is = let e : i + 1 ≡ suc i = omega arith in rw (e, is) refl
 
@@ -31,18 +31,6 @@ words_split ram block i (suc count) =
     ap (first_words ram block) e ∙ words_split ram block (i + 1) count
     ∙ ap (λ words. words ++ rest) (words_next ram block i word refl)
     ∙ append_assoc (first_words ram block i) (word ∷ []) rest
-
--- all words of a block, by the first, one more and those behind it
-pub block_split : (ram : List ℕ) (block : Block) (i word : ℕ) → i < block.n → word ≡ word_at ram (address_in block i)
-    → (behind : List ℕ) × (block_words ram block ≡ (first_words ram block i ++ word ∷ []) ++ behind)
-block_split ram block i word below is =
-    let count = block.n - (i + 1) in
-    let behind = words_from ram block (i + 1) count in
-    let e : block.n ≡ i + 1 + count = omega (arith, below) in (
-      behind,
-      ap (first_words ram block) e ∙ words_split ram block (i + 1) count
-          ∙ ap (λ words. words ++ behind) (words_next ram block i word is),
-    )
 
 -- all words of a block, and what comes behind it
 pub left_whole : (ram : List ℕ) (block : Block) (behind : Behind)
@@ -146,46 +134,3 @@ pub nodes_go : (ram : List ℕ) (start node limit next then : ℕ) → next + 1 
 nodes_go ram start node limit next then e at is =
     let on = goes_there start node at in
     rw (is, on.1) (ap (flat_map (node_words ram)) (chain_goes ram start limit next e on.0))
-
--- ---- walks
-
--- what is still to come of the words of a list: all of them are those that are done, and then those of the nodes to
--- come
-pub record OnWay (ram all : List ℕ) (next : Option ℕ) (left : ℕ) (done : List ℕ) : Type 0 where
-  pub address : ℕ
-  pub at : next ≡ node_of address
-  pub are : all ≡ done ++ flat_map (node_words ram) (chain ram address left)
-
-pub way_starts : (ram : List ℕ) (start limit : ℕ) (next : Option ℕ) → next ≡ node_of start
-    → OnWay ram (flat_map (node_words ram) (chain ram start limit)) next (limit - 0) []
-way_starts ram start limit next at = let e : limit - 0 ≡ limit =
-    omega arith in record { address = start; at = at; are = rw e refl }
-
--- at the end of a list every word is done
-pub way_ends : (ram all : List ℕ) (next : Option ℕ) (left : ℕ) (done : List ℕ) → next ≡ None
-    → OnWay ram all next left done → all ≡ done
-way_ends ram all next left done end way =
-    way.are ∙ ap (λ words. done ++ words) (nodes_end ram way.address left (sym end ∙ way.at)) ∙ append-nil done
-
--- and also where no more nodes are looked at
-pub way_stops : (ram all : List ℕ) (next : Option ℕ) (done : List ℕ) (left : ℕ) → left ≡ 0
-    → OnWay ram all next left done → all ≡ done
-way_stops ram all next done left none way =
-    way.are ∙ ap (λ words. done ++ words) (nodes_none ram way.address left none) ∙ append-nil done
-
--- a node, and those behind it
-pub way_node : (ram all : List ℕ) (here : Option ℕ) (node left next : ℕ) (done : List ℕ) → next + 1 ≡ left
-    → here ≡ Some node → OnWay ram all here left done
-    → all ≡ (done ++ node_words ram node) ++ flat_map (node_words ram) (chain ram (next_of ram node) next)
-way_node ram all here node left next done e is way =
-    let rest = flat_map (node_words ram) (chain ram (next_of ram node) next) in
-    way.are
-    ∙ ap (λ words. done ++ words) (nodes_go ram way.address node left next (next_of ram node) e (sym is ∙ way.at) refl)
-    ∙ sym (append_assoc done (node_words ram node) rest)
-
-pub way_on : (ram all : List ℕ) (here : Option ℕ) (node left next : ℕ) (done : List ℕ) (then : Option ℕ)
-    → next + 1 ≡ left → here ≡ Some node
-    → OnWay ram all here left done → then ≡ node_of (next_of ram node)
-    → OnWay ram all then next (done ++ node_words ram node)
-way_on ram all here node left next done then e is way at =
-    record { address = next_of ram node; at = at; are = way_node ram all here node left next done e is way }

@@ -16,7 +16,7 @@ pub struct Block {
 
 /// The address of the word at a place of a block, or of the one behind its last word.
 #[tactic(auto, unfolding(crate::specs::Block::address_in))]
-pub fn address_in(block: Block, i: u32) -> u32
+pub(crate) fn address_in(block: Block, i: u32) -> u32
     requires { i ≤ memory_words }
     ensures value { result ≡ address_in block i }
     ensures cut { result ≡ cut result }

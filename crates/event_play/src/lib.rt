@@ -20,10 +20,11 @@ mod take;
 mod words;
 mod work;
 
-pub use block::{Block, address_in};
+pub use block::Block;
 pub use ending::{Ending, Mode, Moment};
 pub use fault::EventFault;
 pub use finals::write_report;
 pub use pause::write_at_pause;
 pub use rig::Rig;
+pub use words::WordCursor;
 pub use work::{Words, Work};

@@ -12,9 +12,10 @@ use list_dma::{WALK_LIMIT, node_at};
 use ot_clear_dma::Ram;
 use std::marker::Model;
 
-/// The words that a work feeds, one after another. Contracts see the list of the words that are left.
+/// The words that a work feeds, one after another: a word of the processor, a block, a node or a list. They are read when
+/// they are taken, so main memory is lent to the cursor. Contracts see the list of the words that are left.
 #[derive(Drop)]
-pub(crate) struct WordCursor<'a> {
+pub struct WordCursor<'a> {
     ram: &'a Ram,
     block: Block,
     at: u32,
@@ -67,7 +68,7 @@ const NO_BLOCK: Block = Block {
 impl<'a> WordCursor<'a> {
     /// These words, none of them taken yet.
     #[tactic(auto, unfolding(list_dma::specs::Walk::list_words, list_dma::specs::Walk::walk_of))]
-    pub(crate) fn new(ram: &'a Ram, words: Words) -> WordCursor<'a>
+    pub fn new(ram: &'a Ram, words: Words) -> WordCursor<'a>
         requires { AreWords words }
         ensures { result ≡ words_of ram.now words }
     {
@@ -100,7 +101,7 @@ impl<'a> WordCursor<'a> {
 
     /// Takes the next word. None comes exactly where none is left.
     #[inline(always)]
-    pub(crate) fn next(&mut self) -> Option<u32>
+    pub fn next(&mut self) -> Option<u32>
         ensures { MatchOption result (self.old ≡ []) (λ word. self.old ≡ word ∷ self.new) }
     {
         if self.at < self.block.n {
