@@ -8,6 +8,7 @@ mod file;
 pub mod laws;
 mod pass;
 mod spell;
+mod stop;
 mod whole;
 
 pub use ending::FlatEnding;

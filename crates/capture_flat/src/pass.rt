@@ -1,17 +1,15 @@
 // Events are played, and their flat records gathered.
-ghost use Rattle.std.specs.Prelude.{◌≡◌, ◌≤◌, ◌<◌, ◌⊎◌, ℕ, ◌+◌, ◌^◌, ◌++◌, length, map, OnOk, OnErr, IfErr};
-ghost use Rattle.dev_io.specs.Device.{Rose, Writes};
+ghost use Rattle.std.specs.Prelude.{◌≡◌, ◌≤◌, ℕ, ◌+◌, ◌^◌, ◌++◌, length, map, OnOk, IfErr};
+ghost use Rattle.dev_io.specs.Device.{Rose};
 ghost use Rattle.gathered_out.specs.Puts.{Puts};
 ghost use Rattle.gpu_capture.specs.Capture.{head_of, limit};
-ghost use Rattle.gpu_capture.specs.Reader.{IsReadFault};
-ghost use Rattle.gpu_capture.specs.Written.{spelled_end};
 ghost use Rattle.event_play.specs.Replay.{Tale, next_number};
 ghost use Rattle.event_play.specs.RigState.{StandsFor};
 ghost use Rattle.event_play.specs.Streams.{outlets};
 ghost use Rattle.event_play.specs.Work.{IsWork};
 ghost use Rattle.capture_flat.specs.Flat.{flat_work};
 ghost use Rattle.capture_flat.specs.Out.{spell, head_due, flat_version};
-ghost use Rattle.capture_flat.specs.OneEvent.{PassesEvent, EndsEvent, EndsAt, EndsBehind, EndsReading};
+ghost use Rattle.capture_flat.specs.OneEvent.{PassesEvent, EndsEvent};
 ghost use Rattle.capture_flat.specs.Passing.{MayReadFault, MayWriteFault, IsEnding};
 
 use crate::allowed::allowed;
@@ -19,10 +17,10 @@ use crate::count::count_work;
 use crate::ending::FlatEnding;
 use crate::file::Draft;
 use crate::spell::spell_work;
-use dev_io::{Failed, Sink};
+use dev_io::Sink;
 use event_play::{Rig, Work};
 use gathered_out::Gathered;
-use gpu_capture::{Event, Stop, head_bytes, write_end, write_start};
+use gpu_capture::{Event, head_bytes};
 use gpu_taps::Listener;
 use ot_clear_dma::Ram;
 use std::sync::ledger::Ledger;
@@ -144,85 +142,4 @@ fn put_head<K: Sink>(
     } else {
         Ok(())
     }
-}
-
-// Writes the head, if no event was played.
-fn write_head<K: Sink>(out: &mut K, version: u8, played: u64) -> Result<(), Failed>
-    requires { version ≤ 3 }
-    ensures { Writes K.held K.faults out.old out.new (head_due version played) result }
-{
-    if played == 0 {
-        write_start(out, version.max(2))
-    } else {
-        Ok(())
-    }
-}
-
-/// Ends so, behind what is gathered: that is written before, unless a write has failed already.
-pub(crate) fn end_behind<K: Sink>(
-    ending: FlatEnding,
-    gathered: &mut Gathered,
-    out: &mut K,
-) -> FlatEnding
-    requires { IsEnding ending × (MayReadFault ending → ⊥) }
-    ensures ends { EndsBehind ending gathered.old (K.held out.old) (K.held out.new) result }
-    ensures known { IsEnding result × (MayReadFault result → ⊥) }
-    ensures cause { MayWriteFault result → MayWriteFault ending ⊎ Rose (K.faults out.old) (K.faults out.new) }
-    ensures faults { K.faults out.old ≤ K.faults out.new }
-{
-    match ending {
-        FlatEnding::WriteFailed { .. } => ending,
-        _ => match gathered.write(out) {
-            Ok(()) => ending,
-            Err(event) => FlatEnding::WriteFailed { event },
-        },
-    }
-}
-
-/// Ends at a stop of the reader, behind so many events: what is gathered is written before.
-pub(crate) fn end_reading<K: Sink>(
-    stop: Stop,
-    draft: &mut Draft,
-    played: u64,
-    out: &mut K,
-) -> FlatEnding
-    requires { draft.old.file.version ≤ 3 }
-    ensures ends { EndsReading draft.old played stop (K.held out.old) (K.held out.new) result }
-    ensures known { IsEnding result }
-    ensures stopped { MayReadFault result → IsReadFault stop }
-    ensures cause { MayWriteFault result → Rose (K.faults out.old) (K.faults out.new) }
-    ensures faults { K.faults out.old ≤ K.faults out.new }
-{
-    match draft.gathered.write(out) {
-        Ok(()) => finish(stop, draft.file.version, played, out),
-        Err(event) => FlatEnding::WriteFailed { event },
-    }
-}
-
-// Ends at a stop of the reader, behind so many events, where nothing is gathered.
-fn finish<K: Sink>(stop: Stop, version: u8, played: u64, out: &mut K) -> FlatEnding
-    requires { version ≤ 3 }
-    ensures ends { EndsAt version played stop (K.held out.old) (K.held out.new) result }
-    ensures known { IsEnding result }
-    ensures stopped { MayReadFault result → IsReadFault stop }
-    ensures cause { MayWriteFault result → Rose (K.faults out.old) (K.faults out.new) }
-    ensures faults { K.faults out.old ≤ K.faults out.new }
-{
-    let event = played.saturating_add(1);
-    match stop {
-        Stop::End => match write_last(out, version, played) {
-            Ok(()) => FlatEnding::Done,
-            Err(_) => FlatEnding::WriteFailed { event },
-        },
-        _ => FlatEnding::Stopped { event, stop },
-    }
-}
-
-// Writes what is due behind the last event.
-fn write_last<K: Sink>(out: &mut K, version: u8, played: u64) -> Result<(), Failed>
-    requires { version ≤ 3 }
-    ensures { Writes K.held K.faults out.old out.new (head_due version played ++ spelled_end) result }
-{
-    write_head(out, version, played)?;
-    write_end(out)
 }

@@ -9,7 +9,8 @@ ghost use Rattle.capture_flat.specs.Passing.{EndsFlat, MayReadFault, MayWriteFau
 
 use crate::ending::FlatEnding;
 use crate::file::{Draft, FlatFile};
-use crate::pass::{end_behind, end_reading, pass_event};
+use crate::pass::pass_event;
+use crate::stop::{end_behind, end_reading};
 use dev_io::{Sink, Source};
 use event_play::{Rig, write_at_pause};
 use gathered_out::Gathered;

@@ -23,7 +23,7 @@ nodes-preserved c =
     let left = c.args.limit - (c.nodes.k + 1) in
     let next = next_of ram node in
     let go = ap length (nodes_go ram at.address node (c.args.limit - c.nodes.k) left next (omega arith)
-        (sym c.in-Some.is ∙ at.at) refl) in
+    (sym c.in-Some.is ∙ at.at) refl) in
     let more = length-append (node_words ram node) (flat_map (node_words ram) (chain ram next left)) in
     record {
       address = next;

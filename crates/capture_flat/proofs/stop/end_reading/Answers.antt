@@ -1,5 +1,5 @@
 use Rattle.std.proofs.Common.{inl}
-use Rattle.capture_flat.proofs.pass.end_reading.Goals as goal
+use Rattle.capture_flat.proofs.stop.end_reading.Goals as goal
 
 pub returns-in-Ok-clause-ends : goal.returns-in-Ok-clause-ends
 returns-in-Ok-clause-ends g c = inl (

@@ -1,7 +1,7 @@
 use Rattle.std.proofs.Common.{[]}
 use Rattle.std.proofs.lemmas.Result.{err_from_is_err_and}
 use Rattle.dev_io.proofs.Writing.{wrote_none, fails_on, writes_on}
-use Rattle.capture_flat.proofs.pass.write_last.Goals as goal
+use Rattle.capture_flat.proofs.stop.write_last.Goals as goal
 
 pub returns-in_err-write_head : goal.returns-in_err-write_head
 returns-in_err-write_head g c =

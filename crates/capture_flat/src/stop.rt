@@ -1,0 +1,95 @@
+// A flat capture ends, behind what is gathered for it.
+ghost use Rattle.std.specs.Prelude.{◌≡◌, ◌≤◌, ◌⊎◌, ◌++◌};
+ghost use Rattle.dev_io.specs.Device.{Rose, Writes};
+ghost use Rattle.gpu_capture.specs.Reader.{IsReadFault};
+ghost use Rattle.gpu_capture.specs.Written.{spelled_end};
+ghost use Rattle.capture_flat.specs.OneEvent.{EndsAt, EndsBehind, EndsReading};
+ghost use Rattle.capture_flat.specs.Out.{head_due};
+ghost use Rattle.capture_flat.specs.Passing.{MayReadFault, MayWriteFault, IsEnding};
+
+use crate::ending::FlatEnding;
+use crate::file::Draft;
+use dev_io::{Failed, Sink};
+use gathered_out::Gathered;
+use gpu_capture::{Stop, write_end, write_start};
+
+/// Ends so, behind what is gathered: that is written before, unless a write has failed already.
+pub(crate) fn end_behind<K: Sink>(
+    ending: FlatEnding,
+    gathered: &mut Gathered,
+    out: &mut K,
+) -> FlatEnding
+    requires { IsEnding ending × (MayReadFault ending → ⊥) }
+    ensures ends { EndsBehind ending gathered.old (K.held out.old) (K.held out.new) result }
+    ensures known { IsEnding result × (MayReadFault result → ⊥) }
+    ensures cause { MayWriteFault result → MayWriteFault ending ⊎ Rose (K.faults out.old) (K.faults out.new) }
+    ensures faults { K.faults out.old ≤ K.faults out.new }
+{
+    match ending {
+        FlatEnding::WriteFailed { .. } => ending,
+        _ => match gathered.write(out) {
+            Ok(()) => ending,
+            Err(event) => FlatEnding::WriteFailed { event },
+        },
+    }
+}
+
+/// Ends at a stop of the reader, behind so many events: what is gathered is written before.
+pub(crate) fn end_reading<K: Sink>(
+    stop: Stop,
+    draft: &mut Draft,
+    played: u64,
+    out: &mut K,
+) -> FlatEnding
+    requires { draft.old.file.version ≤ 3 }
+    ensures ends { EndsReading draft.old played stop (K.held out.old) (K.held out.new) result }
+    ensures known { IsEnding result }
+    ensures stopped { MayReadFault result → IsReadFault stop }
+    ensures cause { MayWriteFault result → Rose (K.faults out.old) (K.faults out.new) }
+    ensures faults { K.faults out.old ≤ K.faults out.new }
+{
+    match draft.gathered.write(out) {
+        Ok(()) => finish(stop, draft.file.version, played, out),
+        Err(event) => FlatEnding::WriteFailed { event },
+    }
+}
+
+// Ends at a stop of the reader, behind so many events, where nothing is gathered.
+fn finish<K: Sink>(stop: Stop, version: u8, played: u64, out: &mut K) -> FlatEnding
+    requires { version ≤ 3 }
+    ensures ends { EndsAt version played stop (K.held out.old) (K.held out.new) result }
+    ensures known { IsEnding result }
+    ensures stopped { MayReadFault result → IsReadFault stop }
+    ensures cause { MayWriteFault result → Rose (K.faults out.old) (K.faults out.new) }
+    ensures faults { K.faults out.old ≤ K.faults out.new }
+{
+    let event = played.saturating_add(1);
+    match stop {
+        Stop::End => match write_last(out, version, played) {
+            Ok(()) => FlatEnding::Done,
+            Err(_) => FlatEnding::WriteFailed { event },
+        },
+        _ => FlatEnding::Stopped { event, stop },
+    }
+}
+
+// Writes what is due behind the last event.
+fn write_last<K: Sink>(out: &mut K, version: u8, played: u64) -> Result<(), Failed>
+    requires { version ≤ 3 }
+    ensures { Writes K.held K.faults out.old out.new (head_due version played ++ spelled_end) result }
+{
+    write_head(out, version, played)?;
+    write_end(out)
+}
+
+// Writes the head, if no event was played.
+fn write_head<K: Sink>(out: &mut K, version: u8, played: u64) -> Result<(), Failed>
+    requires { version ≤ 3 }
+    ensures { Writes K.held K.faults out.old out.new (head_due version played) result }
+{
+    if played == 0 {
+        write_start(out, version.max(2))
+    } else {
+        Ok(())
+    }
+}
