@@ -1,4 +1,4 @@
-use Rattle.std.proofs.Common.{◌≡◌, ◌-◌, arith}
+use Rattle.std.proofs.Common.{◌≡◌, arith}
 use Rattle.gathered_out.proofs.Puts.{put_none, put_on, put_fails, puts_all}
 use Rattle.capture_flat.proofs.Pieces.{skips_more, skips_split}
 use Rattle.capture_flat.proofs.spell.spell_skips.Goals as goal

@@ -1,4 +1,4 @@
-use Rattle.std.proofs.Common.{◌≡◌, ◌∷◌, ◌++◌, [], ap, append-nil, append_assoc, map, refl, sym, ◌∙◌}
+use Rattle.std.proofs.Common.{◌∷◌, ◌++◌, [], ap, append-nil, append_assoc, map, refl, sym, ◌∙◌}
 use Rattle.gathered_out.proofs.Puts.{put_none, put_on, put_fails, puts_all}
 use Rattle.gpu_capture.specs.declared.event.Event.TheVariants.{Gp0}
 use Rattle.capture_flat.specs.Out.{spell}
