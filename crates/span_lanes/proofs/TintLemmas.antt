@@ -9,10 +9,7 @@ use Rattle.span_lanes.specs.declared.span.Paint.{Paint}
 use Rattle.span_lanes.specs.declared.span.Paint.TheVariants.{Flat, Shaded, TexturedTri, TexturedRow}
 use Rattle.span_lanes.specs.Shade.{HasInside, AreInside}
 use Rattle.span_lanes.specs.Hues.{AreHues, AreHuesOf}
-use Rattle.std.specs.Prelude.{Option, Some}
-use Rattle.span_lanes.specs.declared.span.Brush.{Brush}
-use Rattle.span_lanes.specs.Lanes.{IsSolid}
-use Rattle.span_lanes.specs.Pen.{IsTint, IsTintOf, HasHalfword}
+use Rattle.span_lanes.specs.Pen.{IsTint, IsTintOf}
 
 -- one colour
 pub plain_hues : (paint : Paint) (color x y n : ℕ) → IsTint paint (Plain color) → HasInside paint x y n
@@ -38,12 +35,3 @@ planes_hues (Shaded tri) red green blue x y n hues some is inside of = λ at j l
 planes_hues (TexturedTri tri texture) red green blue x y n hues some is inside of = λ at j lane lt. of tri is
     (first_cell tri x y n some inside) at j lane (inside (at + j) lt)
 planes_hues (TexturedRow own texture u v flip) red green blue x y n hues some is inside of = absurd (cc)
-
--- the halfword of a span
-pub solid_here : (paint : Paint) (brush : Brush) (x y n : ℕ) (solid : Option ℕ) (h : ℕ) → HasHalfword paint brush solid
-    → solid ≡ Some h
-    → IsSolid (record { x = x; y = y; n = n; paint = paint; brush = brush }) h
-solid_here (Flat color) brush x y n solid h has is = rw is at has x y n
-solid_here (Shaded tri) brush x y n solid h has is = absurd (cc (has, is))
-solid_here (TexturedTri tri texture) brush x y n solid h has is = absurd (cc (has, is))
-solid_here (TexturedRow color texture u v flip) brush x y n solid h has is = absurd (cc (has, is))

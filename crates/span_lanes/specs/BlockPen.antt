@@ -1,9 +1,6 @@
 -- Pens for the triangles with a texture that lie in a block apart from it.
 use Rattle.std.specs.Prelude.{ℕ, ◌≡◌, ◌≤◌, ◌+◌, ◌/◌, ◌&&◌, not, false, IfSome, Option}
 use Rattle.edge_walk.specs.Attribute.{IsUnscaled}
-use Rattle.edge_walk.specs.Plane.{IsPlane}
-use Rattle.edge_walk.specs.Triangle.{Corners}
-use Rattle.edge_walk.specs.declared.plane.Plane.{Plane}
 use Rattle.span_lanes.specs.declared.block.Block.{Block}
 use Rattle.span_lanes.specs.declared.sheet.Sheet.{Sheet}
 use Rattle.span_lanes.specs.declared.sheet.Way.{Way}
@@ -23,13 +20,11 @@ pub record HasRoom (t : Texture) : Type 0 where
   pub fours : t.page.depth ≡ 0 → t.page.x + 256 / 4 + 16 ≤ 1024
 
 -- the texels of a triangle stand side by side in each row, wherever that is in their page
-pub record AreSideBySide (tri : Corners) (t : Texture) (u v : Plane) : Type 0 where
-  pub texture : IsTexture t
-  pub clear : t.window.mask_x ≡ 0
-  pub room : HasRoom t
-  pub unscaled : IsUnscaled tri
-  pub across : IsPlane tri 3 u
-  pub down : IsPlane tri 4 v
+pub record IsBeside (sheet : Sheet) : Type 0 where
+  pub texture : IsTexture sheet.texture
+  pub clear : sheet.texture.window.mask_x ≡ 0
+  pub room : HasRoom sheet.texture
+  pub unscaled : IsUnscaled sheet.tri
 
 -- the palette can be coloured once under this colour, which is that of all cells, and pixels are stored as they are
 pub record IsPlain (sheet : Sheet) (color : ℕ) : Type 0 where
@@ -38,10 +33,6 @@ pub record IsPlain (sheet : Sheet) (color : ℕ) : Type 0 where
   pub even : (sheet.brush.dither && not sheet.texture.raw) ≡ false
   pub mask : sheet.brush.mask ≡ 0
   pub semi : sheet.brush.semi ≡ false
-
--- the texels of a triangle made ready stand side by side
-abbrev pub IsBeside : Sheet → Type 0
-IsBeside sheet = AreSideBySide sheet.tri sheet.texture sheet.slopes.u sheet.slopes.v
 
 -- rows may be drawn in a way
 abbrev pub IsWay : Sheet → Way → Type 0

@@ -12,6 +12,7 @@ pub mod Laws
 pub mod Paints
 pub mod Pen
 pub mod Plan
+pub mod Ready
 pub mod Shade
 pub mod Sheet
 pub mod Solid

@@ -77,13 +77,6 @@ pub record AreSlopes (tri : Corners) (slopes : Slopes) : Type 0 where
   pub v : IsPlane tri 4 slopes.v
   pub unscaled : IsTrue slopes.unscaled → IsUnscaled tri
 
--- those of a paint, where it has a triangle with a texture
-abbrev pub HasSlopes : Paint → Option Slopes → Type 0
-HasSlopes (Flat color) slopes = Unit {0}
-HasSlopes (Shaded tri) slopes = Unit {0}
-HasSlopes (TexturedTri tri texture) slopes = MatchOption slopes ⊥ (AreSlopes tri)
-HasSlopes (TexturedRow color texture u v flip) slopes = Unit {0}
-
 -- the halfword that all cells of one colour become, where there is one whatever they hold
 abbrev pub HasHalfword : Paint → Brush → Option ℕ → Type 0
 HasHalfword (Flat color) brush solid =
@@ -91,18 +84,6 @@ HasHalfword (Flat color) brush solid =
 HasHalfword (Shaded tri) brush solid = solid ≡ None
 HasHalfword (TexturedTri tri texture) brush solid = solid ≡ None
 HasHalfword (TexturedRow color texture u v flip) brush solid = solid ≡ None
-
--- what is one for all spans of a paint and a brush
-pub record IsReady (ink : Ink) (solid : Option ℕ) (tint : Tint) (slopes : Option Slopes) : Type 0 where
-  pub halfword : HasHalfword ink.paint ink.brush solid
-  pub colors : IsTint ink.paint tint
-  pub coordinates : HasSlopes ink.paint slopes
-
--- the same with a palette under a colour, if it is kept
-pub record IsPen (ink : Ink) (solid : Option ℕ) (tint : Tint) (slopes : Option Slopes)
-    (last : Option Swatches) : Type 0 where
-  pub ready : IsReady ink solid tint slopes
-  pub colored : IfSome last AreColored
 
 abbrev pub loaded_of : Span → Option Swatches → Loaded
 loaded_of span last = record { ink = ink_of span; palette = entries_of last }

@@ -1,11 +1,11 @@
 -- Triangles with a texture, made ready for their rows.
-use Rattle.std.specs.Prelude.{ℕ, List}
+use Rattle.std.specs.Prelude.{ℕ, ◌≡◌, List}
 use Rattle.span_lanes.specs.declared.sheet.Sheet.{Sheet}
 use Rattle.span_lanes.specs.declared.span.Paint.TheVariants.{TexturedTri}
 use Rattle.span_lanes.specs.declared.span.Span.{Span}
 use Rattle.span_lanes.specs.Draws.{CanDraw}
 use Rattle.span_lanes.specs.Guard.{IsApart, IsInOtherRow}
-use Rattle.span_lanes.specs.Pen.{AreSlopes, Ink, IsTintOf, ink_span}
+use Rattle.span_lanes.specs.Pen.{AreSlopes, Ink, IsTintOf, ink_of, ink_span}
 
 -- what the cells are drawn with
 abbrev pub sheet_ink : Sheet → Ink
@@ -20,10 +20,20 @@ pub record IsSheet (sheet : Sheet) : Type 0 where
   pub colors : IsTintOf sheet.tri sheet.tint
   pub slopes : AreSlopes sheet.tri sheet.slopes
 
--- n cells from (x, y) on can be drawn in video memory, read nothing that they write, and have another row than the
--- palette, if there is one of sixteen entries
-pub record CanDrawRow (sheet : Sheet) (x y n : ℕ) (m : List ℕ) : Type 0 where
+-- what a paint and a brush are, made ready
+pub record IsSheetOf (ink : Ink) (sheet : Sheet) : Type 0 where
+  pub paint : ink.paint ≡ TexturedTri sheet.tri sheet.texture
+  pub brush : ink.brush ≡ sheet.brush
   pub ready : IsSheet sheet
-  pub can : CanDraw (sheet_span sheet x y n) m
-  pub apart : IsApart (sheet_span sheet x y n)
-  pub palette : IsInOtherRow sheet.texture y
+
+-- a span of a triangle can be drawn in video memory, reads nothing that it writes, and has another row than the palette,
+-- if there is one of sixteen entries
+pub record CanDrawSheet (sheet : Sheet) (span : Span) (m : List ℕ) : Type 0 where
+  pub ready : IsSheetOf (ink_of span) sheet
+  pub can : CanDraw span m
+  pub apart : IsApart span
+  pub palette : IsInOtherRow sheet.texture span.y
+
+-- n cells from (x, y) on can
+abbrev pub CanDrawRow : Sheet → (x y n : ℕ) → List ℕ → Type 0
+CanDrawRow sheet x y n m = CanDrawSheet sheet (sheet_span sheet x y n) m

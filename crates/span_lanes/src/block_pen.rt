@@ -12,7 +12,7 @@ use crate::plainly::is_plain;
 use crate::scaled::draw_scaled;
 use crate::shading::has_even_palette;
 use crate::sheet::{Sheet, Way, row_span, sheet_of};
-use crate::stretch::{has_room, place_row};
+use crate::stretch::has_room;
 use crate::strip::draw_plain_strip;
 use crate::swatches::Swatches;
 use crate::tint::Tint;
@@ -130,48 +130,17 @@ impl BlockPen {
         ensures drawn { DrawsCells self.old.loaded.ink x y n
             (record { m = vram.old; steps = steps.old }) (record { m = vram.new; steps = steps.new }) }
     {
+        let sheet = &self.sheet;
         match self.way {
             Way::Strip { color } => {
-                let sheet = &self.sheet;
                 let span = row_span(sheet, x, y, n);
-                let stretch = place_row(
-                    &span,
-                    &sheet.tri,
-                    &sheet.texture,
-                    &sheet.slopes.u,
-                    &sheet.slopes.v,
-                );
-                draw_plain_strip(
-                    vram,
-                    &span,
-                    &sheet.texture,
-                    &stretch,
-                    color,
-                    &mut self.last,
-                    steps,
-                )
+                draw_plain_strip(vram, &span, sheet, color, &mut self.last, steps)
             }
             Way::Beside => {
-                let sheet = &self.sheet;
                 let span = row_span(sheet, x, y, n);
-                let stretch = place_row(
-                    &span,
-                    &sheet.tri,
-                    &sheet.texture,
-                    &sheet.slopes.u,
-                    &sheet.slopes.v,
-                );
-                draw_beside_row(
-                    vram,
-                    &span,
-                    &sheet.texture,
-                    &stretch,
-                    &sheet.tint,
-                    &mut self.last,
-                    steps,
-                )
+                draw_beside_row(vram, &span, sheet, &mut self.last, steps)
             }
-            Way::Scaled => draw_scaled(vram, &self.sheet, x, y, n, &mut self.last, steps),
+            Way::Scaled => draw_scaled(vram, sheet, x, y, n, &mut self.last, steps),
         }
     }
 }

@@ -17,38 +17,37 @@
 //   colour. [triangle 15-bit raw]
 // - `Shaded` of the same three, each as it is or not, in `draw_shaded`: under colours. [rectangle 8-bit modulated]
 // - `Kept<&Track>` and `Plan`, by the coordinates of each texel where the block of a triangle is not known to lie
-//   apart: in `draw_plain_sheet` under one colour and in `draw_mixed_sheet` under several, to which no line belongs,
-//   and in `draw_planned_row`. [rectangle that is flipped]
+//   apart, in `draw_tri`, to which no line belongs, and in `draw_planned_row`. [rectangle that is flipped]
 //
 // Rectangles whose palette is coloured once for all rows have four more of `Kept<Stretch>`, in `draw_strips`.
 // [rectangle, sprite 4-bit]
 ghost use Rattle.std.specs.Prelude.{◌≡◌};
+ghost use Rattle.span_lanes.specs.BlockPen.{IsBeside};
 ghost use Rattle.span_lanes.specs.Draws.{CanDraw, DrawsSpan, at_stage};
 ghost use Rattle.span_lanes.specs.Guard.{IsInOtherRow};
 ghost use Rattle.span_lanes.specs.Kept.{CanTake};
-ghost use Rattle.span_lanes.specs.declared.hues.Hues.TheVariants.{One};
-ghost use Rattle.span_lanes.specs.declared.span.Paint.TheVariants.{TexturedTri, TexturedRow};
-ghost use Rattle.span_lanes.specs.Pen.{IsTint, AreSlopes, HasSlopes, IsReady, ink_of};
-ghost use Rattle.span_lanes.specs.Hues.{AreHues};
+ghost use Rattle.span_lanes.specs.declared.span.Paint.TheVariants.{TexturedRow};
+ghost use Rattle.span_lanes.specs.Pen.{IsTint, ink_of};
+ghost use Rattle.span_lanes.specs.Ready.{IsReady};
+ghost use Rattle.span_lanes.specs.Sheet.{CanDrawSheet, IsSheetOf};
 ghost use Rattle.span_lanes.specs.Stretch.{IsStretch};
 ghost use Rattle.span_lanes.specs.Swatches.{IsKept};
 
 use crate::apart::is_apart;
-use crate::hues::{Hues, hues_of};
 use crate::loops::draw_parts;
 use crate::plan::{row_plan, tri_plan};
 use crate::planned::draw_planned;
+use crate::ready::Ready;
 use crate::row::TexelRow;
-use crate::slopes::Slopes;
+use crate::sheet::Sheet;
 use crate::solid::Solid;
-use crate::stretch::{Stretch, row_stretch, tri_stretch};
+use crate::stretch::{Stretch, place_row, row_stretch};
 use crate::stretched::draw_stretched;
 use crate::strip::{draw_strip, suits_strip};
 use crate::swatches::Swatches;
 use crate::tint::Tint;
 use crate::untextured::draw_untextured;
-use crate::{Paint, Span, Texture};
-use edge_walk::Tri;
+use crate::{Span, Texture};
 use std::sync::ledger::Ledger;
 use vram_store::{Steps, Vram};
 
@@ -81,25 +80,31 @@ fn draw_beside<L: Ledger>(
     }
 }
 
-// The same for a caller that draws few rows so.
+// A row of a triangle whose texels stand side by side.
 #[inline(never)]
 pub(crate) fn draw_beside_row<L: Ledger>(
     vram: &mut Vram,
     span: &Span,
-    texture: &Texture,
-    stretch: &Stretch,
-    tint: &Tint,
+    sheet: &Sheet,
     last: &mut Option<Swatches>,
     steps: &mut Steps<L>,
 )
-    requires take { CanTake span.now texture.now (IsStretch span.now texture.now stretch.now) vram.old }
-    requires tint { IsTint span.now.paint tint.now }
-    requires palette { IsInOtherRow texture.now span.now.y }
+    requires can { CanDrawSheet sheet.now span.now vram.old }
+    requires beside { IsBeside sheet.now }
     requires last { IsKept span.now.paint vram.old last.old }
     ensures drawn { DrawsSpan span.now 0 (at_stage vram.old steps.old) (at_stage vram.new steps.new) }
     ensures last { IsKept span.now.paint vram.new last.new }
 {
-    draw_beside(vram, span, texture, stretch, tint, last, steps);
+    let stretch = place_row(span, sheet);
+    draw_beside(
+        vram,
+        span,
+        &sheet.texture,
+        &stretch,
+        &sheet.tint,
+        last,
+        steps,
+    );
 }
 
 // A row of texels whose chunks are planned.
@@ -129,20 +134,19 @@ pub(crate) fn draw_row<L: Ledger>(
     span: &Span,
     texture: &Texture,
     row: TexelRow,
-    tint: &Tint,
     last: &mut Option<Swatches>,
     steps: &mut Steps<L>,
 )
     requires can { CanDraw span.now vram.old }
     requires paint { span.now.paint ≡ TexturedRow row.color texture.now row.u row.v row.flip }
-    requires tint { IsTint span.now.paint tint.now }
     requires last { IsKept span.now.paint vram.old last.old }
     ensures drawn { DrawsSpan span.now 0 (at_stage vram.old steps.old) (at_stage vram.new steps.new) }
     ensures last { IsKept span.now.paint vram.new last.new }
 {
     match row_stretch(span, texture, row) {
         Some(stretch) if is_apart(span, texture) => {
-            draw_beside(vram, span, texture, &stretch, tint, last, steps)
+            let tint = Tint::Plain { color: row.color };
+            draw_beside(vram, span, texture, &stretch, &tint, last, steps)
         }
         _ => {
             let (span, texture) = (*span, *texture);
@@ -151,151 +155,23 @@ pub(crate) fn draw_row<L: Ledger>(
     }
 }
 
-// A row of a triangle under one colour, whose chunks are planned.
-#[inline(never)]
-fn draw_plain_sheet<L: Ledger>(
-    vram: &mut Vram,
-    span: &Span,
-    tri: &Tri,
-    texture: &Texture,
-    color: u32,
-    slopes: &Slopes,
-    last: &mut Option<Swatches>,
-    steps: &mut Steps<L>,
-)
-    requires can { CanDraw span.now vram.old }
-    requires paint { span.now.paint ≡ TexturedTri tri.now texture.now }
-    requires hues { AreHues span.now.paint span.now.x span.now.y span.now.n (One color) }
-    requires slopes { AreSlopes tri.now slopes.now }
-    requires last { IsKept span.now.paint vram.old last.old }
-    ensures drawn { DrawsSpan span.now 0 (at_stage vram.old steps.old) (at_stage vram.new steps.new) }
-    ensures last { IsKept span.now.paint vram.new last.new }
-{
-    let plan = tri_plan(span, tri, texture, Hues::One { color }, slopes);
-    draw_planned(vram, span, texture, &plan, last, steps);
-}
-
-// The same under several.
-#[inline(never)]
-fn draw_mixed_sheet<L: Ledger>(
-    vram: &mut Vram,
-    span: &Span,
-    tri: &Tri,
-    texture: &Texture,
-    hues: Hues,
-    slopes: &Slopes,
-    last: &mut Option<Swatches>,
-    steps: &mut Steps<L>,
-)
-    requires can { CanDraw span.now vram.old }
-    requires paint { span.now.paint ≡ TexturedTri tri.now texture.now }
-    requires hues { AreHues span.now.paint span.now.x span.now.y span.now.n hues }
-    requires slopes { AreSlopes tri.now slopes.now }
-    requires last { IsKept span.now.paint vram.old last.old }
-    ensures drawn { DrawsSpan span.now 0 (at_stage vram.old steps.old) (at_stage vram.new steps.new) }
-    ensures last { IsKept span.now.paint vram.new last.new }
-{
-    let plan = tri_plan(span, tri, texture, hues, slopes);
-    draw_planned(vram, span, texture, &plan, last, steps);
-}
-
-// A row of a triangle with a texture, whose chunks are planned.
-#[inline(never)]
-fn draw_planned_tri<L: Ledger>(
-    vram: &mut Vram,
-    span: &Span,
-    tri: &Tri,
-    texture: &Texture,
-    tint: &Tint,
-    slopes: &Slopes,
-    last: &mut Option<Swatches>,
-    steps: &mut Steps<L>,
-)
-    requires can { CanDraw span.now vram.old }
-    requires paint { span.now.paint ≡ TexturedTri tri.now texture.now }
-    requires tint { IsTint span.now.paint tint.now }
-    requires slopes { AreSlopes tri.now slopes.now }
-    requires last { IsKept span.now.paint vram.old last.old }
-    ensures drawn { DrawsSpan span.now 0 (at_stage vram.old steps.old) (at_stage vram.new steps.new) }
-    ensures last { IsKept span.now.paint vram.new last.new }
-{
-    let hues = hues_of(span, tint);
-    match hues {
-        Hues::One { color } => draw_plain_sheet(
-            vram, span, tri, texture, color, slopes, last, steps,
-        ),
-        Hues::Lines { .. } => draw_mixed_sheet(vram, span, tri, texture, hues, slopes, last, steps),
-    }
-}
-
 // A row of a triangle with a texture.
-#[inline(always)]
+#[inline(never)]
 fn draw_tri<L: Ledger>(
     vram: &mut Vram,
     span: &Span,
-    tri: &Tri,
-    texture: &Texture,
-    tint: &Tint,
-    slopes: &Slopes,
+    sheet: &Sheet,
     last: &mut Option<Swatches>,
     steps: &mut Steps<L>,
 )
     requires can { CanDraw span.now vram.old }
-    requires paint { span.now.paint ≡ TexturedTri tri.now texture.now }
-    requires tint { IsTint span.now.paint tint.now }
-    requires slopes { AreSlopes tri.now slopes.now }
+    requires sheet { IsSheetOf (ink_of span.now) sheet.now }
     requires last { IsKept span.now.paint vram.old last.old }
     ensures drawn { DrawsSpan span.now 0 (at_stage vram.old steps.old) (at_stage vram.new steps.new) }
     ensures last { IsKept span.now.paint vram.new last.new }
 {
-    match tri_stretch(span, tri, texture, slopes) {
-        Some(stretch) if is_apart(span, texture) => {
-            draw_beside(vram, span, texture, &stretch, tint, last, steps)
-        }
-        _ => draw_planned_tri(vram, span, tri, texture, tint, slopes, last, steps),
-    }
-}
-
-// A span that is not of one halfword.
-#[inline(always)]
-fn draw_varied<L: Ledger>(
-    vram: &mut Vram,
-    span: &Span,
-    tint: &Tint,
-    slopes: &Option<Slopes>,
-    last: &mut Option<Swatches>,
-    steps: &mut Steps<L>,
-)
-    requires can { CanDraw span.now vram.old }
-    requires tint { IsTint span.now.paint tint.now }
-    requires slopes { HasSlopes span.now.paint slopes.now }
-    requires last { IsKept span.now.paint vram.old last.old }
-    ensures drawn { DrawsSpan span.now 0 (at_stage vram.old steps.old) (at_stage vram.new steps.new) }
-    ensures last { IsKept span.now.paint vram.new last.new }
-{
-    match &span.paint {
-        Paint::Flat { .. } => draw_untextured(vram, span, tint, steps),
-        Paint::Shaded { .. } => draw_untextured(vram, span, tint, steps),
-        Paint::TexturedTri { tri, texture } => match slopes {
-            Some(slopes) => draw_tri(vram, span, tri, texture, tint, slopes, last, steps),
-            None => unreachable!(),
-        },
-        Paint::TexturedRow {
-            color,
-            texture,
-            u,
-            v,
-            flip,
-        } => {
-            let row = TexelRow {
-                color: *color,
-                u: *u,
-                v: *v,
-                flip: *flip,
-            };
-            draw_row(vram, span, texture, row, tint, last, steps)
-        }
-    }
+    let plan = tri_plan(span, sheet);
+    draw_planned(vram, span, &sheet.texture, &plan, last, steps);
 }
 
 // A span: without a look at its cells where that is enough, and else chunk by chunk.
@@ -303,20 +179,20 @@ fn draw_varied<L: Ledger>(
 pub(crate) fn draw_ready<L: Ledger>(
     vram: &mut Vram,
     span: &Span,
-    solid: Option<u16>,
-    tint: &Tint,
-    slopes: &Option<Slopes>,
+    ready: &Ready,
     last: &mut Option<Swatches>,
     steps: &mut Steps<L>,
 )
     requires can { CanDraw span.now vram.old }
-    requires ready { IsReady (ink_of span.now) solid tint.now slopes.now }
+    requires ready { IsReady (ink_of span.now) ready.now }
     requires last { IsKept span.now.paint vram.old last.old }
     ensures drawn { DrawsSpan span.now 0 (at_stage vram.old steps.old) (at_stage vram.new steps.new) }
     ensures last { IsKept span.now.paint vram.new last.new }
 {
-    match solid {
-        Some(h) => draw_parts(vram, span, &Solid { h }, steps),
-        None => draw_varied(vram, span, tint, slopes, last, steps),
+    match ready {
+        Ready::Solid { h } => draw_parts(vram, span, &Solid { h: *h }, steps),
+        Ready::Toned { tint } => draw_untextured(vram, span, tint, steps),
+        Ready::Tri { sheet } => draw_tri(vram, span, sheet, last, steps),
+        Ready::Row { texture, row } => draw_row(vram, span, texture, *row, last, steps),
     }
 }

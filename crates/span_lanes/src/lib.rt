@@ -26,6 +26,7 @@ mod plain;
 mod plainly;
 mod plan;
 mod planned;
+mod ready;
 mod row;
 mod sampler;
 mod scaled;

@@ -4,10 +4,8 @@ ghost use Rattle.span_lanes.specs.Pen.{DrawsCells, ink_of};
 ghost use Rattle.span_lanes.specs.Shade.{IsSpan, LiesIn};
 
 use crate::draw::draw_ready;
-use crate::slopes::{Slopes, slopes_of};
-use crate::solid::solid_of;
+use crate::ready::{Ready, ready_of};
 use crate::swatches::Swatches;
-use crate::tint::{Tint, tint_of};
 use crate::{Brush, Paint, Span};
 use std::marker::Model;
 use std::sync::ledger::Ledger;
@@ -18,22 +16,20 @@ use vram_store::{Steps, Vram};
 pub struct Pen {
     // the last span that was drawn; at first one of no cells
     span: Span,
-    // the halfword that all cells become, where there is one
-    solid: Option<u16>,
-    tint: Tint,
-    slopes: Option<Slopes>,
+    ready: Ready,
     // the palette that was seen, and what a colour makes of it
     last: Option<Swatches>,
 }
 
 impl Model for Pen {
-    ghost use Rattle.span_lanes.specs.Pen.{ink_of, loaded_of, IsPen, Loaded};
+    ghost use Rattle.span_lanes.specs.Pen.{ink_of, loaded_of, Loaded};
+    ghost use Rattle.span_lanes.specs.Ready.{IsPen};
 
     ghost Value = { Loaded };
 
     ghost view = { λ pen. loaded_of pen.span pen.last };
 
-    ghost invariant = { λ pen. IsPen (ink_of pen.span) pen.solid pen.tint pen.slopes pen.last };
+    ghost invariant = { λ pen. IsPen (ink_of pen.span) pen.ready pen.last };
 }
 
 impl Pen {
@@ -55,9 +51,7 @@ impl Pen {
                 paint: *paint,
                 brush: *brush,
             },
-            solid: solid_of(paint, brush),
-            tint: tint_of(paint),
-            slopes: slopes_of(paint),
+            ready: ready_of(paint, brush),
             last: None,
         }
     }
@@ -76,15 +70,7 @@ impl Pen {
         self.span.x = x;
         self.span.y = y;
         self.span.n = n;
-        draw_ready(
-            vram,
-            &self.span,
-            self.solid,
-            &self.tint,
-            &self.slopes,
-            &mut self.last,
-            steps,
-        );
+        draw_ready(vram, &self.span, &self.ready, &mut self.last, steps);
     }
 }
 

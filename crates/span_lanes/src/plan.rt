@@ -1,20 +1,20 @@
 // What is chosen once for all chunks of a textured span.
 ghost use Rattle.std.specs.Prelude.{◌≡◌, Some};
 ghost use Rattle.span_lanes.specs.Shade.{IsSpan, texture_of};
-ghost use Rattle.span_lanes.specs.declared.span.Paint.TheVariants.{TexturedTri, TexturedRow};
+ghost use Rattle.span_lanes.specs.declared.span.Paint.TheVariants.{TexturedRow};
 ghost use Rattle.span_lanes.specs.Hues.{AreHues};
-ghost use Rattle.span_lanes.specs.Pen.{AreSlopes};
+ghost use Rattle.span_lanes.specs.Pen.{ink_of};
 ghost use Rattle.span_lanes.specs.Plan.{IsPlan};
+ghost use Rattle.span_lanes.specs.Sheet.{IsSheetOf};
 ghost use Rattle.span_lanes.specs.Track.{IsTrack};
 
 use crate::apart::is_apart;
-use crate::hues::Hues;
+use crate::hues::{Hues, hues_of};
 use crate::row::TexelRow;
 use crate::shading::{Shading, shading_of};
-use crate::slopes::Slopes;
+use crate::sheet::Sheet;
 use crate::track::{Along, Track, tri_track};
 use crate::{Span, Texture};
-use edge_walk::Tri;
 
 #[derive(Clone, Copy)]
 pub(crate) struct Plan {
@@ -60,19 +60,12 @@ pub(crate) fn row_plan(span: &Span, texture: &Texture, row: TexelRow) -> Plan
 
 // The plan of a row of a triangle.
 #[inline(always)]
-pub(crate) fn tri_plan(
-    span: &Span,
-    tri: &Tri,
-    texture: &Texture,
-    hues: Hues,
-    slopes: &Slopes,
-) -> Plan
+pub(crate) fn tri_plan(span: &Span, sheet: &Sheet) -> Plan
     requires span { IsSpan span.now }
-    requires paint { span.now.paint ≡ TexturedTri tri.now texture.now }
-    requires hues { AreHues span.now.paint span.now.x span.now.y span.now.n hues }
-    requires slopes { AreSlopes tri.now slopes.now }
-    ensures { IsPlan span.now texture.now result }
+    requires sheet { IsSheetOf (ink_of span.now) sheet.now }
+    ensures { IsPlan span.now sheet.now.texture result }
 {
-    let _ = tri;
-    plan_with(span, texture, hues, tri_track(slopes, span.x, span.y))
+    let hues = hues_of(span, &sheet.tint);
+    let track = tri_track(&sheet.slopes, span.x, span.y);
+    plan_with(span, &sheet.texture, hues, track)
 }

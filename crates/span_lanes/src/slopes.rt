@@ -2,10 +2,9 @@
 ghost use Rattle.std.specs.Prelude.{◌≡◌, ℕ, pos, IsTrue};
 ghost use Rattle.edge_walk.specs.Plane.{IsPlane};
 ghost use Rattle.edge_walk.specs.Triangle.{Corners, is_inside};
-ghost use Rattle.span_lanes.specs.Pen.{AreSlopes, HasSlopes};
+ghost use Rattle.span_lanes.specs.Pen.{AreSlopes};
 ghost use Rattle.span_lanes.specs.Shade.{attribute_in};
 
-use crate::Paint;
 use edge_walk::{Plane, Tri};
 
 // Both coordinates over a triangle.
@@ -26,15 +25,6 @@ pub(crate) fn tri_slopes(tri: &Tri) -> Slopes
         u: tri.plane(3, &divisor),
         v: tri.plane(4, &divisor),
         unscaled: tri.is_unscaled(),
-    }
-}
-
-pub(crate) fn slopes_of(paint: &Paint) -> Option<Slopes>
-    ensures { HasSlopes paint.now result }
-{
-    match paint {
-        Paint::TexturedTri { tri, .. } => Some(tri_slopes(tri)),
-        _ => None,
     }
 }
 

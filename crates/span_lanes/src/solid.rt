@@ -24,7 +24,8 @@ fn is_even(brush: &Brush) -> bool
     !looks(brush) && !brush.dither
 }
 
-fn solid_color(brush: &Brush, color: u32) -> Option<u16>
+// That halfword of one colour, where there is one.
+pub(crate) fn solid_color(brush: &Brush, color: u32) -> Option<u16>
     ensures { IfSome result (λ h. (x y n : ℕ)
         → IsSolid (record { x = x; y = y; n = n; paint = Flat color; brush = brush.now }) h) }
 {

@@ -7,7 +7,6 @@ ghost use Rattle.span_lanes.specs.Spans.{drawn_rows, paint_down, rows_cost, AreS
 use crate::draw::draw_row;
 use crate::row::{TexelRow, row_u};
 use crate::strips::{draw_strips, suit_strips};
-use crate::tint::Tint;
 use crate::{Paint, Pen, Span, Texture};
 use std::sync::ledger::Ledger;
 use vram_store::{Steps, Vram};
@@ -40,7 +39,6 @@ fn draw_each_row<L: Ledger>(
     ensures cost { steps.new ≤ steps.old + rows_cost spans.now spans.now.rows }
 {
     let Span { x, y, n, brush, .. } = spans.first;
-    let tint = Tint::Plain { color: row.color };
     let mut last = None;
     for j in 0..spans.rows {
         let v = row_u(row.v, spans.falls, j);
@@ -59,7 +57,7 @@ fn draw_each_row<L: Ledger>(
             paint,
             brush,
         };
-        draw_row(vram, &span, texture, here, &tint, &mut last, steps);
+        draw_row(vram, &span, texture, here, &mut last, steps);
     }
 }
 

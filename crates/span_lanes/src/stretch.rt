@@ -1,19 +1,20 @@
 // Texels that stand side by side in a row of video memory.
 ghost use Rattle.std.specs.Prelude.{◌≡◌, ◌≤◌, ◌<◌, ◌+◌, ◌*◌, ◌/◌, IfSome, IsTrue};
 ghost use Rattle.texture_page.specs.Page.{windowed};
-ghost use Rattle.span_lanes.specs.declared.span.Paint.TheVariants.{TexturedRow, TexturedTri};
-ghost use Rattle.span_lanes.specs.Pen.{AreSlopes};
+ghost use Rattle.span_lanes.specs.declared.span.Paint.TheVariants.{TexturedRow};
 ghost use Rattle.texel_lanes.specs.Texture.{IsTexture};
 ghost use Rattle.span_lanes.specs.Shade.{IsSpan};
+ghost use Rattle.span_lanes.specs.Pen.{ink_of};
+ghost use Rattle.span_lanes.specs.Sheet.{IsSheetOf};
 ghost use Rattle.span_lanes.specs.Stretch.{IsRising, IsStretch};
-ghost use Rattle.span_lanes.specs.BlockPen.{AreSideBySide};
+ghost use Rattle.span_lanes.specs.BlockPen.{IsBeside};
 
 use crate::part::Part;
 use crate::row::TexelRow;
 use crate::sampler::{Indexed, Sampler};
-use crate::slopes::{Slopes, value_of};
+use crate::sheet::Sheet;
+use crate::slopes::value_of;
 use crate::{Span, Texture};
-use edge_walk::{Plane, Tri};
 use std::simd::prelude::*;
 use std::sync::ledger::Ledger;
 use texel_lanes::{
@@ -98,41 +99,17 @@ pub(crate) fn row_stretch(span: &Span, texture: &Texture, row: TexelRow) -> Opti
     }
 }
 
-// Where the texels of a row of a triangle are known to stand side by side.
-#[inline(always)]
-pub(crate) fn tri_stretch(
-    span: &Span,
-    tri: &Tri,
-    texture: &Texture,
-    slopes: &Slopes,
-) -> Option<Stretch>
-    requires span { IsSpan span.now }
-    requires paint { span.now.paint ≡ TexturedTri tri.now texture.now }
-    requires slopes { AreSlopes tri.now slopes.now }
-    ensures { IfSome result (IsStretch span.now texture.now) }
-{
-    let _ = tri;
-    if slopes.unscaled {
-        let u = value_of(&slopes.u, span.x, span.y);
-        let v = value_of(&slopes.v, span.x, span.y);
-        stretch_from(span, texture, u, v)
-    } else {
-        None
-    }
-}
-
 // Where the texels of a row of a triangle stand, whose texels stand side by side in all rows.
 #[inline(always)]
-pub(crate) fn place_row(span: &Span, tri: &Tri, texture: &Texture, u: &Plane, v: &Plane) -> Stretch
+pub(crate) fn place_row(span: &Span, sheet: &Sheet) -> Stretch
     requires span { IsSpan span.now }
-    requires paint { span.now.paint ≡ TexturedTri tri.now texture.now }
-    requires texels { AreSideBySide tri.now texture.now u.now v.now }
-    ensures { IsStretch span.now texture.now result }
+    requires sheet { IsSheetOf (ink_of span.now) sheet.now }
+    requires beside { IsBeside sheet.now }
+    ensures { IsStretch span.now sheet.now.texture result }
 {
-    let _ = tri;
-    let u = value_of(u, span.x, span.y);
-    let v = value_of(v, span.x, span.y);
-    stretch_at(texture, u, v)
+    let u = value_of(&sheet.slopes.u, span.x, span.y);
+    let v = value_of(&sheet.slopes.v, span.x, span.y);
+    stretch_at(&sheet.texture, u, v)
 }
 
 // Texels of four bits that stand side by side.

@@ -1,5 +1,7 @@
 // Rows of texels of four bits that stand side by side, whose palette is coloured once.
-ghost use Rattle.std.specs.Prelude.{◌≡◌, IsTrue, false};
+ghost use Rattle.std.specs.Prelude.{IsTrue};
+ghost use Rattle.span_lanes.specs.BlockPen.{IsBeside, IsPlain};
+ghost use Rattle.span_lanes.specs.Sheet.{CanDrawSheet};
 ghost use Rattle.span_lanes.specs.declared.hues.Hues.TheVariants.{One};
 ghost use Rattle.span_lanes.specs.Draws.{CanSample, DrawsSpan, at_stage};
 ghost use Rattle.span_lanes.specs.Guard.{IsApart, IsInOtherRow};
@@ -11,7 +13,8 @@ ghost use Rattle.span_lanes.specs.Swatches.{IsKept, SuitsPalette};
 use crate::loops::{draw_by_brush, draw_parts};
 use crate::plainly::plain;
 use crate::shading::has_even_palette;
-use crate::stretch::Stretch;
+use crate::sheet::Sheet;
+use crate::stretch::{Stretch, place_row};
 use crate::stretched::known;
 use crate::swatches::{Swatches, swatches_of};
 use crate::texels::Kept;
@@ -75,31 +78,28 @@ pub(crate) fn draw_strip<L: Ledger>(
     draw_by_raw(vram, span, &kept, steps);
 }
 
-// The same where pixels are stored as they are.
+// A row of a triangle of which it is known that it suits, and that pixels are stored as they are.
 #[inline(always)]
 pub(crate) fn draw_plain_strip<L: Ledger>(
     vram: &mut Vram,
     span: &Span,
-    texture: &Texture,
-    stretch: &Stretch,
+    sheet: &Sheet,
     color: u32,
     last: &mut Option<Swatches>,
     steps: &mut Steps<L>,
 )
-    requires sample { CanSample span.now texture.now vram.old }
-    requires hue { AreHues span.now.paint span.now.x span.now.y span.now.n (One color) }
-    requires stretch { IsStretch span.now texture.now stretch.now }
-    requires suits { SuitsPalette span.now texture.now }
+    requires can { CanDrawSheet sheet.now span.now vram.old }
+    requires beside { IsBeside sheet.now }
+    requires plain { IsPlain sheet.now color }
     requires last { IsKept span.now.paint vram.old last.old }
-    requires mask { span.now.brush.mask ≡ 0 }
-    requires semi { span.now.brush.semi ≡ false }
     ensures drawn { DrawsSpan span.now 0 (at_stage vram.old steps.old) (at_stage vram.new steps.new) }
     ensures last { IsKept span.now.paint vram.new last.new }
 {
-    let swatches = swatches_of(vram, texture, color, last, steps);
+    let stretch = place_row(span, sheet);
+    let swatches = swatches_of(vram, &sheet.texture, color, last, steps);
     let kept = Kept {
-        texture: *texture,
-        sampler: *stretch,
+        texture: sheet.texture,
+        sampler: stretch,
         swatches,
     };
     draw_parts(vram, &plain(span), &kept, steps);

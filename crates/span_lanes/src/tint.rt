@@ -1,7 +1,6 @@
 // The colours of a paint.
-ghost use Rattle.span_lanes.specs.Pen.{IsTint, IsTintOf};
+ghost use Rattle.span_lanes.specs.Pen.{IsTintOf};
 
-use crate::Paint;
 use edge_walk::{Plane, Tri};
 
 // One colour, or three channels over a triangle.
@@ -36,16 +35,5 @@ pub(crate) fn tri_tint(tri: &Tri) -> Tint
     match tri.one_color() {
         Some(color) => Tint::Plain { color },
         None => tri_planes(tri),
-    }
-}
-
-pub(crate) fn tint_of(paint: &Paint) -> Tint
-    ensures { IsTint paint.now result }
-{
-    match paint {
-        Paint::Flat { color } => Tint::Plain { color: *color },
-        Paint::Shaded { tri } => tri_tint(tri),
-        Paint::TexturedTri { tri, .. } => tri_tint(tri),
-        Paint::TexturedRow { color, .. } => Tint::Plain { color: *color },
     }
 }

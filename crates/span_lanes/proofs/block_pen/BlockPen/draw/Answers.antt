@@ -1,43 +1,41 @@
-use Rattle.std.proofs.Common.{refl}
+use Rattle.std.proofs.Common.{refl, ℕ, List}
+use Rattle.vram_store.specs.Vram.{height_of}
+use Rattle.span_lanes.specs.Frame.{IsBlockApart, IsInBlock}
+use Rattle.span_lanes.specs.Shade.{IsSpan, LiesIn}
+use Rattle.span_lanes.specs.Sheet.{CanDrawRow, IsSheet, sheet_ink, sheet_span}
+use Rattle.span_lanes.specs.declared.block.Block.{Block}
+use Rattle.span_lanes.specs.declared.sheet.Sheet.{Sheet}
 use Rattle.span_lanes.proofs.PartLemmas.{draws_cells}
 use Rattle.span_lanes.proofs.SwatchLemmas.{fresh_of_kept, kept_of_fresh}
-use Rattle.span_lanes.specs.BlockPen.{IsPlain}
-use Rattle.span_lanes.specs.Shade.{IsSpan}
-use Rattle.span_lanes.specs.Sheet.{sheet_ink, sheet_span}
-use Rattle.span_lanes.specs.Swatches.{SuitsPalette}
 use Rattle.span_lanes.proofs.block_pen.BlockPen.draw.Goals as goal
 
-pub draw_plain_strip-requires-clause-suits : goal.draw_plain_strip-requires-clause-suits
-draw_plain_strip-requires-clause-suits g c =
-    let pen = c.self.inside in
-    let plain : IsPlain pen.sheet c.in-Strip.color = (rw c.in-Strip.is at c.self.invariant.rows).1 in
-    let span = sheet_span pen.sheet c.args.x c.args.y c.args.n in
-    let block = rw (← c.self.view_is) at c.requires.block in
-    let suits : SuitsPalette span pen.sheet.texture = record {
-      apart = c.self.invariant.apart.apart span refl (rw (← c.self.view_is) at c.requires.span) block;
-      depth = plain.depth;
-      row = c.self.invariant.apart.palette span block plain.depth;
-      even = plain.even;
-    } in
-    rw c.row_span-span.ensures suits
+-- cells of a row in the block
+can_draw : (sheet : Sheet) (b : Block) (x y n : ℕ) (m : List ℕ) → IsSheet sheet → IsBlockApart b sheet.texture
+    → IsSpan (sheet_span sheet x y n) → LiesIn (height_of m) (sheet_span sheet x y n) → IsInBlock b x y n
+    → CanDrawRow sheet x y n m
+can_draw sheet b x y n m ready apart is height block = record {
+  ready = record { paint = refl; brush = refl; ready = ready };
+  can = record { span = is; lies = height };
+  apart = apart.apart (sheet_span sheet x y n) refl is block;
+  palette = apart.palette (sheet_span sheet x y n) block;
+}
 
-pub draw_beside_row-requires-clause-palette : goal.draw_beside_row-requires-clause-palette
-draw_beside_row-requires-clause-palette g c four =
+pub draw_plain_strip-requires-clause-can : goal.draw_plain_strip-requires-clause-can
+draw_plain_strip-requires-clause-can g c =
+    rw c.row_span-span.ensures
+    (can_draw _ _ _ _ _ _ c.self.invariant.ready c.self.invariant.apart (rw (← c.self.view_is) at c.requires.span)
+    (rw (← c.self.view_is) at c.requires.height) (rw (← c.self.view_is) at c.requires.block))
+
+pub draw_beside_row-requires-clause-can : goal.draw_beside_row-requires-clause-can
+draw_beside_row-requires-clause-can g c =
     rw c.row_span-span-in-Beside.ensures
-    (c.self.invariant.apart.palette (sheet_span c.self.inside.sheet c.args.x c.args.y c.args.n)
-    (rw (← c.self.view_is) at c.requires.block) four)
+    (can_draw _ _ _ _ _ _ c.self.invariant.ready c.self.invariant.apart (rw (← c.self.view_is) at c.requires.span)
+    (rw (← c.self.view_is) at c.requires.height) (rw (← c.self.view_is) at c.requires.block))
 
 pub draw_scaled-requires-clause-can : goal.draw_scaled-requires-clause-can
 draw_scaled-requires-clause-can g c =
-    let span = sheet_span c.self.inside.sheet c.args.x c.args.y c.args.n in
-    let block = rw (← c.self.view_is) at c.requires.block in
-    let is : IsSpan span = rw (← c.self.view_is) at c.requires.span in
-    record {
-      ready = c.self.invariant.ready;
-      can = record { span = is; lies = rw (← c.self.view_is) at c.requires.height };
-      apart = c.self.invariant.apart.apart span refl is block;
-      palette = c.self.invariant.apart.palette span block;
-    }
+    can_draw _ _ _ _ _ _ c.self.invariant.ready c.self.invariant.apart (rw (← c.self.view_is) at c.requires.span)
+    (rw (← c.self.view_is) at c.requires.height) (rw (← c.self.view_is) at c.requires.block)
 
 pub draw_plain_strip-requires-clause-last : goal.draw_plain_strip-requires-clause-last
 draw_plain_strip-requires-clause-last g c =
