@@ -1,12 +1,12 @@
 -- What is one for all chunks of a textured span.
-use Rattle.std.specs.Prelude.{ℕ, ◌≡◌, ◌+◌, ◌<◌, ◌&&◌, not, IsTrue, List, length, slice_index}
+use Rattle.std.specs.Prelude.{ℕ, ◌≡◌, ◌+◌, ◌<◌, ◌&&◌, not, IsTrue, List, Some, length, slice_index}
 use Rattle.span_lanes.specs.declared.part.Part.{Part}
 use Rattle.span_lanes.specs.declared.plan.Plan.{Plan}
 use Rattle.span_lanes.specs.declared.shading.Shading.{Shading}
 use Rattle.texel_lanes.specs.declared.texture.Texture.{Texture}
 use Rattle.span_lanes.specs.declared.span.Span.{Span}
 use Rattle.texel_lanes.specs.Texture.{texel}
-use Rattle.span_lanes.specs.Shade.{front_of, shift_of}
+use Rattle.span_lanes.specs.Shade.{front_of, shift_of, texture_of}
 use Rattle.span_lanes.specs.Guard.{IsApart}
 use Rattle.span_lanes.specs.Hues.{AreHues}
 use Rattle.span_lanes.specs.Lanes.{AreShiftsAt}
@@ -18,9 +18,9 @@ pub record IsShading (span : Span) (t : Texture) (shading : Shading) : Type 0 wh
   pub hues : AreHues span.paint span.x span.y span.n shading.hues
   pub shifts : AreShiftsAt (span.brush.dither && not t.raw) span.x span.y shading.shifts.lanes
 
-pub record IsPlan (span : Span) (t : Texture) (plan : Plan) : Type 0 where
-  pub texture : plan.texture ≡ t
-  pub shading : IsShading span t plan.shading
+pub record IsPlan (span : Span) (plan : Plan) : Type 0 where
+  pub texture : texture_of span.paint ≡ Some plan.texture
+  pub shading : IsShading span plan.texture plan.shading
   pub track : IsTrack span.paint span.x span.y span.n plan.track
   pub apart : IsTrue plan.apart → IsApart span
 

@@ -124,7 +124,7 @@ fn draw_planned_row<L: Ledger>(
     ensures last { IsKept span.now.paint vram.new last.new }
 {
     let plan = row_plan(span, texture, row);
-    draw_planned(vram, span, texture, &plan, last, steps);
+    draw_planned(vram, span, &plan, last, steps);
 }
 
 // A row of texels.
@@ -171,7 +171,7 @@ fn draw_tri<L: Ledger>(
     ensures last { IsKept span.now.paint vram.new last.new }
 {
     let plan = tri_plan(span, sheet);
-    draw_planned(vram, span, &sheet.texture, &plan, last, steps);
+    draw_planned(vram, span, &plan, last, steps);
 }
 
 // A span: without a look at its cells where that is enough, and else chunk by chunk.

@@ -1,6 +1,6 @@
 // Spans of texels by their coordinates, part by part.
 ghost use Rattle.std.specs.Prelude.{◌+◌};
-ghost use Rattle.span_lanes.specs.Draws.{CanSample, DrawsPart, IsPart, at_stage};
+ghost use Rattle.span_lanes.specs.Draws.{CanDraw, CanSample, DrawsPart, IsPart, at_stage};
 ghost use Rattle.span_lanes.specs.Guard.{IsApart};
 ghost use Rattle.span_lanes.specs.Lanes.{HasCoordinates};
 ghost use Rattle.span_lanes.specs.Plan.{IsPlan, IsShading};
@@ -57,8 +57,8 @@ fn draw_apart<L: Ledger>(
     part: Part,
     steps: &mut Steps<L>,
 )
-    requires sample { CanSample span.now plan.now.texture vram.old }
-    requires plan { IsPlan span.now plan.now.texture plan.now }
+    requires can { CanDraw span.now vram.old }
+    requires plan { IsPlan span.now plan.now }
     requires apart { IsApart span.now }
     requires part { IsPart span.now part }
     ensures { DrawsPart span.now part 0 (at_stage vram.old steps.old) (at_stage vram.new steps.new) }
@@ -69,10 +69,10 @@ fn draw_apart<L: Ledger>(
 }
 
 impl Chunks for Plan {
-    ghost use Rattle.span_lanes.specs.Draws.{CanSample};
+    ghost use Rattle.span_lanes.specs.Draws.{CanDraw};
     ghost use Rattle.span_lanes.specs.Plan.{IsPlan};
 
-    ghost serves = { λ c s m. CanSample s c.texture m × IsPlan s c.texture c };
+    ghost serves = { λ c s m. CanDraw s m × IsPlan s c };
 
     ghost spared = { λ c. 0 };
 
@@ -86,5 +86,5 @@ impl Chunks for Plan {
         }
     }
 
-    ghost can = { λ c s m serves. serves.0.can };
+    ghost can = { λ c s m serves. serves.0 };
 }

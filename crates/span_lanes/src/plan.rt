@@ -31,7 +31,7 @@ fn plan_with(span: &Span, texture: &Texture, hues: Hues, track: Track) -> Plan
     requires texture { texture_of span.now.paint ≡ Some texture.now }
     requires hues { AreHues span.now.paint span.now.x span.now.y span.now.n hues }
     requires track { IsTrack span.now.paint span.now.x span.now.y span.now.n track }
-    ensures { IsPlan span.now texture.now result }
+    ensures { IsPlan span.now result }
 {
     Plan {
         texture: *texture,
@@ -46,7 +46,7 @@ fn plan_with(span: &Span, texture: &Texture, hues: Hues, track: Track) -> Plan
 pub(crate) fn row_plan(span: &Span, texture: &Texture, row: TexelRow) -> Plan
     requires span { IsSpan span.now }
     requires paint { span.now.paint ≡ TexturedRow row.color texture.now row.u row.v row.flip }
-    ensures { IsPlan span.now texture.now result }
+    ensures { IsPlan span.now result }
 {
     let track = Track {
         u: Along::Row {
@@ -63,7 +63,7 @@ pub(crate) fn row_plan(span: &Span, texture: &Texture, row: TexelRow) -> Plan
 pub(crate) fn tri_plan(span: &Span, sheet: &Sheet) -> Plan
     requires span { IsSpan span.now }
     requires sheet { IsSheetOf (ink_of span.now) sheet.now }
-    ensures { IsPlan span.now sheet.now.texture result }
+    ensures { IsPlan span.now result }
 {
     let hues = hues_of(span, &sheet.tint);
     let track = tri_track(&sheet.slopes, span.x, span.y);

@@ -1,16 +1,16 @@
 // Spans of texels by their coordinates.
 ghost use Rattle.std.specs.Prelude.{◌≡◌};
 ghost use Rattle.span_lanes.specs.declared.hues.Hues.TheVariants.{One};
-ghost use Rattle.span_lanes.specs.Draws.{CanSample, DrawsSpan, at_stage};
+ghost use Rattle.span_lanes.specs.Draws.{CanDraw, DrawsSpan, at_stage};
 ghost use Rattle.span_lanes.specs.Plan.{IsPlan};
 ghost use Rattle.span_lanes.specs.Swatches.{IsKept, SuitsPalette};
 
+use crate::Span;
 use crate::hues::Hues;
 use crate::loops::draw_parts;
 use crate::plan::Plan;
 use crate::swatches::{Swatches, suits, swatches_of};
 use crate::texels::Kept;
-use crate::{Span, Texture};
 use std::sync::ledger::Ledger;
 use vram_store::{Steps, Vram};
 
@@ -19,23 +19,22 @@ use vram_store::{Steps, Vram};
 fn draw_swatches<L: Ledger>(
     vram: &mut Vram,
     span: &Span,
-    texture: &Texture,
     plan: &Plan,
     color: u32,
     last: &mut Option<Swatches>,
     steps: &mut Steps<L>,
 )
-    requires sample { CanSample span.now texture.now vram.old }
-    requires plan { IsPlan span.now texture.now plan.now }
-    requires suits { SuitsPalette span.now texture.now }
+    requires can { CanDraw span.now vram.old }
+    requires plan { IsPlan span.now plan.now }
+    requires suits { SuitsPalette span.now plan.now.texture }
     requires hue { plan.now.shading.hues ≡ One color }
     requires last { IsKept span.now.paint vram.old last.old }
     ensures drawn { DrawsSpan span.now 0 (at_stage vram.old steps.old) (at_stage vram.new steps.new) }
     ensures last { IsKept span.now.paint vram.new last.new }
 {
-    let swatches = swatches_of(vram, texture, color, last, steps);
+    let swatches = swatches_of(vram, &plan.texture, color, last, steps);
     let kept = Kept {
-        texture: *texture,
+        texture: plan.texture,
         sampler: &plan.track,
         swatches,
     };
@@ -47,20 +46,19 @@ fn draw_swatches<L: Ledger>(
 pub(crate) fn draw_planned<L: Ledger>(
     vram: &mut Vram,
     span: &Span,
-    texture: &Texture,
     plan: &Plan,
     last: &mut Option<Swatches>,
     steps: &mut Steps<L>,
 )
-    requires sample { CanSample span.now texture.now vram.old }
-    requires plan { IsPlan span.now texture.now plan.now }
+    requires can { CanDraw span.now vram.old }
+    requires plan { IsPlan span.now plan.now }
     requires last { IsKept span.now.paint vram.old last.old }
     ensures drawn { DrawsSpan span.now 0 (at_stage vram.old steps.old) (at_stage vram.new steps.new) }
     ensures last { IsKept span.now.paint vram.new last.new }
 {
     match plan.shading.hues {
-        Hues::One { color } if suits(span, texture, plan) => {
-            draw_swatches(vram, span, texture, plan, color, last, steps)
+        Hues::One { color } if suits(span, plan) => {
+            draw_swatches(vram, span, plan, color, last, steps)
         }
         _ => {
             *last = None;

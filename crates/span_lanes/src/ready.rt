@@ -42,7 +42,7 @@ pub(crate) fn ready_of(paint: &Paint, brush: &Brush) -> Ready
     match paint {
         Paint::Flat { color } => flat_ready(*color, brush),
         Paint::Shaded { tri } => Ready::Toned {
-            tint: tri_tint(tri),
+            tint: tri_tint(tri, &tri.area_divisor()),
         },
         Paint::TexturedTri { tri, texture } => Ready::Tri {
             sheet: sheet_of(tri, texture, brush),

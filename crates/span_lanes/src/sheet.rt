@@ -36,12 +36,13 @@ pub(crate) fn sheet_of(tri: &Tri, texture: &Texture, brush: &Brush) -> Sheet
     ensures texture { result.texture ≡ texture.now }
     ensures ink { sheet_ink result ≡ record { paint = TexturedTri tri.now texture.now; brush = brush.now } }
 {
+    let divisor = tri.area_divisor();
     Sheet {
         tri: *tri,
         texture: *texture,
         brush: *brush,
-        tint: tri_tint(tri),
-        slopes: tri_slopes(tri),
+        tint: tri_tint(tri, &divisor),
+        slopes: tri_slopes(tri, &divisor),
     }
 }
 

@@ -1,11 +1,12 @@
 // The texel coordinates of a triangle.
 ghost use Rattle.std.specs.Prelude.{◌≡◌, ℕ, pos, IsTrue};
+ghost use Rattle.edge_walk.specs.Held.{divisor_for};
 ghost use Rattle.edge_walk.specs.Plane.{IsPlane};
 ghost use Rattle.edge_walk.specs.Triangle.{Corners, is_inside};
 ghost use Rattle.span_lanes.specs.Pen.{AreSlopes};
 ghost use Rattle.span_lanes.specs.Shade.{attribute_in};
 
-use edge_walk::{Plane, Tri};
+use edge_walk::{Divisor, Plane, Tri};
 
 // Both coordinates over a triangle.
 #[derive(Clone, Copy)]
@@ -17,13 +18,13 @@ pub(crate) struct Slopes {
 }
 
 #[inline(always)]
-pub(crate) fn tri_slopes(tri: &Tri) -> Slopes
+pub(crate) fn tri_slopes(tri: &Tri, divisor: &Divisor) -> Slopes
+    requires divisor { divisor.now ≡ divisor_for tri.now }
     ensures { AreSlopes tri.now result }
 {
-    let divisor = tri.area_divisor();
     Slopes {
-        u: tri.plane(3, &divisor),
-        v: tri.plane(4, &divisor),
+        u: tri.plane(3, divisor),
+        v: tri.plane(4, divisor),
         unscaled: tri.is_unscaled(),
     }
 }

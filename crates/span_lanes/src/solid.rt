@@ -24,7 +24,7 @@ fn is_even(brush: &Brush) -> bool
     !looks(brush) && !brush.dither
 }
 
-// That halfword of one colour, where there is one.
+// What each cell becomes under one colour, where it is one halfword whatever the cells hold.
 pub(crate) fn solid_color(brush: &Brush, color: u32) -> Option<u16>
     ensures { IfSome result (λ h. (x y n : ℕ)
         → IsSolid (record { x = x; y = y; n = n; paint = Flat color; brush = brush.now }) h) }

@@ -104,10 +104,11 @@ pub(crate) fn drawn_at(swatches: &Swatches, raw: bool, index: u8x16) -> Drawn
 }
 
 // Whether a palette of sixteen entries can be coloured for a whole span.
-pub(crate) fn suits(span: &Span, texture: &Texture, plan: &Plan) -> bool
-    requires plan { IsPlan span.now texture.now plan.now }
-    ensures { IsTrue result → SuitsPalette span.now texture.now }
+pub(crate) fn suits(span: &Span, plan: &Plan) -> bool
+    requires plan { IsPlan span.now plan.now }
+    ensures { IsTrue result → SuitsPalette span.now plan.now.texture }
 {
+    let texture = &plan.texture;
     let even = has_even_palette(texture, &span.brush);
     plan.apart && even && clut_row(texture.clut) != span.y
 }

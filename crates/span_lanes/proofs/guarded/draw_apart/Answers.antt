@@ -8,7 +8,7 @@ draw_shaded-requires-clause-free g c = c.requires.apart.free c.args.part.first c
 pub returns : goal.returns
 returns g c =
     let cost = apart_cost c.args.span.now c.args.plan.now.texture c.args.part.first c.args.part.k c.requires.apart
-    c.requires.part.within c.requires.sample.texture in
+    c.requires.part.within c.requires.plan.texture in
     record {
       cells = c.draw_shaded.ensures.cells;
       long = c.draw_shaded.ensures.others.count;

@@ -1,4 +1,4 @@
-use Rattle.span_lanes.proofs.PartLemmas.{sample_stays}
+use Rattle.span_lanes.proofs.PartLemmas.{draw_stays}
 use Rattle.span_lanes.proofs.PlanLemmas.{coordinates_here}
 use Rattle.span_lanes.proofs.guarded.PlanChunks.draw_part.Goals as goal
 
@@ -12,8 +12,8 @@ draw_guarded-requires-clause-at g c =
 
 pub returns-then-self-clause-serves : goal.returns-then-self-clause-serves
 returns-then-self-clause-serves g c =
-    (sample_stays c.requires.serves.0 c.draw_apart.ensures.long, c.requires.serves.1)
+    (draw_stays c.requires.serves.0 c.draw_apart.ensures.long, c.requires.serves.1)
 
 pub returns-else-self-clause-serves : goal.returns-else-self-clause-serves
 returns-else-self-clause-serves g c =
-    (sample_stays c.requires.serves.0 c.draw_guarded.ensures.long, c.requires.serves.1)
+    (draw_stays c.requires.serves.0 c.draw_guarded.ensures.long, c.requires.serves.1)
