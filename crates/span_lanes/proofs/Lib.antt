@@ -12,6 +12,7 @@ pub mod PlainLemmas
 pub mod PlanLemmas
 pub mod SolidLemmas
 pub mod SpansLemmas
+mod SheetLemmas
 mod StretchLemmas
 mod SwatchLemmas
 pub mod TexelLemmas

@@ -119,6 +119,7 @@ impl BlockPen {
 
     /// Draws n cells from (x, y) to the right, which lie in the block, as [`draw_span`](crate::draw_span) does.
     #[inline(always)]
+    #[tactic(auto, using(crate::proofs::SwatchLemmas::kept_of_fresh, crate::proofs::SwatchLemmas::fresh_of_kept))]
     pub fn draw<L: Ledger>(&mut self, vram: &mut Vram, x: u16, y: u16, n: u16, steps: &mut Steps<L>)
         requires span { IsSpan (ink_span self.old.loaded.ink x y n) }
         requires height { LiesIn (height_of vram.old) (ink_span self.old.loaded.ink x y n) }

@@ -58,6 +58,7 @@ impl Pen {
 
     /// Draws n cells from (x, y) to the right, as [`draw_span`] does.
     #[inline(always)]
+    #[tactic(auto, using(crate::proofs::SwatchLemmas::kept_of_fresh, crate::proofs::SwatchLemmas::fresh_of_kept))]
     pub fn draw<L: Ledger>(&mut self, vram: &mut Vram, x: u16, y: u16, n: u16, steps: &mut Steps<L>)
         requires span { IsSpan (ink_span self.old.ink x y n) }
         requires height { LiesIn (height_of vram.old) (ink_span self.old.ink x y n) }
