@@ -2,7 +2,7 @@
 ghost use Rattle.std.specs.Prelude.{◌≡◌, ◌≤◌, ℕ, ◌+◌, ◌^◌, ◌++◌, length, map, OnOk, IfErr};
 ghost use Rattle.dev_io.specs.Device.{Rose};
 ghost use Rattle.gathered_out.specs.Puts.{Puts};
-ghost use Rattle.gpu_capture.specs.Capture.{head_of, limit};
+ghost use Rattle.gpu_capture.specs.Capture.{head_of};
 ghost use Rattle.event_play.specs.Replay.{Tale, next_number};
 ghost use Rattle.event_play.specs.RigState.{StandsFor};
 ghost use Rattle.event_play.specs.Streams.{outlets};

@@ -1,5 +1,5 @@
 // A flat capture ends, behind what is gathered for it.
-ghost use Rattle.std.specs.Prelude.{◌≡◌, ◌≤◌, ◌⊎◌, ◌++◌};
+ghost use Rattle.std.specs.Prelude.{◌≤◌, ◌⊎◌, ◌++◌};
 ghost use Rattle.dev_io.specs.Device.{Rose, Writes};
 ghost use Rattle.gpu_capture.specs.Reader.{IsReadFault};
 ghost use Rattle.gpu_capture.specs.Written.{spelled_end};

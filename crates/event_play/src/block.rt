@@ -1,7 +1,7 @@
 // Words of main memory, one after another.
 ghost use Rattle.std.specs.Prelude.{◌≡◌, ◌≤◌};
 ghost use Rattle.ot_clear_dma.specs.Ram.{cut, memory_words};
-ghost use Rattle.event_play.specs.Block.{address_in, IsBlock};
+ghost use Rattle.event_play.specs.Block.{address_in};
 
 /// So many words of main memory, one after another.
 #[derive(Clone, Copy, Debug, PartialEq, Eq)]

@@ -1,7 +1,6 @@
 // Events of a capture are played one by one, with what is due for them.
 ghost use Rattle.std.specs.Prelude.{◌≡◌, map};
 ghost use Rattle.event_play.specs.Ends.{PlaysOrEnds};
-ghost use Rattle.event_play.specs.Replay.{next_number};
 ghost use Rattle.event_play.specs.Streams.{gathering, outlets};
 
 use crate::ending::{Ending, Mode, Within};

@@ -1,10 +1,9 @@
 // The machine that plays events.
-ghost use Rattle.std.specs.Prelude.{◌≡◌, ◌≤◌, ◌+◌, List, None, map, IfOk, IfErr, OnOk, OnErr, Ok, Err};
-ghost use Rattle.gpu_core.specs.Kept.{kept_of};
+ghost use Rattle.std.specs.Prelude.{◌≡◌, None, map, IfOk, IfErr, OnOk, OnErr, Ok, Err};
 ghost use Rattle.list_dma.specs.Plans.{IsRun};
 ghost use Rattle.event_play.specs.Does.{Performs, PutsWork};
 ghost use Rattle.event_play.specs.Replay.{next_number};
-ghost use Rattle.event_play.specs.RigState.{RigState, first_rig, Stands, machine_of};
+ghost use Rattle.event_play.specs.RigState.{RigState, first_rig, Stands};
 ghost use Rattle.event_play.specs.Step.{Machine, event_step, tall_machine};
 ghost use Rattle.event_play.specs.Stepping.{HasStepped};
 ghost use Rattle.event_play.specs.Streams.{with_sink, without_sink};

@@ -1,7 +1,6 @@
 // What an event asks of the machine, or why it is refused. Nothing is changed before that is known.
 ghost use Rattle.std.specs.Prelude.{◌≡◌, ◌≤◌, ◌-◌, ◌^◌, Option, IfOk, IfSome};
 ghost use Rattle.ot_clear_dma.specs.Ram.{memory_words};
-ghost use Rattle.list_dma.specs.Node.{next_of, node_of};
 ghost use Rattle.list_dma.specs.Plans.{plan_of, begun, IsRun, IsWordAddress};
 ghost use Rattle.event_play.specs.Block.{address_in, IsBlock};
 ghost use Rattle.event_play.specs.Work.{work_of, move_work, fault_of, clear_work, start_work, begin_work, turn_work};

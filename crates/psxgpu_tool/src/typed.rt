@@ -69,12 +69,3 @@ pub fn writes_bytes(command: Command) -> bool {
         Command::Demo { .. } | Command::Help | Command::Version => false,
     }
 }
-
-/// Whether a command writes what the taps have counted.
-pub fn shows_counts(command: Command) -> bool {
-    match command {
-        Command::Plays { mode } => { matches!(mode, Mode::Report) }
-        Command::Demo { .. } => true,
-        _ => false,
-    }
-}

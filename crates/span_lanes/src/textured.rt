@@ -1,6 +1,6 @@
 // Textured chunks, all their lanes at once.
-ghost use Rattle.std.specs.Prelude.{◌≡◌, ◌≤◌, ◌<◌, ◌+◌, ◌%◌, ◌==◌, ◌&&◌, if◌then◌else◌};
-ghost use Rattle.std.specs.Prelude.{false, pos, IsTrue, Some, ℕ};
+ghost use Rattle.std.specs.Prelude.{◌≡◌, ◌≤◌, ◌<◌, ◌+◌, ◌==◌, ◌&&◌, if◌then◌else◌};
+ghost use Rattle.std.specs.Prelude.{false, pos, IsTrue, ℕ};
 ghost use Rattle.std.specs.Prelude.{length, slice_index, slice_index_or};
 ghost use Rattle.blend_dither.specs.Color.{modulated_of, packed_pixel, red_of, green_of, blue_of};
 ghost use Rattle.px_num.specs.Lanes.{EachLane};
