@@ -1,11 +1,15 @@
 -- The texel coordinates of the cells of a span, by their number.
-use Rattle.std.specs.Prelude.{ℕ, ◌≡◌, ◌+◌, ◌<◌, pos, IsTrue}
+use Rattle.std.specs.Prelude.{ℕ, List, ◌≡◌, ◌+◌, ◌<◌, pos, IsTrue}
 use Rattle.edge_walk.specs.Line.{line_value}
 use Rattle.edge_walk.specs.Triangle.{Corners, is_inside}
+use Rattle.span_lanes.specs.declared.part.Part.{Part}
+use Rattle.span_lanes.specs.declared.span.Span.{Span}
 use Rattle.span_lanes.specs.declared.track.Along.{Along}
 use Rattle.span_lanes.specs.declared.track.Along.TheVariants.{Line, Row, Same}
 use Rattle.span_lanes.specs.declared.track.Track.{Track}
 use Rattle.span_lanes.specs.declared.span.Paint.{Paint}
+use Rattle.texel_lanes.specs.declared.texture.Texture.{Texture}
+use Rattle.span_lanes.specs.Draws.{CanSample, IsPart}
 use Rattle.span_lanes.specs.Shade.{row_u, attribute_in}
 use Rattle.span_lanes.specs.Paints.{paint_u, paint_v}
 
@@ -19,6 +23,12 @@ along_at (Same v) at j = v
 pub record IsTrack (paint : Paint) (x y n : ℕ) (track : Track) : Type 0 where
   pub u : (at j : ℕ) → j < 16 → at + j < n → along_at track.u at j ≡ paint_u paint (x + (at + j)) y (at + j)
   pub v : (at j : ℕ) → j < 16 → at + j < n → along_at track.v at j ≡ paint_v paint (x + (at + j)) y (at + j)
+
+-- the texels of a part of a span can be read by its coordinates
+pub record CanRead (track : Track) (span : Span) (t : Texture) (p : Part) (m : List ℕ) : Type 0 where
+  pub sample : CanSample span t m
+  pub finds : IsTrack span.paint span.x span.y span.n track
+  pub part : IsPart span p
 
 -- a coordinate at the cells of a triangle is its attribute there, from (x, y) on
 abbrev pub IsAlong : Corners → (which x y : ℕ) → Along → Type 0

@@ -16,7 +16,7 @@ use px_num::lanes::{add, low_bits, ramp, splat, sub_or_zero};
 use std::simd::prelude::*;
 use std::sync::ledger::Ledger;
 use texel_lanes::{Coordinates, indexes_of, read_texels};
-use vram_store::{Steps, Vram};
+use vram_store::{Steps, Vram, wanted_lanes};
 
 // One coordinate of the texels of a span.
 #[derive(Clone, Copy)]
@@ -123,6 +123,70 @@ pub(crate) fn track_lanes(track: &Track, first: u16) -> Coordinates
     }
 }
 
+impl Track {
+    ghost use Rattle.std.specs.Prelude.{◌≤◌, ◌+◌, ◌*◌};
+    ghost use Rattle.texel_lanes.specs.Texture.{texel_steps};
+    ghost use Rattle.span_lanes.specs.Plan.{HasTexels};
+    ghost use Rattle.span_lanes.specs.Track.{CanRead};
+
+    // The texels of a part.
+    #[inline(always)]
+    fn texels<L: Ledger>(
+        &self,
+        vram: &Vram,
+        _span: &Span,
+        texture: &Texture,
+        part: Part,
+        steps: &mut Steps<L>,
+    ) -> u16x16
+        requires { CanRead self.now _span.now texture.now part vram.now }
+        ensures texels { HasTexels _span.now texture.now part vram.now result }
+        ensures cost { steps.new ≤ steps.old + texel_steps texture.now.page.depth * part.k }
+    {
+        let at = track_lanes(self, part.first);
+        read_texels(vram, texture, &at, part.k, steps)
+    }
+
+    // The same where they may be many.
+    #[inline(never)]
+    fn many_texels<L: Ledger>(
+        &self,
+        vram: &Vram,
+        span: &Span,
+        texture: &Texture,
+        part: Part,
+        steps: &mut Steps<L>,
+    ) -> u16x16
+        requires { CanRead self.now span.now texture.now part vram.now }
+        ensures texels { HasTexels span.now texture.now part vram.now result }
+        ensures cost { steps.new ≤ steps.old + texel_steps texture.now.page.depth * part.k }
+    {
+        self.texels(vram, span, texture, part, steps)
+    }
+
+    // The same where they are at most eight, compiled apart: nothing is reckoned for the other lanes.
+    #[inline(never)]
+    fn few_texels<L: Ledger>(
+        &self,
+        vram: &Vram,
+        span: &Span,
+        texture: &Texture,
+        part: Part,
+        steps: &mut Steps<L>,
+    ) -> u16x16
+        requires can { CanRead self.now span.now texture.now part vram.now }
+        requires few { part.k ≤ 8 }
+        ensures texels { HasTexels span.now texture.now part vram.now result }
+        ensures cost { steps.new ≤ steps.old + texel_steps texture.now.page.depth * part.k }
+    {
+        let few = Part {
+            first: part.first,
+            k: part.k.min(8),
+        };
+        wanted_lanes(8, self.texels(vram, span, texture, few, steps))
+    }
+}
+
 impl Sampler for Track {
     ghost use Rattle.span_lanes.specs.Track.{IsTrack};
 
@@ -132,13 +196,16 @@ impl Sampler for Track {
     fn read_texels<L: Ledger>(
         &self,
         vram: &Vram,
-        _span: &Span,
+        span: &Span,
         texture: &Texture,
         part: Part,
         steps: &mut Steps<L>,
     ) -> u16x16 {
-        let at = track_lanes(self, part.first);
-        read_texels(vram, texture, &at, part.k, steps)
+        if part.k <= 8 {
+            self.few_texels(vram, span, texture, part, steps)
+        } else {
+            self.many_texels(vram, span, texture, part, steps)
+        }
     }
 }
 

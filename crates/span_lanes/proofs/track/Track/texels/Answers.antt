@@ -1,5 +1,5 @@
 use Rattle.span_lanes.proofs.PlanLemmas.{coordinates_here, texels_here}
-use Rattle.span_lanes.proofs.track.TrackSampler.read_texels.Goals as goal
+use Rattle.span_lanes.proofs.track.Track.texels.Goals as goal
 
 pub read_texels-requires-clause-texture : goal.read_texels-requires-clause-texture
 read_texels-requires-clause-texture g c = rw c.requires.sample.texture at c.requires.sample.can.span.texture
