@@ -22,7 +22,6 @@ pub(crate) enum Ready {
 }
 
 // One colour.
-#[inline(always)]
 fn flat_ready(color: u32, brush: &Brush) -> Ready
     ensures { IsReady (record { paint = Flat color; brush = brush.now }) result }
 {
@@ -35,7 +34,6 @@ fn flat_ready(color: u32, brush: &Brush) -> Ready
 }
 
 // A paint and a brush made ready.
-#[inline(always)]
 pub(crate) fn ready_of(paint: &Paint, brush: &Brush) -> Ready
     ensures { IsReady (record { paint = paint.now; brush = brush.now }) result }
 {
