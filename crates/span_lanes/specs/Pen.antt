@@ -1,5 +1,5 @@
 -- A paint and a brush for many spans.
-use Rattle.std.specs.Prelude.{ℕ, List, Option, None, MatchOption, IfSome, ◌≡◌, ◌≤◌, ◌+◌, length, pos, IsTrue}
+use Rattle.std.specs.Prelude.{ℕ, List, Option, None, IfSome, ◌≡◌, ◌≤◌, ◌+◌, length, pos, IsTrue}
 use Rattle.edge_walk.specs.Attribute.{IsUnscaled}
 use Rattle.edge_walk.specs.Plane.{IsPlane}
 use Rattle.edge_walk.specs.Triangle.{Corners, is_inside}
@@ -15,7 +15,7 @@ use Rattle.span_lanes.specs.Cells.{Stage, drawn_cells, row_cells}
 use Rattle.span_lanes.specs.Cost.{span_cost}
 use Rattle.span_lanes.specs.Lanes.{IsSolid}
 use Rattle.span_lanes.specs.Shade.{color_in, shade_at}
-use Rattle.span_lanes.specs.Swatches.{AreColored, AreFresh, entries_of}
+use Rattle.span_lanes.specs.Swatches.{AreFresh, entries_of}
 
 pub record Ink : Type 0 where
   pub paint : Paint

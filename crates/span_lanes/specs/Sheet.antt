@@ -26,8 +26,8 @@ pub record IsSheetOf (ink : Ink) (sheet : Sheet) : Type 0 where
   pub brush : ink.brush ≡ sheet.brush
   pub ready : IsSheet sheet
 
--- a span of a triangle can be drawn in video memory, reads nothing that it writes, and has another row than the palette,
--- if there is one of sixteen entries
+-- a span of a triangle can be drawn in video memory, reads nothing that it writes, and has another row than the
+-- palette, if there is one of sixteen entries
 pub record CanDrawSheet (sheet : Sheet) (span : Span) (m : List ℕ) : Type 0 where
   pub ready : IsSheetOf (ink_of span) sheet
   pub can : CanDraw span m

@@ -16,8 +16,8 @@
 // - `Raw<Fours>`, `Raw<Eights>`, `Raw<Wholes>`, each as it is or not, in `draw_raw`: texels side by side without a
 //   colour. [triangle 15-bit raw]
 // - `Shaded` of the same three, each as it is or not, in `draw_shaded`: under colours. [rectangle 8-bit modulated]
-// - `Kept<&Track>` and `Plan`, by the coordinates of each texel where the block of a triangle is not known to lie
-//   apart, in `draw_tri`, to which no line belongs, and in `draw_planned_row`. [rectangle that is flipped]
+// - `Kept<&Track>` and `Plan`, by the coordinates of each texel: in `draw_planned_row` [rectangle that is flipped], and
+//   in `draw_tri` where the block of a triangle is not known to lie apart, to which no line belongs.
 //
 // Rectangles whose palette is coloured once for all rows have four more of `Kept<Stretch>`, in `draw_strips`.
 // [rectangle, sprite 4-bit]
