@@ -14,7 +14,7 @@ use crate::places::places_of;
 use crate::table::{entries_at, table_of};
 use std::simd::prelude::*;
 use std::sync::ledger::Ledger;
-use vram_store::{Steps, Vram, wanted_lanes};
+use vram_store::{Steps, Vram};
 
 // k texels of four bits.
 #[inline(always)]
@@ -110,9 +110,9 @@ fn read_wholes<L: Ledger>(
     }
 }
 
-// k texels.
+/// k texels by their coordinates.
 #[inline(always)]
-fn read_by_depth<L: Ledger>(
+pub fn read_texels<L: Ledger>(
     vram: &Vram,
     texture: &Texture,
     at: &Coordinates,
@@ -131,30 +131,5 @@ fn read_by_depth<L: Ledger>(
         0 => read_fours(vram, texture, at, k, steps),
         1 => read_eights(vram, texture, at, k, steps),
         _ => read_wholes(vram, texture, at, k, steps),
-    }
-}
-
-/// k texels by their coordinates. At most eight are read by the same text compiled apart, so that nothing is reckoned for
-/// the other lanes.
-#[inline(always)]
-pub fn read_texels<L: Ledger>(
-    vram: &Vram,
-    texture: &Texture,
-    at: &Coordinates,
-    k: u8,
-    steps: &mut Steps<L>,
-) -> u16x16
-    requires texture { IsTexture texture.now }
-    requires page { texture.now.page.y + 255 < height_of vram.now }
-    requires at { AreCoordinates at.now.us × AreCoordinates at.now.vs }
-    requires few { (1 ≤ k) × (k ≤ 16) }
-    ensures long { length result ≡ 16 }
-    ensures value { AreTexels texture.now at.now k vram.now result }
-    ensures cost { steps.new ≤ steps.old + texel_steps texture.now.page.depth * k }
-{
-    if k <= 8 {
-        wanted_lanes(k, read_by_depth(vram, texture, at, k, steps))
-    } else {
-        read_by_depth(vram, texture, at, k, steps)
     }
 }
