@@ -164,7 +164,7 @@ impl Track {
         self.texels(vram, span, texture, part, steps)
     }
 
-    // The same where they are at most eight, compiled apart: nothing is reckoned for the other lanes.
+    // The same where they are at most eight: a function of its own, so that the compiler may drop the other lanes.
     #[inline(never)]
     fn few_texels<L: Ledger>(
         &self,
