@@ -56,7 +56,7 @@ pub(crate) fn draw_parts<C: Chunks, L: Ledger>(
         first: 16 * whole,
         k: rest as u8,
     };
-    // A rest of at most eight cells is compiled apart: nothing is reckoned for the other eight lanes.
+    // A rest of at most eight cells is compiled apart, so that the compiler may drop the other eight lanes.
     if rest > 8 {
         chunks.draw_part(vram, span, part, steps);
     } else if rest > 0 {
