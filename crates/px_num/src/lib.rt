@@ -6,6 +6,7 @@
 
 pub mod bytes;
 mod error;
+pub mod halves;
 mod height;
 pub mod lanes;
 mod number;

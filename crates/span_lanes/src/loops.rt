@@ -5,6 +5,7 @@ ghost use Rattle.span_lanes.specs.Draws.{CanDraw, DrawsPart, DrawsSpan, IsPart, 
 use crate::Span;
 use crate::part::Part;
 use crate::plainly::{is_plain, plain};
+use px_num::halves::HALF;
 use std::sync::ledger::Ledger;
 use vram_store::{Steps, Vram};
 
@@ -56,8 +57,8 @@ pub(crate) fn draw_parts<C: Chunks, L: Ledger>(
         first: 16 * whole,
         k: rest as u8,
     };
-    // A rest of at most eight cells is compiled apart, so that the compiler may drop the other eight lanes.
-    if rest > 8 {
+    // A rest of at most half of the lanes is compiled apart, so that the compiler may drop the other half.
+    if rest > HALF as u16 {
         chunks.draw_part(vram, span, part, steps);
     } else if rest > 0 {
         chunks.draw_part(vram, span, part, steps);

@@ -12,11 +12,12 @@ use crate::sampler::{Indexed, Sampler};
 use crate::slopes::Slopes;
 use crate::{Span, Texture};
 use edge_walk::RowLine;
+use px_num::halves::HALF;
 use px_num::lanes::{add, low_bits, ramp, splat, sub_or_zero};
 use std::simd::prelude::*;
 use std::sync::ledger::Ledger;
-use texel_lanes::{Coordinates, indexes_of, read_texels};
-use vram_store::{Steps, Vram, wanted_lanes};
+use texel_lanes::{Coordinates, indexes_of, read_few, read_texels};
+use vram_store::{Steps, Vram};
 
 // One coordinate of the texels of a span.
 #[derive(Clone, Copy)]
@@ -130,8 +131,8 @@ impl Track {
     ghost use Rattle.span_lanes.specs.Track.{CanRead};
 
     // The texels of a part.
-    #[inline(always)]
-    fn texels<L: Ledger>(
+    #[inline(never)]
+    fn many_texels<L: Ledger>(
         &self,
         vram: &Vram,
         _span: &Span,
@@ -147,43 +148,23 @@ impl Track {
         read_texels(vram, texture, &at, part.k, steps)
     }
 
-    // The same where they may be many.
-    #[inline(never)]
-    fn many_texels<L: Ledger>(
-        &self,
-        vram: &Vram,
-        span: &Span,
-        texture: &Texture,
-        part: Part,
-        steps: &mut Steps<L>,
-    ) -> u16x16
-        requires { CanRead self.now span.now texture.now part vram.now }
-        ensures texels { HasTexels span.now texture.now part vram.now result }
-        ensures cost { steps.new ≤ steps.old + texel_steps texture.now.page.depth * part.k }
-    {
-        self.texels(vram, span, texture, part, steps)
-    }
-
-    // The same where they are at most eight: a function of its own, so that the compiler may drop the other lanes.
+    // The same where they are at most eight: compiled apart, so that the compiler may drop the other lanes.
     #[inline(never)]
     fn few_texels<L: Ledger>(
         &self,
         vram: &Vram,
-        span: &Span,
+        _span: &Span,
         texture: &Texture,
         part: Part,
         steps: &mut Steps<L>,
     ) -> u16x16
-        requires can { CanRead self.now span.now texture.now part vram.now }
+        requires can { CanRead self.now _span.now texture.now part vram.now }
         requires few { part.k ≤ 8 }
-        ensures texels { HasTexels span.now texture.now part vram.now result }
+        ensures texels { HasTexels _span.now texture.now part vram.now result }
         ensures cost { steps.new ≤ steps.old + texel_steps texture.now.page.depth * part.k }
     {
-        let few = Part {
-            first: part.first,
-            k: part.k.min(8),
-        };
-        wanted_lanes(8, self.texels(vram, span, texture, few, steps))
+        let at = track_lanes(self, part.first);
+        read_few(vram, texture, &at, part.k, steps)
     }
 }
 
@@ -201,7 +182,7 @@ impl Sampler for Track {
         part: Part,
         steps: &mut Steps<L>,
     ) -> u16x16 {
-        if part.k <= 8 {
+        if part.k <= HALF {
             self.few_texels(vram, span, texture, part, steps)
         } else {
             self.many_texels(vram, span, texture, part, steps)

@@ -13,6 +13,7 @@ use crate::nibbles::{nibbles, nibbles_from};
 use crate::octets::octets;
 use crate::places::places_of;
 use crate::table::halfwords_at;
+use px_num::halves::HALF;
 use px_num::lanes::{add, ramp, same, shifted_down, splat};
 use std::simd::prelude::*;
 use std::sync::ledger::Ledger;
@@ -174,7 +175,7 @@ pub fn indexes_of<L: Ledger>(
     ensures indexes { AreIndexes texture.now at.now k vram.now result }
     ensures cost { steps.new ≤ steps.old + k }
 {
-    if k > 8 && are_beside(texture, at) {
+    if k > HALF && are_beside(texture, at) {
         beside_indexes(vram, texture, at, steps)
     } else {
         scattered_indexes(vram, texture, at, k, steps)

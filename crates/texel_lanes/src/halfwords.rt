@@ -5,6 +5,7 @@ ghost use Rattle.vram_store.specs.Vram.{at, height_of};
 ghost use Rattle.texel_lanes.specs.Texels.{StandNear};
 
 use crate::table::halfwords_at;
+use px_num::halves::HALF;
 use px_num::lanes::{add, same, shifted_down, splat, sub_or_zero};
 use std::simd::prelude::*;
 use std::sync::ledger::Ledger;
@@ -92,7 +93,7 @@ pub(crate) fn halfwords_of<L: Ledger>(
 {
     let x = xs.to_array()[0].min(xs.to_array()[15]);
     let y = ys.to_array()[0];
-    if k > 8 && stand_near(xs, ys, x, y) {
+    if k > HALF && stand_near(xs, ys, x, y) {
         near_halfwords(vram, xs, x, y, steps)
     } else {
         gather(vram, xs, ys, k, steps)

@@ -12,6 +12,7 @@ use crate::halfwords::halfwords_of;
 use crate::octets::octets;
 use crate::places::places_of;
 use crate::table::{entries_at, table_of};
+use px_num::halves::{HALF, wanted_lanes};
 use std::simd::prelude::*;
 use std::sync::ledger::Ledger;
 use vram_store::{Steps, Vram};
@@ -103,7 +104,7 @@ fn read_wholes<L: Ledger>(
     ensures value { AreTexels texture.now at.now k vram.now result }
     ensures cost { steps.new ≤ steps.old + k }
 {
-    if k > 8 && are_beside(texture, at) {
+    if k > HALF && are_beside(texture, at) {
         read_beside(vram, texture, at, k, steps)
     } else {
         read_scattered(vram, texture, at, k, steps)
@@ -132,4 +133,31 @@ pub fn read_texels<L: Ledger>(
         1 => read_eights(vram, texture, at, k, steps),
         _ => read_wholes(vram, texture, at, k, steps),
     }
+}
+
+/// k texels by their coordinates, where they are at most eight: the other lanes become zeros, so that nothing needs to
+/// be reckoned for them.
+#[inline(always)]
+pub fn read_few<L: Ledger>(
+    vram: &Vram,
+    texture: &Texture,
+    at: &Coordinates,
+    k: u8,
+    steps: &mut Steps<L>,
+) -> u16x16
+    requires texture { IsTexture texture.now }
+    requires page { texture.now.page.y + 255 < height_of vram.now }
+    requires at { AreCoordinates at.now.us × AreCoordinates at.now.vs }
+    requires few { (1 ≤ k) × (k ≤ 8) }
+    ensures long { length result ≡ 16 }
+    ensures value { AreTexels texture.now at.now k vram.now result }
+    ensures cost { steps.new ≤ steps.old + texel_steps texture.now.page.depth * k }
+{
+    let few = k.min(HALF);
+    let texels = match texture.page.depth {
+        0 => read_fours(vram, texture, at, few, steps),
+        1 => read_eights(vram, texture, at, few, steps),
+        _ => read_scattered(vram, texture, at, few, steps),
+    };
+    wanted_lanes(HALF, texels)
 }

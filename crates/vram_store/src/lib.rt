@@ -13,4 +13,3 @@ mod whole;
 
 pub use steps::Steps;
 pub use vram::Vram;
-pub use whole::wanted_lanes;

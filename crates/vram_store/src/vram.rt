@@ -5,8 +5,9 @@ ghost use Rattle.px_num.specs.Zeros.{zeros};
 ghost use Rattle.vram_store.specs.Vram.{at, height_of, set, blank, tall, IsLoaded, IsStored};
 
 use crate::steps::Steps;
-use crate::whole::{first_lanes, load_whole, masked_lanes, store_half, store_whole, wanted_lanes};
+use crate::whole::{load_whole, masked_lanes, store_half, store_whole};
 use px_num::OutOfMemory;
+use px_num::halves::{HALF, first_lanes, wanted_lanes};
 use px_num::lanes::splat;
 use std::alloc::{AllocError, Global};
 use std::marker::Model;
@@ -183,7 +184,7 @@ fn store_first(cells: &mut [u16], start: usize, n: u8, lanes: u16x16, mask: u16)
     } else {
         let old = load_whole(cells, start);
         let new = first_lanes(n, masked_lanes(mask, lanes, old), old);
-        if n <= 8 {
+        if n <= HALF {
             store_half(cells, start, new);
         } else {
             store_whole(cells, start, new);
