@@ -4,7 +4,6 @@ ghost use Rattle.px_num.specs.Lanes.{EachLane};
 ghost use Rattle.texture_page.specs.Page.{clut_place};
 ghost use Rattle.texel_lanes.specs.Texture.{at_cell, clut_row};
 
-use crate::halfwords::gather;
 use px_num::lanes::{add, low_bits, splat};
 use std::simd::prelude::*;
 use std::sync::ledger::Ledger;
@@ -61,5 +60,5 @@ pub fn gather_entries<L: Ledger>(
 {
     let _height = vram.height();
     let columns = entry_columns(clut, indexes);
-    gather(vram, columns, splat(clut_row(clut)), k, steps)
+    vram.gather(columns, splat(clut_row(clut)), k, steps)
 }

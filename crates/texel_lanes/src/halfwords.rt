@@ -11,31 +11,6 @@ use std::simd::prelude::*;
 use std::sync::ledger::Ledger;
 use vram_store::{Steps, Vram};
 
-// The halfwords of k cells, one by one.
-#[inline(always)]
-pub(crate) fn gather<L: Ledger>(
-    vram: &Vram,
-    xs: u16x16,
-    ys: u16x16,
-    k: u8,
-    steps: &mut Steps<L>,
-) -> u16x16
-    requires few { k ≤ 16 }
-    requires in_row { EachLane (λ i. slice_index xs i < 1024) }
-    requires in_height { EachLane (λ i. slice_index ys i < height_of vram.now) }
-    ensures long { length result ≡ 16 }
-    ensures value { (j : ℕ) → j < k → slice_index result j ≡ at vram.now (slice_index xs j) (slice_index ys j) }
-    ensures cost { steps.new ≤ steps.old + k }
-{
-    let xs = xs.to_array();
-    let ys = ys.to_array();
-    let mut halfwords = [0; 16];
-    for j in 0..k {
-        halfwords[j as usize] = vram.get(xs[j as usize], ys[j as usize], steps);
-    }
-    u16x16::from_array(halfwords)
-}
-
 // Whether sixteen cells stand in a row of sixteen cells from (x, y) on.
 #[inline(always)]
 fn stand_near(xs: u16x16, ys: u16x16, x: u16, y: u16) -> bool
@@ -96,6 +71,6 @@ pub(crate) fn halfwords_of<L: Ledger>(
     if k > HALF && stand_near(xs, ys, x, y) {
         near_halfwords(vram, xs, x, y, steps)
     } else {
-        gather(vram, xs, ys, k, steps)
+        vram.gather(xs, ys, k, steps)
     }
 }

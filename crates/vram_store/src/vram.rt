@@ -1,4 +1,4 @@
-// The cells, and the four accesses that count.
+// The cells, and four of the five accesses that count.
 ghost use Rattle.std.specs.Prelude.{◌≡◌, ◌≤◌, ◌<◌, ◌+◌, ◌*◌, ◌++◌, ◌-◌, ℕ, List, length, vec_len, vec_capacity, IfOk};
 ghost use Rattle.px_num.specs.Height.{IsHeight, tall_height};
 ghost use Rattle.px_num.specs.Zeros.{zeros};
@@ -23,7 +23,7 @@ const TALL_CELLS: usize = 1_048_576;
 /// Video memory. Contracts see it as the list of its halfwords, row by row.
 #[derive(Drop)]
 pub struct Vram {
-    cells: Vec<u16>,
+    pub(crate) cells: Vec<u16>,
 }
 
 impl Model for Vram {

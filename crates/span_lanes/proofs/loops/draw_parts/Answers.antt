@@ -16,13 +16,13 @@ loop-c-preserved g c = record {
   serves = c.draw_part.ensures.serves;
 }
 
-pub returns-then-rest-gt8-clause-drawn : goal.returns-then-rest-gt8-clause-drawn
-returns-then-rest-gt8-clause-drawn g c =
+pub returns-then-rest-clause-drawn : goal.returns-then-rest-clause-drawn
+returns-then-rest-clause-drawn g c =
     let can = g.met.C.Chunks.can _ _ _ c.requires in
     parts_all c.args.span.now (c.loop-c.c + 1) _ _ _ _ _
     (parts_next c.args.span.now c.loop-c.c _ _ _ _ _ _ _ _ c.loop-c.invariant.drawn (omega arith) (omega arith)
     (omega arith)
-    c.draw_part-then-rest-gt8.ensures.drawn)
+    c.draw_part-then-rest.ensures.drawn)
     (omega arith) can.span.some
 
 pub returns-then-rest-gt0-clause-drawn : goal.returns-then-rest-gt0-clause-drawn
