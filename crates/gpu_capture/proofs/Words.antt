@@ -228,6 +228,7 @@ module _ (p q : Progress) (before now : Option (List ℕ)) (words bytes : List �
     stops_in : (stop : Stop) → SaysNoWord stop q.place begun now → StopsBehind p q before now words stop
     stops_in stop says = record {
       mid = q;
+      place = refl;
       left = prepended begun now;
       takes = all_words;
       stops = no_word_stops q (prepended begun now) now stop

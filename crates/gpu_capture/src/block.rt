@@ -1,5 +1,5 @@
 // Words of a Gp0 record that are taken at once.
-ghost use Rattle.std.specs.Prelude.{◌≡◌, ◌≤◌, ◌<◌, ◌*◌, ◌/◌, ◌%◌, ◌^◌, List, ℕ, Option, []};
+ghost use Rattle.std.specs.Prelude.{◌≡◌, ◌≤◌, ◌<◌, ◌+◌, ◌*◌, ◌/◌, ◌%◌, ◌^◌, List, ℕ, Option, []};
 ghost use Rattle.std.specs.Prelude.{length, drop, IfErr, OnOk};
 ghost use Rattle.dev_io.specs.Device.{Rose, prepended};
 ghost use Rattle.gpu_capture.specs.Reader.{IsProgress, IsReadFault};
@@ -56,24 +56,26 @@ impl WordBlock {
         self.words.clear();
     }
 
-    /// Takes the next words of an open Gp0 record, as many as are left and find room. None where no such record is
-    /// open.
+    /// Takes the next words of an open Gp0 record, as many as are left and find room, but at most so many. None where
+    /// no such record is open.
     pub(crate) fn take<S: Source>(
         &mut self,
         progress: &mut Progress,
         source: &mut S,
+        most: usize,
     ) -> Result<(), Stop>
         requires { IsProgress progress.old }
         ensures takes { OnOk result
             (TakesWords progress.old progress.new (S.left source.old) (S.left source.new) self.new) }
         ensures goes_on { GoesOn progress.old progress.new }
+        ensures few { progress.new.place ≤ progress.old.place + 2048 }
         ensures stop { IfErr result (λ stop.
             StopsBehind progress.old progress.new (S.left source.old) (S.left source.new) self.new stop) }
         ensures cause { IfErr result (λ stop. IsReadFault stop → Rose (S.faults source.old) (S.faults source.new)) }
         ensures faults { S.faults source.old ≤ S.faults source.new }
     {
         self.words.clear();
-        let due = words_at_once(progress);
+        let due = words_at_once(progress).min(most);
         if due == 0 {
             return Ok(());
         }
@@ -119,6 +121,7 @@ fn take_words<S: Source>(
     ensures takes { OnOk result
         (TakesWords progress.old progress.new (S.left source.old) (S.left source.new) words.new.items) }
     ensures goes_on { GoesOn progress.old progress.new }
+    ensures few { progress.new.place ≤ progress.old.place + 2048 }
     ensures stop { IfErr result (λ stop.
         StopsBehind progress.old progress.new (S.left source.old) (S.left source.new) words.new.items stop) }
     ensures cause { IfErr result (λ stop. IsReadFault stop → Rose (S.faults source.old) (S.faults source.new)) }
@@ -142,6 +145,7 @@ fn fill_words<S: Source>(
     ensures takes { OnOk result
         (TakesWords progress.old progress.new (S.left source.old) (S.left source.new) words.new.items) }
     ensures goes_on { GoesOn progress.old progress.new }
+    ensures few { progress.new.place ≤ progress.old.place + 2048 }
     ensures stop { IfErr result (λ stop.
         StopsBehind progress.old progress.new (S.left source.old) (S.left source.new) words.new.items stop) }
     ensures cause { IfErr result (λ stop. IsReadFault stop → Rose (S.faults source.old) (S.faults source.new)) }
