@@ -16,6 +16,7 @@ from capture import (GP0, GP1, clut, copy, draw_mode, drawing_area, fill, line, 
                      rectangle, texture_page)
 
 PAGE4, PAGE8, PAGE15 = (texture_page(x, 256, depth) for x, depth in ((512, 0), (640, 1), (768, 2)))
+UPPER15 = texture_page(768, 0, 2)
 PALETTE = clut(0, 500)
 
 
@@ -107,6 +108,13 @@ def triangle(size, **settings):
         texture = [(u * size // 100, v * size // 100) for u, v in SHAPES[k % 3]] if textured else None
         return polygon(places, color, texture=texture, **settings)
     return piece
+
+
+def at_the_edge(k, numbers):
+    """Triangles of 100x100 whose boxes reach into their own texture page, by the first row or by the first columns."""
+    x, y = (768 + numbers.below(156), 170 + numbers.below(80)) if k % 2 else (680 + numbers.below(80), numbers.below(156))
+    places = [(x + u, y + v) for u, v in SHAPES[k % 3]]
+    return polygon(places, numbers.color(), texture=SHAPES[k % 3], page=PAGE15 if k % 2 else UPPER15, raw=True)
 
 
 def turned(size):
@@ -210,6 +218,11 @@ WORKLOADS = [
                count, turned(size), TEXTURES + DITHER) for size, count in ((8, 60000), (16, 30000), (32, 12000))],
     Workload('sprite 8x8, palettes in turn', PIXELS, 64, 150000, palettes, TEXTURES + draw_mode(PAGE4)),
     Workload('texture 64x64 loaded and drawn', PIXELS, 4096, 3000, streamed, TEXTURES + draw_mode(PAGE4)),
+    Workload('triangle 100x100 15-bit raw, edge of its page', PIXELS, CELLS, 2000, at_the_edge, TEXTURES),
+    Workload('rectangle 64x64 15-bit raw, own page', PIXELS, 4096, 3000, tile(64, 15, raw=True),
+             AREA + draw_mode(texture_page(0, 0, 2))),
+    Workload('rectangle 64x64 4-bit modulated, own page', PIXELS, 4096, 3000, tile(64, 4),
+             AREA + draw_mode(texture_page(0, 0, 0))),
     Workload('mixed frame', FRAMES, 0.1, 1500, frame, TEXTURES),
     Workload('state words', WORDS, 1, 2000000, state),
 ]

@@ -1,5 +1,6 @@
 -- What the calls of C put into main memory, and which DMA channels they start.
-use Rattle.std.specs.Prelude.{◌≡◌, ◌+◌, ◌*◌, ◌%◌, ◌^◌, ◌==◌, ◌&&◌, ℕ, zero, suc, Bool, true, false, List, Option, Some, None}
+use Rattle.std.specs.Prelude.{◌≡◌, ◌+◌, ◌*◌, ◌%◌, ◌^◌, ◌==◌, ◌&&◌, ℕ, zero, suc, Bool, true, false, List, Option}
+use Rattle.std.specs.Prelude.{Some, None}
 use Rattle.std.specs.Prelude.{Result, Err, if◌then◌else◌, length, nat_lt, slice_index}
 use Rattle.gpu_capture.specs.declared.event.Event.TheVariants.{Dma}
 use Rattle.ot_clear_dma.specs.Ram.{set}
