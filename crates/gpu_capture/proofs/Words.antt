@@ -227,8 +227,6 @@ module _ (p q : Progress) (before now : Option (List ℕ)) (words bytes : List �
       (is : q ≡ behind_words p (length bytes / 4)) where
     stops_in : (stop : Stop) → SaysNoWord stop q.place begun now → StopsBehind p q before now words stop
     stops_in stop says = record {
-      mid = q;
-      place = refl;
       left = prepended begun now;
       takes = all_words;
       stops = no_word_stops q (prepended begun now) now stop

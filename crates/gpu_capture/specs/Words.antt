@@ -34,13 +34,11 @@ pub record TakesWords (old new : Progress) (before now : Option (List ℕ)) (wor
   pub says : (rest : List ℕ) →
       capture_from old (taken ++ rest) ≡ then_events (word_events words) (capture_from new rest)
 
--- words were taken, and then the reader stopped, at the place behind them
+-- words were taken, and then the reader stopped behind them
 pub record StopsBehind (old new : Progress) (before now : Option (List ℕ)) (words : List ℕ) (stop : Stop) : Type 0 where
-  pub mid : Progress
-  pub place : mid.place ≡ new.place
   pub left : Option (List ℕ)
-  pub takes : TakesWords old mid before left words
-  pub stops : StopsAt mid new left now stop
+  pub takes : TakesWords old new before left words
+  pub stops : StopsAt new new left now stop
 
 -- a reader goes on within its capture: it keeps its bounds, and has no more to do than before
 pub record GoesOn (old new : Progress) : Type 0 where
