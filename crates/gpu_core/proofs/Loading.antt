@@ -18,7 +18,7 @@ use Rattle.vram_copy.specs.Words.{advanced, advanced_by, pixels_next, pixels_in,
 use Rattle.vram_copy.specs.declared.transfer.Transfer.{Transfer}
 use Rattle.gpu_core.specs.Cost.{gp0_cost, pixels_of}
 use Rattle.gpu_core.specs.Kept.{Kept, kept_of, IsLinked}
-use Rattle.gpu_core.specs.Feeds.{feed_notes, feeds_cost, TakesWords}
+use Rattle.gpu_core.specs.Feeds.{but_pixels, feed_notes, feeds_cost, TakesWords}
 use Rattle.gpu_core.specs.Loading.{open_still, with_words, pixels_in_load}
 use Rattle.gpu_core.specs.Machine.{Parts, State, after_gp0, gp0_note, with_pixels}
 use Rattle.gpu_core.proofs.Fed.{fed, data_effect, data_cost, data_note}
@@ -106,7 +106,18 @@ loaded (word ∷ next ∷ words) s p job left some e open_load kept link few =
       cost = let a = first.cost in let b = rest.cost in let more = pixels_more job n in omega (arith, a, b, more);
     }
 
+-- their notes are of pixels
+pub pixels_unseen : (first : ℕ) (words : List ℕ) → but_pixels (bare_notes 9 first words) ≡ []
+pixels_unseen first [] = refl
+pixels_unseen first (word ∷ words) = pixels_unseen (first + 1) words
+
 -- ---- a load that is open
+
+-- its words were taken at once, and each gives the note of pixels
+pub record LoadsWords (s : State) (played : ℕ) (words : List ℕ) (now : Kept) (heard heard_now : List Reading)
+    (steps steps_now : ℕ) : Type 0 where
+  pub takes : TakesWords s (played + 1) words now heard heard_now steps steps_now
+  pub notes : feed_notes s (played + 1) words ≡ bare_notes 9 (played + 1) words
 
 pub loads : (s : State) (p : Parts) (load : Option Transfer) (h new : Pending) (now : Parts) (played : ℕ)
     (words : List ℕ)
@@ -115,7 +126,7 @@ pub loads : (s : State) (p : Parts) (load : Option Transfer) (h new : Pending) (
     → length words ≤ wanted h → new ≡ behind_pixels h (length words) → now ≡ with_words p load words
     → heard_now ≡ map (after_notes (bare_notes 9 (played + 1) words)) heard
     → steps_now ≤ steps + 2 * pixels_in_load load (length words)
-    → TakesWords s (played + 1) words (record { parts = now; pending = new }) heard heard_now steps steps_now
+    → LoadsWords s played words (record { parts = now; pending = new }) heard heard_now steps steps_now
 loads s p load (pending.Pixels left) new now played words heard heard_now steps steps_now e open_load kept link some
     few after parts told cost =
     with_job load open_load link parts cost
@@ -123,14 +134,17 @@ loads s p load (pending.Pixels left) new now played words heard heard_now steps 
     with_job : (load : Option Transfer) → p.load ≡ load → IsLinked (pending.Pixels left) load
         → now ≡ with_words p load words
         → steps_now ≤ steps + 2 * pixels_in_load load (length words)
-        → TakesWords s (played + 1) words (record { parts = now; pending = new }) heard heard_now steps steps_now
+        → LoadsWords s played words (record { parts = now; pending = new }) heard heard_now steps steps_now
     with_job None open_load link parts cost = absurd link
     with_job (Some job) open_load link parts cost =
         let is = loaded words s p job left some e open_load kept link few in
         record {
-          feed = rw (after, parts) is.feed;
-          told = rw (is.notes (played + 1)) told;
-          cost = let c = is.cost in omega (arith, c, cost);
+          takes = record {
+            feed = rw (after, parts) is.feed;
+            told = rw (is.notes (played + 1)) told;
+            cost = let c = is.cost in omega (arith, c, cost);
+          };
+          notes = is.notes (played + 1);
         }
 loads s p load pending.Idle new now played words heard heard_now steps steps_now e open_load kept link some few after
     parts told cost =

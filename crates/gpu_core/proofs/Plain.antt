@@ -110,23 +110,33 @@ taken (word ∷ next ∷ words) s p first held n some e kind len =
 
 -- ---- all its words at once
 
+-- they were taken at once, and give this note
+pub record TakesPacket (s : State) (played : ℕ) (words : List ℕ) (note : Note) (now : Kept)
+    (heard heard_now : List Reading) (steps steps_now : ℕ) : Type 0 where
+  pub takes : TakesWords s (played + 1) words now heard heard_now steps steps_now
+  pub notes : feed_notes s (played + 1) words ≡ note ∷ []
+
 pub plain_taken : (s : State) (p : Parts) (h : Pending) (now : Parts) (note : Note) (event played : ℕ) (words : List ℕ)
     (heard heard_now : List Reading) (steps steps_now : ℕ)
     → kept_of s ≡ record { parts = p; pending = h } → h ≡ pending.Idle → 0 < length words
     → kind_of (slice_index words 0) ≡ Plain (length words) → event ≡ capped (played + length words)
     → note ≡ note_of p.regs event (item.Whole words) → now ≡ after_item p (Some (item.Whole words))
     → heard_now ≡ map (reading_after note) heard → steps_now ≤ steps + item_cost p (Some (item.Whole words))
-    → TakesWords s (played + 1) words (record { parts = now; pending = h }) heard heard_now steps steps_now
+    → TakesPacket s played words note (record { parts = now; pending = h }) heard heard_now steps steps_now
 plain_taken s p h now note event played words heard heard_now steps steps_now e idle some kind number noted effect told
     cost =
     let f : Pending → Kept = λ h. record { parts = p; pending = h } in
     let is = taken words s p (played + 1) [] (length words) some (e ∙ ap f idle) kind refl in
     let same : capped (played + 1 + (length words - 1)) ≡ event = omega (arith, some, number) in
     let last = ap (λ n. note_of p.regs n (item.Whole words)) same ∙ sym noted in
+    let notes = is.notes ∙ ap (λ n. n ∷ []) last in
     record {
-      feed = is.feed ∙ rw (idle, effect) refl;
-      told = told ∙ ap (λ notes. map (after_notes notes) heard) (sym (is.notes ∙ ap (λ n. n ∷ []) last));
-      cost = let c = is.cost in omega (arith, c, cost);
+      takes = record {
+        feed = is.feed ∙ rw (idle, effect) refl;
+        told = told ∙ ap (λ notes. map (after_notes notes) heard) (sym notes);
+        cost = let c = is.cost in omega (arith, c, cost);
+      };
+      notes = notes;
     }
 
 pub plain_load : (height : ℕ) (words : List ℕ) (p : Parts) → 0 < length words → kind_of (slice_index words 0)

@@ -1,5 +1,5 @@
 -- Words that are fed one after another, an event each, and words that are taken at once.
-use Rattle.std.specs.Prelude.{◌≡◌, ◌≤◌, ℕ, ◌+◌, List, [], ◌∷◌, ◌++◌, option_to_list, fold, map}
+use Rattle.std.specs.Prelude.{◌≡◌, ◌≤◌, ℕ, ◌+◌, ◌==◌, not, List, [], ◌∷◌, ◌++◌, Option, option_to_list, filter, fold, map}
 use Rattle.gp0_packets.specs.declared.note.Note.{Note}
 use Rattle.gpu_taps.specs.Bare.{bare_notes, after_notes}
 use Rattle.gpu_taps.specs.Tally.{Reading, capped}
@@ -12,6 +12,14 @@ abbrev pub feed_notes : State → (first : ℕ) → List ℕ → List Note
 feed_notes s first [] = []
 feed_notes s first (word ∷ words) =
     option_to_list (gp0_note s (capped first) word) ++ feed_notes (after_gp0 s word) (first + 1) words
+
+-- notes, but those of pixels of a load
+abbrev pub but_pixels : List Note → List Note
+but_pixels notes = filter (λ note. not (note.class == 9)) notes
+
+-- these words give this note, or none, and else notes of pixels alone
+abbrev pub GivesNote : State → (first : ℕ) → (words : List ℕ) → Option Note → Type 0
+GivesNote s first words note = but_pixels (feed_notes s first words) ≡ but_pixels (option_to_list note)
 
 -- the most store steps of them
 abbrev pub feeds_cost : State → List ℕ → ℕ

@@ -12,4 +12,5 @@ pub mod laws;
 mod parts;
 mod transfer;
 
+pub use block::NotedWords;
 pub use gpu::Gpu;

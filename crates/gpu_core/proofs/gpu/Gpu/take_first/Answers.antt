@@ -17,7 +17,7 @@ pub returns-then-len-gt0-clause-takes : goal.returns-then-len-gt0-clause-takes
 returns-then-len-gt0-clause-takes g c = λ s e.
     let none : c.set_registers-set.result ≡ 0 = omega arith in
     let P : ℕ → Type 0 = λ n. SetsRegisters s 0 (take n c.args.words.now) c.set_registers-set.new.self in
-    c.take_packet.ensures s (subst P none (c.set_registers-set.ensures.sets s 0 e)).feed
+    (c.take_packet.ensures.takes s (subst P none (c.set_registers-set.ensures.sets s 0 e)).feed).0
 
 pub returns-clause-takes : goal.returns-clause-takes
 returns-clause-takes g c = λ s e.
