@@ -152,7 +152,7 @@ impl EventReader {
         self.goes_on()
     }
 
-    /// The same, but no more words than the source has ready, so that it need not wait for any; and at most 2,048 bytes.
+    /// The same, but no more words than the source has ready, so that it need not wait for any; at most 2,048 bytes.
     pub fn words_at_hand<S: Source>(
         &mut self,
         source: &mut S,

@@ -1,5 +1,6 @@
 -- Words that are fed one after another, an event each, and words that are taken at once.
-use Rattle.std.specs.Prelude.{◌≡◌, ◌≤◌, ℕ, ◌+◌, ◌==◌, not, List, [], ◌∷◌, ◌++◌, Option, option_to_list, filter, fold, map}
+use Rattle.std.specs.Prelude.{◌≡◌, ◌≤◌, ℕ, ◌+◌, ◌==◌, not, List, [], ◌∷◌, ◌++◌, Option, option_to_list, filter}
+use Rattle.std.specs.Prelude.{fold, map}
 use Rattle.gp0_packets.specs.declared.note.Note.{Note}
 use Rattle.gpu_taps.specs.Bare.{bare_notes, after_notes}
 use Rattle.gpu_taps.specs.Tally.{Reading, capped}

@@ -9,8 +9,9 @@ mod block;
 mod effect;
 mod gpu;
 pub mod laws;
+mod noted;
 mod parts;
 mod transfer;
 
-pub use block::NotedWords;
 pub use gpu::Gpu;
+pub use noted::NotedWords;
