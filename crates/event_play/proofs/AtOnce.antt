@@ -1,19 +1,62 @@
 -- Words that are played at once, an event each.
-use Rattle.std.proofs.Common.{◌≡◌, ◌<◌, ℕ, ◌+◌, ◌^◌, ◌++◌, List, [], ◌∷◌, option_to_list, map, fold, length}
-use Rattle.std.proofs.Common.{refl, ap, sym, ◌∙◌, append_assoc, append-nil, arith}
+use Rattle.std.proofs.Common.{◌≡◌, ◌<◌, ℕ, ◌+◌, ◌^◌, ◌++◌, List, [], ◌∷◌, Ok, option_to_list, map, fold, length}
+use Rattle.std.proofs.Common.{◌≤◌, ◌-◌, take, drop, length-drop, refl, ap, sym, ◌∙◌, append_assoc, append-nil}
+use Rattle.std.proofs.Common.{add-zero, subst, arith}
+use Rattle.std.proofs.Math.Seq.{take-add}
+use Rattle.std.proofs.lemmas.List.{take_all, take-append-drop}
+use Rattle.std.proofs.lemmas.List.Sums.{fold-append}
 use Rattle.gp0_packets.specs.declared.note.Note.{Note}
+use Rattle.gpu_capture.specs.declared.event.Event.TheVariants.{Gp0}
+use Rattle.gpu_core.specs.Cost.{gp0_cost, gp0_box_cost}
 use Rattle.gpu_core.specs.Kept.{Kept, kept_of}
 use Rattle.gpu_core.specs.Feeds.{TakesWords, feed_notes, feeds_cost}
 use Rattle.gpu_core.specs.Machine.{State, after_gp0, gp0_note}
 use Rattle.gpu_taps.specs.Bare.{after_notes}
 use Rattle.gpu_taps.specs.Tally.{Reading, capped, reading_after}
 use Rattle.event_play.specs.PlayedWords.{after_word, after_words, IsTold, number_behind}
-use Rattle.event_play.specs.Replay.{Tale, next_number}
+use Rattle.event_play.specs.Replay.{Tale, after_event, next_number}
+use Rattle.event_play.specs.Step.{event_step, event_cost, event_box_cost}
 use Rattle.event_play.specs.Streams.{Outlets}
 use Rattle.event_play.specs.Told.{told_notes}
 use Rattle.event_play.proofs.Feeds.{told-append}
 
 -- ---- the tale behind them
+
+pub after_words-append : (t : Tale) (xs ys : List ℕ) → after_words t (xs ++ ys) ≡ after_words (after_words t xs) ys
+after_words-append t xs ys = fold-append after_word t xs ys
+
+-- the first words, and the first of those behind them
+pub taken_both : (words : List ℕ) (at count : ℕ) → at ≤ length words
+    → take at words ++ take count (take (length words - at) (drop at words)) ≡ take (at + count) words
+taken_both words at count le =
+    let long = length-drop at words in
+    let all : take (length words - at) (drop at words) ≡ drop at words =
+    take_all (length words - at) (drop at words) (omega (arith, long)) in
+    ap (λ xs. take at words ++ take count xs) all ∙ sym (take-add at count words)
+
+pub rest_both : (words : List ℕ) (at : ℕ) → at ≤ length words
+    → take at words ++ take (length words - at) (drop at words) ≡ words
+rest_both words at le =
+    let long = length-drop at words in
+    let all : take (length words - at) (drop at words) ≡ drop at words =
+    take_all (length words - at) (drop at words) (omega (arith, long)) in
+    ap (λ xs. take at words ++ xs) all ∙ take-append-drop at words
+
+-- the event of a word is played
+pub word_is : (t : Tale) (word : ℕ) → after_event t (Gp0 word) ≡ Ok (after_word t word)
+unfolding event_step event_cost event_box_cost
+word_is t word =
+    let n = next_number t.played in
+    let note = option_to_list (gp0_note t.state.gpu n word) in
+    rw (
+      append-nil t.shown,
+      append-nil t.frames,
+      append-nil note,
+      add-zero (gp0_cost t.state.gpu word),
+      add-zero
+          (gp0_box_cost t.state.gpu word),
+    )
+    refl
 
 state_is : (t : Tale) (words : List ℕ) → (after_words t words).state.gpu ≡ fold after_gp0 t.state.gpu words
 state_is t [] = refl
@@ -29,7 +72,7 @@ number_is t [] lt = omega (arith, lt)
 number_is t (word ∷ words) lt = let e = number_is (after_word t word) words (omega arith) in omega (arith, e)
 
 -- numbers that are cut off alike number alike
-same_numbers : (s : State) (a b : ℕ) (words : List ℕ) → capped a ≡ capped b → feed_notes s a words
+pub same_numbers : (s : State) (a b : ℕ) (words : List ℕ) → capped a ≡ capped b → feed_notes s a words
     ≡ feed_notes s b words
 same_numbers s a b [] e = refl
 same_numbers s a b (word ∷ words) e =
@@ -84,3 +127,22 @@ words_told t first before now was gpu played words lt told takes =
           (ap (λ notes. t.notes ++ notes) (sym same) ∙ sym (notes_are t words));
       cost = let e = cost_is t words in let a = told.cost in let b = did.cost in omega (arith, e, a, b);
     }
+
+-- words behind the first ones were told too
+pub told_on : (t : Tale) (first now : Outlets) (gpu : Kept) (played : ℕ) (xs ys all : List ℕ) → xs ++ ys ≡ all
+    → IsTold (after_words (after_words t xs) ys) first now gpu played → IsTold (after_words t all) first now gpu played
+told_on t first now gpu played xs ys all both told =
+    let P : Tale → Type 0 = λ tale. IsTold tale first now gpu played in
+    subst P (sym (after_words-append t xs ys) ∙ ap (after_words t) both) told
+
+-- so were the first of those behind the first ones
+pub told_first : (t : Tale) (first now : Outlets) (gpu : Kept) (words : List ℕ) (at count number counted : ℕ)
+    → at ≤ length words → counted ≡ number
+    → IsTold (after_words (after_words t (take at words)) (take count (take (length words - at) (drop at words)))) first
+    now gpu number
+    → IsTold (after_words t (take (at + count) words)) first now gpu counted
+told_first t first now gpu words at count number counted le same told =
+    let P : ℕ → Type 0 = λ n. IsTold (after_words t (take (at + count) words)) first now gpu n in
+    subst P (sym same)
+    (told_on t first now gpu number (take at words) (take count (take (length words - at) (drop at words)))
+    (take (at + count) words) (taken_both words at count le) told)

@@ -326,7 +326,7 @@ module _ (mode : Mode) (script : List ℕ → Script) (before now : Streams) (ga
       tt few
 
   module _ (started : 1 ≤ old.version) (near : old.place < since + 4096) where
-    few_more : (ys : List ℕ) → AreNeeded old ys → AreFew mode (reached.behind ++ ys)
+    pub few_more : (ys : List ℕ) → AreNeeded old ys → AreFew mode (reached.behind ++ ys)
     few_more ys needed is =
         let lies = reached.says.lies in
         let all = length-append reached.behind ys in

@@ -65,6 +65,12 @@ short_on read events others part short = (
   },
 )
 
+-- none of the bytes is one too many for them either
+pub needed_on : (read : List ℕ → Captured) (events others : List Event) (taken : List ℕ) → AreNeeded read events taken
+    → AreNeeded read (events ++ others) taken
+needed_on read events others taken needed part more is some =
+    short_on read events others part (needed part more is some)
+
 -- behind these events it says the first words of others, and no more
 word_short : (read : List ℕ → Captured) (events : List Event) (words part : List ℕ) (count version byte : ℕ)
     → count < length words

@@ -1,61 +1,40 @@
 -- Words of GP0 that are played at once, an event each.
-use Rattle.std.proofs.Common.{◌≡◌, ◌≤◌, inl, inr, ℕ, ◌+◌, ◌++◌, List, [], ◌∷◌, Option, Result, Ok, Err}
-use Rattle.std.proofs.Common.{OnOk, ◌<◌}
-use Rattle.std.proofs.Common.{option_to_list}
-use Rattle.std.proofs.Common.{refl, ap, sym, ◌∙◌, append_assoc, append-nil, add-zero, take, length, length-append, arith}
-use Rattle.std.proofs.lemmas.List.Sums.{fold-append}
+use Rattle.std.proofs.Common.{◌≡◌, ◌≤◌, ◌<◌, inl, inr, ℕ, ◌+◌, ◌++◌, List, [], ◌∷◌, Option, Result, Ok, Err, OnOk}
+use Rattle.std.proofs.Common.{refl, ap, sym, ◌∙◌, append_assoc, append-nil, take, arith}
 use Rattle.dev_io.proofs.Parts.{taken_on}
 use Rattle.gathered_out.specs.Pieces.{Piece}
 use Rattle.gathered_out.proofs.Gathers.{Gathers, gathers_more}
+use Rattle.gp0_packets.specs.declared.note.Note.{Note}
 use Rattle.gpu_capture.specs.Capture.{Captured, ended, then_events}
-use Rattle.gpu_capture.specs.Reader.{capture_from, work_left}
-use Rattle.gpu_capture.specs.Words.{TakesWords, StopsBehind, word_events}
+use Rattle.gpu_capture.specs.Reader.{AreNeeded as ReaderNeeds, capture_from, work_left}
+use Rattle.gpu_capture.specs.Words.{TakesWords, word_events}
 use Rattle.gpu_capture.specs.declared.event.Event.{Event}
 use Rattle.gpu_capture.specs.declared.event.Event.TheVariants.{Gp0}
 use Rattle.gpu_capture.specs.declared.event.Stop.{Stop}
 use Rattle.gpu_capture.specs.declared.event.Stop.TheVariants.{Truncated}
 use Rattle.gpu_capture.specs.declared.progress.Progress.{Progress}
 use Rattle.gpu_capture.proofs.Steps.{split}
-use Rattle.gpu_core.specs.Cost.{gp0_cost, gp0_box_cost}
-use Rattle.gpu_core.specs.Machine.{gp0_note}
+use Rattle.gpu_capture.proofs.Taken.{few_between}
 use Rattle.gpu_taps.specs.Tally.{Reading}
-use Rattle.event_play.specs.Lines.{IsGathered, lines_cost}
+use Rattle.event_play.specs.Lines.{IsGathered, MayGather, lines_cost}
+use Rattle.event_play.specs.Listing.{ArePut, pieces_for}
 use Rattle.event_play.specs.Out.{lines_of}
-use Rattle.event_play.specs.PlayedWords.{after_word, after_words, IsTold, AreQuiet}
+use Rattle.event_play.specs.PlayedWords.{after_word, after_words, word_notes, IsTold, AreUnwatched}
 use Rattle.event_play.specs.Playing.{AreAllNeeded, IsShort, Follows, plays}
-use Rattle.event_play.specs.Replay.{Tale, Script, after_event, replayed, next_number}
+use Rattle.event_play.specs.Replay.{Tale, Script, replayed}
 use Rattle.event_play.specs.RigState.{RigState}
-use Rattle.event_play.specs.Step.{event_step, event_cost, event_box_cost}
-use Rattle.event_play.specs.Streams.{Outlets, Streams, streams, without_sink}
+use Rattle.event_play.specs.Streams.{Outlets, Streams, sink_with, streams, without_sink}
 use Rattle.event_play.specs.declared.ending.Mode.{Mode}
 use Rattle.event_play.specs.declared.ending.Mode.TheVariants.{Vram, Shot, Report, Frames, Sums, Pixel}
 use Rattle.event_play.specs.declared.ending.Mode.TheVariants.{List as Listing, Play as Words}
-use Rattle.event_play.proofs.Awaiting.{AreFew, Awaits, GoesOn, LiesBehind, PlaysOn, Reaches, events_left, goes_past}
-use Rattle.event_play.proofs.Awaiting.{stops}
+use Rattle.event_play.proofs.AtOnce.{word_is}
+use Rattle.event_play.proofs.Awaiting.{AreFew, GoesOn, LiesBehind, PlaysOn, Reaches, events_left, goes_past}
 use Rattle.event_play.proofs.Following.{follows_none, follows_on, follows_all, read_words, then_both}
-use Rattle.event_play.proofs.Lacking.{WasDue, due_more}
+use Rattle.event_play.proofs.Lacking.{WasDue, due_more, due_on}
+use Rattle.event_play.proofs.Listed.{words_gathered}
 use Rattle.event_play.proofs.Reaching.{goes_on}
 
 -- ---- tales
-
-pub after_words-append : (t : Tale) (xs ys : List ℕ) → after_words t (xs ++ ys) ≡ after_words (after_words t xs) ys
-after_words-append t xs ys = fold-append after_word t xs ys
-
--- the event of a word is played
-word_is : (t : Tale) (word : ℕ) → after_event t (Gp0 word) ≡ Ok (after_word t word)
-unfolding event_step event_cost event_box_cost
-word_is t word =
-    let n = next_number t.played in
-    let note = option_to_list (gp0_note t.state.gpu n word) in
-    rw (
-      append-nil t.shown,
-      append-nil t.frames,
-      append-nil note,
-      add-zero (gp0_cost t.state.gpu word),
-      add-zero
-          (gp0_box_cost t.state.gpu word),
-    )
-    refl
 
 -- a replay of words goes on from the tale behind them
 pub words_are : (t : Tale) (words : List ℕ) (c : Captured)
@@ -96,7 +75,14 @@ all_needed script t old new before now xs words goes was takes part more is some
       | inr inside ↦ was part inside.0 inside.1 inside.2
     ]
 
--- where no line is due for words, what is due stays as it is
+-- ---- what is due for them
+
+-- in most modes no line is
+abbrev AreQuiet : Mode → List ℕ → Type 0
+AreQuiet Listing words = words ≡ []
+AreQuiet (Pixel cell) words = words ≡ []
+AreQuiet mode words = Unit {0}
+
 quiet_lines : (mode : Mode) (t : Tale) (words : List ℕ) → AreQuiet mode words
     → lines_of mode (after_words t words) ≡ lines_of mode t
 quiet_lines mode t [] quiet = refl
@@ -113,51 +99,95 @@ same_ram : (t : Tale) (words : List ℕ) → (after_words t words).state.ram ≡
 same_ram t [] = refl
 same_ram t (word ∷ words) = same_ram (after_word t word) words
 
-quiet_cost : (mode : Mode) (t : Tale) (words : List ℕ) → AreQuiet mode words
+unwatched_cost : (mode : Mode) (t : Tale) (words : List ℕ) → AreUnwatched mode words
     → lines_cost mode (after_words t words).frames (after_words t words).strokes ≡ lines_cost mode t.frames t.strokes
-quiet_cost mode t [] quiet = refl
-quiet_cost Listing t (word ∷ words) quiet = refl
-quiet_cost (Pixel cell) t (word ∷ words) quiet = absurd cc
-quiet_cost Words t (word ∷ words) quiet = refl
-quiet_cost Vram t (word ∷ words) quiet = refl
-quiet_cost Shot t (word ∷ words) quiet = refl
-quiet_cost Report t (word ∷ words) quiet = refl
-quiet_cost (Frames at) t (word ∷ words) quiet = quiet_cost (Frames at) (after_word t word) words tt
-quiet_cost (Sums at) t (word ∷ words) quiet = quiet_cost (Sums at) (after_word t word) words tt
+unwatched_cost mode t [] unwatched = refl
+unwatched_cost Listing t (word ∷ words) unwatched = refl
+unwatched_cost (Pixel cell) t (word ∷ words) unwatched = absurd cc
+unwatched_cost Words t (word ∷ words) unwatched = refl
+unwatched_cost Vram t (word ∷ words) unwatched = refl
+unwatched_cost Shot t (word ∷ words) unwatched = refl
+unwatched_cost Report t (word ∷ words) unwatched = refl
+unwatched_cost (Frames at) t (word ∷ words) unwatched = unwatched_cost (Frames at) (after_word t word) words tt
+unwatched_cost (Sums at) t (word ∷ words) unwatched = unwatched_cost (Sums at) (after_word t word) words tt
 
 same_running : (t : Tale) (words : List ℕ) → (after_words t words).state.running ≡ t.state.running
 same_running t [] = refl
 same_running t (word ∷ words) = same_running (after_word t word) words
 
--- no byte is taken where no word is
-none_taken : (mode : Mode) (p q : Progress) (left after : Option (List ℕ)) (words : List ℕ) → IsGathered mode
-    → AreQuiet mode words → (takes : TakesWords p q left after words) → takes.taken ≡ []
-none_taken mode p q left after words is quiet takes = none_needed takes.taken (λ part more splits some.
-    let short = takes.needed part more splits some in
-    let fewer = short.fewer in
-    let none = ap length (no_words mode words is quiet) in omega (arith, fewer, none))
-  where
-    no_words : (mode : Mode) (words : List ℕ) → IsGathered mode → AreQuiet mode words → words ≡ []
-    no_words Listing words is quiet = quiet
-    no_words (Pixel cell) words is quiet = quiet
-    no_words Words words is quiet = absurd is
-    no_words Vram words is quiet = absurd is
-    no_words Shot words is quiet = absurd is
-    no_words Report words is quiet = absurd is
-    no_words (Frames at) words is quiet = absurd is
-    no_words (Sums at) words is quiet = absurd is
+-- what may be gathered, may be with them
+free_on : (mode : Mode) (gathered : List Piece) (notes : List Note) → MayGather mode gathered
+    → MayGather mode (gathered ++ pieces_for mode notes)
+free_on mode gathered notes (inl is) = inl is
+free_on Listing gathered notes (inr none) = inl tt
+free_on (Pixel cell) gathered notes (inr none) = inl tt
+free_on Words gathered notes (inr none) = inr (append-nil gathered ∙ none)
+free_on Vram gathered notes (inr none) = inr (append-nil gathered ∙ none)
+free_on Shot gathered notes (inr none) = inr (append-nil gathered ∙ none)
+free_on Report gathered notes (inr none) = inr (append-nil gathered ∙ none)
+free_on (Frames at) gathered notes (inr none) = inr (append-nil gathered ∙ none)
+free_on (Sums at) gathered notes (inr none) = inr (append-nil gathered ∙ none)
 
-    none_needed : (taken : List ℕ) → ((part more : List ℕ) → taken ≡ part ++ more → (more ≡ [] → ⊥) → ⊥) → taken ≡ []
-    none_needed [] needed = refl
-    none_needed (x ∷ taken) needed = absurd (needed [] (x ∷ taken) refl (λ none. cc))
+module _ (script : List ℕ → Script) (t : Tale) (words : List ℕ) (events : List Event) (flushed taken : List ℕ)
+    (base held : Option (List ℕ)) (gathered : List Piece) where
+  -- what was due so far, and what is due for the words, where all of that is gathered
+  abbrev pub GathersWords : Mode → Type 0
+  GathersWords mode = Gathers (WasDue mode script (events ++ word_events words) flushed taken) base
+      (lines_of mode (after_words t words)) held (gathered ++ pieces_for mode (word_notes t words))
+
+  quiet_gathers : (mode : Mode) → AreQuiet mode words
+      → Gathers (WasDue mode script events flushed taken) base (lines_of mode t) held gathered
+      → Gathers (WasDue mode script (events ++ word_events words) flushed taken) base
+      (lines_of mode (after_words t words)) held (gathered ++ [])
+  quiet_gathers mode quiet so_far =
+      rw (quiet_lines mode t words quiet, append-nil gathered)
+      (gathers_more (WasDue mode script events flushed taken)
+      (WasDue mode script (events ++ word_events words) flushed taken) base (lines_of mode t) held gathered
+      (due_on mode script events (word_events words) flushed taken) so_far)
+
+  -- they are the lines of the notes, or none
+  gathers_words : (mode : Mode) → AreUnwatched mode words
+      → (Gathers (WasDue Listing script events flushed taken) base (lines_of Listing t) held gathered
+      → GathersWords Listing)
+      → Gathers (WasDue mode script events flushed taken) base (lines_of mode t) held gathered → GathersWords mode
+  gathers_words Listing unwatched listing so_far = listing so_far
+  gathers_words (Pixel cell) unwatched listing so_far = quiet_gathers (Pixel cell) unwatched so_far
+  gathers_words Words unwatched listing so_far = quiet_gathers Words tt so_far
+  gathers_words Vram unwatched listing so_far = quiet_gathers Vram tt so_far
+  gathers_words Shot unwatched listing so_far = quiet_gathers Shot tt so_far
+  gathers_words Report unwatched listing so_far = quiet_gathers Report tt so_far
+  gathers_words (Frames at) unwatched listing so_far = quiet_gathers (Frames at) tt so_far
+  gathers_words (Sums at) unwatched listing so_far = quiet_gathers (Sums at) tt so_far
+
+-- none is one too many of no bytes
+none_needed : (p : Progress) → ReaderNeeds p []
+none_needed p [] more is some = absurd (some (sym is))
+none_needed p (x ∷ part) more is some = absurd cc
+
+-- a rig that stands for a tale is told it
+pub told_before : (mode : Mode) (script : List ℕ → Script) (before : Streams) (left held : Option (List ℕ))
+    (heard : List Reading) (steps : ℕ) (gathered : List Piece) (since : ℕ) (was : RigState) (p : Progress)
+    (reached : Reaches mode script before (streams left held heard steps) gathered was (GoesOn mode script since p))
+    → IsTold reached.tale
+    (without_sink before.heard (before.steps + lines_cost mode reached.tale.frames reached.tale.strokes))
+    (without_sink heard steps) was.gpu was.played
+told_before mode script before left held heard steps gathered since was p reached = record {
+  state = reached.stands.state.gpu;
+  number = reached.stands.played;
+  heard = reached.heard;
+  cost = let c = reached.cost in omega (arith, c);
+}
+
+-- ---- words that were taken and played: as if all their lines were gathered yet
 
 module _ (mode : Mode) (script : List ℕ → Script) (before : Streams) (left after held : Option (List ℕ))
     (heard heard_now : List Reading) (steps steps_now : ℕ) (gathered : List Piece) (since : ℕ) (was rig : RigState)
     (p q : Progress) (words : List ℕ)
     (reached : Reaches mode script before (streams left held heard steps) gathered was (GoesOn mode script since p))
-    (quiet : AreQuiet mode words) (ram : rig.ram ≡ was.ram) (running : rig.running ≡ was.running)
+    (unwatched : AreUnwatched mode words) (ram : rig.ram ≡ was.ram) (running : rig.running ≡ was.running)
     (tells : (t : Tale) (first : Outlets) → IsTold t first (without_sink heard steps) was.gpu was.played
-    → IsTold (after_words t words) first (without_sink heard_now steps_now) rig.gpu rig.played) where
+    → IsTold (after_words t words) first (without_sink heard_now steps_now) rig.gpu rig.played)
+    (started : 1 ≤ q.version) (near : IsGathered mode → q.place < since + 4096) where
   lies_behind : (takes : TakesWords p q left after words) → LiesBehind since q (reached.behind ++ takes.taken)
   lies_behind takes =
       let lies = reached.says.lies in
@@ -174,34 +204,39 @@ module _ (mode : Mode) (script : List ℕ → Script) (before : Streams) (left a
 
   still_few : (takes : TakesWords p q left after words) → AreFew mode (reached.behind ++ takes.taken)
   still_few takes is =
-      let none = ap length (none_taken mode p q left after words is quiet takes) in
-      let all = length-append reached.behind takes.taken in
-      let few = reached.says.few is in
-      omega (arith, none, all, few)
+      let lies = lies_behind takes in
+      let lt = near is in
+      let at = lies.place in
+      let few = few_between lies.at q lies.events (reached.behind ++ takes.taken) [] lies.known started lies.says
+      (omega (arith, lt, at)) (none_needed q) in
+      omega (arith, few)
 
   still_gathers : (takes : TakesWords p q left after words)
-      → Gathers (WasDue mode script (reached.events ++ word_events words) reached.flushed (reached.taken ++ takes.taken))
-      before.held (lines_of mode (after_words reached.tale words)) held gathered
+      → GathersWords script reached.tale words reached.events reached.flushed (reached.taken ++ takes.taken) before.held
+      held gathered mode
   still_gathers takes =
-      rw (quiet_lines mode reached.tale words quiet)
+      let taken = reached.taken ++ takes.taken in
+      let read = reached.says.read in
+      gathers_words script reached.tale words reached.events reached.flushed taken before.held held gathered mode
+      unwatched
+      (λ so_far. words_gathered script read.first reached.flushed reached.behind takes.taken taken before.held held
+      (λ rest. ap (λ bytes. (script bytes).first) (append_assoc reached.taken takes.taken rest)
+      ∙ read.begins (takes.taken ++ rest))
+      (ap (λ bs. bs ++ takes.taken) reached.taken_is) words reached.tale reached.events gathered read.follows
+      (rw (append-nil reached.events, reached.taken_is) at read.needed) so_far)
       (gathers_more (WasDue mode script reached.events reached.flushed reached.taken)
-      (WasDue mode script (reached.events ++ word_events words) reached.flushed (reached.taken ++ takes.taken))
-      before.held (lines_of mode reached.tale) held gathered
-      (due_more mode script reached.events (word_events words) (reached.events ++ word_events words) reached.flushed
-      reached.taken takes.taken refl) reached.gathers)
+      (WasDue mode script reached.events reached.flushed taken) before.held (lines_of mode reached.tale) held gathered
+      (due_more mode script reached.events [] reached.events reached.flushed reached.taken takes.taken
+      (sym (append-nil reached.events))) reached.gathers)
 
-  -- words were taken and played
   pub words_play : TakesWords p q left after words
-      → Reaches mode script before (streams after held heard_now steps_now) gathered rig (GoesOn mode script since q)
+      → Reaches mode script before (streams after held heard_now steps_now)
+      (gathered ++ pieces_for mode (word_notes reached.tale words)) rig (GoesOn mode script since q)
   words_play takes =
       let t = reached.tale in
       let spent = lines_cost mode t.frames t.strokes in
-      let told = tells t (without_sink before.heard (before.steps + spent)) (record {
-        state = reached.stands.state.gpu;
-        number = reached.stands.played;
-        heard = reached.heard;
-        cost = let c = reached.cost in omega (arith, c);
-      }) in
+      let told = tells t (without_sink before.heard (before.steps + spent))
+      (told_before mode script before left held heard steps gathered since was p reached) in
       record {
         taken = reached.taken ++ takes.taken;
         bytes = taken_on before.left left after reached.taken takes.taken reached.bytes takes.bytes;
@@ -232,27 +267,41 @@ module _ (mode : Mode) (script : List ℕ → Script) (before : Streams) (left a
           played = told.number;
         };
         gathers = still_gathers takes;
-        free = reached.free;
+        free = free_on mode gathered (word_notes t words) reached.free;
         heard = told.heard;
-        cost = let e = quiet_cost mode t words quiet in let c = told.cost in omega (arith, e, c);
+        cost = let e = unwatched_cost mode t words unwatched in let c = told.cost in omega (arith, e, c);
       }
 
--- words were taken and played, and then the reader stopped, in a mode whose lines are not gathered
-pub words_stop : (mode : Mode) (script : List ℕ → Script) (before : Streams) (left after held : Option (List ℕ))
-    (heard heard_now : List Reading) (steps steps_now : ℕ) (gathered : List Piece) (since : ℕ) (was rig : RigState)
-    (p q : Progress) (words : List ℕ) (stop : Stop)
-    → Reaches mode script before (streams left held heard steps) gathered was (GoesOn mode script since p)
-    → AreQuiet mode words → rig.ram ≡ was.ram → rig.running ≡ was.running
-    → ((t : Tale) (first : Outlets) → IsTold t first (without_sink heard steps) was.gpu was.played
-    → IsTold (after_words t words) first (without_sink heard_now steps_now) rig.gpu rig.played)
-    → StopsBehind p q left after words stop → (IsGathered mode → ⊥)
-    → Awaits mode script before (streams after held heard_now steps_now) gathered since rig q (Err stop)
-words_stop mode script before left after held heard heard_now steps steps_now gathered since was rig p q words stop
-    reached quiet ram running tells behind not =
-    stops mode script before (streams behind.left held heard_now steps_now) gathered since rig behind.mid q after
-    (words_play mode script before left behind.left held heard heard_now steps steps_now gathered since was rig p
-    behind.mid words reached quiet ram running tells behind.takes)
-    stop behind.stops (λ is. absurd (not is))
+-- ---- what was gathered may be out
+
+pub lines_out : (mode : Mode) (script : List ℕ → Script) (before : Streams) (left held now : Option (List ℕ))
+    (heard : List Reading) (steps : ℕ) (gathered pieces new : List Piece) (rig : RigState)
+    (Says : Tale → List ℕ → List ℕ → List Event → Type 0)
+    → Reaches mode script before (streams left held heard steps) (gathered ++ pieces) rig Says
+    → ArePut pieces (sink_with held gathered) (sink_with now new) → MayGather mode new
+    → Reaches mode script before (streams left now heard steps) new rig Says
+lines_out mode script before left held now heard steps gathered pieces new rig Says reached put free = record {
+  taken = reached.taken;
+  bytes = reached.bytes;
+  needed = reached.needed;
+  events = reached.events;
+  tale = reached.tale;
+  flushed = reached.flushed;
+  behind = reached.behind;
+  taken_is = reached.taken_is;
+  says = reached.says;
+  stands = reached.stands;
+  gathers = record {
+    mid = reached.gathers.mid;
+    pieces = reached.gathers.pieces;
+    out = put.out reached.gathers.mid reached.gathers.pieces reached.gathers.out;
+    all_are = reached.gathers.all_are;
+    parts = reached.gathers.parts;
+  };
+  free = free;
+  heard = reached.heard;
+  cost = reached.cost;
+}
 
 -- fewer events are still to be played
 pub left_less : (old mid new : Progress) (was next : Result Event Stop) (event : Event) → was ≡ Ok event

@@ -8,6 +8,7 @@ pub mod Plays
 pub mod Putting
 pub mod Grows
 pub mod Lacking
+pub mod Listed
 pub mod Parts
 pub mod Reaching
 pub mod Reports
@@ -16,6 +17,7 @@ pub mod Works
 pub mod Firsts
 pub mod Following
 pub mod InARow
+pub mod Together
 pub mod OwnWords
 pub mod AlikeStates
 pub mod Splits

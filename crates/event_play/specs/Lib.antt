@@ -10,6 +10,7 @@ pub mod Fed
 pub mod Feeding
 pub mod Frames
 pub mod Lines
+pub mod Listing
 pub mod Out
 pub mod PlayedWords
 pub mod OwnWords

@@ -1,5 +1,6 @@
--- Words that are written to GP0, an event each, where no line is due for them.
+-- Words that are written to GP0, an event each.
 use Rattle.std.specs.Prelude.{◌≡◌, ◌≤◌, ℕ, ◌+◌, ◌-◌, ◌^◌, min, List, [], ◌∷◌, ◌++◌, fold, option_to_list}
+use Rattle.gp0_packets.specs.declared.note.Note.{Note}
 use Rattle.gpu_core.specs.Cost.{gp0_cost, gp0_box_cost}
 use Rattle.gpu_core.specs.Kept.{Kept, kept_of}
 use Rattle.gpu_core.specs.Machine.{after_gp0, gp0_note}
@@ -8,7 +9,7 @@ use Rattle.event_play.specs.Streams.{Outlets}
 use Rattle.event_play.specs.Strokes.{stroke_of}
 use Rattle.event_play.specs.Told.{told_notes}
 use Rattle.event_play.specs.declared.ending.Mode.{Mode}
-use Rattle.event_play.specs.declared.ending.Mode.TheVariants.{List as Listing, Pixel}
+use Rattle.event_play.specs.declared.ending.Mode.TheVariants.{Pixel}
 
 -- the tale with one such event more
 abbrev pub after_word : Tale → (word : ℕ) → Tale
@@ -26,6 +27,12 @@ after_word t word = record {
 abbrev pub after_words : Tale → (words : List ℕ) → Tale
 after_words t words = fold after_word t words
 
+-- their notes
+abbrev pub word_notes : Tale → (words : List ℕ) → List Note
+word_notes t [] = []
+word_notes t (word ∷ words) =
+    option_to_list (gp0_note t.state.gpu (next_number t.played) word) ++ word_notes (after_word t word) words
+
 -- the number of events played behind so many more; it stays at 2^64 - 1 once there
 abbrev pub number_behind : (played count : ℕ) → ℕ
 number_behind played count = min (played + count) (2 ^ 64 - 1)
@@ -37,8 +44,7 @@ pub record IsTold (t : Tale) (first now : Outlets) (gpu : Kept) (played : ℕ) :
   pub heard : now.heard ≡ told_notes t.notes first.heard
   pub cost : now.steps ≤ first.steps + t.cost
 
--- no line is due for any of these words: the mode neither lists notes nor looks at a cell, or there is no word
-abbrev pub AreQuiet : Mode → (words : List ℕ) → Type 0
-AreQuiet Listing words = words ≡ []
-AreQuiet (Pixel cell) words = words ≡ []
-AreQuiet mode words = Unit {0}
+-- none of these words is played on its own, since the mode looks at no cell
+abbrev pub AreUnwatched : Mode → (words : List ℕ) → Type 0
+AreUnwatched (Pixel cell) words = words ≡ []
+AreUnwatched mode words = Unit {0}

@@ -36,6 +36,9 @@ pub record SinkState : Type 0 where
   pub faults : ℕ
   pub gathered : List Piece
 
+abbrev pub sink_with : (held : Option (List ℕ)) (gathered : List Piece) → SinkState
+sink_with held gathered = record { held = held; faults = 0; gathered = gathered }
+
 -- with what the taps say, and the store steps
 abbrev pub with_sink : SinkState → (heard : List Reading) (steps : ℕ) → Outlets
 with_sink at heard steps = gathering at.gathered (outlets at.held at.faults heard steps)

@@ -10,6 +10,7 @@ mod feed;
 mod film;
 mod finals;
 pub mod laws;
+mod listing;
 mod outlet;
 mod pause;
 mod play;

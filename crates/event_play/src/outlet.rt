@@ -1,7 +1,9 @@
 // What puts the lines of items.
-ghost use Rattle.std.specs.Prelude.{◌≤◌, flat_map, length, option_to_list, IfSome};
+ghost use Rattle.std.specs.Prelude.{◌≡◌, ◌≤◌, flat_map, length, option_to_list, IfSome, OnErr};
+ghost use Rattle.dev_io.specs.Device.{Rose};
 ghost use Rattle.packet_text.specs.Line.{change_line, listed, note_line};
-ghost use Rattle.event_play.specs.Streams.{PutsLine, SinkState};
+ghost use Rattle.event_play.specs.Listing.{PutsPieces, listed_pieces};
+ghost use Rattle.event_play.specs.Streams.{PutsLine, SinkState, sink_with};
 ghost use Rattle.event_play.specs.Strokes.{change_of};
 
 use dev_io::Sink;
@@ -101,6 +103,27 @@ pub(crate) fn put_listed<O: Outlet>(
 {
     match note {
         Some(note) if note.class != 9 => put_note(number, note, lines),
+        _ => Ok(()),
+    }
+}
+
+/// Puts the line of a note at the number of its event, unless it is that of pixels.
+pub(crate) fn put_noted<K: Sink>(note: &Option<Note>, lines: &mut Lines<K>) -> Result<(), u64>
+    requires { IfSome note.now (λ note. note.class ≤ 9) }
+    ensures puts { PutsPieces (listed_pieces (option_to_list note.now))
+        (sink_with (K.held lines.old.out.now) lines.old.gathered.now)
+        (sink_with (K.held lines.new.out.now) lines.new.gathered.now) result }
+    ensures cause { OnErr result (Rose (K.faults lines.old.out.now) (K.faults lines.new.out.now)) }
+    ensures faults { K.faults lines.old.out.now ≤ K.faults lines.new.out.now }
+    ensures gathered { lines.new.gathered.ghost_name ≡ lines.old.gathered.ghost_name }
+    ensures out { lines.new.out.ghost_name ≡ lines.old.out.ghost_name }
+{
+    match note {
+        Some(told) if told.class != 9 => {
+            lines
+                .gathered
+                .put(told.event, note_text(told).as_slice(), lines.out)
+        }
         _ => Ok(()),
     }
 }

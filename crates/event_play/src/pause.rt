@@ -1,5 +1,5 @@
 // Lines that are gathered are written where the reading may pause, and before an ending.
-ghost use Rattle.std.specs.Prelude.{◌≤◌, ◌⊎◌, IfErr, IfOk, OnErr};
+ghost use Rattle.std.specs.Prelude.{◌≤◌, ◌<◌, ◌+◌, ◌⊎◌, IfErr, IfOk, OnErr};
 ghost use Rattle.dev_io.specs.Device.{Rose};
 ghost use Rattle.gathered_out.specs.Puts.{BreaksWriting};
 ghost use Rattle.event_play.specs.Causes.{MayReadFault, MayWriteFault, IsEnding};
@@ -26,6 +26,34 @@ pub fn write_at_pause<S: Source, K: Sink>(
     ensures faults { K.faults out.old ≤ K.faults out.new }
 {
     if reader.pauses(source, since) {
+        match gathered.write(out) {
+            Ok(()) => Ok(reader.place()),
+            Err(lacking) => Err(lacking),
+        }
+    } else {
+        Ok(since)
+    }
+}
+
+/// So many bytes are taken at once at most while a sink waits for what is gathered for it.
+const BLOCK: u32 = 2048;
+
+/// Writes what is gathered before words are taken at once, where as many bytes or more were taken since all was last
+/// written at this place of the reader. The answer is as that of `write_at_pause`.
+pub(crate) fn write_before_words<K: Sink>(
+    reader: &EventReader,
+    since: u32,
+    gathered: &mut Gathered,
+    out: &mut K,
+) -> Result<u32, u64>
+    ensures ok { IfOk result (Pauses reader.now.progress.place since gathered.old gathered.new
+        (K.held out.old) (K.held out.new)) }
+    ensures near { IfOk result (λ at. reader.now.progress.place < at + 2048) }
+    ensures failed { IfErr result (BreaksWriting (K.held out.old) (K.held out.new) gathered.old) }
+    ensures cause { OnErr result (Rose (K.faults out.old) (K.faults out.new)) }
+    ensures faults { K.faults out.old ≤ K.faults out.new }
+{
+    if reader.place() >= since.saturating_add(BLOCK) {
         match gathered.write(out) {
             Ok(()) => Ok(reader.place()),
             Err(lacking) => Err(lacking),

@@ -1,21 +1,19 @@
 // A capture is played to its end.
-ghost use Rattle.std.specs.Prelude.{◌≡◌, ◌≤◌, None, map, OnOk, OnErr, IfErr};
+ghost use Rattle.std.specs.Prelude.{◌≡◌, ◌≤◌, ◌+◌, None, map, OnOk, OnErr, IfErr};
 ghost use Rattle.dev_io.specs.Device.{Rose};
 ghost use Rattle.gpu_capture.specs.Reader.{IsReadFault, work_left};
 ghost use Rattle.gpu_capture.specs.Words.{TakesWords, StopsBehind};
 ghost use Rattle.event_play.specs.Causes.{MayReadFault, MayWriteFault, IsEnding};
 ghost use Rattle.event_play.specs.Lines.{IsGathered};
-ghost use Rattle.event_play.specs.PlayedWords.{IsTold, AreQuiet, after_words};
+ghost use Rattle.event_play.specs.PlayedWords.{AreUnwatched};
 ghost use Rattle.event_play.specs.Playing.{EndsPlay};
 ghost use Rattle.event_play.specs.Replay.{Tale, script_of, script_behind, from_state, raised};
 ghost use Rattle.event_play.specs.RigState.{Stands, StandsFor};
 ghost use Rattle.event_play.specs.Step.{Machine};
-ghost use Rattle.event_play.specs.Streams.{Outlets, streams, without_sink};
+ghost use Rattle.event_play.specs.Streams.{streams};
 
 use crate::ending::{Ending, Mode};
-use crate::feed::feed_events;
-use crate::outlet::Lines;
-use crate::pause::{end_behind, write_at_pause};
+use crate::pause::{end_behind, write_at_pause, write_before_words};
 use crate::rig::Rig;
 use dev_io::{Sink, Source};
 use gathered_out::Gathered;
@@ -38,7 +36,7 @@ impl Rig {
     ///
     /// Done comes only where the capture is whole and all was written. After every ending but `WriteFailed` the rig is
     /// the state after the events played. Where the line of an item could not be put, the words of its event behind it
-    /// were not fed, and the event does not count.
+    /// were not fed, and the event does not count; but words that were read at once were all played.
     pub fn play<S: Source, K: Sink, T: Listener, L: Ledger>(
         &mut self,
         source: &mut S,
@@ -97,8 +95,21 @@ impl Rig {
                     ) {
                         return end_behind(ending, &mut lines, out);
                     }
+                    match write_before_words(reader, since, &mut lines, out) {
+                        Ok(place) => since = place,
+                        Err(event) => return Ending::WriteFailed { event },
+                    }
                     let read = read_words(reader, source, mode, &mut block);
-                    self.play_words(block.as_slice(), taps, steps);
+                    if let Err(event) = self.play_words(
+                        block.as_slice(),
+                        &mut lines,
+                        out,
+                        mode,
+                        taps,
+                        steps,
+                    ) {
+                        return Ending::WriteFailed { event };
+                    }
                     if let Err(stop) = read {
                         return self.end_reading(stop, &mut lines, out, mode, taps, steps);
                     }
@@ -121,26 +132,10 @@ impl Rig {
             self.set_tall();
         }
     }
-
-    // Plays words that are written to GP0, an event each, for which no line is due.
-    fn play_words<T: Listener, L: Ledger>(
-        &mut self,
-        words: &[u32],
-        taps: &mut Vec<T>,
-        steps: &mut Steps<L>,
-    )
-        ensures told { (t : Tale) (first : Outlets)
-            → IsTold t first (without_sink (map T.heard taps.old.items) steps.old) self.old.gpu self.old.played
-            → IsTold (after_words t words.now) first (without_sink (map T.heard taps.new.items) steps.new)
-            self.new.gpu self.new.played }
-        ensures ram { self.new.ram ≡ self.old.ram }
-        ensures running { self.new.running ≡ self.old.running }
-    {
-        self.played = feed_events(&mut self.gpu, self.played, words, taps, steps);
-    }
 }
 
-// Takes the words that come next at once, where the mode asks for no line of them.
+// Takes the words that come next at once, unless the mode looks at a cell: where their lines are gathered, those that are
+// at hand.
 fn read_words<S: Source>(
     reader: &mut EventReader,
     source: &mut S,
@@ -149,8 +144,8 @@ fn read_words<S: Source>(
 ) -> Result<(), Stop>
     requires { reader.old.stop ≡ None }
     ensures version { reader.new.progress.version ≡ reader.old.progress.version }
-    ensures gathers { OnErr result (IsGathered mode → ⊥) }
-    ensures quiet { AreQuiet mode block.new }
+    ensures few { IsGathered mode → reader.new.progress.place ≤ reader.old.progress.place + 2048 }
+    ensures unwatched { AreUnwatched mode block.new }
     ensures takes { OnOk result (TakesWords reader.old.progress reader.new.progress
         (S.left source.old) (S.left source.new) block.new) }
     ensures forward { work_left reader.new.progress ≤ work_left reader.old.progress }
@@ -161,7 +156,8 @@ fn read_words<S: Source>(
     ensures faults { S.faults source.old ≤ S.faults source.new }
 {
     match mode {
-        Mode::List | Mode::Pixel { .. } => {
+        Mode::List => reader.words_at_hand(source, block),
+        Mode::Pixel { .. } => {
             block.clear();
             Ok(())
         }

@@ -6,7 +6,8 @@ use Rattle.event_play.proofs.Awaiting.{awaits_is, pauses_on, reads, starts}
 use Rattle.event_play.proofs.BoxCosts.{from_small}
 use Rattle.event_play.proofs.Reaching.{event_ends, plays_on}
 use Rattle.event_play.proofs.Stopping.{pause_ends, reading_ends}
-use Rattle.event_play.proofs.InARow.{words_play, words_stop, left_less}
+use Rattle.event_play.proofs.InARow.{left_less}
+use Rattle.event_play.proofs.Together.{words_fail, words_stop, words_went}
 use Rattle.event_play.proofs.rig.Rig.play_from.Goals as goal
 
 pub events-init : goal.events-init
@@ -42,16 +43,50 @@ returns-in-Err-clause-ends g c = λ s e.
     refl c.end_reading-in-Err.result
     (c.end_reading-in-Err.ensures.ends awaits.tale.state.gpu awaits.stands.state.gpu)
 
+pub returns-in-Err-write_before_words-clause-ends : goal.returns-in-Err-write_before_words-clause-ends
+returns-in-Err-write_before_words-clause-ends g c = λ s e.
+    let awaits = awaits_is _ _ _ _ _ _ _ _ _ _ c.in-Ok.is (c.events.invariant.awaits s e) in
+    let played = plays_on _ _ _ _ _ _ _ _ _ _ c.in-Ok.event awaits
+    (c.in_default.ensures.ok awaits.tale awaits.stands awaits.free) in
+    pause_ends _ _ _ _ _ _ _ _ (g.K.Sink.held c.write_before_words.new.out) c.in-Err-write_before_words.event played
+    (from_small s c.args.self.now.played c.args.reader.now.progress) c.in-Err-write_before_words.ensures.failed
+
+pub returns-in-Err-play_words-clause-ends : goal.returns-in-Err-play_words-clause-ends
+returns-in-Err-play_words-clause-ends g c = λ s e.
+    let awaits = awaits_is _ _ _ _ _ _ _ _ _ _ c.in-Ok.is (c.events.invariant.awaits s e) in
+    let played = plays_on _ _ _ _ _ _ _ _ _ _ c.in-Ok.event awaits
+    (c.in_default.ensures.ok awaits.tale awaits.stands awaits.free) in
+    let started = rw c.in-Ok.is at c.events.invariant.known in
+    let paused = pauses_on _ _ _ _ _ _ _ c.in-Ok-write_before_words.place _ _
+    (g.K.Sink.held c.write_before_words.new.out) played started c.in-Ok-write_before_words.ensures.ok in
+    let read = c.read_words-read.ensures in
+    words_fail _ _ _ _ _ _ _ _ _ _ _ _ _ _ _ _ _
+    paused.reached read.unwatched c.play_words.ensures.ram c.play_words.ensures.running
+    (rw c.as_slice.ensures at c.play_words.ensures.told) (rw read.version started)
+    (λ is. let few = read.few is in let near = c.in-Ok-write_before_words.ensures.near in omega (arith, few, near))
+    (g.K.Sink.held c.play_words.new.out) c.play_words.new.lines c.in-Err-play_words.event c.read_words-read.result
+    (rw c.as_slice.ensures at c.in-Err-play_words.ensures.puts) read.takes read.stop
+    (from_small s c.args.self.now.played c.args.reader.now.progress)
+
 pub returns-in-Err-read-clause-ends : goal.returns-in-Err-read-clause-ends
 returns-in-Err-read-clause-ends g c = λ s e.
     let awaits = awaits_is _ _ _ _ _ _ _ _ _ _ c.in-Ok.is (c.events.invariant.awaits s e) in
     let played = plays_on _ _ _ _ _ _ _ _ _ _ c.in-Ok.event awaits
     (c.in_default.ensures.ok awaits.tale awaits.stands awaits.free) in
-    let stopped = words_stop _ _ _ _ _ _ _ _ _ _ _ _ _ _ _ _ _ c.in-Err-read.stop played
-    c.in-Err-read.ensures.quiet c.play_words.ensures.ram c.play_words.ensures.running
-    (rw c.as_slice.ensures at c.play_words.ensures.told) c.in-Err-read.ensures.stop c.in-Err-read.ensures.gathers in
-    let mid = gathering c.play_event.new.lines (outlets (g.K.Sink.held c.play_event.new.out)
-    (g.K.Sink.faults c.play_event.new.out) (map g.T.Listener.heard c.play_words.new.taps.items) c.play_words.new.steps) in
+    let started = rw c.in-Ok.is at c.events.invariant.known in
+    let paused = pauses_on _ _ _ _ _ _ _ c.in-Ok-write_before_words.place _ _
+    (g.K.Sink.held c.write_before_words.new.out) played started c.in-Ok-write_before_words.ensures.ok in
+    let read = c.read_words-read.ensures in
+    let stopped = words_stop _ _ _ _ _ _ _ _ _ _ _ _ _ _ _ _ _
+    paused.reached read.unwatched c.play_words.ensures.ram c.play_words.ensures.running
+    (rw c.as_slice.ensures at c.play_words.ensures.told) (rw read.version started)
+    (λ is. let few = read.few is in let near = c.in-Ok-write_before_words.ensures.near in omega (arith, few, near))
+    (g.K.Sink.held c.play_words.new.out) c.play_words.new.lines c.in_default-play_words.field-0 c.in-Err-read.stop
+    (rw c.as_slice.ensures at c.in_default-play_words.ensures.puts) (c.play_words.ensures.free paused.reached.free)
+    c.in-Err-read.ensures.stop in
+    let mid = gathering c.play_words.new.lines (outlets (g.K.Sink.held c.play_words.new.out)
+    (g.K.Sink.faults c.play_words.new.out) (map g.T.Listener.heard c.play_words.new.taps.items)
+    c.play_words.new.steps) in
     reading_ends _ _ _ _ mid _ _ _ _ c.in-Err-read.stop stopped
     (from_small s c.args.self.now.played c.args.reader.now.progress)
     refl c.end_reading.result
@@ -62,9 +97,17 @@ returns-in-Err-write_at_pause-clause-ends g c = λ s e.
     let awaits = awaits_is _ _ _ _ _ _ _ _ _ _ c.in-Ok.is (c.events.invariant.awaits s e) in
     let played = plays_on _ _ _ _ _ _ _ _ _ _ c.in-Ok.event awaits
     (c.in_default.ensures.ok awaits.tale awaits.stands awaits.free) in
+    let started = rw c.in-Ok.is at c.events.invariant.known in
+    let paused = pauses_on _ _ _ _ _ _ _ c.in-Ok-write_before_words.place _ _
+    (g.K.Sink.held c.write_before_words.new.out) played started c.in-Ok-write_before_words.ensures.ok in
+    let read = c.read_words-read.ensures in
     pause_ends _ _ _ _ _ _ _ _ (g.K.Sink.held c.write_at_pause.new.out) c.in-Err-write_at_pause.event
-    (words_play _ _ _ _ _ _ _ _ _ _ _ _ _ _ _ _ _ played c.in_default-read.ensures.quiet
-    c.play_words.ensures.ram c.play_words.ensures.running (rw c.as_slice.ensures at c.play_words.ensures.told)
+    (words_went _ _ _ _ _ _ _ _ _ _ _ _ _ _ _ _ _
+    paused.reached read.unwatched c.play_words.ensures.ram c.play_words.ensures.running
+    (rw c.as_slice.ensures at c.play_words.ensures.told) (rw read.version started)
+    (λ is. let few = read.few is in let near = c.in-Ok-write_before_words.ensures.near in omega (arith, few, near))
+    (g.K.Sink.held c.play_words.new.out) c.play_words.new.lines c.in_default-play_words.field-0
+    (rw c.as_slice.ensures at c.in_default-play_words.ensures.puts) (c.play_words.ensures.free paused.reached.free)
     c.in_default-read.ensures.takes)
     (from_small s c.args.self.now.played c.args.reader.now.progress) c.in-Err-write_at_pause.ensures.failed
 
@@ -75,36 +118,46 @@ events-smaller g c =
 
 pub events-preserved : goal.events-preserved
 events-preserved g c =
-    let started = rw c.in-Ok.is at c.events.invariant.known in
-    let version = c.in_default-read.ensures.version in
     record {
       awaits = λ s e.
           let awaits = awaits_is _ _ _ _ _ _ _ _ _ _ c.in-Ok.is (c.events.invariant.awaits s e) in
           let played = plays_on _ _ _ _ _ _ _ _ _ _ c.in-Ok.event awaits
           (c.in_default.ensures.ok awaits.tale awaits.stands awaits.free) in
-          let paused = pauses_on _ _ _ _ _ _ _ c.in-Ok-write_at_pause.place _ _
-          (g.K.Sink.held c.write_at_pause.new.out)
-          (words_play _ _ _ _ _ _ _ _ _ _ _ _ _ _ _ _ _ played c.in_default-read.ensures.quiet
-          c.play_words.ensures.ram c.play_words.ensures.running (rw c.as_slice.ensures at c.play_words.ensures.told)
-          c.in_default-read.ensures.takes) (rw version started) c.in-Ok-write_at_pause.ensures.ok in
-          reads _ _ _ _ _ _ _ _ _ _ paused.reached (rw version started) paused.near
+          let started = rw c.in-Ok.is at c.events.invariant.known in
+          let paused = pauses_on _ _ _ _ _ _ _ c.in-Ok-write_before_words.place _ _
+          (g.K.Sink.held c.write_before_words.new.out) played started c.in-Ok-write_before_words.ensures.ok in
+          let read = c.read_words-read.ensures in
+          let went = words_went _ _ _ _ _ _ _ _ _ _ _ _ _ _ _ _ _
+          paused.reached read.unwatched c.play_words.ensures.ram c.play_words.ensures.running
+          (rw c.as_slice.ensures at c.play_words.ensures.told) (rw read.version started)
+          (λ is. let few = read.few is in let near = c.in-Ok-write_before_words.ensures.near in
+          omega (arith, few, near))
+          (g.K.Sink.held c.play_words.new.out) c.play_words.new.lines c.in_default-play_words.field-0
+          (rw c.as_slice.ensures at c.in_default-play_words.ensures.puts)
+          (c.play_words.ensures.free paused.reached.free)
+          c.in_default-read.ensures.takes in
+          let again = pauses_on _ _ _ _ _ _ _ c.in-Ok-write_at_pause.place _ _ (g.K.Sink.held c.write_at_pause.new.out)
+          went (rw read.version started) c.in-Ok-write_at_pause.ensures.ok in
+          reads _ _ _ _ _ _ _ _ _ _ again.reached (rw read.version started) again.near
           c.next-next-in-Ok.result c.next-next-in-Ok.ensures.takes
           (c.next-next-in-Ok.ensures.stop c.in_default-read.ensures.runs_on);
       running = c.next-next-in-Ok.ensures.runs_on;
       known = c.next-next-in-Ok.ensures.version;
       read_cause = IfErr-weaker c.next-next-in-Ok.result _ _
-          (λ stop may fault. omega (arith, may fault, c.events.invariant.read_faults, c.in_default-read.ensures.faults))
+          (λ stop may fault. omega (arith, may fault, c.events.invariant.read_faults, c.read_words-read.ensures.faults))
           (c.next-next-in-Ok.ensures.cause c.in_default-read.ensures.runs_on);
       read_faults = omega (
         arith,
         c.events.invariant.read_faults,
-        c.in_default-read.ensures.faults,
+        c.read_words-read.ensures.faults,
         c.next-next-in-Ok.ensures.faults,
       );
       write_faults = omega (
         arith,
         c.events.invariant.write_faults,
         c.in_default.ensures.faults,
+        c.in-Ok-write_before_words.ensures.faults,
+        c.play_words.ensures.faults,
         c.in-Ok-write_at_pause.ensures.faults,
       );
     }

@@ -1,0 +1,74 @@
+use Rattle.std.proofs.Common.{◌+◌, ◌-◌, List, Ok, Err, option_to_list, take, drop, length, length-drop}
+use Rattle.std.proofs.Common.{◌∙◌, subst, arith}
+use Rattle.gathered_out.specs.Pieces.{Piece}
+use Rattle.event_play.specs.Listing.{ArePut, PutsPieces, listed_pieces}
+use Rattle.event_play.specs.PlayedWords.{after_words, word_notes}
+use Rattle.event_play.specs.Streams.{sink_with}
+use Rattle.event_play.proofs.AtOnce.{rest_both, taken_both, told_first, told_on}
+use Rattle.event_play.proofs.Listed.{fails_on, pieces_on, put_on}
+use Rattle.event_play.proofs.listing.list_events.Goals as goal
+
+pub returns-in-Err-clause-told : goal.returns-in-Err-clause-told
+returns-in-Err-clause-told g c = λ t first told.
+    let words = c.args.words.now in
+    let at = c.words.at in
+    let count = c.feed_noted-fed.result.count in
+    let le = c.words.invariant.within in
+    let within = c.feed_noted-fed.ensures.within in
+    let before = c.words.invariant.told t first told in
+    let here = told_first t first _ _ words at count _ c.saturating_add.result le c.saturating_add.ensures
+    (c.feed_noted-fed.ensures.told (after_words t (take at words)) first before) in
+    told_on t first _ _ _ (take (at + count) words) _ words
+    (rest_both words (at + count) (let long = length-drop at words in omega (arith, le, within, long)))
+    (c.feed_events.ensures (after_words t (take (at + count) words)) first here)
+
+pub returns-in-Err-clause-puts : goal.returns-in-Err-clause-puts
+returns-in-Err-clause-puts g c = λ t first told.
+    let words = c.args.words.now in
+    let at = c.words.at in
+    let count = c.feed_noted-fed.result.count in
+    let le = c.words.invariant.within in
+    let within = c.feed_noted-fed.ensures.within in
+    let before = c.words.invariant.told t first told in
+    let was = sink_with (g.K.Sink.held c.args.lines.now.out.now) c.args.lines.now.gathered.now in
+    let now = sink_with (g.K.Sink.held c.put_noted.new.lines.out.now) c.put_noted.new.lines.gathered.now in
+    let P : List Piece → Type 0 = λ pieces. PutsPieces {Value = Unit {0}} pieces was now (Err c.in-Err.lacking) in
+    fails_on was now t (take (at + count) words) _ words c.in-Err.lacking
+    (rest_both words (at + count) (let long = length-drop at words in omega (arith, le, within, long)))
+    (subst P
+    (pieces_on t (take at words) (take count (take (length words - at) (drop at words))) (take (at + count) words)
+    c.feed_noted-fed.result.note (taken_both words at count le)
+    (c.feed_noted-fed.ensures.gives (after_words t (take at words)) first before))
+    (put_on was _ now (listed_pieces (word_notes t (take at words)))
+    (listed_pieces (option_to_list c.feed_noted-fed.result.note)) (Err c.in-Err.lacking)
+    (c.words.invariant.puts t first told) c.in-Err.ensures.puts))
+
+pub words-preserved : goal.words-preserved
+words-preserved g c =
+    let words = c.args.words.now in
+    let at = c.words.at in
+    let count = c.feed_noted-fed.result.count in
+    let le = c.words.invariant.within in
+    let within = c.feed_noted-fed.ensures.within in
+    record {
+      within = let long = length-drop at words in omega (arith, le, within, long);
+      told = λ t first told.
+          told_first t first _ _ words at count _ c.saturating_add.result le c.saturating_add.ensures
+          (c.feed_noted-fed.ensures.told (after_words t (take at words)) first
+          (c.words.invariant.told t first told));
+      puts = λ t first told.
+          let before = c.words.invariant.told t first told in
+          let was = sink_with (g.K.Sink.held c.args.lines.now.out.now) c.args.lines.now.gathered.now in
+          let now = sink_with (g.K.Sink.held c.put_noted.new.lines.out.now) c.put_noted.new.lines.gathered.now in
+          let P : List Piece → Type 0 = λ pieces. ArePut pieces was now in
+          subst P
+          (pieces_on t (take at words) (take count (take (length words - at) (drop at words)))
+          (take (at + count) words) c.feed_noted-fed.result.note (taken_both words at count le)
+          (c.feed_noted-fed.ensures.gives (after_words t (take at words)) first before))
+          (put_on was _ now (listed_pieces (word_notes t (take at words)))
+          (listed_pieces (option_to_list c.feed_noted-fed.result.note)) (Ok c.in_default.field-0)
+          (c.words.invariant.puts t first told) c.in_default.ensures.puts).ok;
+      faults = let a = c.words.invariant.faults in let b = c.in_default.ensures.faults in omega (arith, a, b);
+      gathered = c.in_default.ensures.gathered ∙ c.words.invariant.gathered;
+      out = c.in_default.ensures.out ∙ c.words.invariant.out;
+    }

@@ -1,0 +1,126 @@
+// Words that go to GP0, an event each, while the lines of their notes are put. As in feed.rt, a word reaches all that
+// playing works on.
+ghost use Rattle.std.specs.Prelude.{◌≡◌, ◌≤◌, ◌<◌, length, take, map, option_to_list, IfSome, OnErr};
+ghost use Rattle.dev_io.specs.Device.{Rose};
+ghost use Rattle.gpu_core.specs.Feeds.{but_pixels};
+ghost use Rattle.event_play.specs.Lines.{MayGather};
+ghost use Rattle.event_play.specs.Listing.{PutsPieces, listed_pieces, pieces_for};
+ghost use Rattle.event_play.specs.PlayedWords.{IsTold, after_words, number_behind, word_notes};
+ghost use Rattle.event_play.specs.Replay.{Tale};
+ghost use Rattle.event_play.specs.Streams.{Outlets, sink_with, without_sink};
+
+use crate::ending::Mode;
+use crate::feed::feed_events;
+use crate::outlet::{Lines, put_noted};
+use crate::rig::Rig;
+use dev_io::Sink;
+use gathered_out::Gathered;
+use gpu_core::{Gpu, NotedWords};
+use gpu_taps::Listener;
+use std::sync::ledger::Ledger;
+use vram_store::Steps;
+
+impl Rig {
+    /// Plays words that are written to GP0, an event each, and puts the lines of their notes if the mode lists them.
+    /// Where that fails, all of them are played all the same, and the answer is the number of the first event whose lines
+    /// lack a byte.
+    pub(crate) fn play_words<K: Sink, T: Listener, L: Ledger>(
+        &mut self,
+        words: &[u32],
+        lines: &mut Gathered,
+        out: &mut K,
+        mode: Mode,
+        taps: &mut Vec<T>,
+        steps: &mut Steps<L>,
+    ) -> Result<(), u64>
+        ensures told { (t : Tale) (first : Outlets)
+            → IsTold t first (without_sink (map T.heard taps.old.items) steps.old) self.old.gpu self.old.played
+            → IsTold (after_words t words.now) first (without_sink (map T.heard taps.new.items) steps.new)
+            self.new.gpu self.new.played }
+        ensures puts { (t : Tale) (first : Outlets)
+            → IsTold t first (without_sink (map T.heard taps.old.items) steps.old) self.old.gpu self.old.played
+            → PutsPieces (pieces_for mode (word_notes t words.now))
+            (sink_with (K.held out.old) lines.old) (sink_with (K.held out.new) lines.new) result }
+        ensures free { MayGather mode lines.old → MayGather mode lines.new }
+        ensures ram { self.new.ram ≡ self.old.ram }
+        ensures running { self.new.running ≡ self.old.running }
+        ensures cause { OnErr result (Rose (K.faults out.old) (K.faults out.new)) }
+        ensures faults { K.faults out.old ≤ K.faults out.new }
+    {
+        match mode {
+            Mode::List => {
+                let lines = &mut Lines {
+                    gathered: lines,
+                    out,
+                };
+                list_events(&mut self.gpu, &mut self.played, words, lines, taps, steps)
+            }
+            _ => {
+                self.played = feed_events(&mut self.gpu, self.played, words, taps, steps);
+                Ok(())
+            }
+        }
+    }
+}
+
+// Feeds words, an event each, behind the events played, and puts the line of each note but those of pixels, as they
+// come. Where that fails, the words behind it are fed all the same, and the answer is the number of the first event
+// whose lines lack a byte.
+fn list_events<K: Sink, T: Listener, L: Ledger>(
+    gpu: &mut Gpu,
+    played: &mut u64,
+    words: &[u32],
+    lines: &mut Lines<K>,
+    taps: &mut Vec<T>,
+    steps: &mut Steps<L>,
+) -> Result<(), u64>
+    ensures told { (t : Tale) (first : Outlets)
+        → IsTold t first (without_sink (map T.heard taps.old.items) steps.old) gpu.old played.old
+        → IsTold (after_words t words.now) first (without_sink (map T.heard taps.new.items) steps.new)
+        gpu.new played.new }
+    ensures puts { (t : Tale) (first : Outlets)
+        → IsTold t first (without_sink (map T.heard taps.old.items) steps.old) gpu.old played.old
+        → PutsPieces (listed_pieces (word_notes t words.now))
+        (sink_with (K.held lines.old.out.now) lines.old.gathered.now)
+        (sink_with (K.held lines.new.out.now) lines.new.gathered.now) result }
+    ensures cause { OnErr result (Rose (K.faults lines.old.out.now) (K.faults lines.new.out.now)) }
+    ensures faults { K.faults lines.old.out.now ≤ K.faults lines.new.out.now }
+    ensures gathered { lines.new.gathered.ghost_name ≡ lines.old.gathered.ghost_name }
+    ensures out { lines.new.out.ghost_name ≡ lines.old.out.ghost_name }
+{
+    let mut at = 0;
+    'words: while at < words.len() {
+        let fed = feed_noted(gpu, *played, &words[at..], taps, steps);
+        *played = played.saturating_add(fed.count as u64);
+        at += fed.count;
+        if let Err(lacking) = put_noted(&fed.note, lines) {
+            *played = feed_events(gpu, *played, &words[at..], taps, steps);
+            return Err(lacking);
+        }
+    }
+    Ok(())
+}
+
+// Feeds the first of these words, an event each, as many as the drawing processor takes at once up to a note, and hands
+// that on.
+fn feed_noted<T: Listener, L: Ledger>(
+    gpu: &mut Gpu,
+    played: u64,
+    words: &[u32],
+    taps: &mut Vec<T>,
+    steps: &mut Steps<L>,
+) -> NotedWords
+    requires { 0 < length words.now }
+    ensures some { 0 < result.count }
+    ensures within { result.count ≤ length words.now }
+    ensures class { IfSome result.note (λ note. note.class ≤ 9) }
+    ensures told { (t : Tale) (first : Outlets)
+        → IsTold t first (without_sink (map T.heard taps.old.items) steps.old) gpu.old played
+        → IsTold (after_words t (take result.count words.now)) first
+        (without_sink (map T.heard taps.new.items) steps.new) gpu.new (number_behind played result.count) }
+    ensures gives { (t : Tale) (first : Outlets)
+        → IsTold t first (without_sink (map T.heard taps.old.items) steps.old) gpu.old played
+        → but_pixels (word_notes t (take result.count words.now)) ≡ but_pixels (option_to_list result.note) }
+{
+    gpu.take_noted(played, words, taps, steps)
+}
