@@ -7,6 +7,7 @@ ghost use Rattle.span_lanes.specs.Lanes.{DoesFor};
 
 use crate::part::Part;
 use crate::{Brush, Span};
+use px_num::halves::wanted_lanes;
 use px_num::lanes::splat;
 use std::simd::prelude::*;
 use std::sync::ledger::Ledger;
@@ -37,7 +38,8 @@ pub(crate) fn back_of<L: Ledger>(
     ensures cost { steps.new ≤ steps.old + 1 }
 {
     if looks(&span.brush) {
-        vram.load16(span.x + part.first, span.y, part.k, steps)
+        let back = vram.load16(span.x + part.first, span.y, part.k, steps);
+        wanted_lanes(part.k, back)
     } else {
         splat(0)
     }

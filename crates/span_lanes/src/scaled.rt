@@ -162,7 +162,9 @@ pub(crate) fn draw_scaled<L: Ledger>(
     match sheet.tint {
         Tint::Plain { .. } => draw_plain(vram, sheet, x, y, n, last, steps),
         Tint::Planes { .. } => {
-            *last = None;
+            if last.is_some() {
+                *last = None;
+            }
             draw_mixed(vram, sheet, x, y, n, steps)
         }
     }

@@ -1,5 +1,5 @@
 // Texels by their coordinates, all lanes at once.
-ghost use Rattle.std.specs.Prelude.{◌≡◌, ◌≤◌, ◌<◌, ◌+◌, ◌*◌, length};
+ghost use Rattle.std.specs.Prelude.{◌≡◌, ◌≤◌, ◌<◌, ◌+◌, ◌*◌, ℕ, length, slice_index};
 ghost use Rattle.vram_store.specs.Vram.{height_of};
 ghost use Rattle.texel_lanes.specs.Texture.{IsTexture, texel_steps};
 ghost use Rattle.texel_lanes.specs.Texels.{AreCoordinates, AreTexels};
@@ -12,7 +12,8 @@ use crate::halfwords::halfwords_of;
 use crate::octets::octets;
 use crate::places::places_of;
 use crate::table::{entries_at, table_of};
-use px_num::halves::{HALF, wanted_lanes};
+use px_num::halves::{HALF, first_lanes, wanted_lanes};
+use px_num::lanes::splat;
 use std::simd::prelude::*;
 use std::sync::ledger::Ledger;
 use vram_store::{Steps, Vram};
@@ -154,10 +155,25 @@ pub fn read_few<L: Ledger>(
     ensures cost { steps.new ≤ steps.old + texel_steps texture.now.page.depth * k }
 {
     let few = k.min(HALF);
+    let at = first_half(at);
     let texels = match texture.page.depth {
-        0 => read_fours(vram, texture, at, few, steps),
-        1 => read_eights(vram, texture, at, few, steps),
-        _ => read_scattered(vram, texture, at, few, steps),
+        0 => read_fours(vram, texture, &at, few, steps),
+        1 => read_eights(vram, texture, &at, few, steps),
+        _ => read_scattered(vram, texture, &at, few, steps),
     };
     wanted_lanes(HALF, texels)
+}
+
+// The first eight of these coordinates, and then zeros.
+#[inline(always)]
+fn first_half(at: &Coordinates) -> Coordinates
+    requires { AreCoordinates at.now.us × AreCoordinates at.now.vs }
+    ensures coordinates { AreCoordinates result.us × AreCoordinates result.vs }
+    ensures across { (j : ℕ) → j < 8 → slice_index result.us j ≡ slice_index at.now.us j }
+    ensures down { (j : ℕ) → j < 8 → slice_index result.vs j ≡ slice_index at.now.vs j }
+{
+    Coordinates {
+        us: first_lanes(HALF, at.us, splat(0)),
+        vs: first_lanes(HALF, at.vs, splat(0)),
+    }
 }
