@@ -156,11 +156,14 @@ fn read_words<S: Source>(
     ensures faults { S.faults source.old ≤ S.faults source.new }
 {
     match mode {
-        Mode::List => reader.words_at_hand(source, block),
+        Mode::List => {
+            let at_hand = source.ready() / 4;
+            reader.words(source, at_hand, block)
+        }
         Mode::Pixel { .. } => {
             block.clear();
             Ok(())
         }
-        _ => reader.words(source, block),
+        _ => reader.words(source, usize::MAX, block),
     }
 }

@@ -132,30 +132,14 @@ impl EventReader {
         }
     }
 
-    /// Takes the next words of an open Gp0 record at once, as many as are left of it and find room in the block; none
-    /// where no such record is open. They are the next events. Whatever follows, no event of the record can be refused,
-    /// so no byte is taken too many. Where the reader stops behind them, that is the answer, and the words stand.
-    pub fn words<S: Source>(&mut self, source: &mut S, block: &mut WordBlock) -> Result<(), Stop>
-        requires { self.old.stop ≡ None }
-        ensures takes { OnOk result
-            (TakesWords self.old.progress self.new.progress (S.left source.old) (S.left source.new) block.new) }
-        ensures version { self.new.progress.version ≡ self.old.progress.version }
-        ensures forward { work_left self.new.progress ≤ work_left self.old.progress }
-        ensures runs_on { OnOk result (self.new.stop ≡ None) }
-        ensures stop { IfErr result (λ stop. StopsBehind self.old.progress self.new.progress
-            (S.left source.old) (S.left source.new) block.new stop) }
-        ensures kept { IfErr result (λ stop. self.new.stop ≡ Some stop) }
-        ensures cause { IfErr result (λ stop. IsReadFault stop → Rose (S.faults source.old) (S.faults source.new)) }
-        ensures faults { S.faults source.old ≤ S.faults source.new }
-    {
-        self.stop = block.take(&mut self.progress, source, usize::MAX).err();
-        self.goes_on()
-    }
-
-    /// The same, but no more words than the source has ready, so that it need not wait for any; at most 2,048 bytes.
-    pub fn words_at_hand<S: Source>(
+    /// Takes the next words of an open Gp0 record at once, as many as are left of it and find room in the block, but no
+    /// more than `most`; none where no such record is open. They are the next events, of 2,048 bytes at most. Whatever
+    /// follows, no event of the record can be refused, so no byte is taken too many. Where the reader stops behind them,
+    /// that is the answer, and the words stand.
+    pub fn words<S: Source>(
         &mut self,
         source: &mut S,
+        most: usize,
         block: &mut WordBlock,
     ) -> Result<(), Stop>
         requires { self.old.stop ≡ None }
@@ -171,16 +155,7 @@ impl EventReader {
         ensures cause { IfErr result (λ stop. IsReadFault stop → Rose (S.faults source.old) (S.faults source.new)) }
         ensures faults { S.faults source.old ≤ S.faults source.new }
     {
-        let most = source.ready() / 4;
         self.stop = block.take(&mut self.progress, source, most).err();
-        self.goes_on()
-    }
-
-    // The stop that it has answered, if it has.
-    fn goes_on(&self) -> Result<(), Stop>
-        ensures stopped { IfErr result (λ stop. self.now.stop ≡ Some stop) }
-        ensures runs { OnOk result (self.now.stop ≡ None) }
-    {
         match self.stop {
             None => Ok(()),
             Some(stop) => Err(stop),
