@@ -8,7 +8,8 @@ use Rattle.gp0_packets.specs.declared.note.Note.{Note}
 use Rattle.gpu_capture.specs.declared.event.Event.{Event}
 use Rattle.gpu_capture.specs.declared.event.Event.TheVariants as event
 use Rattle.gpu_capture.specs.declared.event.Stop.TheVariants.{End}
-use Rattle.gpu_core.specs.Machine.{State, Parts, new_item, noted, after_gp0, gp0_note, after_gp1, after_read, read_word, status_word}
+use Rattle.gpu_core.specs.Machine.{State, Parts, new_item, noted, after_gp0, gp0_note, after_gp1, after_read, read_word}
+use Rattle.gpu_core.specs.Machine.{status_word}
 use Rattle.gpu_taps.specs.Tally.{Reading}
 use Rattle.event_play.specs.Alike.{AreAlike}
 use Rattle.event_play.specs.Fed.{fed}
@@ -350,7 +351,8 @@ flat_film t events fine =
     record {
       pictures = λ at heard other.
           film_of at heard flat same.0
-          ∙ ap (λ xs. flat_map (picture_of_bare at) xs ++ bytes_at_end at (frame_bytes flat.tale.state.gpu.parts)) frames
+          ∙ ap (λ xs. flat_map (picture_of_bare at) xs ++ bytes_at_end at (frame_bytes flat.tale.state.gpu.parts))
+          frames
           ∙ ap (λ (s : State). flat_map (picture_of_bare at) (map bare_frame (whole t events).tale.frames)
           ++ bytes_at_end at (frame_bytes s.parts)) same.1.gpu
           ∙ sym (film_of at other (whole t events) fine);

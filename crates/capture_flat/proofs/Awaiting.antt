@@ -53,10 +53,10 @@ stops_is old new before now next stop is answer = rw is at answer
 
 -- ---- the beginning
 
-raised_played : (t : Tale) (version : ℕ) → (raised t version).played ≡ t.played
+pub raised_played : (t : Tale) (version : ℕ) → (raised t version).played ≡ t.played
 raised_played t version = elim (cases_Bool (version == tall_version)) [ inl is ↦ rw is refl | inr is ↦ rw is refl ]
 
-answers : (old new : Progress) (before now : Option (List ℕ)) (next : Result Event Stop)
+pub answers : (old new : Progress) (before now : Option (List ℕ)) (next : Result Event Stop)
     → IfOk next (λ event. Takes old new before now (event ∷ []))
     → OnOk next (1 ≤ new.version) → IfErr next (λ stop. StopsAt old new before now stop)
     → Answers old new before now next
@@ -69,8 +69,8 @@ pub starts : (s : Machine) (left left_now held : Option (List ℕ)) (heard : Lis
     → draft.gathered ≡ [] → StandsFor rig (raised (from_state s 0) version) → version ≡ new.version
     → IfOk next (λ event. Takes first new left left_now (event ∷ [])) → OnOk next (1 ≤ new.version)
     → IfErr next (λ stop. StopsAt first new left left_now stop)
-    → Awaits (from_state s 0) version (streams left held heard steps) (streams left_now held heard steps) rig new draft 0
-    next
+    → Awaits (from_state s 0) version (streams left held heard steps) (streams left_now held heard steps) rig new
+    draft 0 next
 starts s left left_now held heard steps rig first new version draft next is file empty stands same takes known stops =
     let start = raised (from_state s 0) version in
     let none : IsFirst start = raised_first (from_state s 0) version (from_first s 0) in
@@ -123,22 +123,24 @@ pub reads : (start : Tale) (version : ℕ) (before now : Streams) (rig : RigStat
     → IfOk next (λ event. Takes old new now.left left (event ∷ [])) → OnOk next (1 ≤ new.version)
     → IfErr next (λ stop. StopsAt old new now.left left stop)
     → Awaits start version before (streams left now.held now.heard now.steps) rig new draft since next
-reads start version before now rig old new draft since left (Ok event) was near same was_known takes known stops = record {
-  left = now.left;
-  old = old;
-  was = was;
-  near = near;
-  same = same ∙ takes_version old new now.left left (event ∷ []) takes was_known known;
-  answer = (takes, known);
-}
-reads start version before now rig old new draft since left (Err stop) was near same was_known takes known stops = record {
-  left = now.left;
-  old = old;
-  was = was;
-  near = near;
-  same = same ∙ stops_version old new.version stop stops.taken left stops.says was_known;
-  answer = stops;
-}
+reads start version before now rig old new draft since left (Ok event) was near same was_known takes known stops =
+    record {
+      left = now.left;
+      old = old;
+      was = was;
+      near = near;
+      same = same ∙ takes_version old new now.left left (event ∷ []) takes was_known known;
+      answer = (takes, known);
+    }
+reads start version before now rig old new draft since left (Err stop) was near same was_known takes known stops =
+    record {
+      left = now.left;
+      old = old;
+      was = was;
+      near = near;
+      same = same ∙ stops_version old new.version stop stops.taken left stops.says was_known;
+      answer = stops;
+    }
 
 -- ---- a pause
 
@@ -202,6 +204,6 @@ pub pauses_on : (first : Tale) (version : ℕ) (before now : Streams) (rig : Rig
     → Paused first version before (streams now.left held now.heard now.steps) rig progress is at
 pauses_on first version before now rig progress draft is since at held known file was pauses =
     let on = paused_on first version before now rig progress draft since at is.gathered held known was pauses in
-    let P : FlatFile → Type 0 = λ f. Paused first version before (streams now.left held now.heard now.steps) rig progress
-    (record { file = f; gathered = is.gathered }) at in
+    let P : FlatFile → Type 0 = λ f. Paused first version before (streams now.left held now.heard now.steps) rig
+    progress (record { file = f; gathered = is.gathered }) at in
     subst P (sym file) on

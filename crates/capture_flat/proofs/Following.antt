@@ -28,9 +28,9 @@ use Rattle.event_play.specs.declared.fault.EventFault.{EventFault}
 use Rattle.event_play.proofs.BoxCosts.{event_cost-small}
 use Rattle.event_play.proofs.Feeds.{told-append}
 use Rattle.event_play.proofs.Grows.{tale_on, after-event}
-use Rattle.event_play.proofs.Reaching.{beside}
+use Rattle.event_play.proofs.Reaching.{beside, spent_on}
 use Rattle.capture_flat.specs.Flat.{flat_events, flat_replay, then_flat}
-use Rattle.capture_flat.specs.OneEvent.{EndsBehind, EndsEvent, IsTooLong, LacksPut, PassesEvent, PlaysFlat}
+use Rattle.capture_flat.specs.OneEvent.{EndsBehind, EndsEvent, IsTooLong, LacksPut, PassesEvent, PlaysFlat, stage}
 use Rattle.capture_flat.specs.Out.{due_at, begun, flat_version, flat_file}
 use Rattle.capture_flat.specs.Passing.{Way, Follows, AreNeeded, IsLast, EndsFlat}
 use Rattle.capture_flat.specs.declared.ending.FlatEnding.{FlatEnding}
@@ -66,8 +66,8 @@ pub record Passes (first : Tale) (version : ℕ) (before now : Streams) (rig : R
   pub behind : List ℕ
   pub taken_is : taken ≡ flushed ++ behind
   pub since_is : length flushed ≡ min since limit
-  pub gathers : Gathers (WasDue first version events flushed taken) before.held (begun version tale.played flat) now.held
-      draft.gathered
+  pub gathers : Gathers (WasDue first version events flushed taken) before.held (begun version tale.played flat)
+      now.held draft.gathered
   pub heard : now.heard ≡ told_notes tale.notes before.heard
   pub cost : now.steps ≤ before.steps + tale.cost
   pub small : tale.cost ≤ tale.box_cost
@@ -139,13 +139,10 @@ heard_on : (before mid now : List Reading) (told notes : List Note) → mid ≡ 
     → now ≡ told_notes notes mid → now ≡ told_notes (told ++ notes) before
 heard_on before mid now told notes was took = took ∙ ap (told_notes notes) was ∙ sym (told-append told notes before)
 
-spent_on : (before mid now a b : ℕ) → mid ≤ before + a → now ≤ mid + b → now ≤ before + (a + b)
-spent_on before mid now a b was took = omega arith
-
 pub spent_within : (before now a b : ℕ) → now ≤ before + a → a ≤ b → now ≤ before + b
 spent_within before now a b within small = omega arith
 
-both_small : (a b c d : ℕ) → a ≤ c → b ≤ d → a + b ≤ c + d
+pub both_small : (a b c d : ℕ) → a ≤ c → b ≤ d → a + b ≤ c + d
 both_small a b c d first next = omega arith
 
 -- events in two parts
@@ -280,11 +277,12 @@ module _ (start : Tale) (version : ℕ) (before : Streams) (left_mid left : Opti
     says = says_first;
   }
 
-  pub passes_on : (is : Draft) → PassesEvent draft is was.tale given mid now rig
+  pub passes_on : (is : Draft) → PassesEvent was.tale given (stage draft mid was_rig) (stage is now rig)
       → Passes first version before (beside left now) rig new is since
   passes_on is passes =
       let due = due_at version was.tale given in
-      let P : List ℕ → Type 0 = λ bs. IsPut (next_number was.tale.played) bs mid.held now.held draft.gathered is.gathered in
+      let P : List ℕ → Type 0 = λ bs. IsPut (next_number was.tale.played) bs mid.held now.held draft.gathered
+      is.gathered in
       let put : IsPut (next_number was.tale.played) due mid.held now.held draft.gathered is.gathered =
       subst P due_same passes.put in
       let long = length-append (begun version was.tale.played was.flat) due in
@@ -396,7 +394,7 @@ module _ (start : Tale) (version : ℕ) (before : Streams) (left_mid left : Opti
       (spent_within before.steps now.steps _ _ cost was.small)
 
   long_ends : (number : ℕ) (is : Draft) (held : Option (List ℕ)) → number ≡ next_number was.tale.played
-      → IsTooLong draft is was.tale given mid now rig → IsWritten mid.held held draft.gathered
+      → IsTooLong was.tale given (stage draft mid was_rig) (stage is now rig) → IsWritten mid.held held draft.gathered
       → EndsFlat start before (streams left held now.heard now.steps) rig (TooLong number)
   long_ends number is held at long written =
       let size : length (due_at draft.file.version was.tale given) ≡ length (due_at version was.tale given) =
@@ -421,7 +419,8 @@ module _ (start : Tale) (version : ℕ) (before : Streams) (left_mid left : Opti
         box_cost = box_cost long.plays;
       }
 
-  long_lacks : (is : Draft) (held : Option (List ℕ)) (lacking : ℕ) → IsTooLong draft is was.tale given mid now rig
+  long_lacks : (is : Draft) (held : Option (List ℕ)) (lacking : ℕ)
+      → IsTooLong was.tale given (stage draft mid was_rig) (stage is now rig)
       → BreaksWriting mid.held held draft.gathered lacking
       → EndsFlat start before (streams left held now.heard now.steps) rig (WriteFailed lacking)
   long_lacks is held lacking long breaks =
@@ -433,11 +432,12 @@ module _ (start : Tale) (version : ℕ) (before : Streams) (left_mid left : Opti
       (begun version was.tale.played was.flat) mid.held draft.gathered
       (more_due (was.events ++ given ∷ []) refl) was.gathers) breaks)
 
-  put_lacks : (lacking : ℕ) → LacksPut draft was.tale given mid now rig lacking
+  put_lacks : (is : Draft) (lacking : ℕ) → LacksPut was.tale given (stage draft mid was_rig) (stage is now rig) lacking
       → EndsFlat start before (beside left now) rig (WriteFailed lacking)
-  put_lacks lacking lacks =
+  put_lacks is lacking lacks =
       let due = due_at version was.tale given in
-      let P : List ℕ → Type 0 = λ bs. BreaksPut (next_number was.tale.played) bs mid.held now.held draft.gathered lacking in
+      let P : List ℕ → Type 0 = λ bs. BreaksPut (next_number was.tale.played) bs mid.held now.held draft.gathered
+      lacking in
       let size : length (due_at draft.file.version was.tale given) ≡ length due = ap length due_same in
       let fits = lacks.fits in
       let length_now = whole_length lacks.plays in
@@ -451,7 +451,8 @@ module _ (start : Tale) (version : ℕ) (before : Streams) (left_mid left : Opti
       now.held lacking (subst P due_same lacks.breaks))
 
   -- what is gathered is written at a pause behind it, and that fails
-  pub pause_lacks : (is : Draft) (held : Option (List ℕ)) (lacking : ℕ) → PassesEvent draft is was.tale given mid now rig
+  pub pause_lacks : (is : Draft) (held : Option (List ℕ)) (lacking : ℕ)
+      → PassesEvent was.tale given (stage draft mid was_rig) (stage is now rig)
       → BreaksWriting now.held held is.gathered lacking
       → EndsFlat start before (streams left held now.heard now.steps) rig (WriteFailed lacking)
   unfolding passes_on
@@ -463,7 +464,7 @@ module _ (start : Tale) (version : ℕ) (before : Streams) (left_mid left : Opti
       is.gathered lacking on.gathers breaks)
 
   pub event_ends : (is : Draft) (held : Option (List ℕ)) (ending result : FlatEnding)
-      → EndsEvent draft is was.tale given mid now was_rig rig ending
+      → EndsEvent was.tale given (stage draft mid was_rig) (stage is now rig) ending
       → EndsBehind ending is.gathered now.held held result
       → EndsFlat start before (streams left held now.heard now.steps) rig result
   event_ends is held (Faulted number fault) result ends (inl written) =
@@ -480,6 +481,6 @@ module _ (start : Tale) (version : ℕ) (before : Streams) (left_mid left : Opti
   event_ends is held (TooLong number) result ends (inr breaks) =
       let unput : is.gathered ≡ draft.gathered = ap (λ (d : Draft). d.gathered) ends.1.unput in
       rw breaks.1 (long_lacks is held breaks.0 ends.1 (rw (unput, ends.1.held) at breaks.2))
-  event_ends is held (WriteFailed number) result ends behind = rw (behind.0, behind.1) (put_lacks number ends)
+  event_ends is held (WriteFailed number) result ends behind = rw (behind.0, behind.1) (put_lacks is number ends)
   event_ends is held Done result ends behind = absurd ends
   event_ends is held (Stopped number stop) result ends behind = absurd ends

@@ -8,7 +8,7 @@ use Rattle.gathered_out.specs.Puts.{BreaksWriting}
 use Rattle.gathered_out.proofs.Gathers.{gathers_more, gathers_off, gathers_written}
 use Rattle.gpu_capture.specs.Reader.{StopsAt, capture_from}
 use Rattle.gpu_capture.proofs.Versions.{version_from}
-use Rattle.gpu_capture.specs.Written.{written, spelled_end, AllowsAll}
+use Rattle.gpu_capture.specs.Written.{written, AllowsAll}
 use Rattle.gpu_capture.specs.declared.event.Event.{Event}
 use Rattle.gpu_capture.specs.declared.event.Stop.{Stop}
 use Rattle.gpu_capture.specs.declared.event.Stop.TheVariants.{End}
@@ -24,8 +24,8 @@ use Rattle.event_play.specs.Streams.{Streams, streams}
 use Rattle.event_play.specs.declared.ending.Ending.TheVariants.{Done as PlayedWhole}
 use Rattle.capture_flat.specs.Flat.{flat_replay}
 use Rattle.event_play.specs.Alike.{AreAlike}
-use Rattle.capture_flat.specs.OneEvent.{EndsAt, EndsReading}
-use Rattle.capture_flat.specs.Out.{head_due, begun, flat_version, flat_file}
+use Rattle.capture_flat.specs.OneEvent.{Closes, EndsReading, StopsAs, end_due, writing}
+use Rattle.capture_flat.specs.Out.{begun, flat_version, flat_file}
 use Rattle.capture_flat.specs.Passing.{Way, Follows, AreNeededToEnd, SaysFirst, SaysStop, IsFlatCapture, EndsFlat}
 use Rattle.capture_flat.specs.declared.ending.FlatEnding.{FlatEnding}
 use Rattle.capture_flat.specs.declared.file.Draft.{Draft}
@@ -129,10 +129,10 @@ module _ (start : Tale) (version : ℕ) (before : Streams) (left_mid left held_o
   box_cost = spent_within before.steps steps was.tale.cost was.tale.box_cost was.cost was.small
 
   whole_ends : StopsAt old new left_mid left End → version ≤ 3
-      → held ≡ appended held_mid (head_due version was.tale.played ++ spelled_end)
+      → held ≡ appended held_mid (end_due version was.tale.played)
       → EndsFlat start before (streams left held heard steps) rig Done
   whole_ends stops low wrote =
-      let due = head_due version was.tale.played ++ spelled_end in
+      let due = end_due version was.tale.played in
       let says_end = says End stops in
       record {
         way = way End stops;
@@ -157,11 +157,11 @@ module _ (start : Tale) (version : ℕ) (before : Streams) (left_mid left held_o
       }
 
   lacks_ends : (number : ℕ) (stops : StopsAt old new left_mid left End) → number ≡ next_number was.tale.played
-      → AppendsPart held_mid held (head_due version was.tale.played ++ spelled_end)
+      → AppendsPart held_mid held (end_due version was.tale.played)
       → EndsFlat start before (streams left held heard steps) rig (WriteFailed number)
   lacks_ends number stops at part =
       let Q : Option (List ℕ)
-      → Type 0 = λ mid. AppendsPart mid held (head_due version was.tale.played ++ spelled_end) in
+      → Type 0 = λ mid. AppendsPart mid held (end_due version was.tale.played) in
       record {
         way = way End stops;
         bytes = bytes End stops;
@@ -201,19 +201,20 @@ module _ (start : Tale) (version : ℕ) (before : Streams) (left_mid left held_o
   }
 
   stop_ends : (stop : Stop) (ending : FlatEnding) → StopsAt old new left_mid left stop → version ≤ 3
-      → EndsAt version was.tale.played stop held_mid held ending
+      → StopsAs stop (next_number was.tale.played) ending
+      → Closes (end_due version was.tale.played) held_mid held ending
       → EndsFlat start before (streams left held heard steps) rig ending
-  stop_ends stop Done stops low ends =
-      let P : Stop → Type 0 = λ stop. StopsAt old new left_mid left stop in whole_ends (subst P ends.0 stops) low ends.1
-  stop_ends stop (WriteFailed number) stops low ends =
-      let P : Stop → Type 0 = λ stop. StopsAt old new left_mid left stop in lacks_ends number (subst P ends.0 stops)
-      ends.1 ends.2
-  stop_ends stop (Stopped number told) stops low ends =
+  stop_ends stop Done stops low ends wrote =
+      let P : Stop → Type 0 = λ stop. StopsAt old new left_mid left stop in whole_ends (subst P ends stops) low wrote
+  stop_ends stop (WriteFailed number) stops low ends wrote =
+      let P : Stop → Type 0 = λ stop. StopsAt old new left_mid left stop in
+      lacks_ends number (subst P ends.0 stops) ends.1 wrote
+  stop_ends stop (Stopped number told) stops low ends wrote =
       let P : Stop → Type 0 = λ stop. StopsAt old new left_mid left stop in
       let Q : Stop → Type 0 = λ stop. IsNotEnd stop in
-      stopped_ends number told (subst P (sym ends.1) stops) ends.0 (subst Q (sym ends.1) ends.2) ends.3
-  stop_ends stop (Faulted number fault) stops low ends = absurd ends
-  stop_ends stop (TooLong number) stops low ends = absurd ends
+      stopped_ends number told (subst P (sym ends.1) stops) ends.0 (subst Q (sym ends.1) ends.2) wrote
+  stop_ends stop (Faulted number fault) stops low ends wrote = absurd ends
+  stop_ends stop (TooLong number) stops low ends wrote = absurd ends
 
 -- ---- the same, behind what is gathered
 
@@ -256,7 +257,8 @@ module _ (start : Tale) (version : ℕ) (before : Streams) (left_mid left held_m
       lacks_records start before (streams left held heard steps) rig (way_here stop stops) was.flushed lacking
       (taken_on before.left left_mid left was.taken stops.taken was.bytes stops.bytes)
       was.follows (says_events stop stops known)
-      (gathers_off (WasDue first version was.events was.flushed taken) before.held all held_mid held draft.gathered lacking
+      (gathers_off (WasDue first version was.events was.flushed taken) before.held all held_mid held draft.gathered
+      lacking
       (gathers_more (WasDue first version was.events was.flushed was.taken)
       (WasDue first version was.events was.flushed taken) before.held all held_mid draft.gathered
       (due_more first version was.events [] was.events was.flushed was.taken stops.taken (sym (append-nil was.events)))
@@ -268,14 +270,14 @@ module _ (start : Tale) (version : ℕ) (before : Streams) (left_mid left held_m
   -- by the number of events that the rig has counted
   pub reading_ends : (played : ℕ) (stop : Stop) (ending : FlatEnding) → StopsAt old new left_mid left stop
       → version ≤ 3 → played ≡ rig.played
-      → EndsReading draft played stop held_mid held ending
+      → EndsReading played stop (writing draft held_mid) held ending
       → EndsFlat start before (streams left held heard steps) rig ending
   reading_ends played stop ending stops low counted (inl ends) =
       let at : played ≡ was.tale.played = counted ∙ sym was.stands.played in
       let stood = gathers_written (WasDue (raised start version) version was.events was.flushed was.taken) before.held
       (begun version was.tale.played was.flat) held_mid ends.0 draft.gathered was.gathers ends.1 in
-      stop_ends start version before left_mid left held_mid ends.0 held heard steps rig old new draft since was stood same
-      stop ending stops low (rw (at, was.version_is) at ends.2)
+      stop_ends start version before left_mid left held_mid ends.0 held heard steps rig old new draft since was stood
+      same stop ending stops low (rw at at ends.2) (rw (at, was.version_is) at ends.3)
   reading_ends played stop ending stops low counted (inr breaks) =
       let off = gathers_off (WasDue (raised start version) version was.events was.flushed was.taken) before.held
       (begun version was.tale.played was.flat) held_mid held draft.gathered breaks.0 was.gathers breaks.2 in

@@ -28,16 +28,16 @@ unnumbered (Some note) = Some (record note { event = 0 })
 abbrev pub bare_stroke : Stroke → Stroke
 bare_stroke stroke = record { note = unnumbered stroke.note; before = stroke.before; after = stroke.after }
 
--- Two replays write the same pictures, at flips as at marks. But for the numbers of events they have the same frames, and
--- their items change the same cells in the same way.
+-- Two replays write the same pictures, at flips as at marks. But for the numbers of events they have the same frames,
+-- and their items change the same cells in the same way.
 pub record ShowAlike (a b : Played) : Type 0 where
   pub pictures : (at : Moment) (heard other : List Reading)
       → out_bytes (Frames at) heard a ≡ out_bytes (Frames at) other b
   pub frames : map bare_frame a.tale.frames ≡ map bare_frame b.tale.frames
   pub strokes : map bare_stroke a.tale.strokes ≡ map bare_stroke b.tale.strokes
 
--- Whatever machine they start from, of either height, the flat events that are made of events without a fault keep their
--- film and the history of every cell.
+-- Whatever machine they start from, of either height, the flat events that are made of events without a fault keep
+-- their film and the history of every cell.
 abbrev pub FlatKeepsFilm : Type 0
 FlatKeepsFilm = (s : Machine) (events : List Event) → (replay_of s events).ending ≡ Done
     → ShowAlike (replay_of s (flat_replay (from_state s 0) events)) (replay_of s events)

@@ -26,40 +26,50 @@ pub record PlaysFlat (t : Tale) (event : Event) (before now : Outlets) (rig : Ri
   pub played : rig.played ≡ next_number t.played
   pub allowed : AllowsAll 2 (flat_events t.state event)
 
+-- what an event is played and written with: the draft, the outlets, and the rig
+pub record Stage : Type 0 where
+  pub draft : Draft
+  pub out : Outlets
+  pub rig : RigState
+
+abbrev pub stage : Draft → Outlets → RigState → Stage
+stage draft out rig = record { draft = draft; out = out; rig = rig }
+
+-- what is due at an event
+abbrev pub due_on : Stage → Tale → Event → List ℕ
+due_on before t event = due_at before.draft.file.version t event
+
 -- it was played, and its records were put, with room for an End record behind them
-pub record PassesEvent (was is : Draft) (t : Tale) (event : Event) (before now : Outlets) (rig : RigState)
-    : Type 0 where
-  pub plays : PlaysFlat t event before now rig
-  pub put : IsPut (next_number t.played) (due_at was.file.version t event) before.held now.held was.gathered is.gathered
-  pub version : is.file.version ≡ was.file.version
-  pub size_is : is.file.size ≡ was.file.size + length (due_at was.file.version t event)
-  pub fits : is.file.size + 4 ≤ limit
+pub record PassesEvent (t : Tale) (event : Event) (before now : Stage) : Type 0 where
+  pub plays : PlaysFlat t event before.out now.out now.rig
+  pub put : IsPut (next_number t.played) (due_on before t event) before.out.held now.out.held before.draft.gathered
+      now.draft.gathered
+  pub version : now.draft.file.version ≡ before.draft.file.version
+  pub size_is : now.draft.file.size ≡ before.draft.file.size + length (due_on before t event)
+  pub fits : now.draft.file.size + 4 ≤ limit
 
 -- it was played, and its records, with the bytes before and an End record, are too many; none of them was put
-pub record IsTooLong (was is : Draft) (t : Tale) (event : Event) (before now : Outlets) (rig : RigState)
-    : Type 0 where
-  pub plays : PlaysFlat t event before now rig
-  pub unput : is ≡ was
-  pub held : now.held ≡ before.held
-  pub long : limit < was.file.size + length (due_at was.file.version t event) + 4
+pub record IsTooLong (t : Tale) (event : Event) (before now : Stage) : Type 0 where
+  pub plays : PlaysFlat t event before.out now.out now.rig
+  pub unput : now.draft ≡ before.draft
+  pub held : now.out.held ≡ before.out.held
+  pub long : limit < before.draft.file.size + length (due_on before t event) + 4
 
 -- it was played, and its records, for all of which there was room, could not be put
-pub record LacksPut (was : Draft) (t : Tale) (event : Event) (before now : Outlets) (rig : RigState)
-    (lacking : ℕ) : Type 0 where
-  pub plays : PlaysFlat t event before now rig
-  pub breaks : BreaksPut (next_number t.played) (due_at was.file.version t event) before.held now.held was.gathered
-      lacking
-  pub fits : was.file.size + length (due_at was.file.version t event) + 4 ≤ limit
+pub record LacksPut (t : Tale) (event : Event) (before now : Stage) (lacking : ℕ) : Type 0 where
+  pub plays : PlaysFlat t event before.out now.out now.rig
+  pub breaks : BreaksPut (next_number t.played) (due_on before t event) before.out.held now.out.held
+      before.draft.gathered lacking
+  pub fits : before.draft.file.size + length (due_on before t event) + 4 ≤ limit
 
 -- how an event ends it: at its number, but for a write that fails
-abbrev pub EndsEvent : (was is : Draft) → Tale → Event → (before now : Outlets) → (old rig : RigState) → FlatEnding
-    → Type 0
-EndsEvent was is t event before now old rig (Faulted number fault) =
-    (number ≡ next_number t.played) × FaultsEvent t event fault before now old rig × (is ≡ was)
-EndsEvent was is t event before now old rig (TooLong number) =
-    (number ≡ next_number t.played) × IsTooLong was is t event before now rig
-EndsEvent was is t event before now old rig (WriteFailed number) = LacksPut was t event before now rig number
-EndsEvent was is t event before now old rig ending = ⊥
+abbrev pub EndsEvent : Tale → Event → (before now : Stage) → FlatEnding → Type 0
+EndsEvent t event before now (Faulted number fault) =
+    (number ≡ next_number t.played) × FaultsEvent t event fault before.out now.out before.rig now.rig
+    × (now.draft ≡ before.draft)
+EndsEvent t event before now (TooLong number) = (number ≡ next_number t.played) × IsTooLong t event before now
+EndsEvent t event before now (WriteFailed number) = LacksPut t event before now number
+EndsEvent t event before now ending = ⊥
 
 -- ---- what is gathered
 
@@ -76,18 +86,34 @@ EndsBehind ending gathered before now result = WritesBefore ending gathered befo
 
 -- ---- a stop of the reader
 
--- how a stop of the reader ends it, behind so many events
-abbrev pub EndsAt : (version played : ℕ) → Stop → (before now : Option (List ℕ)) → FlatEnding → Type 0
-EndsAt version played stop before now Done =
-    (stop ≡ End) × (now ≡ appended before (head_due version played ++ spelled_end))
-EndsAt version played stop before now (WriteFailed number) =
-    (stop ≡ End) × (number ≡ next_number played) × AppendsPart before now (head_due version played ++ spelled_end)
-EndsAt version played stop before now (Stopped number told) =
-    (number ≡ next_number played) × (told ≡ stop) × IsNotEnd stop × (now ≡ before)
-EndsAt version played stop before now ending = ⊥
+-- how it ends there, where the next event would have this number
+abbrev pub StopsAs : Stop → (number : ℕ) → FlatEnding → Type 0
+StopsAs stop number Done = stop ≡ End
+StopsAs stop number (WriteFailed at) = (stop ≡ End) × (at ≡ number)
+StopsAs stop number (Stopped at told) = (at ≡ number) × (told ≡ stop) × IsNotEnd stop
+StopsAs stop number ending = ⊥
 
--- the same, behind what is gathered
-abbrev pub EndsReading : Draft → (played : ℕ) → Stop → (before now : Option (List ℕ)) → FlatEnding → Type 0
-EndsReading draft played stop before now ending =
-    ((mid : Option (List ℕ)) × IsWritten before mid draft.gathered × EndsAt draft.file.version played stop mid now ending)
-    ⊎ ((lacking : ℕ) × (ending ≡ WriteFailed lacking) × BreaksWriting before now draft.gathered lacking)
+-- what is due with an End record, behind so many events
+abbrev pub end_due : (version played : ℕ) → List ℕ
+end_due version played = head_due version played ++ spelled_end
+
+-- what is written of these bytes, which are due at an End
+abbrev pub Closes : (due : List ℕ) → (before now : Option (List ℕ)) → FlatEnding → Type 0
+Closes due before now Done = now ≡ appended before due
+Closes due before now (WriteFailed number) = AppendsPart before now due
+Closes due before now ending = now ≡ before
+
+-- a draft, and what the sink holds, where that is told
+pub record Writing : Type 0 where
+  pub draft : Draft
+  pub held : Option (List ℕ)
+
+abbrev pub writing : Draft → (held : Option (List ℕ)) → Writing
+writing draft held = record { draft = draft; held = held }
+
+-- how a stop of the reader ends it, behind so many events and what is gathered
+abbrev pub EndsReading : (played : ℕ) → Stop → Writing → (now : Option (List ℕ)) → FlatEnding → Type 0
+EndsReading played stop before now ending =
+    ((mid : Option (List ℕ)) × IsWritten before.held mid before.draft.gathered
+    × StopsAs stop (next_number played) ending × Closes (end_due before.draft.file.version played) mid now ending)
+    ⊎ ((lacking : ℕ) × (ending ≡ WriteFailed lacking) × BreaksWriting before.held now before.draft.gathered lacking)

@@ -1,6 +1,6 @@
 -- A flat capture that is written as the events come (our own rule).
 use Rattle.std.specs.Prelude.{◌≡◌, ◌≤◌, ◌<◌, ◌⊎◌, ℕ, List, [], ◌∷◌, ◌++◌, ◌+◌, Option, Err, length}
-use Rattle.dev_io.specs.Device.{prepended, appended, AppendsPart}
+use Rattle.dev_io.specs.Device.{prepended, appended, AppendsPart, Rose}
 use Rattle.gpu_capture.specs.Capture.{capture, limit}
 use Rattle.gpu_capture.specs.Reading.{AreFewBehind, AreNeeded as Needs, AreNeededToEnd as NeedsToEnd}
 use Rattle.gpu_capture.specs.Reading.{SaysFirst as SaysThese, SaysStop as Stops}
@@ -118,8 +118,8 @@ pub record IsLong (first : Tale) (way : Way) (number : ℕ) (before now : Stream
   pub fits : length (flat_file (raised first way.version) way.version last.before) ≤ limit
   pub long : limit < length (flat_file (raised first way.version) way.version way.events)
 
--- A proper part of the records of this event was written, behind all that was due before it. The events of the way behind
--- it were read and played while its records were gathered, and few bytes were taken behind it.
+-- A proper part of the records of this event was written, behind all that was due before it. The events of the way
+-- behind it were read and played while its records were gathered, and few bytes were taken behind it.
 pub record LacksRecords (first : Tale) (way : Way) (number : ℕ) (before now : Streams) : Type 0 where
   pub earlier : List Event
   pub event : Event
@@ -144,7 +144,7 @@ pub record LacksEnd (first : Tale) (way : Way) (number : ℕ) (before now : Stre
       (head_due way.version way.tale.played ++ spelled_end)
   pub fits : length (flat_file (raised first way.version) way.version way.events) ≤ limit
 
-abbrev pub SaysEnding : (first : Tale) (way : Way) (before now : Streams) → FlatEnding → Type 0
+abbrev pub SaysEnding : Tale → Way → (before now : Streams) → FlatEnding → Type 0
 SaysEnding first way before now Done = IsWhole first way before now
 SaysEnding first way before now (Stopped number stop) = IsStopped way number stop before now × IsNotEnd stop
 SaysEnding first way before now (Faulted number fault) = HasFault way number fault before now
@@ -152,8 +152,8 @@ SaysEnding first way before now (TooLong number) = IsLong first way number befor
 SaysEnding first way before now (WriteFailed number) =
     LacksRecords first way number before now ⊎ LacksEnd first way number before now
 
--- Wherever the ending is not that it is too long, the whole file of the events played is not. What a failed write says of
--- it stands beside the event.
+-- Wherever the ending is not that it is too long, the whole file of the events played is not. What a failed write says
+-- of it stands beside the event.
 abbrev pub Fits : (first : Tale) (way : Way) → FlatEnding → Type 0
 Fits first way (TooLong number) = Unit {0}
 Fits first way (WriteFailed number) = Unit {0}
@@ -189,3 +189,10 @@ MayWriteFault ending = ⊥
 abbrev pub IsEnding : FlatEnding → Type 0
 IsEnding (Stopped number End) = ⊥
 IsEnding ending = Unit {0}
+
+-- an ending of what writes alone, by how often the sink failed before and after: no fault of the source, and a fault of
+-- the sink only where it failed
+pub record EndsWriting (before now : ℕ) (ending : FlatEnding) : Type 0 where
+  pub known : IsEnding ending
+  pub read : MayReadFault ending → ⊥
+  pub cause : MayWriteFault ending → Rose before now

@@ -1,6 +1,5 @@
 // Events are played, and their flat records gathered.
 ghost use Rattle.std.specs.Prelude.{◌≡◌, ◌≤◌, ℕ, ◌+◌, ◌^◌, ◌++◌, length, map, OnOk, IfErr};
-ghost use Rattle.dev_io.specs.Device.{Rose};
 ghost use Rattle.gathered_out.specs.Puts.{Puts};
 ghost use Rattle.gpu_capture.specs.Capture.{head_of};
 ghost use Rattle.event_play.specs.Replay.{Tale, next_number};
@@ -9,8 +8,8 @@ ghost use Rattle.event_play.specs.Streams.{outlets};
 ghost use Rattle.event_play.specs.Work.{IsWork};
 ghost use Rattle.capture_flat.specs.Flat.{flat_work};
 ghost use Rattle.capture_flat.specs.Out.{spell, head_due, flat_version};
-ghost use Rattle.capture_flat.specs.OneEvent.{PassesEvent, EndsEvent};
-ghost use Rattle.capture_flat.specs.Passing.{MayReadFault, MayWriteFault, IsEnding};
+ghost use Rattle.capture_flat.specs.OneEvent.{PassesEvent, EndsEvent, stage};
+ghost use Rattle.capture_flat.specs.Passing.{EndsWriting};
 
 use crate::allowed::allowed;
 use crate::count::count_work;
@@ -29,9 +28,9 @@ use vram_store::Steps;
 /// A written file has no more bytes.
 const LIMIT: u32 = 1 << 30;
 
-/// Plays one event, and then puts its records behind the file so far. Where it has a fault, or its records are too many,
-/// nothing is put or written.
-/// Playing touches the rig, the taps and the steps, and putting the file and the sink, so that each of them is handed in.
+/// Plays one event, and then puts its records behind the file so far. Where it has a fault, or its records are too
+/// many, nothing is put or written.
+/// Playing touches the rig, the taps and the steps, and putting the file and the sink, so that each is handed in.
 pub(crate) fn pass_event<K: Sink, T: Listener, L: Ledger>(
     rig: &mut Rig,
     event: &Event,
@@ -42,16 +41,17 @@ pub(crate) fn pass_event<K: Sink, T: Listener, L: Ledger>(
 ) -> Result<(), FlatEnding>
     requires version { draft.old.file.version ≤ 3 }
     requires size { draft.old.file.size ≤ 2 ^ 30 }
-    ensures ok { (t : Tale) → StandsFor rig.old t → OnOk result (PassesEvent draft.old draft.new t event.now
-        (outlets (K.held out.old) (K.faults out.old) (map T.heard taps.old.items) steps.old)
-        (outlets (K.held out.new) (K.faults out.new) (map T.heard taps.new.items) steps.new) rig.new) }
+    ensures ok { (t : Tale) → StandsFor rig.old t → OnOk result (PassesEvent t event.now
+        (stage draft.old (outlets (K.held out.old) (K.faults out.old) (map T.heard taps.old.items) steps.old) rig.old)
+        (stage draft.new (outlets (K.held out.new) (K.faults out.new) (map T.heard taps.new.items) steps.new)
+        rig.new)) }
     ensures few { OnOk result (draft.new.file.size + 4 ≤ 2 ^ 30) }
     ensures version { OnOk result (draft.new.file.version ≡ draft.old.file.version) }
-    ensures ends { (t : Tale) → StandsFor rig.old t → IfErr result (EndsEvent draft.old draft.new t event.now
-        (outlets (K.held out.old) (K.faults out.old) (map T.heard taps.old.items) steps.old)
-        (outlets (K.held out.new) (K.faults out.new) (map T.heard taps.new.items) steps.new) rig.old rig.new) }
-    ensures known { IfErr result (λ ending. IsEnding ending × (MayReadFault ending → ⊥)) }
-    ensures cause { IfErr result (λ ending. MayWriteFault ending → Rose (K.faults out.old) (K.faults out.new)) }
+    ensures ends { (t : Tale) → StandsFor rig.old t → IfErr result (EndsEvent t event.now
+        (stage draft.old (outlets (K.held out.old) (K.faults out.old) (map T.heard taps.old.items) steps.old) rig.old)
+        (stage draft.new (outlets (K.held out.new) (K.faults out.new) (map T.heard taps.new.items) steps.new)
+        rig.new)) }
+    ensures known { IfErr result (EndsWriting (K.faults out.old) (K.faults out.new)) }
     ensures faults { K.faults out.old ≤ K.faults out.new }
 {
     let played = rig.played();

@@ -1,9 +1,9 @@
 // A flat capture ends, behind what is gathered for it.
-ghost use Rattle.std.specs.Prelude.{◌≤◌, ◌⊎◌, ◌++◌};
+ghost use Rattle.std.specs.Prelude.{◌≤◌, ◌⊎◌};
 ghost use Rattle.dev_io.specs.Device.{Rose, Writes};
 ghost use Rattle.gpu_capture.specs.Reader.{IsReadFault};
-ghost use Rattle.gpu_capture.specs.Written.{spelled_end};
-ghost use Rattle.capture_flat.specs.OneEvent.{EndsAt, EndsBehind, EndsReading};
+ghost use Rattle.event_play.specs.Replay.{next_number};
+ghost use Rattle.capture_flat.specs.OneEvent.{Closes, EndsBehind, EndsReading, StopsAs, end_due, writing};
 ghost use Rattle.capture_flat.specs.Out.{head_due};
 ghost use Rattle.capture_flat.specs.Passing.{MayReadFault, MayWriteFault, IsEnding};
 
@@ -42,7 +42,7 @@ pub(crate) fn end_reading<K: Sink>(
     out: &mut K,
 ) -> FlatEnding
     requires { draft.old.file.version ≤ 3 }
-    ensures ends { EndsReading draft.old played stop (K.held out.old) (K.held out.new) result }
+    ensures ends { EndsReading played stop (writing draft.old (K.held out.old)) (K.held out.new) result }
     ensures known { IsEnding result }
     ensures stopped { MayReadFault result → IsReadFault stop }
     ensures cause { MayWriteFault result → Rose (K.faults out.old) (K.faults out.new) }
@@ -57,7 +57,8 @@ pub(crate) fn end_reading<K: Sink>(
 // Ends at a stop of the reader, behind so many events, where nothing is gathered.
 fn finish<K: Sink>(stop: Stop, version: u8, played: u64, out: &mut K) -> FlatEnding
     requires { version ≤ 3 }
-    ensures ends { EndsAt version played stop (K.held out.old) (K.held out.new) result }
+    ensures ends { StopsAs stop (next_number played) result }
+    ensures writes { Closes (end_due version played) (K.held out.old) (K.held out.new) result }
     ensures known { IsEnding result }
     ensures stopped { MayReadFault result → IsReadFault stop }
     ensures cause { MayWriteFault result → Rose (K.faults out.old) (K.faults out.new) }
@@ -76,7 +77,7 @@ fn finish<K: Sink>(stop: Stop, version: u8, played: u64, out: &mut K) -> FlatEnd
 // Writes what is due behind the last event.
 fn write_last<K: Sink>(out: &mut K, version: u8, played: u64) -> Result<(), Failed>
     requires { version ≤ 3 }
-    ensures { Writes K.held K.faults out.old out.new (head_due version played ++ spelled_end) result }
+    ensures { Writes K.held K.faults out.old out.new (end_due version played) result }
 {
     write_head(out, version, played)?;
     write_end(out)

@@ -23,11 +23,12 @@ use vram_store::Steps;
 const TALL_VERSION: u8 = 3;
 
 /// Plays a capture on a new rig, and writes the capture of its flat events: of version 3 where the capture's is 3, else
-/// of version 2. An event is played first, and then its records are judged and put behind those before. It takes no memory.
+/// of version 2. An event is played first, and then its records are judged and put behind those before. It takes no
+/// memory.
 ///
-/// Records are gathered, up to 4,096 bytes, and written together: where there is no room for one more, before a read that
-/// may have to wait, and before every ending. So a write that fails may show at a later event, and is still that of the
-/// event whose records lack a byte. At most 4,112 bytes of the capture are taken behind that event.
+/// Records are gathered, up to 4,096 bytes, and written together: where there is no room for one more, before a read
+/// that may have to wait, and before every ending. So a write that fails may show at a later event, and is still that
+/// of the event whose records lack a byte. At most 4,112 bytes of the capture are taken behind that event.
 ///
 /// After every ending all that was due before it stands. The head is due at the first event, or with the End record
 /// where there is none. After Done the file is whole: read as a capture it uses the ports alone, shows the same words,

@@ -7,7 +7,12 @@ use Rattle.capture_flat.proofs.count.count_nodes.Goals as goal
 pub nodes-init : goal.nodes-init
 nodes-init c =
     let all : c.args.limit - 0 ≡ c.args.limit = omega arith in
-    record { address = c.args.start; at = c.node_at-next.ensures.value; count = rw all (omega arith); few = omega arith }
+    record {
+      address = c.args.start;
+      at = c.node_at-next.ensures.value;
+      count = rw all (omega arith);
+      few = omega arith;
+    }
 
 pub returns-in-None-clause-value : goal.returns-in-None-clause-value
 returns-in-None-clause-value c =

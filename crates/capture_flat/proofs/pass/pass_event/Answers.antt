@@ -21,8 +21,8 @@ returns-then-after-gt-LIMIT-clause-ends g c = λ t e.
     e c.asked.ensures.unchanged (sym c.in-Ok.is ∙ c.asked.ensures.value)
     (c.in-Ok-event.ensures.stepped t.state mid.state) c.in-Ok-event.ensures.played
     c.ram-ram.ensures c.allowed.ensures in
-    let due = due_known c.args.draft.now.file.version t c.args.rig.now c.event.new.self c.args.event.now c.in-Ok.work _ _
-    c.played-played.result c.ram-ram.result.now
+    let due = due_known c.args.draft.now.file.version t c.args.rig.now c.event.new.self c.args.event.now c.in-Ok.work
+    _ _ c.played-played.result c.ram-ram.result.now
     e (sym c.in-Ok.is ∙ c.asked.ensures.value) plays c.played-played.ensures c.ram-ram.ensures in (
       number_is t _ c.played-played.result _ e c.played-played.ensures c.saturating_add-number.ensures,
       record {
@@ -41,8 +41,8 @@ returns-in-Ok-put_due-clause-ok g c = λ t e.
     e c.asked.ensures.unchanged (sym c.in-Ok.is ∙ c.asked.ensures.value)
     (c.in-Ok-event.ensures.stepped t.state mid.state) c.in-Ok-event.ensures.played
     c.ram-ram.ensures c.allowed.ensures in
-    let due = due_known c.args.draft.now.file.version t c.args.rig.now c.event.new.self c.args.event.now c.in-Ok.work _ _
-    c.played-played.result c.ram-ram.result.now
+    let due = due_known c.args.draft.now.file.version t c.args.rig.now c.event.new.self c.args.event.now c.in-Ok.work
+    _ _ c.played-played.result c.ram-ram.result.now
     e (sym c.in-Ok.is ∙ c.asked.ensures.value) plays c.played-played.ensures c.ram-ram.ensures in
     let number = ap next_number (c.played-played.ensures ∙ sym e.played) in
     record {
@@ -61,8 +61,8 @@ returns-in-Err-put_due-clause-ends g c = λ t e.
     e c.asked.ensures.unchanged (sym c.in-Ok.is ∙ c.asked.ensures.value)
     (c.in-Ok-event.ensures.stepped t.state mid.state) c.in-Ok-event.ensures.played
     c.ram-ram.ensures c.allowed.ensures in
-    let due = due_known c.args.draft.now.file.version t c.args.rig.now c.event.new.self c.args.event.now c.in-Ok.work _ _
-    c.played-played.result c.ram-ram.result.now
+    let due = due_known c.args.draft.now.file.version t c.args.rig.now c.event.new.self c.args.event.now c.in-Ok.work
+    _ _ c.played-played.result c.ram-ram.result.now
     e (sym c.in-Ok.is ∙ c.asked.ensures.value) plays c.played-played.ensures c.ram-ram.ensures in
     let number = ap next_number (c.played-played.ensures ∙ sym e.played) in
     record {

@@ -14,7 +14,8 @@ words-preserved g c =
     let event = Gp0 c.in-Some.word in
     record {
       done = at.done ++ event ∷ [];
-      are = at.are ∙ ap (λ words. at.done ++ map Gp0 words) c.in-Some.ensures ∙ sym (append_assoc at.done (event ∷ []) _);
+      are = at.are ∙ ap (λ words. at.done ++ map Gp0 words) c.in-Some.ensures
+          ∙ sym (append_assoc at.done (event ∷ []) _);
       put = rw (spell-append at.done (event ∷ [])) (put_on _ _ _ _ _ _ _ _ _ _ _ _ at.put c.in-Ok.ensures);
     }
 

@@ -6,4 +6,5 @@ returns-in-Ok-clause-ends g c = inl (
   g.K.Sink.held c.write.new.out,
   record { stands = c.in-Ok.ensures.ok },
   c.finish.ensures.ends,
+  c.finish.ensures.writes,
 )
