@@ -9,8 +9,8 @@ use Rattle.gpu_capture.proofs.Written.{word_length}
 use Rattle.gpu_capture.specs.declared.event.Event.{Event}
 use Rattle.capture_flat.specs.Out.{spell}
 use Rattle.capture_flat.proofs.Pieces.{spell-append, wrote_on}
-use Rattle.capture_slim.specs.File.{begun, head_due, head_at, due, IsFile, IsDraft, IsLacking, FailsIn, FailsNext}
-use Rattle.capture_slim.specs.File.{EndsTooLong}
+use Rattle.capture_slim.specs.File.{begun, head_due, head_at, due, IsFile, IsDraft, IsLacking, FailsNext}
+use Rattle.capture_slim.specs.File.{EndsTooLong, output_of}
 use Rattle.gathered_out.specs.Pieces.{AreOut, BreaksOff, Piece, bytes_of}
 use Rattle.gathered_out.proofs.Pieces.{all_out, breaks_all}
 use Rattle.capture_slim.specs.Places.{kept_of}
@@ -18,7 +18,7 @@ use Rattle.capture_slim.specs.declared.ending.SlimEnding.{SlimEnding}
 use Rattle.capture_slim.specs.declared.ending.SlimEnding.TheVariants.{Done, Stopped, NotFlat, TooLong, WriteFailed}
 use Rattle.capture_slim.specs.declared.file.Draft.{Draft}
 use Rattle.capture_slim.specs.declared.file.SlimFile.{SlimFile}
-use Rattle.capture_slim.proofs.Rests.{kept_append}
+use Rattle.capture_slim.proofs.Rests.{fails_wider, kept_append}
 
 -- ---- the head
 
@@ -131,21 +131,6 @@ breaks_last pieces p held now number off =
           inr (off.number_is ∙ ap (λ (q : Piece). q.number) u.1, subst Q u.1 (subst P u.0 off.stands))
     ]
 
--- ---- events in their places
-
-pub fails_wider : (version : ℕ) (base held : Option (List ℕ)) (outs more : List (Option Event)) (number : ℕ)
-    (ending : SlimEnding)
-    → FailsIn version base held outs number ending → FailsIn version base held (outs ++ more) number ending
-fails_wider version base held outs more number ending fails = record {
-  earlier = fails.earlier;
-  event = fails.event;
-  later = fails.later ++ more;
-  are = ap (λ (os : List (Option Event)). os ++ more) fails.are
-      ∙ append_assoc fails.earlier (Some fails.event ∷ fails.later) more;
-  number_is = fails.number_is;
-  fails = fails.fails;
-}
-
 -- ---- what is gathered
 
 abbrev draft_of : SlimFile → List Piece → Draft
@@ -187,64 +172,65 @@ passed_draft draft base held outs none is are =
     record {
       file_is = subst P (sym same) is.file_is;
       lacks = λ now number off.
-          fails_wider draft.file.version base now outs none number (WriteFailed number) (is.lacks now number off);
+          fails_wider (output_of draft base now) outs none number (WriteFailed number) (is.lacks now number off);
     }
 
 -- ---- one record more
 
-module _ (file : SlimFile) (pieces : List Piece) (base held : Option (List ℕ)) (outs : List (Option Event)) (e : Event)
-    (number after : ℕ)
-    (is : IsDraft (draft_of file pieces) base held outs) (at : number ≡ length outs + 1)
-    (after_is : after ≡ file.size + length (due file e)) where
+module _ (draft : Draft) (base held : Option (List ℕ)) (outs : List (Option Event)) (is : IsDraft draft base held outs)
+    (e : Event) (number after : ℕ) (at : number ≡ length outs + 1)
+    (after_is : after ≡ draft.file.size + length (due draft.file e)) where
   abbrev kept : List Event
   kept = kept_of outs
 
+  abbrev version : ℕ
+  version = draft.file.version
+
   abbrev piece : Piece
-  piece = record { number = number; bytes = due file e }
+  piece = record { number = number; bytes = due draft.file e }
+
+  abbrev pieces : List Piece
+  pieces = draft.gathered ++ piece ∷ []
 
   abbrev new_file : SlimFile
-  new_file = record { version = file.version; size = after }
+  new_file = record { version = version; size = after }
 
-  record_lacks : (now : Option (List ℕ)) → after + 4 ≤ limit → AppendsPart (appended held (bytes_of pieces)) now
-      (due file e)
-      → IsLacking file.version base now kept e
+  due_is : due draft.file e ≡ head_due version kept ++ spelled e
+  due_is = due_same draft.file base (appended held (bytes_of draft.gathered)) kept e is.file_is
+
+  size_is : draft.file.size + length (due draft.file e) ≡ length (begun version (kept ++ e ∷ []))
+  size_is = size_more draft.file base (appended held (bytes_of draft.gathered)) kept e is.file_is
+
+  record_lacks : (now : Option (List ℕ)) → after + 4 ≤ limit
+      → AppendsPart (appended held (bytes_of draft.gathered)) now (due draft.file e)
+      → IsLacking (output_of draft base now) kept e
   record_lacks now fits part =
-      let P : Option (List ℕ) → Type 0 = λ mid. AppendsPart mid now (head_due file.version kept ++ spelled e) in
-      let Q : List ℕ → Type 0 = λ bytes. AppendsPart (appended held (bytes_of pieces)) now bytes in
+      let P : Option (List ℕ) → Type 0 = λ mid. AppendsPart mid now (head_due version kept ++ spelled e) in
+      let Q : List ℕ → Type 0 = λ bytes. AppendsPart (appended held (bytes_of draft.gathered)) now bytes in
       record {
-        stands = subst P is.file_is.stands
-            (subst Q (due_same file base (appended held (bytes_of pieces)) kept e is.file_is) part);
-        fits = omega (
-          arith,
-          fits,
-          after_is,
-          size_more file base (appended held (bytes_of pieces)) kept e is.file_is,
-          written_more file.version kept e,
-        );
+        stands = subst P is.file_is.stands (subst Q due_is part);
+        fits = omega (arith, fits, after_is, size_is, written_more version kept e);
       }
 
-  record_file : after + 4 ≤ limit → IsFile new_file base (appended held (bytes_of (pieces ++ piece ∷ [])))
-      (kept ++ e ∷ [])
+  record_file : after + 4 ≤ limit → IsFile new_file base (appended held (bytes_of pieces)) (kept ++ e ∷ [])
   record_file fits = record {
-    stands = ap (appended held) (bytes_more pieces piece)
-        ∙ wrote_on base (appended held (bytes_of pieces)) _ (begun file.version kept) (due file e) is.file_is.stands
-        (sym (appended-appended held (bytes_of pieces) (due file e)))
-        ∙ ap (λ bytes. appended base (begun file.version kept ++ bytes))
-        (due_same file base (appended held (bytes_of pieces)) kept e is.file_is)
-        ∙ ap (appended base) (sym (begun_more file.version kept e));
-    size_is = after_is ∙ size_more file base (appended held (bytes_of pieces)) kept e is.file_is;
+    stands = ap (appended held) (bytes_more draft.gathered piece)
+        ∙ wrote_on base (appended held (bytes_of draft.gathered)) _ (begun version kept) (due draft.file e)
+        is.file_is.stands (sym (appended-appended held (bytes_of draft.gathered) (due draft.file e)))
+        ∙ ap (λ bytes. appended base (begun version kept ++ bytes)) due_is
+        ∙ ap (appended base) (sym (begun_more version kept e));
+    size_is = after_is ∙ size_is;
     fits = fits;
   }
 
-  pub added_draft : after + 4 ≤ limit → IsDraft (draft_of new_file (pieces ++ piece ∷ [])) base held
-      (outs ++ Some e ∷ [])
+  pub added_draft : after + 4 ≤ limit → IsDraft (draft_of new_file pieces) base held (outs ++ Some e ∷ [])
   added_draft fits =
-      let P : List Event → Type 0 = λ es. IsFile new_file base (appended held (bytes_of (pieces ++ piece ∷ []))) es in
+      let P : List Event → Type 0 = λ es. IsFile new_file base (appended held (bytes_of pieces)) es in
       record {
         file_is = subst P (sym (kept_append outs (Some e ∷ []))) (record_file fits);
         lacks = λ now n off.
-            elim (breaks_last pieces piece held now n off) [
-              | inl before ↦ fails_wider file.version base now outs (Some e ∷ []) n (WriteFailed n)
+            elim (breaks_last draft.gathered piece held now n off) [
+              | inl before ↦ fails_wider (output_of draft base now) outs (Some e ∷ []) n (WriteFailed n)
                   (is.lacks now n before)
               | inr last ↦ record {
                 earlier = outs;
@@ -258,21 +244,13 @@ module _ (file : SlimFile) (pieces : List Piece) (base held : Option (List ℕ))
       }
 
   pub long_ends : (now : Option (List ℕ)) (ending : SlimEnding) → limit < after + 4
-      → EndsTooLong pieces held now number ending
-      → FailsNext file.version base now outs e ending
+      → EndsTooLong draft.gathered held now number ending → FailsNext (output_of draft base now) outs e ending
   long_ends now (TooLong n) long ends = (
     ends.0 ∙ at,
     record {
       stands = ends.1 ∙ is.file_is.stands;
       fits = omega (arith, is.file_is.fits, is.file_is.size_is);
-      long = omega (
-        arith,
-        long,
-        after_is,
-        size_more file base (appended held (bytes_of pieces)) kept e is.file_is,
-        written_more
-            file.version kept e,
-      );
+      long = omega (arith, long, after_is, size_is, written_more version kept e);
     },
   )
   long_ends now (WriteFailed n) long ends = is.lacks now n ends

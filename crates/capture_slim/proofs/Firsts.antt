@@ -1,35 +1,38 @@
 -- What stays of the first events, by what left the window.
-use Rattle.std.proofs.Common.{◌≡◌, ◌≤◌, ◌+◌, ◌++◌, ◌&&◌, ltb, ℕ, suc, List, [], ◌∷◌, Option, None, Some, Bool, true}
-use Rattle.std.proofs.Common.{false, cond, take, length, length-append, refl, ap, sym, ◌∙◌, append_assoc, append-nil}
-use Rattle.std.proofs.Common.{subst, arith, inl, inr}
+use Rattle.std.proofs.Common.{◌≡◌, ◌≤◌, ◌+◌, ◌-◌, ◌++◌, ◌&&◌, ltb, ℕ, suc, List, [], ◌∷◌, Option, None, Some, Bool}
+use Rattle.std.proofs.Common.{true, false, cond, take, length, length-append, refl, ap, sym, ◌∙◌, append_assoc}
+use Rattle.std.proofs.Common.{append-nil, subst, arith, inl, inr}
 use Rattle.std.proofs.Math.Seq.{take-append-add}
 use Rattle.std.proofs.lemmas.Bool.{ltb-false}
 use Rattle.dev_io.specs.Device.{appended, AppendsPart}
 use Rattle.px_num.specs.declared.shape.Box2.{Box2}
+use Rattle.gpu_capture.specs.Capture.{limit}
 use Rattle.gpu_capture.specs.Written.{spelled_end, HoldsWords}
 use Rattle.gpu_capture.specs.declared.event.Event.{Event}
 use Rattle.gpu_capture.specs.declared.event.Stop.{Stop}
 use Rattle.capture_flat.proofs.Pieces.{wrote_on}
 use Rattle.gpu_capture.specs.declared.event.Event.TheVariants as event
-use Rattle.event_play.specs.Ports.{IsAtPorts, AreAtPorts}
+use Rattle.event_play.specs.Ports.{IsAtPorts}
 use Rattle.dead_drawing.specs.Dead.{is_droppable}
-use Rattle.dead_drawing.specs.Slim.{slim_events}
-use Rattle.capture_slim.specs.Came.{Came, ClosesFile, EndsPushed, EndsRefused, EndsStop, HoldWords, IsAll, FailsAny}
-use Rattle.capture_slim.specs.Came.{FailsLast}
-use Rattle.capture_slim.specs.File.{begun, head_due, IsDraft, IsFile, Fails, FailsIn, FailsNext, FailsRest}
-use Rattle.capture_slim.specs.Passing.{FailsAt}
+use Rattle.dead_drawing.specs.Laws.{height_for}
+use Rattle.dead_drawing.proofs.PacketLaw.{ports_append}
+use Rattle.capture_slim.specs.Came.{Came, ClosesFile, EndsPushed, EndsRefused, EndsStop, FailsAny, FailsLast, HoldWords}
+use Rattle.capture_slim.specs.Came.{StopsAs, and_event, window_for}
+use Rattle.capture_slim.specs.File.{begun, head_at, head_due, IsDraft, IsFile, IsTooMuch, Fails, FailsIn, FailsNext}
+use Rattle.capture_slim.specs.File.{FailsRest, Output, output_of}
+use Rattle.capture_slim.specs.Passing.{FailsAt, Passed, WritesAll, output_to, slim_file, slim_of}
 use Rattle.capture_slim.specs.Places.{kept_of, places}
 use Rattle.capture_slim.specs.Stream.{outs, window_behind, leaving, leaving_from, staying, staying_from}
 use Rattle.capture_slim.specs.Window.{Window, kept, kept_words, taken_up, with_event, with_word, added, heeded, pushed}
-use Rattle.capture_slim.specs.Window.{first_window, all_left, left_of, waiting}
+use Rattle.capture_slim.specs.Window.{all_left, left_of, waiting}
 use Rattle.capture_slim.specs.declared.ending.SlimEnding.{SlimEnding}
 use Rattle.capture_slim.specs.declared.ending.SlimEnding.TheVariants.{Done, Stopped, NotFlat, TooLong, WriteFailed}
 use Rattle.capture_slim.specs.declared.file.Draft.{Draft}
 use Rattle.capture_slim.specs.declared.file.SlimFile.{SlimFile}
 use Rattle.capture_slim.specs.declared.queue.Queue.{Queue}
 use Rattle.capture_slim.specs.declared.slot.Slot.{Slot}
-use Rattle.capture_slim.proofs.Files.{head_same, begun_end, fails_wider, written_most}
-use Rattle.capture_slim.proofs.Rests.{kept_append, left_long}
+use Rattle.capture_slim.proofs.Files.{head_same, begun_end, written_most}
+use Rattle.capture_slim.proofs.Rests.{fails_wider, kept_append, left_long}
 use Rattle.capture_slim.proofs.StreamLaw.{stream_law, leaves_law, places_law}
 use Rattle.capture_slim.proofs.WindowLemmas.{kept_long, judged_long, settled_long}
 
@@ -145,16 +148,15 @@ placed all xs more e are =
     }
 
 -- the record of an event in its place would be too much, or was not written
-pub fails_at : (height version : ℕ) (events : List Event) (outs : Outs) (number : ℕ) (base held : Option (List ℕ))
-    (ending : SlimEnding)
-    → places height events ≡ outs → FailsIn version base held outs number ending
-    → FailsAt height version events number base held ending
-fails_at height version events outs number base held ending is fails =
-    let all = places height events in
+pub fails_at : (passed : Passed) (held : Option (List ℕ)) (outs : Outs) (number : ℕ) (ending : SlimEnding)
+    → places (height_for passed.version) passed.events ≡ outs → FailsIn (output_to passed held) outs number ending
+    → FailsAt passed held number ending
+fails_at passed held outs number ending is fails =
+    let all = places (height_for passed.version) passed.events in
     let xs = fails.earlier in
     let e = fails.event in
     let place = placed all xs fails.later e (is ∙ fails.are) in
-    let Q : List Event → Type 0 = λ es. Fails version base held es e number ending in
+    let Q : List Event → Type 0 = λ es. Fails (output_to passed held) es e number ending in
     record {
       earlier = length xs;
       number_is = fails.number_is;
@@ -164,63 +166,74 @@ fails_at height version events outs number base held ending is fails =
       fails = subst Q (sym place.before) fails.fails;
     }
 
-pub fails_among : (version : ℕ) (base held : Option (List ℕ)) (outs : Outs) (number : ℕ) (ending : SlimEnding)
-    → FailsIn version base held outs number ending → number ≤ length outs
-fails_among version base held outs number ending fails =
+pub fails_among : (output : Output) (outs : Outs) (number : ℕ) (ending : SlimEnding)
+    → FailsIn output outs number ending → number ≤ length outs
+fails_among output outs number ending fails =
     omega (arith, fails.number_is, ap length fails.are, length-append fails.earlier (Some fails.event ∷ fails.later))
 
 -- ---- the end
 
-module _ (height : ℕ) (events : List Event) (window : Window) (draft : Draft) (count : ℕ) (base held : Option (List ℕ))
-    (came : Came height events window draft count base held) where
-  abbrev gone : Outs
-  gone = outs events (first_window height)
+-- a file as one of this version
+abbrev pub of_version : ℕ → SlimFile → SlimFile
+of_version version file = record { version = version; size = file.size }
 
-  pub all_places : places height events ≡ gone ++ all_left (waiting window)
-  all_places = stream_law height events ∙ ap (λ (w : Window). gone ++ all_left (waiting w)) (sym came.window_is)
+module _ (passed : Passed) (window : Window) (draft : Draft) (count : ℕ) (held : Option (List ℕ))
+    (came : Came passed window draft count held) where
+  abbrev pub gone : Outs
+  gone = outs passed.events (window_for passed)
 
-  slim_is : kept_of (gone ++ all_left (waiting window)) ≡ slim_events height events
-  slim_is = ap kept_of (sym all_places) ∙ places_law height events
+  abbrev slim : List Event
+  slim = slim_of passed.version passed.events
+
+  abbrev rest : Outs
+  rest = all_left (waiting window)
+
+  pub all_places : places (height_for passed.version) passed.events ≡ gone ++ rest
+  all_places = stream_law (height_for passed.version) passed.events
+      ∙ ap (λ (w : Window). gone ++ all_left (waiting w)) (sym came.window_is)
+
+  slim_is : kept_of (gone ++ rest) ≡ slim
+  slim_is = ap kept_of (sym all_places) ∙ places_law (height_for passed.version) passed.events
 
   pub counted : length gone + length (waiting window) ≡ count
   counted = omega
-      (arith, waiting_size window, counts events (first_window height), ap size came.window_is, came.count_is)
+      (arith, waiting_size window, counts passed.events (window_for passed), ap size came.window_is, came.count_is)
 
-  all_long : length (gone ++ all_left (waiting window)) ≡ length events
-  all_long = omega
-      (arith, length-append gone (all_left (waiting window)), left_long (waiting window), counted, came.count_is)
+  all_long : length (gone ++ rest) ≡ length passed.events
+  all_long = omega (arith, length-append gone rest, left_long (waiting window), counted, came.count_is)
 
   pub events_count : count ≡ length gone + length (waiting window)
   events_count = omega (arith, counted)
 
+  output_is : (now : Option (List ℕ)) → output_of draft passed.base now ≡ output_to passed now
+  output_is now = ap (λ v. output_to (record passed { version = v }) now) came.version_is
+
   rest_long : (now : Option (List ℕ)) (at : ℕ) → length (waiting window) ≤ 4096
-      → FailsRest draft.file.version base now gone (all_left (waiting window)) (TooLong at)
-      → FailsLast height draft.file.version events at base now (TooLong at)
+      → FailsRest (output_of draft passed.base now) gone rest (TooLong at) → FailsLast passed now at (TooLong at)
   rest_long now at most fails =
-      let all = gone ++ all_left (waiting window) in
-      let among = fails_among draft.file.version base now all at (TooLong at) fails.1 in
+      let known = subst (λ (o : Output). FailsIn o (gone ++ rest) at (TooLong at)) (output_is now) fails.1 in
+      let among = fails_among (output_to passed now) (gone ++ rest) at (TooLong at) known in
       record {
         last = record {
           some = omega (arith, among, all_long);
           late = omega (arith, fails.0, counted, came.count_is, most);
         };
-        fails = fails_at height draft.file.version events all at base now (TooLong at) all_places fails.1;
+        fails = fails_at passed now (gone ++ rest) at (TooLong at) all_places known;
       }
 
   rest_lacks : (now : Option (List ℕ)) (at : ℕ)
-      → FailsRest draft.file.version base now gone (all_left (waiting window)) (WriteFailed at)
-      → FailsAny height draft.file.version events at base now (WriteFailed at)
+      → FailsRest (output_of draft passed.base now) gone rest (WriteFailed at)
+      → FailsAny passed now at (WriteFailed at)
   rest_lacks now at fails =
-      let all = gone ++ all_left (waiting window) in
-      let among = fails_among draft.file.version base now all at (WriteFailed at) fails in
+      let known = subst (λ (o : Output). FailsIn o (gone ++ rest) at (WriteFailed at)) (output_is now) fails in
+      let among = fails_among (output_to passed now) (gone ++ rest) at (WriteFailed at) known in
       record {
         some = omega (arith, among, all_long);
-        fails = fails_at height draft.file.version events all at base now (WriteFailed at) all_places fails;
+        fails = fails_at passed now (gone ++ rest) at (WriteFailed at) all_places known;
       }
 
   pub rest_refused : (now : Option (List ℕ)) (ending : SlimEnding) → length (waiting window) ≤ 4096
-      → FailsRest draft.file.version base now gone (all_left (waiting window)) ending
-      → EndsRefused height draft.file.version events base now ending
+      → FailsRest (output_of draft passed.base now) gone rest ending → EndsRefused passed now ending
   rest_refused now (TooLong at) most fails = rest_long now at most fails
   rest_refused now (WriteFailed at) most fails = rest_lacks now at fails
   rest_refused now Done most fails = absurd fails
@@ -228,59 +241,96 @@ module _ (height : ℕ) (events : List Event) (window : Window) (draft : Draft) 
   rest_refused now (NotFlat at) most fails = absurd fails
 
   pub rest_stopped : (stop : Stop) (now : Option (List ℕ)) (ending : SlimEnding) → length (waiting window) ≤ 4096
-      → FailsRest draft.file.version base now gone (all_left (waiting window)) ending
-      → EndsStop height draft.file.version events stop base now ending
+      → FailsRest (output_of draft passed.base now) gone rest ending → EndsStop passed stop now ending
   rest_stopped stop now (TooLong at) most fails = rest_long now at most fails
   rest_stopped stop now (WriteFailed at) most fails = inl (rest_lacks now at fails)
   rest_stopped stop now Done most fails = absurd fails
   rest_stopped stop now (Stopped at told) most fails = absurd fails
   rest_stopped stop now (NotFlat at) most fails = absurd fails
 
-  -- all was written
-  pub rest_file : (file : SlimFile) (now : Option (List ℕ))
-      → IsFile file base now (kept_of (gone ++ all_left (waiting window)))
-      → IsFile file base now (slim_events height events)
-  rest_file file now is = let P : List Event → Type 0 = λ es. IsFile file base now es in subst P slim_is is
+  -- all was written, to a file of the same version
+  module _ (file : SlimFile) (mid : Option (List ℕ)) (same : file.version ≡ draft.file.version)
+      (is : IsFile file passed.base mid (kept_of (gone ++ rest))) where
+    version_is : file.version ≡ passed.version
+    version_is = same ∙ came.version_is
 
-  pub rest_all : (file : SlimFile) (now : Option (List ℕ)) (number : ℕ)
-      → IsFile file base now (kept_of (gone ++ all_left (waiting window)))
-      → number ≡ count + 1
-      → IsAll height file.version events number base now
-  rest_all file now number is at =
-      let file_is = rest_file file now is in
-      record {
-        number_is = at ∙ ap (λ n. n + 1) came.count_is;
-        stands = file_is.stands;
-        fits = written_most file.version (slim_events height events) (omega (arith, file_is.fits, file_is.size_is));
-      }
+    file_is : IsFile (of_version passed.version file) passed.base mid slim
+    file_is =
+        let P : List Event → Type 0 = λ es. IsFile file passed.base mid es in
+        let Q : ℕ → Type 0 = λ v. IsFile (of_version v file) passed.base mid slim in
+        subst Q version_is (subst P slim_is is)
+
+    fits : length (slim_file passed.version passed.events) ≤ limit
+    fits = written_most passed.version slim (omega (arith, file_is.fits, file_is.size_is))
+
+    pub rest_all : WritesAll passed mid (count + 1)
+    rest_all = record { number_is = ap (λ n. n + 1) came.count_is; stands = file_is.stands; fits = fits }
+
+    head_is : head_at (of_version passed.version file) ≡ head_due passed.version slim
+    head_is = head_same (of_version passed.version file) passed.base mid slim file_is
+
+    closed_as : (stop : Stop) (now : Option (List ℕ)) (ending : SlimEnding) → StopsAs stop (count + 1) ending
+        → ClosesFile (of_version passed.version file) mid now ending → EndsStop passed stop now ending
+    closed_as stop now Done stops ends = (
+      stops,
+      wrote_on passed.base mid now (begun passed.version slim) _ file_is.stands ends
+          ∙ ap (λ bytes. appended passed.base (begun passed.version slim ++ (bytes ++ spelled_end))) head_is
+          ∙ ap (appended passed.base) (begun_end passed.version slim),
+      fits,
+    )
+    closed_as stop now (Stopped at told) stops ends = (
+      stops.1,
+      stops.2,
+      record { number_is = stops.0 ∙ rest_all.number_is; stands = ends ∙ file_is.stands; fits = fits },
+    )
+    closed_as stop now (WriteFailed at) stops ends =
+        let P : Option (List ℕ) → Type 0 = λ m. AppendsPart m now (head_due passed.version slim ++ spelled_end) in
+        let Q : List ℕ → Type 0 = λ bytes. AppendsPart mid now (bytes ++ spelled_end) in
+        inr (
+          stops.1,
+          record {
+            number_is = stops.0 ∙ rest_all.number_is;
+            stands = subst P file_is.stands (subst Q head_is ends);
+            fits = fits;
+          },
+        )
+    closed_as stop now (TooLong at) stops ends = absurd stops
+    closed_as stop now (NotFlat at) stops ends = absurd stops
+
+    -- and it is closed
+    pub closes : (stop : Stop) (now : Option (List ℕ)) (ending : SlimEnding) → StopsAs stop (count + 1) ending
+        → ClosesFile file mid now ending → EndsStop passed stop now ending
+    closes stop now ending stops ends =
+        let P : ℕ → Type 0 = λ v. ClosesFile (of_version v file) mid now ending in
+        closed_as stop now ending stops (subst P version_is ends)
 
   -- ---- an event of the ports comes
 
   module _ (e : Event) (next : Window) (next_is : next ≡ staying (pushed window e)) (port : IsAtPorts e)
       (holds : HoldsWords e) where
-    ports_more : (es : List Event) → AreAtPorts es → AreAtPorts (es ++ e ∷ [])
-    ports_more [] are = (port, tt)
-    ports_more (x ∷ es) are = (are.0, ports_more es are.1)
-
     words_more : (es : List Event) → HoldWords es → HoldWords (es ++ e ∷ [])
     words_more [] hold = (holds, tt)
     words_more (x ∷ es) hold = (hold.0, words_more es hold.1)
 
-    now_is : next ≡ window_behind (events ++ e ∷ []) (first_window height)
-    now_is = next_is ∙ ap (λ w. staying (pushed w e)) came.window_is ∙ sym (behind_more events e (first_window height))
+    now_is : next ≡ window_behind (passed.events ++ e ∷ []) (window_for passed)
+    now_is = next_is ∙ ap (λ w. staying (pushed w e)) came.window_is
+        ∙ sym (behind_more passed.events e (window_for passed))
 
-    outs_now : outs (events ++ e ∷ []) (first_window height) ≡ gone ++ leaving (pushed window e)
-    outs_now = outs_more events e (first_window height) ∙ ap (λ w. gone ++ leaving (pushed w e)) (sym came.window_is)
+    outs_now : outs (passed.events ++ e ∷ []) (window_for passed) ≡ gone ++ leaving (pushed window e)
+    outs_now = outs_more passed.events e (window_for passed)
+        ∙ ap (λ w. gone ++ leaving (pushed w e)) (sym came.window_is)
 
-    pub comes : (new : Draft) (now : Option (List ℕ)) → IsDraft new base now (gone ++ leaving (pushed window e))
-        → Came height (events ++ e ∷ []) next new (count + 1) base now
-    comes new now is =
-        let P : Outs → Type 0 = λ os. IsDraft new base now os in
+    pub comes : (new : Draft) (now : Option (List ℕ)) → new.file.version ≡ draft.file.version
+        → IsDraft new passed.base now (gone ++ leaving (pushed window e))
+        → Came (and_event passed e) next new (count + 1) now
+    comes new now same is =
+        let P : Outs → Type 0 = λ os. IsDraft new passed.base now os in
         record {
-          ports = ports_more events came.ports;
-          words = words_more events came.words;
+          ports = ports_append passed.events (e ∷ []) came.ports (port, tt);
+          words = words_more passed.events came.words;
+          version_is = same ∙ came.version_is;
           window_is = now_is;
-          count_is = omega (arith, came.count_is, length-append events (e ∷ []));
+          count_is = omega (arith, came.count_is, length-append passed.events (e ∷ []));
           draft_is = subst P (sym outs_now) is;
         }
 
@@ -301,115 +351,74 @@ module _ (height : ℕ) (events : List Event) (window : Window) (draft : Draft) 
         by_test false e is = (one_out (left_of s.event s.mark) is, ltb-false _ _ e)
 
     -- one leaves, and stays
-    module _ (left : Event) (number : ℕ) (is : left ∷ [] ≡ kept_of (leaving (pushed window e)))
-        (at : number + size next ≡ count + 1) (most : size next ≤ 4096) where
-      leaves : (leaving (pushed window e) ≡ Some left ∷ []) × (4096 ≤ size next)
+    module _ (left : Event) (len : ℕ) (is : left ∷ [] ≡ kept_of (leaving (pushed window e))) (len_is : len ≡ size next)
+        (most : len ≤ 4096) where
+      leaves : (leaving (pushed window e) ≡ Some left ∷ []) × (4096 ≤ len)
       leaves =
           let p = pushed window e in
           let one = one_leaves p.slots p.words left is in
-          (one.0, omega (arith, one.1, ap size next_is))
+          (one.0, omega (arith, one.1, ap size next_is, len_is))
 
       pub leaves_one : leaving (pushed window e) ≡ Some left ∷ []
       leaves_one = leaves.0
 
-      pub number_is : number ≡ length gone + 1
+      pub number_is : count + 1 - len ≡ length gone + 1
       number_is =
           let p = pushed window e in
           omega (
             arith,
-            at,
             most,
             leaves.1,
+            len_is,
             ap size next_is,
             counted,
             waiting_size window,
             pushed_size window e,
-            ap
-                length leaves.0,
+            ap length leaves.0,
             leaves_size p.slots p.words,
           )
 
-      next_places : (later : Outs) × (places height (events ++ e ∷ []) ≡ gone ++ Some left ∷ later)
+      next_places : (later : Outs)
+          × (places (height_for passed.version) (passed.events ++ e ∷ []) ≡ gone ++ Some left ∷ later)
       next_places =
-          let all = leaves_law height (events ++ e ∷ []) [] in (
+          let height = height_for passed.version in
+          let all = leaves_law height (passed.events ++ e ∷ []) [] in (
             all.0,
-            ap (places height) (sym (append-nil (events ++ e ∷ []))) ∙ all.1
+            ap (places height) (sym (append-nil (passed.events ++ e ∷ []))) ∙ all.1
                 ∙ ap (λ os. os ++ all.0) (outs_now ∙ ap (λ os. gone ++ os) leaves.0)
                 ∙ append_assoc gone (Some left ∷ []) all.0,
           )
 
+      -- all events up to now but those that wait, as many as the window has
+      count_now : length gone + 1 + 4096 ≡ length (passed.events ++ e ∷ [])
+      count_now = omega (arith, number_is, most, leaves.1, came.count_is, length-append passed.events (e ∷ []))
+
       -- its record would be too much, or one before it was not written
       pub now_fails : (now : Option (List ℕ)) (ending : SlimEnding)
-          → FailsNext draft.file.version base now gone left ending
-          → EndsPushed height draft.file.version (events ++ e ∷ []) base now ending
-      now_fails now (TooLong n) fails = record {
-        due = omega (arith, fails.0, number_is, at, most, leaves.1, came.count_is, length-append events (e ∷ []));
-        fails = fails_at height draft.file.version (events ++ e ∷ []) (gone ++ Some left ∷ next_places.0) n base now
-            (TooLong n) next_places.1
-            (record {
-              earlier = gone;
-              event = left;
-              later = next_places.0;
-              are = refl;
-              number_is = fails.0;
-              fails = (refl, fails.1);
-            });
-      }
-      now_fails now (WriteFailed n) fails = record {
-        due = omega (
-          arith,
-          fails_among draft.file.version base now gone n (WriteFailed n) fails,
-          number_is,
-          at,
-          leaves.1,
-          came.count_is,
-          length-append events (e ∷ []),
-        );
-        fails = fails_at height draft.file.version (events ++ e ∷ []) (gone ++ Some left ∷ next_places.0) n base now
-            (WriteFailed n) next_places.1
-            (fails_wider draft.file.version base now gone (Some left ∷ next_places.0) n (WriteFailed n) fails);
-      }
+          → FailsNext (output_of draft passed.base now) gone left ending
+          → EndsPushed (and_event passed e) now ending
+      now_fails now (TooLong n) fails =
+          let known = subst (λ (o : Output). IsTooMuch o (kept_of gone) left) (output_is now) fails.1 in
+          record {
+            due = omega (arith, fails.0, count_now);
+            fails = fails_at (and_event passed e) now (gone ++ Some left ∷ next_places.0) n (TooLong n) next_places.1
+                (record {
+                  earlier = gone;
+                  event = left;
+                  later = next_places.0;
+                  are = refl;
+                  number_is = fails.0;
+                  fails = (refl, known);
+                });
+          }
+      now_fails now (WriteFailed n) fails =
+          let known = subst (λ (o : Output). FailsIn o gone n (WriteFailed n)) (output_is now) fails in
+          record {
+            due = omega (arith, fails_among (output_to passed now) gone n (WriteFailed n) known, count_now);
+            fails = fails_at (and_event passed e) now (gone ++ Some left ∷ next_places.0) n (WriteFailed n)
+                next_places.1
+                (fails_wider (output_to passed now) gone (Some left ∷ next_places.0) n (WriteFailed n) known);
+          }
       now_fails now Done fails = absurd fails
       now_fails now (Stopped n stop) fails = absurd fails
       now_fails now (NotFlat n) fails = absurd fails
-
--- ---- endings
-
--- all that stays was written, and the file is closed
-pub closes : (height : ℕ) (file : SlimFile) (events : List Event) (stop : Stop) (number : ℕ)
-    (base mid now : Option (List ℕ)) (ending : SlimEnding)
-    → IsFile file base mid (slim_events height events) → number ≡ length events + 1
-    → ClosesFile file stop number mid now ending
-    → EndsStop height file.version events stop base now ending
-closes height file events stop number base mid now Done is at ends =
-    let all = slim_events height events in (
-      ends.0,
-      wrote_on base mid now (begun file.version all) _ is.stands ends.1
-          ∙ ap (λ bytes. appended base (begun file.version all ++ (bytes ++ spelled_end)))
-          (head_same file base mid all is)
-          ∙ ap (appended base) (begun_end file.version all),
-      written_most file.version all (omega (arith, is.fits, is.size_is)),
-    )
-closes height file events stop number base mid now (Stopped at told) is counted ends = (
-  ends.1,
-  ends.2,
-  record {
-    number_is = ends.0 ∙ counted;
-    stands = ends.3 ∙ is.stands;
-    fits = written_most file.version (slim_events height events) (omega (arith, is.fits, is.size_is));
-  },
-)
-closes height file events stop number base mid now (WriteFailed at) is counted ends =
-    let all = slim_events height events in
-    let P : Option (List ℕ) → Type 0 = λ m. AppendsPart m now (head_due file.version all ++ spelled_end) in
-    let Q : List ℕ → Type 0 = λ bytes. AppendsPart mid now (bytes ++ spelled_end) in
-    inr (
-      ends.1,
-      record {
-        number_is = ends.0 ∙ counted;
-        stands = subst P is.stands (subst Q (head_same file base mid all is) ends.2);
-        fits = written_most file.version all (omega (arith, is.fits, is.size_is));
-      },
-    )
-closes height file events stop number base mid now (TooLong at) is counted ends = absurd ends
-closes height file events stop number base mid now (NotFlat at) is counted ends = absurd ends

@@ -1,8 +1,8 @@
 -- Slots that are written, one after another.
-use Rattle.std.proofs.Common.{◌≡◌, ◌<◌, ◌≤◌, ◌+◌, ◌++◌, ℕ, suc, List, [], ◌∷◌, Option, None, Some, drop, take, length}
-use Rattle.std.proofs.Common.{length-append, refl, ap, sym, subst, ◌∙◌, append_assoc, append-nil, arith}
+use Rattle.std.proofs.Common.{◌≡◌, ◌<◌, ◌≤◌, ◌+◌, ◌++◌, suc, List, [], ◌∷◌, Option, None, Some, drop, take, length}
+use Rattle.std.proofs.Common.{ℕ, length-append, refl, ap, sym, subst, ◌∙◌, append_assoc, append-nil, arith}
 use Rattle.gpu_capture.specs.declared.event.Event.{Event}
-use Rattle.capture_slim.specs.File.{FailsFirst, FailsIn, FailsNext, FailsRest}
+use Rattle.capture_slim.specs.File.{FailsFirst, FailsIn, FailsNext, FailsRest, Output}
 use Rattle.capture_slim.specs.Places.{kept_of}
 use Rattle.capture_slim.specs.Stream.{first_left}
 use Rattle.capture_slim.specs.Window.{all_left, left_of}
@@ -62,52 +62,55 @@ moves_on all done (s ∷ slots) are lt = record {
 
 -- ---- a record that was not written, or would be too much
 
--- behind some slots, before others
-rest_are : (outs : List (Option Event)) (all done slots : List Slot) → all ≡ done ++ slots
-    → (outs ++ all_left done) ++ all_left slots ≡ outs ++ all_left all
-rest_are outs all done slots are =
-    append_assoc outs (all_left done) (all_left slots)
-    ∙ ap (λ (os : List (Option Event)). outs ++ os) (sym (left_append done slots) ∙ ap all_left (sym are))
+-- where more events come
+pub fails_wider : (output : Output) (outs more : List (Option Event)) (number : ℕ) (ending : SlimEnding)
+    → FailsIn output outs number ending → FailsIn output (outs ++ more) number ending
+fails_wider output outs more number ending fails = record {
+  earlier = fails.earlier;
+  event = fails.event;
+  later = fails.later ++ more;
+  are = ap (λ (os : List (Option Event)). os ++ more) fails.are
+      ∙ append_assoc fails.earlier (Some fails.event ∷ fails.later) more;
+  number_is = fails.number_is;
+  fails = fails.fails;
+}
 
-rest_fails : (version : ℕ) (base held : Option (List ℕ)) (outs : List (Option Event)) (all done slots : List Slot)
-    (s : Slot) (e : Event) (ending : SlimEnding)
-    → all ≡ done ++ s ∷ slots → left_of s.event s.mark ≡ Some e
-    → FailsNext version base held (outs ++ all_left done) e ending
-    → FailsRest version base held outs (all_left all) ending
-rest_fails version base held outs all done slots s e (TooLong at) are left fails = (
-  omega (arith, fails.0, length-append outs (all_left done)),
-  record {
-    earlier = outs ++ all_left done;
-    event = e;
-    later = all_left slots;
-    are = sym (rest_are outs all done (s ∷ slots) are)
-        ∙ ap (λ (out : Option Event). (outs ++ all_left done) ++ out ∷ all_left slots) left;
-    number_is = fails.0;
-    fails = (refl, fails.1);
-  },
-)
-rest_fails version base held outs all done slots s e (WriteFailed at) are left fails =
-    let P : List (Option Event) → Type 0 = λ os. FailsIn version base held os at (WriteFailed at) in
-    subst P (rest_are outs all done (s ∷ slots) are) (record {
-      earlier = fails.earlier;
-      event = fails.event;
-      later = fails.later ++ all_left (s ∷ slots);
-      are = ap (λ (os : List (Option Event)). os ++ all_left (s ∷ slots)) fails.are
-          ∙ append_assoc fails.earlier (Some fails.event ∷ fails.later) (all_left (s ∷ slots));
-      number_is = fails.number_is;
-      fails = fails.fails;
-    })
-rest_fails version base held outs all done slots s e Done are left fails = absurd fails
-rest_fails version base held outs all done slots s e (Stopped at stop) are left fails = absurd fails
-rest_fails version base held outs all done slots s e (NotFlat at) are left fails = absurd fails
+module _ (output : Output) (outs : List (Option Event)) (all done : List Slot) where
+  -- behind some slots, before others
+  rest_are : (slots : List Slot) → all ≡ done ++ slots
+      → (outs ++ all_left done) ++ all_left slots ≡ outs ++ all_left all
+  rest_are slots are =
+      append_assoc outs (all_left done) (all_left slots)
+      ∙ ap (λ (os : List (Option Event)). outs ++ os) (sym (left_append done slots) ∙ ap all_left (sym are))
 
-pub fails_slots : (version : ℕ) (base held : Option (List ℕ)) (outs : List (Option Event)) (all done slots : List Slot)
-    (ending : SlimEnding)
-    → all ≡ done ++ slots → FailsFirst version base held (outs ++ all_left done) (first_left slots) ending
-    → FailsRest version base held outs (all_left all) ending
-fails_slots version base held outs all done [] ending are first = let none = first.event_is in absurd cc
-fails_slots version base held outs all done (s ∷ slots) ending are first =
-    rest_fails version base held outs all done slots s first.event ending are first.event_is first.fails
+  rest_fails : (slots : List Slot) (s : Slot) (e : Event) (ending : SlimEnding)
+      → all ≡ done ++ s ∷ slots → left_of s.event s.mark ≡ Some e
+      → FailsNext output (outs ++ all_left done) e ending → FailsRest output outs (all_left all) ending
+  rest_fails slots s e (TooLong at) are left fails = (
+    omega (arith, fails.0, length-append outs (all_left done)),
+    record {
+      earlier = outs ++ all_left done;
+      event = e;
+      later = all_left slots;
+      are = sym (rest_are (s ∷ slots) are)
+          ∙ ap (λ (out : Option Event). (outs ++ all_left done) ++ out ∷ all_left slots) left;
+      number_is = fails.0;
+      fails = (refl, fails.1);
+    },
+  )
+  rest_fails slots s e (WriteFailed at) are left fails =
+      let P : List (Option Event) → Type 0 = λ os. FailsIn output os at (WriteFailed at) in
+      subst P (rest_are (s ∷ slots) are)
+      (fails_wider output (outs ++ all_left done) (all_left (s ∷ slots)) at (WriteFailed at) fails)
+  rest_fails slots s e Done are left fails = absurd fails
+  rest_fails slots s e (Stopped at stop) are left fails = absurd fails
+  rest_fails slots s e (NotFlat at) are left fails = absurd fails
+
+  pub fails_slots : (slots : List Slot) (ending : SlimEnding) → all ≡ done ++ slots
+      → FailsFirst output (outs ++ all_left done) (first_left slots) ending
+      → FailsRest output outs (all_left all) ending
+  fails_slots [] ending are first = let none = first.event_is in absurd cc
+  fails_slots (s ∷ slots) ending are first = rest_fails slots s first.event ending are first.event_is first.fails
 
 -- all are done
 pub none_left : (all done slots : List Slot) → all ≡ done ++ slots → length all ≤ length done → done ≡ all

@@ -9,7 +9,7 @@ use Rattle.dead_drawing.specs.Laws.{height_for}
 use Rattle.dead_drawing.specs.Slim.{slim_events}
 use Rattle.capture_flat.specs.Out.{spell}
 use Rattle.capture_flat.proofs.Pieces.{spell-append}
-use Rattle.capture_slim.specs.Passing.{FailsAt, IsTooLong, Way}
+use Rattle.capture_slim.specs.Passing.{FailsAt, IsTooLong, Streams, Way, passed_on}
 use Rattle.capture_slim.specs.Places.{kept_of, places, slim_first}
 use Rattle.capture_slim.specs.Stream.{DueLaw, window_behind, outs, staying}
 use Rattle.capture_slim.specs.Window.{IsBegun, Window, first_window, pushed}
@@ -75,9 +75,9 @@ no_shorter version height number events =
 
 -- ---- a record that is too much
 
-pub is_too_long : (way : Way) (number at : ℕ) (base held : Option (List ℕ))
-    → FailsAt (height_for way.version) way.version way.events number base held (TooLong at) → IsTooLong way number
-is_too_long way number at base held fails =
+pub is_too_long : (way : Way) (before : Streams) (held : Option (List ℕ)) (number at : ℕ)
+    → FailsAt (passed_on way before) held number (TooLong at) → IsTooLong way number
+is_too_long way before held number at fails =
     let version = way.version in
     let height = height_for version in
     let due = ap (λ es. length (written version es)) fails.stays in

@@ -433,8 +433,10 @@ taken_begun slots c done word t = by_test
     (ltb (length (done ++ word ∷ [])) (first_len_of (slice_index (done ++ word ∷ []) 0))) refl
   where
     by_test : (b : Bool) → ltb (length (done ++ word ∷ [])) (first_len_of (slice_index (done ++ word ∷ []) 0)) ≡ b
-        → IsBegun (cond {A = Queue} b (record { slots = slots; words = done ++ word ∷ [] })
-        (record { slots = slots ++ judged (done ++ word ∷ []) (area_behind c done (event.Gp0 word)); words = [] })).words
+        → IsBegun (cond {A = Queue} b (record { slots = slots; words = done ++ word ∷ [] }) (record {
+          slots = slots ++ judged (done ++ word ∷ []) (area_behind c done (event.Gp0 word));
+          words = [];
+        })).words
         (controlled c (event.Gp0 word))
     by_test true e =
         let part : length (done ++ word ∷ []) < first_len_of (slice_index (done ++ word ∷ []) 0) = ltb-true _ _ e in

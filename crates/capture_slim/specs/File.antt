@@ -12,6 +12,16 @@ use Rattle.capture_slim.specs.declared.ending.SlimEnding.TheVariants.{TooLong, W
 use Rattle.capture_slim.specs.declared.file.Draft.{Draft}
 use Rattle.capture_slim.specs.declared.file.SlimFile.{SlimFile}
 
+-- a file that is written: its version, and what the sink held before it and holds now, where that is told
+pub record Output : Type 0 where
+  pub version : ℕ
+  pub base : Option (List ℕ)
+  pub held : Option (List ℕ)
+
+-- what is written of a draft
+abbrev pub output_of : Draft → (base held : Option (List ℕ)) → Output
+output_of draft base held = record { version = draft.file.version; base = base; held = held }
+
 -- what stands where these events were written
 abbrev pub begun : (version : ℕ) → List Event → List ℕ
 begun version [] = []
@@ -44,41 +54,40 @@ due file event = head_at file ++ spelled event
 -- ---- behind events that were written
 
 -- the record of an event would be too much, and was not written
-pub record IsTooMuch (version : ℕ) (base held : Option (List ℕ)) (kept : List Event) (event : Event) : Type 0 where
-  pub stands : held ≡ appended base (begun version kept)
-  pub fits : length (begun version kept) + 4 ≤ limit
-  pub long : limit < length (written version (kept ++ event ∷ []))
+pub record IsTooMuch (output : Output) (kept : List Event) (event : Event) : Type 0 where
+  pub stands : output.held ≡ appended output.base (begun output.version kept)
+  pub fits : length (begun output.version kept) + 4 ≤ limit
+  pub long : limit < length (written output.version (kept ++ event ∷ []))
 
 -- a proper part of it was written
-pub record IsLacking (version : ℕ) (base held : Option (List ℕ)) (kept : List Event) (event : Event) : Type 0 where
-  pub stands : AppendsPart (appended base (begun version kept)) held (head_due version kept ++ spelled event)
-  pub fits : length (written version (kept ++ event ∷ [])) ≤ limit
+pub record IsLacking (output : Output) (kept : List Event) (event : Event) : Type 0 where
+  pub stands : AppendsPart (appended output.base (begun output.version kept)) output.held
+      (head_due output.version kept ++ spelled event)
+  pub fits : length (written output.version (kept ++ event ∷ [])) ≤ limit
 
-abbrev pub Fails : (version : ℕ) → (base held : Option (List ℕ)) → List Event → Event → (number : ℕ) → SlimEnding
-    → Type 0
-Fails version base held kept event number (TooLong at) = (at ≡ number) × IsTooMuch version base held kept event
-Fails version base held kept event number (WriteFailed at) = (at ≡ number) × IsLacking version base held kept event
-Fails version base held kept event number ending = ⊥
+abbrev pub Fails : Output → List Event → Event → (number : ℕ) → SlimEnding → Type 0
+Fails output kept event number (TooLong at) = (at ≡ number) × IsTooMuch output kept event
+Fails output kept event number (WriteFailed at) = (at ≡ number) × IsLacking output kept event
+Fails output kept event number ending = ⊥
 
 -- ---- events of a list, each in its place where it stays
 
 -- the event of this number stays: all that stay before it were written, and its record would be too much, or a proper
 -- part of it was
-pub record FailsIn (version : ℕ) (base held : Option (List ℕ)) (outs : List (Option Event)) (number : ℕ)
-    (ending : SlimEnding) : Type 0 where
+pub record FailsIn (output : Output) (outs : List (Option Event)) (number : ℕ) (ending : SlimEnding) : Type 0 where
   pub earlier : List (Option Event)
   pub event : Event
   pub later : List (Option Event)
   pub are : outs ≡ earlier ++ Some event ∷ later
   pub number_is : number ≡ length earlier + 1
-  pub fails : Fails version base held (kept_of earlier) event number ending
+  pub fails : Fails output (kept_of earlier) event number ending
 
 -- Those that stay were written, or are gathered: the sink holds them once all that is gathered is written, and wherever
 -- the writing of that breaks off, one of them was not written.
 pub record IsDraft (draft : Draft) (base held : Option (List ℕ)) (outs : List (Option Event)) : Type 0 where
   pub file_is : IsFile draft.file base (appended held (bytes_of draft.gathered)) (kept_of outs)
   pub lacks : (now : Option (List ℕ)) (number : ℕ) → BreaksOff draft.gathered held now number
-      → FailsIn draft.file.version base now outs number (WriteFailed number)
+      → FailsIn (output_of draft base now) outs number (WriteFailed number)
 
 -- what is gathered was written at a record that would be too much, or that failed
 abbrev pub EndsTooLong : List Piece → (before now : Option (List ℕ)) → (number : ℕ) → SlimEnding → Type 0
@@ -87,23 +96,20 @@ EndsTooLong pieces before now number (WriteFailed at) = BreaksOff pieces before 
 EndsTooLong pieces before now number ending = ⊥
 
 -- behind these events the record of one more would be too much, or that of one of them was not written
-abbrev pub FailsNext : (version : ℕ) → (base held : Option (List ℕ)) → List (Option Event) → Event → SlimEnding → Type 0
-FailsNext version base held outs event (TooLong at) =
-    (at ≡ length outs + 1) × IsTooMuch version base held (kept_of outs) event
-FailsNext version base held outs event (WriteFailed at) = FailsIn version base held outs at (WriteFailed at)
-FailsNext version base held outs event ending = ⊥
+abbrev pub FailsNext : Output → List (Option Event) → Event → SlimEnding → Type 0
+FailsNext output outs event (TooLong at) = (at ≡ length outs + 1) × IsTooMuch output (kept_of outs) event
+FailsNext output outs event (WriteFailed at) = FailsIn output outs at (WriteFailed at)
+FailsNext output outs event ending = ⊥
 
 -- the same of the first event that waits, which stays
-pub record FailsFirst (version : ℕ) (base held : Option (List ℕ)) (outs : List (Option Event)) (first : Option Event)
+pub record FailsFirst (output : Output) (outs : List (Option Event)) (first : Option Event)
     (ending : SlimEnding) : Type 0 where
   pub event : Event
   pub event_is : first ≡ Some event
-  pub fails : FailsNext version base held outs event ending
+  pub fails : FailsNext output outs event ending
 
 -- behind these events the record of one of the last ones would be too much, or that of any was not written
-abbrev pub FailsRest : (version : ℕ) → (base held : Option (List ℕ)) → (outs last : List (Option Event)) → SlimEnding
-    → Type 0
-FailsRest version base held outs last (TooLong at) =
-    (length outs < at) × FailsIn version base held (outs ++ last) at (TooLong at)
-FailsRest version base held outs last (WriteFailed at) = FailsIn version base held (outs ++ last) at (WriteFailed at)
-FailsRest version base held outs last ending = ⊥
+abbrev pub FailsRest : Output → (outs last : List (Option Event)) → SlimEnding → Type 0
+FailsRest output outs last (TooLong at) = (length outs < at) × FailsIn output (outs ++ last) at (TooLong at)
+FailsRest output outs last (WriteFailed at) = FailsIn output (outs ++ last) at (WriteFailed at)
+FailsRest output outs last ending = ⊥

@@ -15,7 +15,7 @@ use Rattle.dead_drawing.specs.Dead.{window_events}
 use Rattle.dead_drawing.specs.Laws.{height_for}
 use Rattle.dead_drawing.specs.Slim.{slim_events}
 use Rattle.capture_flat.specs.Passing.{AreNeeded, AreNeededToEnd, IsFlatCapture}
-use Rattle.capture_slim.specs.File.{begun, head_due, Fails}
+use Rattle.capture_slim.specs.File.{begun, head_due, Fails, Output}
 use Rattle.capture_slim.specs.Places.{slim_first}
 use Rattle.capture_slim.specs.declared.ending.SlimEnding.{SlimEnding}
 use Rattle.capture_slim.specs.declared.ending.SlimEnding.TheVariants.{Done, Stopped, NotFlat, TooLong, WriteFailed}
@@ -35,13 +35,13 @@ pub record Way : Type 0 where
   pub taken : List ℕ
   pub events : List Event
 
--- all that is written of its events, if they are all
-abbrev pub slim_of : Way → List Event
-slim_of way = slim_events (height_for way.version) way.events
+-- what stays of events of a capture of this version, if they are all
+abbrev pub slim_of : (version : ℕ) → List Event → List Event
+slim_of version events = slim_events (height_for version) events
 
--- the file of what stays of events of a capture of this version
+-- the file of that
 abbrev pub slim_file : (version : ℕ) → List Event → List ℕ
-slim_file version events = written version (slim_events (height_for version) events)
+slim_file version events = written version (slim_of version events)
 
 -- the bytes taken say these events first, in a capture of the version of the way
 abbrev pub SaysFirst : Way → List Event → Type 0
@@ -103,6 +103,48 @@ WasDue way number before now =
     ReadsBeyond way number
     ⊎ ((number ≤ length way.events) × (((stop : Stop) × StopsBehind way stop before now) ⊎ RefusesNext way))
 
+-- ---- what was passed on
+
+-- events of the ports that came, of a capture of this version, and what the sink held before
+pub record Passed : Type 0 where
+  pub version : ℕ
+  pub events : List Event
+  pub base : Option (List ℕ)
+
+-- those of a way
+abbrev pub passed_on : Way → (before : Streams) → Passed
+passed_on way before = record { version = way.version; events = way.events; base = before.held }
+
+-- the file that is written of them
+abbrev pub output_to : Passed → (held : Option (List ℕ)) → Output
+output_to passed held = record { version = passed.version; base = passed.base; held = held }
+
+-- those of the first n that stay, by all of them
+abbrev pub first_passed : Passed → (n : ℕ) → List Event
+first_passed passed n = slim_first (height_for passed.version) n passed.events
+
+-- they were written as if they were all
+pub record WritesAll (passed : Passed) (held : Option (List ℕ)) (number : ℕ) : Type 0 where
+  pub number_is : number ≡ length passed.events + 1
+  pub stands : held ≡ appended passed.base (begun passed.version (slim_of passed.version passed.events))
+  pub fits : length (slim_file passed.version passed.events) ≤ limit
+
+-- so they were, and a proper part of the End record
+pub record WritesPart (passed : Passed) (held : Option (List ℕ)) (number : ℕ) : Type 0 where
+  pub number_is : number ≡ length passed.events + 1
+  pub stands : AppendsPart (appended passed.base (begun passed.version (slim_of passed.version passed.events))) held
+      (head_due passed.version (slim_of passed.version passed.events) ++ spelled_end)
+  pub fits : length (slim_file passed.version passed.events) ≤ limit
+
+-- An event of these stays, and all those that stay before it were written: its record would be too much, or a proper
+-- part of it was written.
+pub record FailsAt (passed : Passed) (held : Option (List ℕ)) (number : ℕ) (ending : SlimEnding) : Type 0 where
+  pub earlier : ℕ
+  pub number_is : number ≡ earlier + 1
+  pub event : Event
+  pub stays : first_passed passed number ≡ first_passed passed earlier ++ event ∷ []
+  pub fails : Fails (output_to passed held) (first_passed passed earlier) event number ending
+
 -- ---- the endings
 
 -- a capture on a new machine
@@ -117,34 +159,18 @@ pub record IsWhole (way : Way) (before now : Streams) : Type 0 where
   pub held : now.held ≡ appended before.held (slim_file way.version way.events)
   pub fits : length (slim_file way.version way.events) ≤ limit
   pub is_slim : (rest : List ℕ)
-      → IsFlatCapture first (played_capture first (way.taken ++ rest)).tale way.version (slim_of way)
+      → IsFlatCapture first (played_capture first (way.taken ++ rest)).tale way.version (slim_of way.version way.events)
       (slim_file way.version way.events)
-
--- the events of the way were written as if they were all
-pub record WritesAll (way : Way) (number : ℕ) (before now : Streams) : Type 0 where
-  pub number_is : number ≡ length way.events + 1
-  pub held : now.held ≡ appended before.held (begun way.version (slim_of way))
-  pub fits : length (slim_file way.version way.events) ≤ limit
-
--- An event of these stays, and all those that stay before it were written: its record would be too much, or a proper
--- part of it was written.
-pub record FailsAt (height version : ℕ) (events : List Event) (number : ℕ) (base held : Option (List ℕ))
-    (ending : SlimEnding) : Type 0 where
-  pub earlier : ℕ
-  pub number_is : number ≡ earlier + 1
-  pub event : Event
-  pub stays : slim_first height number events ≡ slim_first height earlier events ++ event ∷ []
-  pub fails : Fails version base held (slim_first height earlier events) event number ending
 
 -- so it is with this event of the way, whose record is due, and would be too much
 pub record FailsRecord (way : Way) (number : ℕ) (before now : Streams) (ending : SlimEnding) : Type 0 where
   pub due : IsDue way number before now
-  pub fails : FailsAt (height_for way.version) way.version way.events number before.held now.held ending
+  pub fails : FailsAt (passed_on way before) now.held number ending
 
 -- so it is with this event of the way, whose record was due, and was not written: it is the first that lacks a byte
 pub record LacksRecord (way : Way) (number : ℕ) (before now : Streams) : Type 0 where
   pub due : WasDue way number before now
-  pub fails : FailsAt (height_for way.version) way.version way.events number before.held now.held (WriteFailed number)
+  pub fails : FailsAt (passed_on way before) now.held number (WriteFailed number)
 
 -- The whole file of the events that were read is too long; and where one of this number was due before the reading
 -- ended, so is that of these and any other events behind them.
@@ -155,17 +181,15 @@ pub record IsTooLong (way : Way) (number : ℕ) : Type 0 where
 
 -- a proper part of the End record was written
 pub record LacksEnd (way : Way) (number : ℕ) (before now : Streams) : Type 0 where
-  pub number_is : number ≡ length way.events + 1
   pub stops : StopsBehind way End before now
-  pub held : AppendsPart (appended before.held (begun way.version (slim_of way))) now.held
-      (head_due way.version (slim_of way) ++ spelled_end)
-  pub fits : length (slim_file way.version way.events) ≤ limit
+  pub writes : WritesPart (passed_on way before) now.held number
 
 abbrev pub SaysEnding : Way → (before now : Streams) → SlimEnding → Type 0
 SaysEnding way before now Done = IsWhole way before now
 SaysEnding way before now (Stopped number stop) =
-    WritesAll way number before now × StopsBehind way stop before now × IsNotEnd stop
-SaysEnding way before now (NotFlat number) = WritesAll way number before now × RefusesNext way
+    WritesAll (passed_on way before) now.held number × StopsBehind way stop before now × IsNotEnd stop
+SaysEnding way before now (NotFlat number) =
+    WritesAll (passed_on way before) now.held number × RefusesNext way
 SaysEnding way before now (TooLong number) =
     FailsRecord way number before now (TooLong number) × IsTooLong way number
 SaysEnding way before now (WriteFailed number) =

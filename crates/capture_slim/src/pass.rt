@@ -79,9 +79,10 @@ fn pass_on<S: Source, K: Sink>(window: &mut Waiting, source: &mut S, out: &mut K
 {
     let mut reader = EventReader::new();
     let mut next = reader.next(source);
-    let version = reader.version();
+    // Where no head was read there are no events, and nothing is written.
+    let version = reader.version().max(1);
     raise(window, version);
-    let mut draft = first_draft(version.max(1));
+    let mut draft = first_draft(version);
     let mut count = 0;
     'events: loop {
         match next {

@@ -1,5 +1,6 @@
 // Events that wait in a row, and words that may yet be those of a dead packet.
-ghost use Rattle.std.specs.Prelude.{◌≡◌, ◌<◌, ◌≤◌, ◌+◌, ◌++◌, ◌∷◌, [], ◌&&◌, ◌||◌, ◌==◌, not, length, drop, option_to_list};
+ghost use Rattle.std.specs.Prelude.{◌≡◌, ◌<◌, ◌≤◌, ◌+◌, ◌++◌, ◌∷◌, [], ◌&&◌, ◌||◌, ◌==◌, not, length, drop};
+ghost use Rattle.std.specs.Prelude.{option_to_list};
 ghost use Rattle.dead_drawing.specs.Dead.{is_droppable};
 ghost use Rattle.capture_slim.specs.Places.{kept_of};
 ghost use Rattle.capture_slim.specs.Settling.{room};

@@ -6,7 +6,7 @@ ghost use Rattle.gpu_capture.specs.Capture.{IsVersion};
 ghost use Rattle.gpu_capture.specs.Written.{spelled, spelled_end};
 ghost use Rattle.gpu_capture.specs.declared.event.Event.{Event as SpecEvent};
 ghost use Rattle.event_play.specs.Ports.{IsAtPorts};
-ghost use Rattle.capture_slim.specs.File.{EndsTooLong, FailsNext, HasRoom, IsDraft, due, head_at};
+ghost use Rattle.capture_slim.specs.File.{EndsTooLong, FailsNext, HasRoom, IsDraft, due, head_at, output_of};
 ghost use Rattle.capture_slim.specs.Passing.{EndsWriting};
 
 use crate::ending::SlimEnding;
@@ -121,7 +121,7 @@ pub(crate) fn add_record<K: Sink>(
     ensures ends { (base : Option (List ℕ)) (outs : List (Option SpecEvent))
         → IsDraft draft.old base (K.held out.old) outs
         → number ≡ length outs + 1
-        → IfErr result (λ ending. FailsNext draft.old.file.version base (K.held out.new) outs event.now ending) }
+        → IfErr result (FailsNext (output_of draft.old base (K.held out.new)) outs event.now) }
     ensures few { OnOk result (draft.new.file.size + 4 ≤ 2 ^ 30) }
     ensures version { draft.new.file.version ≡ draft.old.file.version }
     ensures known { IfErr result (EndsWriting (K.faults out.old) (K.faults out.new)) }

@@ -1,7 +1,7 @@
 // The events that wait are written where no event follows.
 ghost use Rattle.std.specs.Prelude.{◌≡◌, ◌≤◌, ◌+◌, ◌++◌, ◌^◌, List, ℕ, Option, drop, take, length, IfErr, OnOk};
 ghost use Rattle.gpu_capture.specs.declared.event.Event.{Event as SpecEvent};
-ghost use Rattle.capture_slim.specs.File.{FailsFirst, FailsRest, HasRoom, IsDraft, IsFile};
+ghost use Rattle.capture_slim.specs.File.{FailsFirst, FailsRest, HasRoom, IsDraft, IsFile, output_of};
 ghost use Rattle.capture_slim.specs.Passing.{EndsWriting};
 ghost use Rattle.capture_slim.specs.Places.{kept_of};
 ghost use Rattle.capture_slim.specs.Stream.{first_left};
@@ -28,8 +28,8 @@ fn add_next<K: Sink>(
         → OnOk result (IsDraft draft.new base (K.held out.new) (outs ++ all_left (take 1 window.old.slots))) }
     ensures ends { (base : Option (List ℕ)) (outs : List (Option SpecEvent))
         → IsDraft draft.old base (K.held out.old) outs
-        → number ≡ length outs + 1 → IfErr result (λ ending.
-        FailsFirst draft.old.file.version base (K.held out.new) outs (first_left window.old.slots) ending) }
+        → number ≡ length outs + 1 → IfErr result
+        (FailsFirst (output_of draft.old base (K.held out.new)) outs (first_left window.old.slots)) }
     ensures few { OnOk result (draft.new.file.size + 4 ≤ 2 ^ 30) }
     ensures version { draft.new.file.version ≡ draft.old.file.version }
     ensures known { IfErr result (EndsWriting (K.faults out.old) (K.faults out.new)) }
@@ -56,8 +56,8 @@ fn add_rest<K: Sink>(
         → OnOk result (IsDraft draft.new base (K.held out.new) (outs ++ all_left (waiting window.old))) }
     ensures ends { (base : Option (List ℕ)) (outs : List (Option SpecEvent))
         → IsDraft draft.old base (K.held out.old) outs
-        → count ≡ length outs + length (waiting window.old) → IfErr result (λ ending.
-        FailsRest draft.old.file.version base (K.held out.new) outs (all_left (waiting window.old)) ending) }
+        → count ≡ length outs + length (waiting window.old) → IfErr result
+        (FailsRest (output_of draft.old base (K.held out.new)) outs (all_left (waiting window.old))) }
     ensures most { length (waiting window.old) ≤ 4096 }
     ensures version { draft.new.file.version ≡ draft.old.file.version }
     ensures known { IfErr result (EndsWriting (K.faults out.old) (K.faults out.new)) }
@@ -91,8 +91,8 @@ pub(crate) fn write_rest<K: Sink>(
         (IsFile draft.new.file base (K.held out.new) (kept_of (outs ++ all_left (waiting window.old)))) }
     ensures ends { (base : Option (List ℕ)) (outs : List (Option SpecEvent))
         → IsDraft draft.old base (K.held out.old) outs
-        → count ≡ length outs + length (waiting window.old) → IfErr result (λ ending.
-        FailsRest draft.old.file.version base (K.held out.new) outs (all_left (waiting window.old)) ending) }
+        → count ≡ length outs + length (waiting window.old) → IfErr result
+        (FailsRest (output_of draft.old base (K.held out.new)) outs (all_left (waiting window.old))) }
     ensures most { length (waiting window.old) ≤ 4096 }
     ensures version { draft.new.file.version ≡ draft.old.file.version }
     ensures known { IfErr result (EndsWriting (K.faults out.old) (K.faults out.new)) }
@@ -111,7 +111,7 @@ fn write_gathered<K: Sink>(draft: &mut Draft, out: &mut K) -> Result<(), SlimEnd
         → OnOk result (IsFile draft.new.file base (K.held out.new) (kept_of outs)) }
     ensures ends { (base : Option (List ℕ)) (outs last : List (Option SpecEvent))
         → IsDraft draft.old base (K.held out.old) (outs ++ last)
-        → IfErr result (λ ending. FailsRest draft.old.file.version base (K.held out.new) outs last ending) }
+        → IfErr result (FailsRest (output_of draft.old base (K.held out.new)) outs last) }
     ensures version { draft.new.file.version ≡ draft.old.file.version }
     ensures known { IfErr result (EndsWriting (K.faults out.old) (K.faults out.new)) }
     ensures faults { K.faults out.old ≤ K.faults out.new }

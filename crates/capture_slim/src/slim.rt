@@ -8,8 +8,9 @@ ghost use Rattle.gpu_capture.specs.declared.event.Event.{Event as SpecEvent};
 ghost use Rattle.gpu_capture.specs.Reader.{IsReadFault};
 ghost use Rattle.event_play.specs.Ports.{IsAtPorts};
 ghost use Rattle.capture_slim.specs.Came.{Came, ClosesFile, EndsEvent, EndsPushed, EndsRefused, EndsStop};
+ghost use Rattle.capture_slim.specs.Came.{HasCount, StopsAs, and_event};
 ghost use Rattle.capture_slim.specs.File.{HasRoom};
-ghost use Rattle.capture_slim.specs.Passing.{EndsWriting, MayReadFault, MayWriteFault, IsEnding};
+ghost use Rattle.capture_slim.specs.Passing.{EndsWriting, MayReadFault, MayWriteFault, IsEnding, Passed};
 ghost use Rattle.capture_slim.specs.Window.{waiting};
 
 use crate::ending::SlimEnding;
@@ -56,17 +57,12 @@ fn push_event<K: Sink>(
 ) -> Result<(), SlimEnding>
     requires file { HasRoom draft.old.file }
     requires port { IsAtPorts event }
-    requires few { length (waiting window.old) ≤ count }
-    requires small { count < 2 ^ 60 }
-    ensures ok { (height : ℕ) (events : List SpecEvent) (base : Option (List ℕ))
-        → Came height events window.old draft.old count base (K.held out.old)
-        → OnOk result (Came height (events ++ event ∷ []) window.new draft.new (count + 1) base (K.held out.new)) }
-    ensures few { OnOk result (draft.new.file.size + 4 ≤ 2 ^ 30) }
-    ensures version { draft.new.file.version ≡ draft.old.file.version }
-    ensures ends { (height : ℕ) (events : List SpecEvent) (base : Option (List ℕ))
-        → Came height events window.old draft.old count base (K.held out.old)
-        → IfErr result
-        (λ ending. EndsPushed height draft.old.file.version (events ++ event ∷ []) base (K.held out.new) ending) }
+    requires count { HasCount window.old count }
+    ensures ok { (passed : Passed) → Came passed window.old draft.old count (K.held out.old)
+        → OnOk result (Came (and_event passed event) window.new draft.new (count + 1) (K.held out.new)) }
+    ensures room { OnOk result (HasRoom draft.new.file) }
+    ensures ends { (passed : Passed) → Came passed window.old draft.old count (K.held out.old)
+        → IfErr result (EndsPushed (and_event passed event) (K.held out.new)) }
     ensures known { IfErr result (EndsWriting (K.faults out.old) (K.faults out.new)) }
     ensures faults { K.faults out.old ≤ K.faults out.new }
 {
@@ -83,11 +79,9 @@ fn push_event<K: Sink>(
 // Ends behind so many events at one that is none of the ports.
 fn refuse<K: Sink>(window: &mut Waiting, draft: &mut Draft, count: u64, out: &mut K) -> SlimEnding
     requires file { HasRoom draft.old.file }
-    requires few { length (waiting window.old) ≤ count }
-    requires small { count < 2 ^ 60 }
-    ensures ends { (height : ℕ) (events : List SpecEvent) (base : Option (List ℕ))
-        → Came height events window.old draft.old count base (K.held out.old)
-        → EndsRefused height draft.old.file.version events base (K.held out.new) result }
+    requires count { HasCount window.old count }
+    ensures ends { (passed : Passed) → Came passed window.old draft.old count (K.held out.old)
+        → EndsRefused passed (K.held out.new) result }
     ensures known { EndsWriting (K.faults out.old) (K.faults out.new) result }
     ensures faults { K.faults out.old ≤ K.faults out.new }
 {
@@ -106,16 +100,12 @@ pub(crate) fn take_event<K: Sink>(
     out: &mut K,
 ) -> Result<(), SlimEnding>
     requires file { HasRoom draft.old.file }
-    requires few { length (waiting window.old) ≤ count }
-    requires small { count < 2 ^ 60 }
-    ensures ok { (height : ℕ) (events : List SpecEvent) (base : Option (List ℕ))
-        → Came height events window.old draft.old count base (K.held out.old)
-        → OnOk result (Came height (events ++ event ∷ []) window.new draft.new (count + 1) base (K.held out.new)) }
-    ensures few { OnOk result (draft.new.file.size + 4 ≤ 2 ^ 30) }
-    ensures version { OnOk result (draft.new.file.version ≡ draft.old.file.version) }
-    ensures ends { (height : ℕ) (events : List SpecEvent) (base : Option (List ℕ))
-        → Came height events window.old draft.old count base (K.held out.old)
-        → IfErr result (λ ending. EndsEvent height draft.old.file.version events event base (K.held out.new) ending) }
+    requires count { HasCount window.old count }
+    ensures ok { (passed : Passed) → Came passed window.old draft.old count (K.held out.old)
+        → OnOk result (Came (and_event passed event) window.new draft.new (count + 1) (K.held out.new)) }
+    ensures room { OnOk result (HasRoom draft.new.file) }
+    ensures ends { (passed : Passed) → Came passed window.old draft.old count (K.held out.old)
+        → IfErr result (EndsEvent passed event (K.held out.new)) }
     ensures known { IfErr result (EndsWriting (K.faults out.old) (K.faults out.new)) }
     ensures faults { K.faults out.old ≤ K.faults out.new }
 {
@@ -135,11 +125,9 @@ pub(crate) fn finish<K: Sink>(
     out: &mut K,
 ) -> SlimEnding
     requires file { HasRoom draft.old.file }
-    requires few { length (waiting window.old) ≤ count }
-    requires small { count < 2 ^ 60 }
-    ensures ends { (height : ℕ) (events : List SpecEvent) (base : Option (List ℕ))
-        → Came height events window.old draft.old count base (K.held out.old)
-        → EndsStop height draft.old.file.version events stop base (K.held out.new) result }
+    requires count { HasCount window.old count }
+    ensures ends { (passed : Passed) → Came passed window.old draft.old count (K.held out.old)
+        → EndsStop passed stop (K.held out.new) result }
     ensures known { IsEnding result }
     ensures read { MayReadFault result → IsReadFault stop }
     ensures cause { MayWriteFault result → Rose (K.faults out.old) (K.faults out.new) }
@@ -154,7 +142,8 @@ pub(crate) fn finish<K: Sink>(
 // Writes the End record at an End, behind all that stays; the next event would have this number.
 fn close_file<K: Sink>(file: SlimFile, stop: Stop, number: u64, out: &mut K) -> SlimEnding
     requires { IsVersion file.version }
-    ensures ends { ClosesFile file stop number (K.held out.old) (K.held out.new) result }
+    ensures ends { StopsAs stop number result }
+    ensures writes { ClosesFile file (K.held out.old) (K.held out.new) result }
     ensures known { IsEnding result }
     ensures read { MayReadFault result → IsReadFault stop }
     ensures cause { MayWriteFault result → Rose (K.faults out.old) (K.faults out.new) }

@@ -1,19 +1,26 @@
-use Rattle.std.proofs.Common.{ap, ◌∙◌, arith}
+use Rattle.std.proofs.Common.{ap, arith}
 use Rattle.std.proofs.lemmas.Result.{IfErr-weaker}
-use Rattle.dead_drawing.specs.Laws.{height_for}
 use Rattle.capture_slim.specs.declared.file.SlimFile.{SlimFile}
-use Rattle.capture_slim.proofs.Awaiting.{starts, awaits_is, few_wait, left_falls, falls_on, goes_on, event_end}
+use Rattle.capture_slim.proofs.Awaiting.{starts, awaits_is, count_is, left_falls, falls_on, goes_on, event_end}
 use Rattle.capture_slim.proofs.Awaiting.{stop_end}
 use Rattle.capture_slim.proofs.pass.pass_on.Goals as goal
 
 pub events-init : goal.events-init
 events-init g c = record {
-  awaits = starts _ _ _ _ _ _ _ _ c.version-version.result c.max.result c.first_draft-draft.result c.next-next.result
+  awaits = starts _ _ _ _ _ _ c.max-version.result c.first_draft-draft.result c.next-next.result
       c.first_draft-draft.ensures.file c.first_draft-draft.ensures.gathered c.new-reader.ensures.start c.raise.ensures
-      c.version-version.ensures.value c.next-next.ensures.takes c.next-next.ensures.version
-      (c.next-next.ensures.stop c.new-reader.ensures.stop);
-  few = omega (arith, ap (λ (f : SlimFile). f.size) c.first_draft-draft.ensures.file);
-  version = ap (λ (f : SlimFile). f.version) c.first_draft-draft.ensures.file ∙ c.max.ensures;
+      (omega (arith, c.max-version.ensures, c.version.ensures.value)) c.next-next.ensures.takes
+      c.next-next.ensures.version (c.next-next.ensures.stop c.new-reader.ensures.stop);
+  file =
+      let version = ap (λ (f : SlimFile). f.version) c.first_draft-draft.ensures.file in
+      let size = ap (λ (f : SlimFile). f.size) c.first_draft-draft.ensures.file in
+      record {
+        version = (
+          omega (arith, version, c.max-version.ensures),
+          omega (arith, version, c.max-version.ensures, c.version.ensures.known),
+        );
+        size = omega (arith, size);
+      };
   room = omega (arith, left_falls _ _ c.next-next.result c.next-next.ensures.forward, c.new-reader.ensures.work);
   running = c.next-next.ensures.runs_on;
   read_cause = c.next-next.ensures.cause c.new-reader.ensures.stop;
@@ -21,19 +28,18 @@ events-init g c = record {
   write_faults = omega arith;
 }
 
-pub take_event-requires-clause-few : goal.take_event-requires-clause-few
-take_event-requires-clause-few g c = few_wait _ _ _ _ _ _ _ _ c.events.invariant.awaits
+pub take_event-requires-clause-count : goal.take_event-requires-clause-count
+take_event-requires-clause-count g c =
+    count_is _ _ _ _ _ _ _ _ c.events.invariant.awaits (omega (arith, c.events.invariant.room))
 
-pub finish-requires-clause-few : goal.finish-requires-clause-few
-finish-requires-clause-few g c = few_wait _ _ _ _ _ _ _ _ c.events.invariant.awaits
+pub finish-requires-clause-count : goal.finish-requires-clause-count
+finish-requires-clause-count g c =
+    count_is _ _ _ _ _ _ _ _ c.events.invariant.awaits (omega (arith, c.events.invariant.room))
 
 pub returns-in-Err-take_event-clause-ends : goal.returns-in-Err-take_event-clause-ends
 returns-in-Err-take_event-clause-ends g c =
     let at = awaits_is _ _ _ _ _ _ _ _ _ c.in-Ok.is c.events.invariant.awaits in
-    event_end _ _ _ _ _ _ _ c.in-Ok.event at c.events.draft.file.version
-    (g.K.Sink.held c.take_event.new.out) c.in-Err-take_event.ending c.events.invariant.version
-    (c.in-Err-take_event.ensures.ends (height_for c.version-version.result) at.events
-    (g.K.Sink.held c.args.out.now) at.came)
+    event_end _ _ _ _ _ _ _ c.in-Ok.event at _ c.in-Err-take_event.ending (c.in-Err-take_event.ensures.ends _ at.came)
 
 pub events-smaller : goal.events-smaller
 events-smaller g c = falls_on _ _ _ c.next-next-in-Ok.result c.in-Ok.event c.in-Ok.is c.next-next-in-Ok.ensures.forward
@@ -47,11 +53,9 @@ events-preserved g c =
           (g.S.Source.left c.next-next-in-Ok.new.source) (g.K.Sink.held c.take_event.new.out)
           (g.S.Source.faults c.next-next-in-Ok.new.source)
           c.take_event.new.window c.take_event.new.draft c.next-next-in-Ok.result
-          (c.in-Ok-take_event.ensures.ok (height_for c.version-version.result) at.events
-          (g.K.Sink.held c.args.out.now) at.came)
+          (c.in-Ok-take_event.ensures.ok _ at.came)
           c.next-next-in-Ok.ensures.takes c.next-next-in-Ok.ensures.version (c.next-next-in-Ok.ensures.stop running);
-      few = c.in-Ok-take_event.ensures.few;
-      version = c.in-Ok-take_event.ensures.version ∙ c.events.invariant.version;
+      file = c.in-Ok-take_event.ensures.room;
       room = omega (
         arith,
         falls_on _ _ _ c.next-next-in-Ok.result c.in-Ok.event c.in-Ok.is c.next-next-in-Ok.ensures.forward,
@@ -68,7 +72,5 @@ events-preserved g c =
 pub returns-in-Err-clause-ends : goal.returns-in-Err-clause-ends
 returns-in-Err-clause-ends g c =
     let at = awaits_is _ _ _ _ _ _ _ _ _ c.in-Err.is c.events.invariant.awaits in
-    stop_end _ _ _ _ _ _ _ c.in-Err.stop at c.version-version.ensures.known
-    (rw c.in-Err.is at c.events.invariant.read_cause) c.events.draft.file.version
-    (g.K.Sink.held c.finish.new.out) c.finish.result c.events.invariant.version
-    (c.finish.ensures.ends (height_for c.version-version.result) at.events (g.K.Sink.held c.args.out.now) at.came)
+    stop_end _ _ _ _ _ _ _ c.in-Err.stop at (omega (arith, c.version.ensures.known, c.max-version.ensures))
+    (rw c.in-Err.is at c.events.invariant.read_cause) _ c.finish.result (c.finish.ensures.ends _ at.came)

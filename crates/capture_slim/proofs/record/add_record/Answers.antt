@@ -9,8 +9,8 @@ returns-then-after-gt-LIMIT-clause-ends g c = λ base outs is at.
     let file = c.args.draft.now.file in
     let long : length c.due_bytes-bytes.result.items ≡ length (due file c.args.event.now) =
     ap length c.due_bytes-bytes.ensures.value in
-    long_ends file c.args.draft.now.gathered base (g.K.Sink.held c.args.out.now) outs c.args.event.now c.args.number
-    (file.size + length c.due_bytes-bytes.result.items) is at (omega (arith, long))
+    long_ends c.args.draft.now base (g.K.Sink.held c.args.out.now) outs is c.args.event.now c.args.number
+    (file.size + length c.due_bytes-bytes.result.items) at (omega (arith, long))
     (g.K.Sink.held c.end_too_long.new.out) c.end_too_long.result
     (omega (arith, c.if-after-gt-LIMIT.true)) c.end_too_long.ensures.ends
 
@@ -25,7 +25,7 @@ returns-in-Ok-clause-ok g c = λ base outs is at.
     let long : length c.due_bytes-bytes.result.items ≡ length (due file c.args.event.now) =
     ap length c.due_bytes-bytes.ensures.value in
     let after = file.size + c.len.result in
-    let added = added_draft file pieces base held outs c.args.event.now c.args.number after is at
+    let added = added_draft c.args.draft.now base held outs is c.args.event.now c.args.number after at
     (omega (arith, long, c.len.ensures)) (omega (arith, c.if-after-gt-LIMIT.false)) in
     let bytes : c.as_slice.result.now ≡ due file c.args.event.now =
     c.as_slice.ensures.value ∙ c.due_bytes-bytes.ensures.value in

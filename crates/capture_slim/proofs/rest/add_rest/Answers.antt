@@ -1,6 +1,6 @@
 use Rattle.std.proofs.Common.{◌≡◌, ◌+◌, ◌-◌, ◌++◌, ◌∷◌, [], ℕ, List, Option, length, ap, ◌∙◌, sym, subst, arith}
 use Rattle.gpu_capture.specs.declared.event.Event.{Event}
-use Rattle.capture_slim.specs.File.{FailsRest, IsDraft}
+use Rattle.capture_slim.specs.File.{FailsRest, IsDraft, output_of}
 use Rattle.capture_slim.specs.Window.{Window, all_left, waiting}
 use Rattle.capture_slim.specs.declared.slot.Slot.{Slot}
 use Rattle.capture_slim.proofs.Rests.{all_left_long, moves_on, none_left, fails_slots}
@@ -14,10 +14,11 @@ returns-in-Err-clause-ends g c = λ base outs is all_count.
     let number = c.args.count - c.len-left.result + c.slots.i + 1 in
     let place : number ≡ length (outs ++ all_left at.done) + 1 =
     omega (arith, all_left_long outs at.done, at.counted, all_count, closed_long, c.len-left.ensures.value) in
-    let P : ℕ → Type 0 = λ v. FailsRest v base (g.K.Sink.held c.add_next.new.out) outs (all_left all) c.in-Err.ending in
+    let now = g.K.Sink.held c.add_next.new.out in
+    let P : ℕ → Type 0 = λ v. FailsRest (record { version = v; base = base; held = now }) outs (all_left all)
+    c.in-Err.ending in
     subst P at.version
-    (fails_slots c.slots.draft.file.version base (g.K.Sink.held c.add_next.new.out) outs all at.done
-    c.slots.window.slots c.in-Err.ending at.are
+    (fails_slots (output_of c.slots.draft base now) outs all at.done c.slots.window.slots c.in-Err.ending at.are
     (c.in-Err.ensures.ends base (outs ++ all_left at.done) (at.added base outs is all_count) place))
 
 pub slots-preserved : goal.slots-preserved
