@@ -1,23 +1,22 @@
 -- Events that are not played, whose records were put, one after another.
-use Rattle.std.proofs.Common.{◌≡◌, ◌≤◌, ◌+◌, ◌++◌, ℕ, List, [], ◌∷◌, Option, min, length, refl, ap, sym, ◌∙◌, append_assoc}
-use Rattle.std.proofs.Common.{◌<◌, append-nil, arith, inl, inr, subst}
+use Rattle.std.proofs.Common.{◌≡◌, ◌≤◌, ◌+◌, ◌++◌, ℕ, List, [], ◌∷◌, Option, min, length, refl, ap, sym, ◌∙◌}
+use Rattle.std.proofs.Common.{append_assoc, ◌<◌, append-nil, arith, inl, inr, subst}
 use Rattle.gathered_out.specs.Pieces.{Piece}
 use Rattle.gathered_out.proofs.Gathers.{Gathers, gathers_none, gathers_written}
 use Rattle.gathered_out.specs.Puts.{IsWritten}
 use Rattle.gpu_capture.specs.Capture.{limit}
-use Rattle.gpu_capture.specs.Written.{spelled, AllowsAll}
+use Rattle.gpu_capture.specs.Written.{spelled}
 use Rattle.gpu_capture.specs.declared.event.Event.{Event}
 use Rattle.gpu_capture.specs.declared.progress.Progress.{Progress}
 use Rattle.gpu_capture.proofs.Taken.{taken_count}
-use Rattle.picture_out.specs.Dump.{dump_cost}
-use Rattle.event_play.specs.Replay.{Tale, raised}
+use Rattle.event_play.specs.Replay.{Tale}
 use Rattle.event_play.specs.RigState.{RigState}
 use Rattle.event_play.specs.Streams.{Streams, streams}
 use Rattle.capture_flat.specs.Passing.{AreNeeded}
 use Rattle.event_play.specs.Pausing.{Pauses, most_behind}
-use Rattle.capture_cut.specs.Came.{Came, HasRead}
-use Rattle.capture_cut.specs.Cut.{Way, Plays, events_of}
-use Rattle.capture_cut.specs.File.{begun, cut_file, rig_of, IsWritable}
+use Rattle.capture_cut.specs.Came.{Came, GoesOn, Reached, unheld}
+use Rattle.capture_cut.specs.Cut.{CutAt, events_of}
+use Rattle.capture_cut.specs.File.{begun, cut_file}
 use Rattle.capture_cut.specs.declared.file.Draft.{Draft}
 
 -- these bytes are due at the event of this number, one of the later ones, behind those that were due before; the bytes
@@ -58,7 +57,8 @@ due_more t played events more all flushed taken further all_are number was due i
 }
 
 -- the last of the events
-pub due_here : (t : Tale) (played events : List Event) (given : Event) (flushed behind taken further : List ℕ) (number : ℕ)
+pub due_here : (t : Tale) (played events : List Event) (given : Event) (flushed behind taken further : List ℕ)
+    (number : ℕ)
     → number ≡ length (played ++ events) + 1 → length (cut_file t (events ++ given ∷ [])) ≤ limit
     → taken ≡ flushed ++ behind → AreNeeded (played ++ (events ++ given ∷ [])) (taken ++ further)
     → WasDue t played (events ++ given ∷ []) flushed (taken ++ further) number (begun t events) (spelled given)
@@ -81,47 +81,33 @@ due_here t played events given flushed behind taken further number number_is fit
     }
 
 -- the first n events were played, and the records of those behind them put
-pub record Comes (n : ℕ) (start : Tale) (before now : Streams) (rig : RigState) (p : Progress) (draft : Draft)
+pub record Comes (at : CutAt) (before now : Streams) (rig : RigState) (p : Progress) (draft : Draft)
     (since count : ℕ) : Type 0 where
-  pub way : Way
-  pub all : length way.played ≡ n
-  pub count_is : count ≡ length (events_of way)
-  pub same : way.version ≡ p.version
-  pub known : 1 ≤ p.version
-  pub reads : HasRead before.left now.left p way.taken (events_of way)
-  pub plays : Plays (raised start way.version) way.played way.tale before.heard now.heard rig
-  pub size_is : draft.size ≡ length (begun way.tale way.later)
+  pub on : GoesOn at before (unheld now) rig p
+  pub count_is : count ≡ length (events_of on.way)
+  pub size_is : draft.size ≡ length (begun on.way.tale on.way.later)
   pub fits : draft.size + 4 ≤ limit
   pub flushed : List ℕ
   pub behind : List ℕ
-  pub taken_is : way.taken ≡ flushed ++ behind
+  pub taken_is : on.way.taken ≡ flushed ++ behind
   pub since_is : length flushed ≡ min since limit
-  pub close : length way.taken ≤ length flushed + most_behind
-  pub gathers : Gathers (WasDue way.tale way.played way.later flushed way.taken) before.held (begun way.tale way.later)
-      now.held draft.gathered
-  pub cost : now.steps ≤ before.steps + way.tale.cost + dump_cost way.tale.state.gpu.parts.m
-  pub small : way.tale.cost ≤ way.tale.box_cost
-  pub writable : IsWritable (rig_of way.tale)
-  pub allowed : AllowsAll 2 way.later
+  pub close : length on.way.taken ≤ length flushed + most_behind
+  pub gathers : Gathers (WasDue on.way.tale on.way.played on.way.later flushed on.way.taken) before.held
+      (begun on.way.tale on.way.later) now.held draft.gathered
 
 -- nothing is gathered, and all stands
-pub comes_first : (n : ℕ) (start : Tale) (before now : Streams) (rig : RigState) (p : Progress) (size count : ℕ)
-    (draft : Draft) (since number : ℕ) → draft.size ≡ size → draft.gathered ≡ [] → since ≡ p.place → number ≡ count
-    → Came n start before now rig p size count → Comes n start before now rig p draft since number
-comes_first n start before now rig p size count draft since number size_same none place counted came =
-    let way = came.way in
+pub comes_first : (at : CutAt) (before now : Streams) (rig : RigState) (r : Reached) (draft : Draft)
+    (since number : ℕ) → draft.size ≡ r.size → draft.gathered ≡ [] → since ≡ r.progress.place → number ≡ r.count
+    → Came at before now rig r → Comes at before now rig r.progress draft since number
+comes_first at before now rig r draft since number size_same none place counted came =
+    let way = came.on.way in
     let due = WasDue way.tale way.played way.later way.taken way.taken in
     let Q : List Piece → Type 0 = λ ps. Gathers due before.held (begun way.tale way.later) now.held ps in
-    let taken = taken_count p (events_of way) way.taken came.known came.reads.says in
+    let taken = taken_count r.progress (events_of way) way.taken came.on.known came.on.reads.says in
     let fits = came.fits in
     record {
-      way = way;
-      all = came.all;
+      on = came.on;
       count_is = counted ∙ came.count_is;
-      same = came.same;
-      known = came.known;
-      reads = came.reads;
-      plays = came.plays;
       size_is = size_same ∙ came.size_is;
       fits = omega (arith, fits, size_same);
       flushed = way.taken;
@@ -130,35 +116,29 @@ comes_first n start before now rig p size count draft since number size_same non
       since_is = omega (arith, taken, place);
       close = omega arith;
       gathers = subst Q (sym none) (gathers_none due before.held (begun way.tale way.later) now.held came.held);
-      cost = came.cost;
-      small = came.small;
-      writable = came.writable;
-      allowed = came.allowed;
     }
 
+-- a draft of which these pieces are gathered
+abbrev with_pieces : Draft → List Piece → Draft
+with_pieces draft pieces = record { size = draft.size; gathered = pieces }
+
 -- all that is gathered is written
-pub comes_written : (n : ℕ) (start : Tale) (before now : Streams) (rig : RigState) (p : Progress) (draft is : Draft)
-    (since at count : ℕ) (held : Option (List ℕ)) → is.size ≡ draft.size → is.gathered ≡ [] → at ≡ p.place
+comes_written : (cut : CutAt) (before now : Streams) (rig : RigState) (p : Progress) (draft : Draft)
+    (pieces : List Piece) (since at count : ℕ) (held : Option (List ℕ)) → pieces ≡ [] → at ≡ p.place
     → IsWritten now.held held draft.gathered
-    → Comes n start before now rig p draft since count
-    → Comes n start before (streams now.left held now.heard now.steps) rig p is at count
-comes_written n start before now rig p draft is since at count held size_same none place written came =
-    let way = came.way in
+    → Comes cut before now rig p draft since count
+    → Comes cut before (streams now.left held now.heard now.steps) rig p (with_pieces draft pieces) at count
+comes_written cut before now rig p draft pieces since at count held none place written came =
+    let way = came.on.way in
     let all = begun way.tale way.later in
     let due = WasDue way.tale way.played way.later way.taken way.taken in
     let Q : List Piece → Type 0 = λ ps. Gathers due before.held all held ps in
-    let taken = taken_count p (events_of way) way.taken came.known came.reads.says in
-    let fits = came.fits in
+    let taken = taken_count p (events_of way) way.taken came.on.known came.on.reads.says in
     record {
-      way = way;
-      all = came.all;
+      on = came.on;
       count_is = came.count_is;
-      same = came.same;
-      known = came.known;
-      reads = came.reads;
-      plays = came.plays;
-      size_is = size_same ∙ came.size_is;
-      fits = omega (arith, fits, size_same);
+      size_is = came.size_is;
+      fits = came.fits;
       flushed = way.taken;
       behind = [];
       taken_is = sym (append-nil way.taken);
@@ -167,55 +147,40 @@ comes_written n start before now rig p draft is since at count held size_same no
       gathers = subst Q (sym none) (gathers_none due before.held all held
           (gathers_written (WasDue way.tale way.played way.later came.flushed way.taken) before.held all now.held held
           draft.gathered came.gathers written));
-      cost = came.cost;
-      small = came.small;
-      writable = came.writable;
-      allowed = came.allowed;
     }
 
 -- a pause: few bytes were taken since all was written, or it is written here
-pub record Paused (n : ℕ) (start : Tale) (before now : Streams) (rig : RigState) (p : Progress) (draft : Draft)
+pub record Paused (cut : CutAt) (before now : Streams) (rig : RigState) (p : Progress) (draft : Draft)
     (since count : ℕ) : Type 0 where
-  pub comes : Comes n start before now rig p draft since count
+  pub comes : Comes cut before now rig p draft since count
   pub near : p.place < since + 4096
 
-pub pauses_on : (n : ℕ) (start : Tale) (before now : Streams) (rig : RigState) (p : Progress) (draft is : Draft)
-    (since at count : ℕ) (held : Option (List ℕ)) → is.size ≡ draft.size
-    → Comes n start before now rig p draft since count
-    → Pauses p.place since draft.gathered is.gathered now.held held at
-    → Paused n start before (streams now.left held now.heard now.steps) rig p is at count
-pauses_on n start before now rig p draft is since at count held size_same came (inl on) =
-    let fits = came.fits in
+pub pauses_on : (cut : CutAt) (before now : Streams) (rig : RigState) (p : Progress) (draft : Draft)
+    (pieces : List Piece) (since at count : ℕ) (held : Option (List ℕ))
+    → Comes cut before now rig p draft since count
+    → Pauses p.place since draft.gathered pieces now.held held at
+    → Paused cut before (streams now.left held now.heard now.steps) rig p (with_pieces draft pieces) at count
+pauses_on cut before now rig p draft pieces since at count held came (inl on) =
     let e = on.0 in
     let lt = on.1 in
     record {
       comes = record {
-        way = came.way;
-        all = came.all;
+        on = came.on;
         count_is = came.count_is;
-        same = came.same;
-        known = came.known;
-        reads = came.reads;
-        plays = came.plays;
-        size_is = size_same ∙ came.size_is;
-        fits = omega (arith, fits, size_same);
+        size_is = came.size_is;
+        fits = came.fits;
         flushed = came.flushed;
         behind = came.behind;
         taken_is = came.taken_is;
         close = came.close;
         since_is = came.since_is ∙ ap (λ (s : ℕ). min s limit) (sym e);
         gathers = rw (on.2, on.3) came.gathers;
-        cost = came.cost;
-        small = came.small;
-        writable = came.writable;
-        allowed = came.allowed;
       };
       near = omega (arith, e, lt);
     }
-pauses_on n start before now rig p draft is since at count held size_same came (inr written) =
+pauses_on cut before now rig p draft pieces since at count held came (inr written) =
     let e = written.0 in
     record {
-      comes = comes_written n start before now rig p draft is since at count held size_same written.1 written.0 written.2
-          came;
+      comes = comes_written cut before now rig p draft pieces since at count held written.1 written.0 written.2 came;
       near = omega (arith, e);
     }

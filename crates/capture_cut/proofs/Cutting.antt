@@ -11,8 +11,8 @@ use Rattle.event_play.specs.RigState.{RigState, StandsFor}
 use Rattle.event_play.specs.Streams.{Streams, streams}
 use Rattle.gpu_core.specs.Kept.{Kept}
 use Rattle.list_dma.specs.declared.run.Run.{Run}
-use Rattle.capture_cut.specs.Came.{Came, HasRead, PlaysFirst}
-use Rattle.capture_cut.specs.Cut.{Way, EndsCut}
+use Rattle.capture_cut.specs.Came.{Came, HasRead, PlaysFirst, reached}
+use Rattle.capture_cut.specs.Cut.{CutAt, Way, EndsCut}
 use Rattle.capture_cut.specs.File.{begun, rig_bytes, rig_of, snapshot, IsWritable}
 use Rattle.capture_cut.specs.declared.ending.CutEnding.TheVariants.{WriteFailed}
 use Rattle.capture_cut.proofs.Reading.{reads_to}
@@ -30,11 +30,11 @@ spent_on : (before mid now a more other : ℕ) → mid ≤ before + a → now �
     → now ≤ before + a + other
 spent_on before mid now a more other was took same = omega arith
 
-spent_within : (before now a b more : ℕ) → now ≤ before + a + more → a ≤ b → now ≤ before + b + more
+pub spent_within : (before now a b more : ℕ) → now ≤ before + a + more → a ≤ b → now ≤ before + b + more
 spent_within before now a b more within small = omega arith
 
-module _ (n : ℕ) (start : Tale) (before now : Streams) (rig : RigState) (p : Progress)
-    (at : PlaysFirst n start before now rig p) (unwritten : now.held ≡ before.held) (held : Option (List ℕ)) (steps : ℕ)
+module _ (cut : CutAt) (before now : Streams) (rig : RigState) (p : Progress)
+    (at : PlaysFirst cut before now rig p) (unwritten : now.held ≡ before.held) (held : Option (List ℕ)) (steps : ℕ)
     (cost : steps ≤ now.steps + dump_cost rig.gpu.parts.m) where
   abbrev after : Streams
   after = streams now.left held now.heard steps
@@ -43,7 +43,7 @@ module _ (n : ℕ) (start : Tale) (before now : Streams) (rig : RigState) (p : P
   way = record { version = p.version; taken = at.taken; played = at.events; tale = at.tale; later = [] }
 
   same : snapshot at.tale ≡ rig_bytes rig
-  same = ap rig_bytes (rig_is rig at.tale at.plays.stands)
+  same = ap rig_bytes (rig_is rig at.tale at.stands.rig_is)
 
   none_later : at.events ++ [] ≡ at.events
   none_later = append-nil at.events
@@ -54,37 +54,41 @@ module _ (n : ℕ) (start : Tale) (before now : Streams) (rig : RigState) (p : P
 
   spent : steps ≤ before.steps + at.tale.cost + dump_cost at.tale.state.gpu.parts.m
   spent = spent_on before.steps now.steps steps at.tale.cost (dump_cost rig.gpu.parts.m) _ at.cost cost
-      (ap (λ (k : Kept). dump_cost k.parts.m) (sym at.plays.stands.state.gpu))
+      (ap (λ (k : Kept). dump_cost k.parts.m) (sym at.stands.rig_is.state.gpu))
 
   -- so few events were played
-  few : n < 2 ^ 32 → rig.played < 2 ^ 63
-  few small = omega (arith, small, at.many, at.plays.counts, at.plays.stands.played)
+  few : cut.n < 2 ^ 32 → rig.played < 2 ^ 63
+  few small = omega (arith, small, at.many, at.plays.counts, at.stands.rig_is.played)
 
   -- nothing is written behind the state yet
   bare : begun at.tale [] ≡ rig_bytes rig
   bare = append-nil (snapshot at.tale) ∙ same
 
   pub state_written : (size : ℕ) → held ≡ appended now.held (rig_bytes rig) → size ≡ length (rig_bytes rig)
-      → size + 4 ≤ limit → (rig.played < 2 ^ 63 → IsWritable rig) → n < 2 ^ 32 → Came n start before after rig p size n
+      → size + 4 ≤ limit → (rig.played < 2 ^ 63 → IsWritable rig) → cut.n < 2 ^ 32
+      → Came cut before after rig (reached p cut.n size)
   state_written size writes is fits bounds small = record {
-    way = way;
-    all = at.many;
+    on = record {
+      way = way;
+      all = at.many;
+      same = refl;
+      known = at.known;
+      reads = has_read;
+      plays = at.plays;
+      stands = at.stands;
+      cost = spent;
+      small = at.small;
+      writable = subst IsWritable (sym (rig_is rig at.tale at.stands.rig_is)) (bounds (few small));
+      allowed = tt;
+    };
     count_is = rw none_later (sym at.many);
-    same = refl;
-    known = at.known;
-    reads = has_read;
-    plays = at.plays;
     held = rw (bare, ← unwritten) writes;
     size_is = is ∙ ap length (sym bare);
     fits = fits;
-    cost = spent;
-    small = at.small;
-    writable = subst IsWritable (sym (rig_is rig at.tale at.plays.stands)) (bounds (few small));
-    allowed = tt;
   }
 
-  pub state_lacks : (number : ℕ) → number ≡ n → AppendsPart now.held held (rig_bytes rig)
-      → EndsCut n start before after rig (WriteFailed number)
+  pub state_lacks : (number : ℕ) → number ≡ cut.n → AppendsPart now.held held (rig_bytes rig)
+      → EndsCut cut before after rig (WriteFailed number)
   state_lacks number is part =
       let P : Option (List ℕ) → Type 0 = λ base. AppendsPart base held (rig_bytes rig) in
       record {
@@ -92,6 +96,7 @@ module _ (n : ℕ) (start : Tale) (before now : Streams) (rig : RigState) (p : P
         bytes = at.reads.bytes;
         order = record { most = omega (arith, at.many); first = λ some. refl };
         plays = at.plays;
+        stands = at.stands;
         says = inl (record {
           all = at.many;
           number_is = is;

@@ -7,13 +7,13 @@ use Rattle.gpu_capture.specs.declared.event.Event.{Event}
 use Rattle.gpu_capture.specs.declared.event.Stop.{Stop}
 use Rattle.gpu_capture.specs.declared.progress.Progress.{Progress}
 use Rattle.gpu_taps.specs.Tally.{Reading}
-use Rattle.event_play.specs.Ends.{FaultsEvent}
 use Rattle.event_play.specs.Replay.{Tale, next_number}
 use Rattle.event_play.specs.RigState.{RigState}
+use Rattle.event_play.specs.Step.{event_step}
 use Rattle.event_play.specs.Streams.{Outlets, Streams, streams, without_sink}
 use Rattle.event_play.specs.declared.fault.EventFault.{EventFault}
 use Rattle.capture_cut.specs.Came.{EndsAnswer, EndsEarly, IsIdle, HasRead}
-use Rattle.capture_cut.specs.Cut.{Way, EndsCut, SaysEnding, StopsBehind}
+use Rattle.capture_cut.specs.Cut.{Way, EndsCut, IsEarly, SaysEnding, StopsBehind, cut_at}
 use Rattle.capture_cut.specs.declared.ending.CutEnding.{CutEnding}
 use Rattle.capture_cut.specs.declared.ending.CutEnding.TheVariants.{Done, PastEnd, Stopped, Faulted, TooLong}
 use Rattle.capture_cut.specs.declared.ending.CutEnding.TheVariants.{WriteFailed}
@@ -43,39 +43,49 @@ module _ (k n : ℕ) (start : Tale) (version : ℕ) (before now : Streams) (was 
 
   -- nothing was played of the answer
   ends : (answer : Result Event Stop) (at : Awaits k start version before now was new answer) (taken : List ℕ)
-      (ending : CutEnding) → rig ≡ was → heard ≡ now.heard → steps ≡ now.steps → before.left ≡ prepended taken now.left
-      → SaysEnding n (way answer at taken) before after ending → EndsCut n start before after rig ending
-  ends answer at taken ending rig_is same_heard same_steps bytes says =
+      (ending : CutEnding) → IsIdle mid behind was rig → before.left ≡ prepended taken now.left
+      → SaysEnding n (way answer at taken) before after ending → EndsCut (cut_at n start) before after rig ending
+  ends answer at taken ending idle bytes says =
+      let same_heard : heard ≡ now.heard = ap (λ (o : Outlets). o.heard) idle.unchanged in
+      let same_steps : steps ≤ now.steps = omega (arith, ap (λ (o : Outlets). o.steps) idle.unchanged) in
       let within : steps ≤ before.steps + at.tale.cost = omega (arith, at.cost, same_steps) in
       record {
         way = way answer at taken;
         bytes = bytes;
         order = record { most = omega (arith, at.many, lt); first = λ some. refl };
-        plays = rw (rig_is, same_heard) at.plays;
+        plays = at.plays;
+        stands = rw (idle.rig_is, same_heard) at.stands;
         says = says;
         cost = omega (arith, within);
         box_cost = spent_within before.steps steps at.tale.cost at.tale.box_cost _ within at.small;
       }
 
+  -- it is behind the events that were played, fewer than are to be
+  is_early : (answer : Result Event Stop) (at : Awaits k start version before now was new answer) (taken : List ℕ)
+      (number : ℕ) → now.held ≡ before.held → number ≡ next_number at.tale.played
+      → IsEarly n (way answer at taken) number before after
+  is_early answer at taken number unwritten is = record {
+    number_is = omega (arith, is, at.plays.counts, at.many, lt, few);
+    few = omega (arith, at.many, lt);
+    held = unwritten;
+  }
+
   fault_ends : (event : Event) (at : Awaits k start version before now was new (Ok event)) (number : ℕ)
-      (fault : EventFault)
-      → now.held ≡ before.held → number ≡ next_number at.tale.played
-      → FaultsEvent at.tale event fault mid behind was rig
-      → EndsCut n start before after rig (Faulted number fault)
-  fault_ends event at number fault unwritten is faults =
+      (fault : EventFault) → now.held ≡ before.held → number ≡ next_number at.tale.played
+      → event_step at.tale.state (next_number at.tale.played) event ≡ Err fault → IsIdle mid behind was rig
+      → EndsCut (cut_at n start) before after rig (Faulted number fault)
+  fault_ends event at number fault unwritten is faults idle =
       let has = read_on before.left at.left now.left at.old new at.taken at.events event at.reads at.answers.0 in
       let taken = at.taken ++ at.answers.0.taken in
-      ends (Ok event) at taken (Faulted number fault) faults.stands (ap (λ (o : Outlets). o.heard) faults.unchanged)
-      (ap (λ (o : Outlets). o.steps) faults.unchanged) has.bytes
-      (record {
-        number_is = omega (arith, is, at.plays.counts, at.many, lt, few);
-        few = omega (arith, at.many, lt);
-        event = event;
-        reads = reads_to before.left now.left new (at.events ++ event ∷ []) (way (Ok event) at taken) has at.answers.1
-            at.same;
-        fault_is = rw is faults.is;
-        held = unwritten;
-      })
+      ends (Ok event) at taken (Faulted number fault) idle has.bytes (
+        is_early (Ok event) at taken number unwritten is,
+        record {
+          event = event;
+          reads = reads_to before.left now.left new (at.events ++ event ∷ []) (way (Ok event) at taken) has
+              at.answers.1 at.same;
+          fault_is = rw is faults;
+        },
+      )
 
   -- the same of a stop of the reader
   stops_way : (stop : Stop) (at : Awaits k start version before now was new (Err stop))
@@ -88,43 +98,40 @@ module _ (k n : ℕ) (start : Tale) (version : ℕ) (before now : Streams) (was 
 
   stop_ends : (stop : Stop) (at : Awaits k start version before now was new (Err stop)) (ending : CutEnding)
       → now.held ≡ before.held → EndsEarly (next_number at.tale.played) stop ending → IsIdle mid behind was rig
-      → EndsCut n start before after rig ending
+      → EndsCut (cut_at n start) before after rig ending
   stop_ends stop at (PastEnd number) unwritten end idle =
       let P : Stop → Type 0 = λ s. StopsBehind (way (Err stop) at (at.taken ++ at.answers.taken)) s now.left in
-      ends (Err stop) at (at.taken ++ at.answers.taken) (PastEnd number) idle.rig_is
-      (ap (λ (o : Outlets). o.heard) idle.unchanged) (ap (λ (o : Outlets). o.steps) idle.unchanged)
-      (stops_bytes before.left at.left now.left at.old new at.taken at.events stop at.reads at.answers)
-      (record {
-        number_is = omega (arith, end.0, at.plays.counts, at.many, lt, few);
-        few = omega (arith, at.many, lt);
-        stops = subst P end.1 (stops_way stop at);
-        held = unwritten;
-      })
+      ends (Err stop) at (at.taken ++ at.answers.taken) (PastEnd number) idle
+      (stops_bytes before.left at.left now.left at.old new at.taken at.events stop at.reads at.answers) (
+        is_early (Err stop) at (at.taken ++ at.answers.taken) number unwritten end.0,
+        subst P end.1 (stops_way stop at),
+      )
   stop_ends stop at (Stopped number told) unwritten end idle =
-      let Q : Stop → Type 0 = λ stop. EndsCut n start before after rig (Stopped number stop) in
+      let Q : Stop → Type 0 = λ stop. EndsCut (cut_at n start) before after rig (Stopped number stop) in
       let none : (length at.events == n) ≡ false = not_whole (length at.events) n (omega (arith, at.many, lt)) in
       subst Q (sym end.1)
-      (ends (Err stop) at (at.taken ++ at.answers.taken) (Stopped number stop) idle.rig_is
-      (ap (λ (o : Outlets). o.heard) idle.unchanged) (ap (λ (o : Outlets). o.steps) idle.unchanged)
-      (stops_bytes before.left at.left now.left at.old new at.taken at.events stop at.reads at.answers)
-      (record {
-        number_is = rw append-nil (omega (arith, end.0, at.plays.counts, at.many, lt, few));
-        stops = stops_way stop at;
-        other = end.2;
-        held = rw none (unwritten ∙ sym (appended-nil before.held));
-      }))
+      (ends (Err stop) at (at.taken ++ at.answers.taken) (Stopped number stop) idle
+      (stops_bytes before.left at.left now.left at.old new at.taken at.events stop at.reads at.answers) (
+        record {
+          number_is = rw append-nil (omega (arith, end.0, at.plays.counts, at.many, lt, few));
+          held = rw none (unwritten ∙ sym (appended-nil before.held));
+        },
+        stops_way stop at,
+        end.2,
+      ))
   stop_ends stop at Done unwritten end idle = absurd end
   stop_ends stop at (Faulted number fault) unwritten end idle = absurd end
   stop_ends stop at (TooLong number) unwritten end idle = absurd end
   stop_ends stop at (WriteFailed number) unwritten end idle = absurd end
 
   pub early_ends : (answer : Result Event Stop) (at : Awaits k start version before now was new answer)
-      (ending : CutEnding) → now.held ≡ before.held → EndsAnswer at.tale answer mid behind was rig ending
-      → EndsCut n start before after rig ending
-  early_ends (Ok event) at (Faulted number fault) unwritten end = fault_ends event at number fault unwritten end.0 end.1
-  early_ends (Ok event) at Done unwritten end = absurd end
-  early_ends (Ok event) at (PastEnd number) unwritten end = absurd end
-  early_ends (Ok event) at (Stopped number stop) unwritten end = absurd end
-  early_ends (Ok event) at (TooLong number) unwritten end = absurd end
-  early_ends (Ok event) at (WriteFailed number) unwritten end = absurd end
-  early_ends (Err stop) at ending unwritten end = stop_ends stop at ending unwritten end.0 end.1
+      (ending : CutEnding) → now.held ≡ before.held → EndsAnswer at.tale answer ending → IsIdle mid behind was rig
+      → EndsCut (cut_at n start) before after rig ending
+  early_ends (Ok event) at (Faulted number fault) unwritten end idle =
+      fault_ends event at number fault unwritten end.0 end.1 idle
+  early_ends (Ok event) at Done unwritten end idle = absurd end
+  early_ends (Ok event) at (PastEnd number) unwritten end idle = absurd end
+  early_ends (Ok event) at (Stopped number stop) unwritten end idle = absurd end
+  early_ends (Ok event) at (TooLong number) unwritten end idle = absurd end
+  early_ends (Ok event) at (WriteFailed number) unwritten end idle = absurd end
+  early_ends (Err stop) at ending unwritten end idle = stop_ends stop at ending unwritten end idle

@@ -1,13 +1,12 @@
 -- The first events, one after another.
-use Rattle.std.proofs.Common.{◌≡◌, ◌≤◌, ◌<◌, inl, inr, ◌+◌, ◌^◌, ◌++◌, ◌==◌, ℕ, List, [], ◌∷◌, Option, Result, Ok, Err}
+use Rattle.std.proofs.Common.{◌≡◌, ◌≤◌, ◌<◌, ◌+◌, ◌^◌, ◌++◌, ℕ, List, [], ◌∷◌, Option, Result, Ok, Err}
 use Rattle.std.proofs.Common.{OnOk, IfOk, IfErr, length, length-append, refl, ap, sym, subst, ◌∙◌, append_assoc, arith}
-use Rattle.std.proofs.lemmas.Bool.{cases_Bool}
 use Rattle.gpu_capture.specs.Reader.{Takes, StopsAt, IsStart}
 use Rattle.gpu_capture.specs.declared.event.Event.{Event}
 use Rattle.gpu_capture.specs.declared.event.Stop.{Stop}
 use Rattle.gpu_capture.specs.declared.progress.Progress.{Progress}
 use Rattle.gpu_taps.specs.Tally.{Reading}
-use Rattle.event_play.specs.Replay.{Tale, played_events, from_state, raised, tall_version, after_event, go_on}
+use Rattle.event_play.specs.Replay.{Tale, played_events, from_state, raised, after_event, go_on}
 use Rattle.event_play.specs.Replay.{next_number}
 use Rattle.event_play.specs.RigState.{RigState, StandsFor}
 use Rattle.event_play.specs.Step.{Machine, event_cost, event_box_cost}
@@ -18,39 +17,39 @@ use Rattle.event_play.proofs.BoxCosts.{event_cost-small}
 use Rattle.event_play.proofs.Feeds.{told-append}
 use Rattle.event_play.proofs.Firsts.{IsFirst, from_first, raised_first}
 use Rattle.event_play.proofs.Grows.{tale_on, after-event}
-use Rattle.capture_flat.proofs.Awaiting.{Answers}
+use Rattle.event_play.proofs.Reaching.{spent_on}
+use Rattle.capture_flat.proofs.Awaiting.{Answers, answers, raised_played}
+use Rattle.capture_flat.proofs.Following.{both_small}
 use Rattle.capture_cut.specs.Came.{PlaysNext, PlaysAnswer, HasRead, PlaysFirst}
-use Rattle.capture_cut.specs.Cut.{Plays}
-use Rattle.capture_cut.proofs.Reading.{read_none, read_on, answers, version_on}
+use Rattle.capture_cut.specs.Cut.{Plays, StandsBehind, cut_at}
+use Rattle.capture_cut.proofs.Reading.{read_none, read_on, version_on}
 
 -- ---- playing
 
-raised_played : (t : Tale) (version : ℕ) → (raised t version).played ≡ t.played
-raised_played t version = elim (cases_Bool (version == tall_version)) [ inl is ↦ rw is refl | inr is ↦ rw is refl ]
-
 -- nothing was played yet
-plays_none : (s : Machine) (version : ℕ) (heard : List Reading) (rig : RigState)
+plays_none : (s : Machine) (version : ℕ)
+    → Plays (raised (from_state s 0) version) [] (raised (from_state s 0) version)
+plays_none s version = record {
+  replays = λ more stop rest. refl;
+  counts = raised_played (from_state s 0) version;
+}
+
+stands_none : (s : Machine) (version : ℕ) (heard : List Reading) (rig : RigState)
     → StandsFor rig (raised (from_state s 0) version)
-    → Plays (raised (from_state s 0) version) [] (raised (from_state s 0) version) heard heard rig
-plays_none s version heard rig stands =
+    → StandsBehind (raised (from_state s 0) version) heard heard rig
+stands_none s version heard rig stands =
     let first : IsFirst (raised (from_state s 0) version) = raised_first (from_state s 0) version (from_first s 0) in
-    record {
-      replays = λ more stop rest. refl;
-      counts = raised_played (from_state s 0) version;
-      stands = stands;
-      heard = rw first.notes refl;
-    }
+    record { rig_is = stands; heard = rw first.notes refl }
 
 -- the tale with one event more
 abbrev next_tale : (t : Tale) (event : Event) (before now : Outlets) (rig : RigState)
     → PlaysNext t event before now rig → Tale
 next_tale t event before now rig plays = tale_on t event plays.step.machine plays.shown plays.step.notes
 
-plays_on : (first t : Tale) (events : List Event) (event : Event) (heard : List Reading) (mid now : Outlets)
-    (was rig : RigState) → Plays first events t heard mid.heard was → (next : PlaysNext t event mid now rig)
-    → length events < 2 ^ 32
-    → Plays first (events ++ event ∷ []) (next_tale t event mid now rig next) heard now.heard rig
-plays_on first t events event heard mid now was rig plays next few =
+plays_on : (first t : Tale) (events : List Event) (event : Event) (mid now : Outlets) (rig : RigState)
+    → Plays first events t → (next : PlaysNext t event mid now rig) → length events < 2 ^ 32
+    → Plays first (events ++ event ∷ []) (next_tale t event mid now rig next)
+plays_on first t events event mid now rig plays next few =
     let after : Tale = next_tale t event mid now rig next in
     let is : after_event t event ≡ Ok after =
     after-event t event next.step.machine next.shown next.step.notes next.step.is in
@@ -62,10 +61,16 @@ plays_on first t events event heard mid now was rig plays next few =
           ∙ ap (λ r. go_on r (λ next. played_events next more stop rest)
           (λ fault. record { tale = t; ending = FaultedPlay (next_number t.played) fault; rest = rest })) is;
       counts = omega (arith, plays.counts, long, few);
-      stands = record { state = next.step.stands; played = sym next.played };
-      heard = next.step.heard ∙ ap (told_notes next.step.notes) plays.heard
-          ∙ sym (told-append t.notes next.step.notes heard);
     }
+
+stands_on : (t : Tale) (event : Event) (heard : List Reading) (mid now : Outlets) (was rig : RigState)
+    → StandsBehind t heard mid.heard was → (next : PlaysNext t event mid now rig)
+    → StandsBehind (next_tale t event mid now rig next) heard now.heard rig
+stands_on t event heard mid now was rig stands next = record {
+  rig_is = record { state = next.step.stands; played = sym next.played };
+  heard = next.step.heard ∙ ap (told_notes next.step.notes) stands.heard
+      ∙ sym (told-append t.notes next.step.notes heard);
+}
 
 -- ---- a reader that has answered
 
@@ -80,7 +85,8 @@ pub record Awaits (n : ℕ) (start : Tale) (version : ℕ) (before now : Streams
   pub reads : HasRead before.left left old taken events
   pub same : version ≡ new.version
   pub answers : Answers old new left now.left answer
-  pub plays : Plays (raised start version) events tale before.heard now.heard rig
+  pub plays : Plays (raised start version) events tale
+  pub stands : StandsBehind tale before.heard now.heard rig
   pub cost : now.steps ≤ before.steps + tale.cost
   pub small : tale.cost ≤ tale.box_cost
 
@@ -102,13 +108,14 @@ awaits_first s left left_now held heard steps rig first new version next is stan
       reads = read_none left first is;
       same = same;
       answers = answers first new left left_now next takes known stops;
-      plays = plays_none s version heard rig stands;
+      plays = plays_none s version;
+      stands = stands_none s version heard rig stands;
       cost = omega arith;
       small = omega (arith, none.cost);
     }
 
 pub awaits_next : (n : ℕ) (start : Tale) (before now : Streams) (rig : RigState) (old new : Progress)
-    (left : Option (List ℕ)) (next : Result Event Stop) → PlaysFirst n start before now rig old
+    (left : Option (List ℕ)) (next : Result Event Stop) → PlaysFirst (cut_at n start) before now rig old
     → IfOk next (λ event. Takes old new now.left left (event ∷ [])) → OnOk next (1 ≤ new.version)
     → IfErr next (λ stop. StopsAt old new now.left left stop)
     → Awaits n start old.version before (streams left now.held now.heard now.steps) rig new next
@@ -125,29 +132,24 @@ awaits_next n start before now rig old new left next was takes known stops =
       same = version_on old new now.left left next answer was.known;
       answers = answer;
       plays = was.plays;
+      stands = was.stands;
       cost = was.cost;
       small = was.small;
     }
 
 -- ---- it is played
 
-spent_on : (before mid now a b : ℕ) → mid ≤ before + a → now ≤ mid + b → now ≤ before + (a + b)
-spent_on before mid now a b was took = omega arith
-
-both_small : (a b c d : ℕ) → a ≤ c → b ≤ d → a + b ≤ c + d
-both_small a b c d first next = omega arith
-
 pub played_on : (n : ℕ) (start : Tale) (version : ℕ) (before now : Streams) (was rig : RigState) (new : Progress)
     (answer : Result Event Stop) (heard : List Reading) (steps : ℕ)
     → (at : Awaits n start version before now was new answer)
     → PlaysAnswer at.tale answer (without_sink now.heard now.steps) (without_sink heard steps) rig → n < 2 ^ 32
-    → PlaysFirst (n + 1) start before (streams now.left now.held heard steps) rig new
+    → PlaysFirst (cut_at (n + 1) start) before (streams now.left now.held heard steps) rig new
 played_on n start version before now was rig new (Ok event) heard steps at next few =
     let mid = without_sink now.heard now.steps in
     let behind = without_sink heard steps in
     let after : Tale = next_tale at.tale event mid behind rig next in
     let long = length-append at.events (event ∷ []) in
-    let P : ℕ → Type 0 = λ v. Plays (raised start v) (at.events ++ event ∷ []) after before.heard heard rig in
+    let P : ℕ → Type 0 = λ v. Plays (raised start v) (at.events ++ event ∷ []) after in
     record {
       taken = at.taken ++ at.answers.0.taken;
       events = at.events ++ event ∷ [];
@@ -156,8 +158,9 @@ played_on n start version before now was rig new (Ok event) heard steps at next 
       known = at.answers.1;
       reads = read_on before.left at.left now.left at.old new at.taken at.events event at.reads at.answers.0;
       plays = subst P at.same
-          (plays_on (raised start version) at.tale at.events event before.heard mid behind was rig at.plays next
+          (plays_on (raised start version) at.tale at.events event mid behind rig at.plays next
           (omega (arith, at.many, few)));
+      stands = stands_on at.tale event before.heard mid behind was rig at.stands next;
       cost = spent_on before.steps now.steps steps at.tale.cost (event_cost at.tale.state event) at.cost next.step.cost;
       small = both_small at.tale.cost (event_cost at.tale.state event)
           at.tale.box_cost (event_box_cost at.tale.state event)

@@ -1,5 +1,5 @@
 -- What was read so far, and the next answer of the reader.
-use Rattle.std.proofs.Common.{◌≡◌, ◌≤◌, ◌++◌, ℕ, List, [], ◌∷◌, Option, Result, Ok, Err, OnOk, IsOk, IfOk, IfErr}
+use Rattle.std.proofs.Common.{◌≡◌, ◌≤◌, ◌++◌, ℕ, List, [], ◌∷◌, Option, Result, Ok, Err, OnOk, IsOk, IfErr}
 use Rattle.std.proofs.Common.{false, true, refl, sym, ◌∙◌}
 use Rattle.dev_io.specs.Device.{prepended}
 use Rattle.dev_io.proofs.Parts.{prepended-nil, taken_on}
@@ -55,12 +55,6 @@ stops_behind before mid now old new xs stop way was stops same taken = record {
 }
 
 -- ---- the next answer
-
-pub answers : (old new : Progress) (before now : Option (List ℕ)) (next : Result Event Stop)
-    → IfOk next (λ event. Takes old new before now (event ∷ [])) → OnOk next (1 ≤ new.version)
-    → IfErr next (λ stop. StopsAt old new before now stop) → Answers old new before now next
-answers old new before now (Ok event) takes known stops = (takes, known)
-answers old new before now (Err stop) takes known stops = stops
 
 -- behind the head it is of the same version
 pub version_on : (old new : Progress) (before now : Option (List ℕ)) (next : Result Event Stop)

@@ -22,14 +22,15 @@ use Rattle.event_play.specs.Pausing.{most_behind}
 use Rattle.capture_flat.proofs.Allows.{allows_append}
 use Rattle.capture_flat.proofs.Following.{few_behind}
 use Rattle.capture_flat.proofs.Pieces.{spell-append, wrote_on}
-use Rattle.capture_cut.specs.Came.{EndsAt, EndsReading, EndsRecord, EndsTooLong, HasRead, PutsRecord}
-use Rattle.capture_cut.specs.Cut.{Way, EndsCut, IsLast, ReadsTo, SaysEnding, StopsBehind, events_of, read_of}
+use Rattle.capture_cut.specs.Came.{EndsAt, EndsReading, EndsRecord, EndsTooLong, HasRead, PutsRecord, writing}
+use Rattle.capture_cut.specs.Cut.{CutAt, Way, EndsCut, IsLast, ReadsTo, SaysEnding, StopsBehind, events_of, read_of}
 use Rattle.capture_cut.specs.File.{snapshot, begun, cut_file}
 use Rattle.capture_cut.specs.declared.ending.CutEnding.{CutEnding}
 use Rattle.capture_cut.specs.declared.ending.CutEnding.TheVariants.{Done, PastEnd, Stopped, Faulted, TooLong}
 use Rattle.capture_cut.specs.declared.ending.CutEnding.TheVariants.{WriteFailed}
 use Rattle.capture_cut.specs.declared.file.Draft.{Draft}
 use Rattle.capture_cut.proofs.Coming.{Comes, WasDue, due_here, due_more}
+use Rattle.capture_cut.proofs.Cutting.{spent_within}
 use Rattle.capture_cut.proofs.Reading.{read_on, reads_to, stops_behind, stops_bytes, version_on}
 
 -- ---- bytes
@@ -63,51 +64,56 @@ more_events played later event = sym (append_assoc played later (event ∷ []))
 is_whole : (n : ℕ) → (n == n) ≡ true
 is_whole n = grind arith
 
-spent_within : (before now a b more : ℕ) → now ≤ before + a + more → a ≤ b → now ≤ before + b + more
-spent_within before now a b more within small = omega arith
-
 -- ---- an event more
 
-module _ (n : ℕ) (start : Tale) (before now : Streams) (rig : RigState) (old : Progress) (draft : Draft)
-    (since count : ℕ) (at : Comes n start before now rig old draft since count) (left held : Option (List ℕ)) where
+module _ (cut : CutAt) (before now : Streams) (rig : RigState) (old : Progress) (draft : Draft)
+    (since count : ℕ) (at : Comes cut before now rig old draft since count) (left held : Option (List ℕ)) where
+  abbrev far : Way
+  far = at.on.way
+
   abbrev after : Streams
   after = streams left held now.heard now.steps
 
-  -- how far it came, with these events behind the first
+  -- where it came, with these events behind the first
   abbrev way : List ℕ → List Event → Way
   way taken later = record {
-    version = at.way.version;
+    version = far.version;
     taken = taken;
-    played = at.way.played;
-    tale = at.way.tale;
+    played = far.played;
+    tale = far.tale;
     later = later;
   }
 
   abbrev all : List ℕ
-  all = begun at.way.tale at.way.later
+  all = begun far.tale far.later
+
+  -- what was due, where these bytes were taken and these events came behind the first
+  abbrev due : List ℕ → List Event → (number : ℕ) → (was is : List ℕ) → Type 0
+  due taken later = WasDue far.tale far.played later at.flushed taken
 
   ends : (taken : List ℕ) (later : List Event) (ending : CutEnding) → before.left ≡ prepended taken left
-      → SaysEnding n (way taken later) before after ending → EndsCut n start before after rig ending
+      → SaysEnding cut.n (way taken later) before after ending → EndsCut cut before after rig ending
   ends taken later ending bytes says = record {
     way = way taken later;
     bytes = bytes;
-    order = record { most = omega (arith, at.all); first = λ some. absurd (omega (arith, at.all, some)) };
-    plays = at.plays;
+    order = record { most = omega (arith, at.on.all); first = λ some. absurd (omega (arith, at.on.all, some)) };
+    plays = at.on.plays;
+    stands = at.on.stands;
     says = says;
-    cost = at.cost;
-    box_cost = spent_within before.steps now.steps at.way.tale.cost at.way.tale.box_cost _ at.cost at.small;
+    cost = at.on.cost;
+    box_cost = spent_within before.steps now.steps far.tale.cost far.tale.box_cost _ at.on.cost at.on.small;
   }
 
   -- a failed write of what is gathered
   lacks : (taken : List ℕ) (later : List Event) (number : ℕ) → before.left ≡ prepended taken left
       → SaysFirst (read_of (way taken later)) (events_of (way taken later))
       → length taken ≤ length at.flushed + most_behind
-      → BreaksDue (WasDue at.way.tale at.way.played later at.flushed taken) before.held held number
-      → EndsCut n start before after rig (WriteFailed number)
+      → BreaksDue (due taken later) before.held held number
+      → EndsCut cut before after rig (WriteFailed number)
   lacks taken later number bytes says few breaks =
       let is = breaks.is in
       ends taken later (WriteFailed number) bytes (inr (inl (record {
-        all = at.all;
+        all = at.on.all;
         earlier = is.earlier;
         event = is.event;
         rest = is.later;
@@ -129,13 +135,14 @@ module _ (n : ℕ) (start : Tale) (before now : Streams) (rig : RigState) (old :
       })))
 
   -- at a pause, where no more was taken
-  pub pause_lacks : (lacking : ℕ) → before.left ≡ prepended at.way.taken left
-      → BreaksWriting now.held held draft.gathered lacking → EndsCut n start before after rig (WriteFailed lacking)
+  pub pause_lacks : (lacking : ℕ) → before.left ≡ prepended far.taken left
+      → BreaksWriting now.held held draft.gathered lacking → EndsCut cut before after rig (WriteFailed lacking)
   pause_lacks lacking bytes breaks =
-      lacks at.way.taken at.way.later lacking bytes
-      (reads_to before.left now.left old (events_of at.way) (way at.way.taken at.way.later) at.reads at.known at.same).says
+      let here = way far.taken far.later in
+      lacks far.taken far.later lacking bytes
+      (reads_to before.left now.left old (events_of far) here at.on.reads at.on.known at.on.same).says
       at.close
-      (gathers_off (WasDue at.way.tale at.way.played at.way.later at.flushed at.way.taken) before.held all now.held held
+      (gathers_off (due far.taken far.later) before.held all now.held held
       draft.gathered lacking at.gathers breaks)
 
   -- ---- the next answer of the reader
@@ -143,67 +150,74 @@ module _ (n : ℕ) (start : Tale) (before now : Streams) (rig : RigState) (old :
   module _ (new : Progress) (near : old.place < since + 4096) where
     -- few bytes are taken with these
     few : (further : List ℕ) → ReaderNeeds old further
-        → length (at.way.taken ++ further) ≤ length at.flushed + most_behind
+        → length (far.taken ++ further) ≤ length at.flushed + most_behind
     few further needed =
-        few_behind old (events_of at.way) at.way.taken further at.flushed since (inr at.known) at.reads.says at.since_is
+        few_behind old (events_of far) far.taken further at.flushed since (inr at.on.known) at.on.reads.says at.since_is
         near needed
 
     module _ (event : Event) (takes : Takes old new now.left left (event ∷ [])) (known : 1 ≤ new.version) where
       abbrev taken : List ℕ
-      taken = at.way.taken ++ takes.taken
+      taken = far.taken ++ takes.taken
 
       abbrev later : List Event
-      later = at.way.later ++ event ∷ []
+      later = far.later ++ event ∷ []
 
-      same : at.way.version ≡ new.version
-      same = at.same ∙ version_on old new now.left left (Ok event) (takes, known) at.known
+      same : far.version ≡ new.version
+      same = at.on.same ∙ version_on old new now.left left (Ok event) (takes, known) at.on.known
 
-      has_read : HasRead before.left left new taken (at.way.played ++ later)
+      has_read : HasRead before.left left new taken (far.played ++ later)
       has_read =
           let P : List Event → Type 0 = λ events. HasRead before.left left new taken events in
-          subst P (sym (more_events at.way.played at.way.later event))
-          (read_on before.left now.left left old new at.way.taken (events_of at.way) event at.reads takes)
+          subst P (sym (more_events far.played far.later event))
+          (read_on before.left now.left left old new far.taken (events_of far) event at.on.reads takes)
 
-      reads : ReadsTo (way taken later) (at.way.played ++ later)
-      reads = reads_to before.left left new (at.way.played ++ later) (way taken later) has_read known same
+      reads : ReadsTo (way taken later) (far.played ++ later)
+      reads = reads_to before.left left new (far.played ++ later) (way taken later) has_read known same
 
-      count_on : count + 1 ≡ length (at.way.played ++ later)
+      count_on : count + 1 ≡ length (far.played ++ later)
       count_on =
-          let a = length-append (events_of at.way) (event ∷ []) in
-          let b = ap length (more_events at.way.played at.way.later event) in
+          let a = length-append (events_of far) (event ∷ []) in
+          let b = ap length (more_events far.played far.later event) in
           omega (arith, a, b, at.count_is)
 
-      more_due : (number : ℕ) (was due : List ℕ)
-          → WasDue at.way.tale at.way.played at.way.later at.flushed at.way.taken number was due
-          → WasDue at.way.tale at.way.played later at.flushed taken number was due
-      more_due = due_more at.way.tale at.way.played at.way.later (event ∷ []) later at.flushed at.way.taken takes.taken refl
+      more_due : (number : ℕ) (was is : List ℕ) → due far.taken far.later number was is
+          → due taken later number was is
+      more_due =
+          due_more far.tale far.played far.later (event ∷ []) later at.flushed far.taken takes.taken refl
 
-      here : (number : ℕ) → number ≡ count + 1 → length (cut_file at.way.tale later) ≤ limit
-          → WasDue at.way.tale at.way.played later at.flushed taken number all (spelled event)
+      here : (number : ℕ) → number ≡ count + 1 → length (cut_file far.tale later) ≤ limit
+          → due taken later number all (spelled event)
       here number is fits =
           let count_is = at.count_is in
-          due_here at.way.tale at.way.played at.way.later event at.flushed at.behind at.way.taken takes.taken number
+          due_here far.tale far.played far.later event at.flushed at.behind far.taken takes.taken number
           (is ∙ ap (λ k. k + 1) count_is) fits at.taken_is has_read.needed
 
-      pub came_on : (number : ℕ) (is : Draft) → number ≡ count + 1 → PutsRecord draft is number event now.held held
-          → Allows 2 event → Comes n start before after rig new is since number
+      pub came_on : (number : ℕ) (is : Draft) → number ≡ count + 1
+          → PutsRecord number event (writing draft now.held) (writing is held) → Allows 2 event
+          → Comes cut before after rig new is since number
       came_on number is number_is puts allows =
-          let size = longer at.way.tale at.way.later event draft.size at.size_is in
+          let size = longer far.tale far.later event draft.size at.size_is in
           let adds = puts.size_is in
           let room = puts.fits in
-          let fits : length (cut_file at.way.tale later) ≤ limit = omega (arith, size, adds, room) in
-          let Q : List ℕ → Type 0 = λ bs. Gathers (WasDue at.way.tale at.way.played later at.flushed taken) before.held bs
-          held is.gathered in
+          let fits : length (cut_file far.tale later) ≤ limit = omega (arith, size, adds, room) in
+          let Q : List ℕ → Type 0 = λ bs. Gathers (due taken later) before.held bs held is.gathered in
           record {
-            way = way taken later;
-            all = at.all;
+            on = record {
+              way = way taken later;
+              all = at.on.all;
+              same = same;
+              known = known;
+              reads = has_read;
+              plays = at.on.plays;
+              stands = at.on.stands;
+              cost = at.on.cost;
+              small = at.on.small;
+              writable = at.on.writable;
+              allowed = allows_append 2 far.later (event ∷ []) at.on.allowed (allows, tt);
+            };
             count_is = number_is ∙ count_on;
-            same = same;
-            known = known;
-            reads = has_read;
-            plays = at.plays;
-            size_is = let a = ap length (begun_on at.way.tale at.way.later event) in
-                let b = length-append (begun at.way.tale at.way.later) (spelled event) in
+            size_is = let a = ap length (begun_on far.tale far.later event) in
+                let b = length-append (begun far.tale far.later) (spelled event) in
                 omega (arith, a, b, at.size_is, adds);
             fits = room;
             flushed = at.flushed;
@@ -211,129 +225,120 @@ module _ (n : ℕ) (start : Tale) (before now : Streams) (rig : RigState) (old :
             behind = at.behind ++ takes.taken;
             taken_is = ap (λ bs. bs ++ takes.taken) at.taken_is ∙ append_assoc at.flushed at.behind takes.taken;
             since_is = at.since_is;
-            gathers = subst Q (sym (begun_on at.way.tale at.way.later event))
-                (gathers_on (WasDue at.way.tale at.way.played at.way.later at.flushed at.way.taken)
-                (WasDue at.way.tale at.way.played later at.flushed taken) before.held all now.held draft.gathered at.gathers
-                more_due number (spelled event) (here number number_is fits) held is.gathered puts.put);
-            cost = at.cost;
-            small = at.small;
-            writable = at.writable;
-            allowed = allows_append 2 at.way.later (event ∷ []) at.allowed (allows, tt);
+            gathers = subst Q (sym (begun_on far.tale far.later event))
+                (gathers_on (due far.taken far.later) (due taken later) before.held all now.held draft.gathered
+                at.gathers more_due number (spelled event) (here number number_is fits) held is.gathered puts.put);
           }
 
-      last : (number : ℕ) → number ≡ count + 1 → IsLast n (way taken later) number at.way.later event
-      last number is = record { all = at.all; number_is = is ∙ count_on; are = refl; reads = reads }
+      last : (number : ℕ) → number ≡ count + 1 → IsLast cut.n (way taken later) number far.later event
+      last number is = record { all = at.on.all; number_is = is ∙ count_on; are = refl; reads = reads }
 
       long_ends : (number : ℕ) (ending : CutEnding) → number ≡ count + 1
           → limit < draft.size + length (spelled event) + 4 → EndsTooLong number draft.gathered now.held held ending
-          → EndsCut n start before after rig ending
+          → EndsCut cut before after rig ending
       long_ends number (TooLong told) is long end =
           ends taken later (TooLong told) has_read.bytes (record {
-            earlier = at.way.later;
+            earlier = far.later;
             event = event;
             last = last told (end.0 ∙ is);
-            held = gathers_written (WasDue at.way.tale at.way.played at.way.later at.flushed at.way.taken) before.held all
-                now.held held draft.gathered at.gathers end.1;
-            fits = let a = file_length at.way.tale at.way.later in omega (arith, a, at.size_is, at.fits);
-            long = rw (longer at.way.tale at.way.later event draft.size at.size_is) long;
+            held = gathers_written (due far.taken far.later) before.held all now.held held draft.gathered
+                at.gathers end.1;
+            fits = let a = file_length far.tale far.later in omega (arith, a, at.size_is, at.fits);
+            long = rw (longer far.tale far.later event draft.size at.size_is) long;
           })
       long_ends number (WriteFailed told) is long end =
           lacks taken later told has_read.bytes reads.says (few takes.taken takes.needed)
-          (gathers_off (WasDue at.way.tale at.way.played later at.flushed taken) before.held all now.held held
-          draft.gathered told
-          (gathers_more (WasDue at.way.tale at.way.played at.way.later at.flushed at.way.taken)
-          (WasDue at.way.tale at.way.played later at.flushed taken) before.held all now.held draft.gathered more_due
-          at.gathers) end)
+          (gathers_off (due taken later) before.held all now.held held draft.gathered told
+          (gathers_more (due far.taken far.later) (due taken later) before.held all now.held draft.gathered
+          more_due at.gathers) end)
       long_ends number Done is long end = absurd end
       long_ends number (PastEnd told) is long end = absurd end
       long_ends number (Stopped told stop) is long end = absurd end
       long_ends number (Faulted told fault) is long end = absurd end
 
       pub record_ends : (number : ℕ) (ending : CutEnding) → number ≡ count + 1
-          → EndsRecord draft number event now.held held ending → EndsCut n start before after rig ending
+          → EndsRecord number event (writing draft now.held) held ending → EndsCut cut before after rig ending
       record_ends number ending is (inl long) = long_ends number ending is long.0 long.1
       record_ends number ending is (inr breaks) =
-          let size = longer at.way.tale at.way.later event draft.size at.size_is in
+          let size = longer far.tale far.later event draft.size at.size_is in
           let room = breaks.0 in
-          let fits : length (cut_file at.way.tale later) ≤ limit = omega (arith, size, room) in
+          let fits : length (cut_file far.tale later) ≤ limit = omega (arith, size, room) in
           rw breaks.2 (lacks taken later breaks.1 has_read.bytes reads.says (few takes.taken takes.needed)
-          (breaks_put (WasDue at.way.tale at.way.played at.way.later at.flushed at.way.taken)
-          (WasDue at.way.tale at.way.played later at.flushed taken) before.held all now.held draft.gathered at.gathers
-          more_due number (spelled event) (here number is fits) held breaks.1 breaks.3))
+          (breaks_put (due far.taken far.later) (due taken later) before.held all now.held draft.gathered
+          at.gathers more_due number (spelled event) (here number is fits) held breaks.1 breaks.3))
 
     -- ---- the reader stops
 
     module _ (stop : Stop) (stops : StopsAt old new now.left left stop) where
       abbrev bytes_taken : List ℕ
-      bytes_taken = at.way.taken ++ stops.taken
+      bytes_taken = far.taken ++ stops.taken
 
       bytes : before.left ≡ prepended bytes_taken left
-      bytes = stops_bytes before.left now.left left old new at.way.taken (events_of at.way) stop at.reads stops
+      bytes = stops_bytes before.left now.left left old new far.taken (events_of far) stop at.on.reads stops
 
-      version_is : at.way.version ≡ new.version
-      version_is = at.same ∙ version_on old new now.left left (Err stop) stops at.known
+      version_is : far.version ≡ new.version
+      version_is = at.on.same ∙ version_on old new now.left left (Err stop) stops at.on.known
 
-      behind : StopsBehind (way bytes_taken at.way.later) stop left
-      behind = stops_behind before.left now.left left old new at.way.taken stop (way bytes_taken at.way.later) at.reads
+      behind : StopsBehind (way bytes_taken far.later) stop left
+      behind = stops_behind before.left now.left left old new far.taken stop (way bytes_taken far.later) at.on.reads
           stops version_is refl
 
-      says_events : SaysFirst (read_of (way bytes_taken at.way.later)) (events_of at.way)
+      says_events : SaysFirst (read_of (way bytes_taken far.later)) (events_of far)
       says_events = λ rest. (
         capture_from old (stops.taken ++ rest),
-        ap capture (append_assoc at.way.taken stops.taken rest) ∙ at.reads.says (stops.taken ++ rest),
-        version_from old (stops.taken ++ rest) at.known ∙ sym at.same,
+        ap capture (append_assoc far.taken stops.taken rest) ∙ at.on.reads.says (stops.taken ++ rest),
+        version_from old (stops.taken ++ rest) at.on.known ∙ sym at.on.same,
       )
 
-      stopped_number : (number told : ℕ) → told ≡ number → number ≡ count + 1 → told ≡ length (events_of at.way) + 1
+      stopped_number : (number told : ℕ) → told ≡ number → number ≡ count + 1 → told ≡ length (events_of far) + 1
       stopped_number number told same is = omega (arith, same, is, at.count_is)
 
       stop_ends : (number : ℕ) (ending : CutEnding) (mid : Option (List ℕ)) → number ≡ count + 1
           → mid ≡ appended before.held all
-          → EndsAt number stop mid held ending → EndsCut n start before after rig ending
+          → EndsAt number stop mid held ending → EndsCut cut before after rig ending
       stop_ends number Done mid is stood end =
-          let P : Stop → Type 0 = λ s. StopsBehind (way bytes_taken at.way.later) s left in
-          ends bytes_taken at.way.later Done bytes (record {
-            all = at.all;
+          let P : Stop → Type 0 = λ s. StopsBehind (way bytes_taken far.later) s left in
+          ends bytes_taken far.later Done bytes (record {
+            all = at.on.all;
             stops = subst P end.0 behind;
             held = wrote_on before.held mid held all spelled_end stood end.1;
-            writable = at.writable;
-            allowed = at.allowed;
-            fits = let a = file_length at.way.tale at.way.later in omega (arith, a, at.size_is, at.fits);
+            writable = at.on.writable;
+            allowed = at.on.allowed;
+            fits = let a = file_length far.tale far.later in omega (arith, a, at.size_is, at.fits);
           })
       stop_ends number (WriteFailed told) mid is stood end =
-          let P : Stop → Type 0 = λ s. StopsBehind (way bytes_taken at.way.later) s left in
+          let P : Stop → Type 0 = λ s. StopsBehind (way bytes_taken far.later) s left in
           let Q : Option (List ℕ) → Type 0 = λ base. AppendsPart base held spelled_end in
-          ends bytes_taken at.way.later (WriteFailed told) bytes (inr (inr (record {
-            all = at.all;
+          ends bytes_taken far.later (WriteFailed told) bytes (inr (inr (record {
+            all = at.on.all;
             number_is = stopped_number number told end.1 is;
             stops = subst P end.0 behind;
             held = subst Q stood end.2;
           })))
       stop_ends number (Stopped told given) mid is stood end =
-          let P : Stop → Type 0 = λ s. EndsCut n start before after rig (Stopped told s) in
-          let whole : (length at.way.played == n) ≡ true = rw at.all (is_whole n) in
+          let P : Stop → Type 0 = λ s. EndsCut cut before after rig (Stopped told s) in
+          let whole : (length far.played == cut.n) ≡ true = rw at.on.all (is_whole cut.n) in
           subst P (sym end.1)
-          (ends bytes_taken at.way.later (Stopped told stop) bytes (record {
-            number_is = stopped_number number told end.0 is;
-            stops = behind;
-            other = end.2;
-            held = rw whole (end.3 ∙ stood);
-          }))
+          (ends bytes_taken far.later (Stopped told stop) bytes (
+            record { number_is = stopped_number number told end.0 is; held = rw whole (end.3 ∙ stood) },
+            behind,
+            end.2,
+          ))
       stop_ends number (PastEnd told) mid is stood end = absurd end
       stop_ends number (Faulted told fault) mid is stood end = absurd end
       stop_ends number (TooLong told) mid is stood end = absurd end
 
       pub reading_ends : (number : ℕ) (ending : CutEnding) → number ≡ count + 1
-          → EndsReading number stop draft.gathered now.held held ending → EndsCut n start before after rig ending
+          → EndsReading number stop (writing draft now.held) held ending → EndsCut cut before after rig ending
       reading_ends number ending is (inl end) =
           stop_ends number ending end.0 is
-          (gathers_written (WasDue at.way.tale at.way.played at.way.later at.flushed at.way.taken) before.held all now.held
+          (gathers_written (due far.taken far.later) before.held all now.held
           end.0 draft.gathered at.gathers end.1) end.2
       reading_ends number ending is (inr breaks) =
-          let due = WasDue at.way.tale at.way.played at.way.later at.flushed at.way.taken in
-          let more = WasDue at.way.tale at.way.played at.way.later at.flushed bytes_taken in
-          rw breaks.1 (lacks bytes_taken at.way.later breaks.0 bytes says_events (few stops.taken stops.needed)
+          let was = due far.taken far.later in
+          let more = due bytes_taken far.later in
+          rw breaks.1 (lacks bytes_taken far.later breaks.0 bytes says_events (few stops.taken stops.needed)
           (gathers_off more before.held all now.held held draft.gathered breaks.0
-          (gathers_more due more before.held all now.held draft.gathered
-          (due_more at.way.tale at.way.played at.way.later [] at.way.later at.flushed at.way.taken stops.taken
-          (sym (append-nil at.way.later))) at.gathers) breaks.2))
+          (gathers_more was more before.held all now.held draft.gathered
+          (due_more far.tale far.played far.later [] far.later at.flushed far.taken stops.taken
+          (sym (append-nil far.later))) at.gathers) breaks.2))

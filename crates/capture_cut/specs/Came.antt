@@ -1,23 +1,24 @@
 -- How far cutting a capture has come, between its steps.
-use Rattle.std.specs.Prelude.{◌≡◌, ◌≤◌, ◌<◌, ◌⊎◌, ℕ, List, ◌++◌, ◌+◌, Option, Result, Ok, Err, length}
+use Rattle.std.specs.Prelude.{◌≡◌, ◌≤◌, ◌<◌, ◌⊎◌, ℕ, List, ◌++◌, ◌+◌, ◌^◌, Option, None, Result, Ok, Err, length}
 use Rattle.dev_io.specs.Device.{prepended, appended, AppendsPart}
 use Rattle.gathered_out.specs.Pieces.{Piece}
 use Rattle.gathered_out.specs.Puts.{BreaksPut, BreaksWriting, IsPut, IsWritten}
 use Rattle.gpu_capture.specs.Capture.{capture, then_events, limit}
-use Rattle.gpu_capture.specs.Reader.{IsReadFault, capture_from}
+use Rattle.gpu_capture.specs.Reader.{IsReadFault, capture_from, work_left}
 use Rattle.gpu_capture.specs.Written.{spelled, spelled_end, AllowsAll}
 use Rattle.gpu_capture.specs.declared.event.Event.{Event}
 use Rattle.gpu_capture.specs.declared.event.Stop.{Stop}
 use Rattle.gpu_capture.specs.declared.event.Stop.TheVariants.{End}
 use Rattle.gpu_capture.specs.declared.progress.Progress.{Progress}
 use Rattle.picture_out.specs.Dump.{dump_cost}
-use Rattle.event_play.specs.Ends.{FaultsEvent, IsNotEnd}
+use Rattle.event_play.specs.Ends.{IsNotEnd}
 use Rattle.event_play.specs.Replay.{Tale, raised, next_number}
 use Rattle.event_play.specs.RigState.{RigState}
+use Rattle.event_play.specs.Step.{event_step}
 use Rattle.event_play.specs.Stepping.{HasStepped}
 use Rattle.event_play.specs.Streams.{Outlets, Streams}
 use Rattle.capture_flat.specs.Passing.{AreNeeded}
-use Rattle.capture_cut.specs.Cut.{Way, events_of, Plays}
+use Rattle.capture_cut.specs.Cut.{CutAt, Way, events_of, Plays, StandsBehind}
 use Rattle.capture_cut.specs.File.{begun, rig_of, IsWritable}
 use Rattle.capture_cut.specs.declared.ending.CutEnding.{CutEnding}
 use Rattle.capture_cut.specs.declared.ending.CutEnding.TheVariants.{Done, PastEnd, Stopped, Faulted, TooLong}
@@ -48,12 +49,11 @@ EndsEarly number stop (Stopped at told) = (at ≡ number) × (told ≡ stop) × 
 EndsEarly number stop ending = ⊥
 
 -- it has a fault, or the reader stopped
-abbrev pub EndsAnswer : Tale → Result Event Stop → (before now : Outlets) → (was rig : RigState) → CutEnding → Type 0
-EndsAnswer t (Ok event) before now was rig (Faulted number fault) =
-    (number ≡ next_number t.played) × FaultsEvent t event fault before now was rig
-EndsAnswer t (Ok event) before now was rig ending = ⊥
-EndsAnswer t (Err stop) before now was rig ending =
-    EndsEarly (next_number t.played) stop ending × IsIdle before now was rig
+abbrev pub EndsAnswer : Tale → Result Event Stop → CutEnding → Type 0
+EndsAnswer t (Ok event) (Faulted number fault) =
+    (number ≡ next_number t.played) × (event_step t.state (next_number t.played) event ≡ Err fault)
+EndsAnswer t (Ok event) ending = ⊥
+EndsAnswer t (Err stop) ending = EndsEarly (next_number t.played) stop ending
 
 -- the reader answered that its source failed
 abbrev pub IsReadFailure : Result Event Stop → Type 0
@@ -62,6 +62,11 @@ IsReadFailure (Err stop) = IsReadFault stop
 
 -- ---- the first events
 
+-- a reader goes on, and not without end
+pub record IsReady (progress : Progress) (stop : Option Stop) : Type 0 where
+  pub goes_on : stop ≡ None
+  pub few : work_left progress < 2 ^ 51
+
 -- events were read up to a reader's place, and no byte was taken too many
 pub record HasRead (before now : Option (List ℕ)) (p : Progress) (taken : List ℕ) (events : List Event) : Type 0 where
   pub bytes : before ≡ prepended taken now
@@ -69,42 +74,68 @@ pub record HasRead (before now : Option (List ℕ)) (p : Progress) (taken : List
   pub needed : AreNeeded events taken
 
 -- so many events were read and played
-pub record PlaysFirst (n : ℕ) (start : Tale) (before now : Streams) (rig : RigState) (p : Progress) : Type 0 where
+pub record PlaysFirst (at : CutAt) (before now : Streams) (rig : RigState) (p : Progress) : Type 0 where
   pub taken : List ℕ
   pub events : List Event
   pub tale : Tale
-  pub many : length events ≡ n
+  pub many : length events ≡ at.n
   pub known : 1 ≤ p.version
   pub reads : HasRead before.left now.left p taken events
-  pub plays : Plays (raised start p.version) events tale before.heard now.heard rig
+  pub plays : Plays (raised at.first p.version) events tale
+  pub stands : StandsBehind tale before.heard now.heard rig
   pub cost : now.steps ≤ before.steps + tale.cost
   pub small : tale.cost ≤ tale.box_cost
 
 -- ---- the events behind them
 
--- the first n events were played; the state behind them and the records of those behind it were written
-pub record Came (n : ℕ) (start : Tale) (before now : Streams) (rig : RigState) (p : Progress) (size : ℕ)
-    (count : ℕ) : Type 0 where
+-- where the reader stands, how many events it has read, and how many bytes were written
+pub record Reached : Type 0 where
+  pub progress : Progress
+  pub count : ℕ
+  pub size : ℕ
+
+abbrev pub reached : Progress → (count size : ℕ) → Reached
+reached progress count size = record { progress = progress; count = count; size = size }
+
+-- the same where nothing is told of the sink
+abbrev pub unheld : Streams → Streams
+unheld at = record at { held = None }
+
+-- the first n events were played, and those behind them read; it goes on so whatever is written
+pub record GoesOn (at : CutAt) (before now : Streams) (rig : RigState) (progress : Progress) : Type 0 where
   pub way : Way
-  pub all : length way.played ≡ n
-  pub count_is : count ≡ length (events_of way)
-  pub same : way.version ≡ p.version
-  pub known : 1 ≤ p.version
-  pub reads : HasRead before.left now.left p way.taken (events_of way)
-  pub plays : Plays (raised start way.version) way.played way.tale before.heard now.heard rig
-  pub held : now.held ≡ appended before.held (begun way.tale way.later)
-  pub size_is : size ≡ length (begun way.tale way.later)
-  pub fits : size + 4 ≤ limit
+  pub all : length way.played ≡ at.n
+  pub same : way.version ≡ progress.version
+  pub known : 1 ≤ progress.version
+  pub reads : HasRead before.left now.left progress way.taken (events_of way)
+  pub plays : Plays (raised at.first way.version) way.played way.tale
+  pub stands : StandsBehind way.tale before.heard now.heard rig
   pub cost : now.steps ≤ before.steps + way.tale.cost + dump_cost way.tale.state.gpu.parts.m
   pub small : way.tale.cost ≤ way.tale.box_cost
   pub writable : IsWritable (rig_of way.tale)
   pub allowed : AllowsAll 2 way.later
 
+-- the state behind the first n, and the records of those behind them, were written
+pub record Came (at : CutAt) (before now : Streams) (rig : RigState) (r : Reached) : Type 0 where
+  pub on : GoesOn at before (unheld now) rig r.progress
+  pub count_is : r.count ≡ length (events_of on.way)
+  pub held : now.held ≡ appended before.held (begun on.way.tale on.way.later)
+  pub size_is : r.size ≡ length (begun on.way.tale on.way.later)
+  pub fits : r.size + 4 ≤ limit
+
+-- a draft, and what the sink holds, where that is told
+pub record Writing : Type 0 where
+  pub draft : Draft
+  pub held : Option (List ℕ)
+
+abbrev pub writing : Draft → (held : Option (List ℕ)) → Writing
+writing draft held = record { draft = draft; held = held }
+
 -- the record of the event of this number was put behind the file so far, with room for an End record
-pub record PutsRecord (was is : Draft) (number : ℕ) (event : Event) (before now : Option (List ℕ)) : Type 0 where
-  pub put : IsPut number (spelled event) before now was.gathered is.gathered
-  pub size_is : is.size ≡ was.size + length (spelled event)
-  pub fits : is.size + 4 ≤ limit
+pub record PutsRecord (number : ℕ) (event : Event) (before now : Writing) : Type 0 where
+  pub put : IsPut number (spelled event) before.held now.held before.draft.gathered now.draft.gathered
+  pub size_is : now.draft.size ≡ before.draft.size + length (spelled event)
+  pub fits : now.draft.size + 4 ≤ limit
 
 -- what is gathered was written at a record that would be too much, or that failed
 abbrev pub EndsTooLong : (number : ℕ) → List Piece → (before now : Option (List ℕ)) → CutEnding → Type 0
@@ -113,11 +144,12 @@ EndsTooLong number gathered before now (WriteFailed at) = BreaksWriting before n
 EndsTooLong number gathered before now ending = ⊥
 
 -- it would be too much, and was not put; or there was room for it, and the writing failed
-abbrev pub EndsRecord : (was : Draft) (number : ℕ) → Event → (before now : Option (List ℕ)) → CutEnding → Type 0
-EndsRecord was number event before now ending =
-    ((limit < was.size + length (spelled event) + 4) × EndsTooLong number was.gathered before now ending)
-    ⊎ ((was.size + length (spelled event) + 4 ≤ limit) × (lacking : ℕ) × (ending ≡ WriteFailed lacking)
-    × BreaksPut number (spelled event) before now was.gathered lacking)
+abbrev pub EndsRecord : (number : ℕ) → Event → Writing → (now : Option (List ℕ)) → CutEnding → Type 0
+EndsRecord number event before now ending =
+    ((limit < before.draft.size + length (spelled event) + 4)
+    × EndsTooLong number before.draft.gathered before.held now ending)
+    ⊎ ((before.draft.size + length (spelled event) + 4 ≤ limit) × (lacking : ℕ) × (ending ≡ WriteFailed lacking)
+    × BreaksPut number (spelled event) before.held now before.draft.gathered lacking)
 
 -- how a stop of the reader ends it, where the next event would have this number
 abbrev pub EndsAt : (number : ℕ) → Stop → (before now : Option (List ℕ)) → CutEnding → Type 0
@@ -127,7 +159,7 @@ EndsAt number stop before now (Stopped at told) = (at ≡ number) × (told ≡ s
 EndsAt number stop before now ending = ⊥
 
 -- the same, behind what is gathered
-abbrev pub EndsReading : (number : ℕ) → Stop → List Piece → (before now : Option (List ℕ)) → CutEnding → Type 0
-EndsReading number stop gathered before now ending =
-    ((mid : Option (List ℕ)) × IsWritten before mid gathered × EndsAt number stop mid now ending)
-    ⊎ ((lacking : ℕ) × (ending ≡ WriteFailed lacking) × BreaksWriting before now gathered lacking)
+abbrev pub EndsReading : (number : ℕ) → Stop → Writing → (now : Option (List ℕ)) → CutEnding → Type 0
+EndsReading number stop before now ending =
+    ((mid : Option (List ℕ)) × IsWritten before.held mid before.draft.gathered × EndsAt number stop mid now ending)
+    ⊎ ((lacking : ℕ) × (ending ≡ WriteFailed lacking) × BreaksWriting before.held now before.draft.gathered lacking)

@@ -1,7 +1,7 @@
 -- A capture that is cut behind its first n events (our own rule).
 use Rattle.std.specs.Prelude.{◌≡◌, ◌≤◌, ◌<◌, ◌⊎◌, ◌==◌, ℕ, List, [], ◌∷◌, ◌++◌, ◌+◌, Option, Err, length}
 use Rattle.std.specs.Prelude.{if◌then◌else◌}
-use Rattle.dev_io.specs.Device.{prepended, appended, AppendsPart}
+use Rattle.dev_io.specs.Device.{prepended, appended, AppendsPart, Rose}
 use Rattle.gpu_capture.specs.Capture.{capture, limit}
 use Rattle.gpu_capture.specs.Reading.{AreFewBehind}
 use Rattle.gpu_capture.specs.Written.{spelled, spelled_end, AllowsAll}
@@ -55,14 +55,16 @@ pub record ReadsTo (way : Way) (events : List Event) : Type 0 where
 
 -- ---- the playing
 
--- Events lead from a tale to a tale, whatever events follow. The rig and the taps are as they are after them.
-pub record Plays (first : Tale) (events : List Event) (t : Tale) (before now : List Reading) (rig : RigState) : Type 0
-  where
-    pub replays : (more : List Event) (stop : Stop) (rest : List ℕ)
-        → played_events first (events ++ more) stop rest ≡ played_events t more stop rest
-    pub counts : t.played ≡ length events
-    pub stands : StandsFor rig t
-    pub heard : now ≡ told_notes t.notes before
+-- Events lead from a tale to a tale, whatever events follow.
+pub record Plays (first : Tale) (events : List Event) (t : Tale) : Type 0 where
+  pub replays : (more : List Event) (stop : Stop) (rest : List ℕ)
+      → played_events first (events ++ more) stop rest ≡ played_events t more stop rest
+  pub counts : t.played ≡ length events
+
+-- the rig and the taps are as they are behind a tale
+pub record StandsBehind (t : Tale) (before now : List Reading) (rig : RigState) : Type 0 where
+  pub rig_is : StandsFor rig t
+  pub heard : now ≡ told_notes t.notes before
 
 -- at most n events were played, and none is read behind fewer
 pub record IsInOrder (n : ℕ) (way : Way) : Type 0 where
@@ -81,32 +83,26 @@ pub record IsCut (n : ℕ) (way : Way) (before now : Streams) : Type 0 where
   pub allowed : AllowsAll 2 way.later
   pub fits : length (cut_file way.tale way.later) ≤ limit
 
--- it ends before n events, and nothing is written
-pub record IsPastEnd (n : ℕ) (way : Way) (number : ℕ) (before now : Streams) : Type 0 where
+-- it ends before n events, at the one of this number, and nothing is written
+pub record IsEarly (n : ℕ) (way : Way) (number : ℕ) (before now : Streams) : Type 0 where
   pub number_is : number ≡ length way.played + 1
   pub few : length way.played < n
-  pub stops : StopsBehind way End now.left
   pub held : now.held ≡ before.held
 
 -- what is due behind the events of a way: nothing before n of them
 abbrev pub due_behind : ℕ → Way → List ℕ
 due_behind n way = if length way.played == n then begun way.tale way.later else []
 
--- the reader stopped otherwise, and all that was due stands
-pub record IsStopped (n : ℕ) (way : Way) (number : ℕ) (stop : Stop) (before now : Streams) : Type 0 where
+-- it ends behind the events that were read, and all that was due stands
+pub record IsStopped (n : ℕ) (way : Way) (number : ℕ) (before now : Streams) : Type 0 where
   pub number_is : number ≡ length (events_of way) + 1
-  pub stops : StopsBehind way stop now.left
-  pub other : IsNotEnd stop
   pub held : now.held ≡ appended before.held (due_behind n way)
 
--- the next event is among the first n and has a fault; nothing is written
-pub record HasFault (n : ℕ) (way : Way) (number : ℕ) (fault : EventFault) (before now : Streams) : Type 0 where
-  pub number_is : number ≡ length way.played + 1
-  pub few : length way.played < n
+-- the event of this number, behind those that were played, has a fault
+pub record HasFault (way : Way) (number : ℕ) (fault : EventFault) : Type 0 where
   pub event : Event
   pub reads : ReadsTo way (way.played ++ event ∷ [])
   pub fault_is : event_step way.tale.state number event ≡ Err fault
-  pub held : now.held ≡ before.held
 
 -- the last event that was read is not played
 pub record IsLast (n : ℕ) (way : Way) (number : ℕ) (before : List Event) (event : Event) : Type 0 where
@@ -155,21 +151,31 @@ pub record LacksEnd (n : ℕ) (way : Way) (number : ℕ) (before now : Streams) 
 
 abbrev pub SaysEnding : ℕ → Way → (before now : Streams) → CutEnding → Type 0
 SaysEnding n way before now Done = IsCut n way before now
-SaysEnding n way before now (PastEnd number) = IsPastEnd n way number before now
-SaysEnding n way before now (Stopped number stop) = IsStopped n way number stop before now
-SaysEnding n way before now (Faulted number fault) = HasFault n way number fault before now
+SaysEnding n way before now (PastEnd number) = IsEarly n way number before now × StopsBehind way End now.left
+SaysEnding n way before now (Stopped number stop) =
+    IsStopped n way number before now × StopsBehind way stop now.left × IsNotEnd stop
+SaysEnding n way before now (Faulted number fault) = IsEarly n way number before now × HasFault way number fault
 SaysEnding n way before now (TooLong number) = IsLong n way number before now
 SaysEnding n way before now (WriteFailed number) =
     LacksState n way number before now ⊎ (LacksRecord n way number before now ⊎ LacksEnd n way number before now)
 
--- How cutting a capture behind its first n events ends. The store steps are those of the events played, by both counts,
--- and those of reading the cells once.
-pub record EndsCut (n : ℕ) (first : Tale) (before now : Streams) (rig : RigState) (ending : CutEnding) : Type 0 where
+-- where a capture is cut: behind so many events, the first of which follows a tale
+pub record CutAt : Type 0 where
+  pub n : ℕ
+  pub first : Tale
+
+abbrev pub cut_at : (n : ℕ) → Tale → CutAt
+cut_at n first = record { n = n; first = first }
+
+-- How cutting a capture ends. The rig and the taps are as they are behind the events played. The store steps are
+-- theirs, by both counts, and those of reading the cells once.
+pub record EndsCut (at : CutAt) (before now : Streams) (rig : RigState) (ending : CutEnding) : Type 0 where
   pub way : Way
   pub bytes : before.left ≡ prepended way.taken now.left
-  pub order : IsInOrder n way
-  pub plays : Plays (raised first way.version) way.played way.tale before.heard now.heard rig
-  pub says : SaysEnding n way before now ending
+  pub order : IsInOrder at.n way
+  pub plays : Plays (raised at.first way.version) way.played way.tale
+  pub stands : StandsBehind way.tale before.heard now.heard rig
+  pub says : SaysEnding at.n way before now ending
   pub cost : now.steps ≤ before.steps + way.tale.cost + dump_cost way.tale.state.gpu.parts.m
   pub box_cost : now.steps ≤ before.steps + way.tale.box_cost + dump_cost way.tale.state.gpu.parts.m
 
@@ -189,3 +195,10 @@ MayWriteFault ending = ⊥
 abbrev pub IsEnding : CutEnding → Type 0
 IsEnding (Stopped number End) = ⊥
 IsEnding ending = Unit {0}
+
+-- an ending of what writes alone, by how often the sink failed before and after: no fault of the source, and a fault of
+-- the sink only where it failed
+pub record EndsWriting (before now : ℕ) (ending : CutEnding) : Type 0 where
+  pub known : IsEnding ending
+  pub read : MayReadFault ending → ⊥
+  pub cause : MayWriteFault ending → Rose before now

@@ -1,13 +1,14 @@
 // The first events of a capture are played.
-ghost use Rattle.std.specs.Prelude.{◌≡◌, ◌≤◌, ◌<◌, ◌^◌, ℕ, List, Option, None, Ok, map, IfOk, IfErr, IsOk, OnOk};
+ghost use Rattle.std.specs.Prelude.{◌≡◌, ◌≤◌, ℕ, List, Option, Ok, map, IfOk, IfErr, IsOk, OnErr, OnOk};
 ghost use Rattle.dev_io.specs.Device.{Rose};
-ghost use Rattle.gpu_capture.specs.Reader.{IsReadFault, work_left};
+ghost use Rattle.gpu_capture.specs.Reader.{IsReadFault};
 ghost use Rattle.event_play.specs.Replay.{Tale, from_state, raised};
 ghost use Rattle.event_play.specs.RigState.{Stands, StandsFor};
 ghost use Rattle.event_play.specs.Step.{Machine};
 ghost use Rattle.event_play.specs.Streams.{streams, without_sink};
-ghost use Rattle.capture_cut.specs.Came.{PlaysFirst, PlaysAnswer, EndsAnswer, EndsEarly, IsReadFailure};
-ghost use Rattle.capture_cut.specs.Cut.{EndsCut, IsEnding, MayReadFault, MayWriteFault};
+ghost use Rattle.capture_cut.specs.Came.{PlaysFirst, PlaysAnswer, EndsAnswer, EndsEarly, IsIdle, IsReadFailure};
+ghost use Rattle.capture_cut.specs.Came.{IsReady};
+ghost use Rattle.capture_cut.specs.Cut.{EndsCut, cut_at, IsEnding, MayReadFault, MayWriteFault};
 
 use crate::ending::CutEnding;
 use dev_io::Source;
@@ -31,12 +32,12 @@ pub(crate) fn play_first<S: Source, T: Listener, L: Ledger>(
     requires unplayed { rig.old.played ≡ 0 }
     requires some { 1 ≤ n }
     ensures ok { (s : Machine) (held : Option (List ℕ)) → Stands rig.old s → IfOk result (λ reader.
-        PlaysFirst n (from_state s 0)
+        PlaysFirst (cut_at n (from_state s 0))
         (streams (S.left source.old) held (map T.heard taps.old.items) steps.old)
         (streams (S.left source.new) held (map T.heard taps.new.items) steps.new) rig.new reader.progress) }
-    ensures ready { IfOk result (λ reader. reader.stop ≡ None) }
-    ensures few { IfOk result (λ reader. work_left reader.progress < 2 ^ 51) }
-    ensures ends { (s : Machine) (held : Option (List ℕ)) → Stands rig.old s → IfErr result (EndsCut n (from_state s 0)
+    ensures ready { IfOk result (λ reader. IsReady reader.progress reader.stop) }
+    ensures ends { (s : Machine) (held : Option (List ℕ)) → Stands rig.old s → IfErr result
+        (EndsCut (cut_at n (from_state s 0))
         (streams (S.left source.old) held (map T.heard taps.old.items) steps.old)
         (streams (S.left source.new) held (map T.heard taps.new.items) steps.new) rig.new) }
     ensures known { IfErr result (λ ending. IsEnding ending × (MayWriteFault ending → ⊥)) }
@@ -74,8 +75,8 @@ fn play_answer<T: Listener, L: Ledger>(
     ensures ok { (t : Tale) → StandsFor rig.old t → OnOk result (PlaysAnswer t answer
         (without_sink (map T.heard taps.old.items) steps.old)
         (without_sink (map T.heard taps.new.items) steps.new) rig.new) }
-    ensures ends { (t : Tale) → StandsFor rig.old t → IfErr result (EndsAnswer t answer
-        (without_sink (map T.heard taps.old.items) steps.old)
+    ensures ends { (t : Tale) → StandsFor rig.old t → IfErr result (EndsAnswer t answer) }
+    ensures idle { OnErr result (IsIdle (without_sink (map T.heard taps.old.items) steps.old)
         (without_sink (map T.heard taps.new.items) steps.new) rig.old rig.new) }
     ensures answered { OnOk result (IsOk answer) }
     ensures known { IfErr result (λ ending. IsEnding ending × (MayWriteFault ending → ⊥)) }

@@ -6,6 +6,7 @@ mod ending;
 mod file;
 mod first;
 mod memory;
+mod record;
 mod rest;
 mod state;
 mod whole;

@@ -1,30 +1,30 @@
 // The events behind the first ones are read, and their records written.
-ghost use Rattle.std.specs.Prelude.{◌≡◌, ◌≤◌, ◌<◌, ◌+◌, ◌^◌, ℕ, List, None, length, IfErr, OnOk};
+ghost use Rattle.std.specs.Prelude.{◌≡◌, ◌≤◌, ◌<◌, ◌+◌, ◌^◌, ℕ, List, IfErr, OnOk};
 ghost use Rattle.dev_io.specs.Device.{Rose};
-ghost use Rattle.gathered_out.specs.Puts.{Puts};
 ghost use Rattle.gpu_capture.specs.Record.{IsEvent};
-ghost use Rattle.gpu_capture.specs.Reader.{IsReadFault, work_left};
-ghost use Rattle.gpu_capture.specs.Written.{spelled, Allows};
+ghost use Rattle.gpu_capture.specs.Reader.{IsReadFault};
+ghost use Rattle.gpu_capture.specs.Written.{Allows};
 ghost use Rattle.gpu_taps.specs.Tally.{Reading};
-ghost use Rattle.event_play.specs.Replay.{Tale};
 ghost use Rattle.event_play.specs.RigState.{RigState};
 ghost use Rattle.event_play.specs.Streams.{Streams, streams};
-ghost use Rattle.capture_cut.specs.Came.{Came, EndsAt, EndsReading, EndsRecord, EndsTooLong, PutsRecord};
-ghost use Rattle.capture_cut.specs.Cut.{EndsCut, IsEnding, MayReadFault, MayWriteFault};
+ghost use Rattle.capture_cut.specs.Came.{Came, EndsAt, EndsReading, EndsRecord, EndsTooLong, IsReady, PutsRecord};
+ghost use Rattle.capture_cut.specs.Came.{reached, writing};
+ghost use Rattle.capture_cut.specs.Cut.{CutAt, EndsCut, EndsWriting, IsEnding, MayReadFault, MayWriteFault};
 
 use crate::ending::CutEnding;
 use crate::file::Draft;
+use crate::record::{allowed, put_bytes, record_size};
 use dev_io::{Sink, Source};
 use event_play::write_at_pause;
 use gathered_out::Gathered;
-use gpu_capture::{Event, EventReader, Stop, record_bytes, write_end};
+use gpu_capture::{Event, EventReader, Stop, write_end};
 
 /// A written file has no more bytes.
 const LIMIT: u32 = 1 << 30;
 
-/// Reads on behind so many events, and writes their records and an End record behind so many bytes. Records are gathered,
-/// up to 4,096 bytes, and written together: where there is no room for one more, before a read that may have to wait, and
-/// before every ending.
+/// Reads on behind so many events, and writes their records and an End record behind so many bytes. Records are
+/// gathered, up to 4,096 bytes, and written together: where there is no room for one more, before a read that may have
+/// to wait, and before every ending.
 pub(crate) fn write_rest<S: Source, K: Sink>(
     reader: &mut EventReader,
     source: &mut S,
@@ -32,13 +32,12 @@ pub(crate) fn write_rest<S: Source, K: Sink>(
     read: u32,
     out: &mut K,
 ) -> CutEnding
-    requires ready { reader.old.stop ≡ None }
-    requires few { work_left reader.old.progress < 2 ^ 51 }
+    requires ready { IsReady reader.old.progress reader.old.stop }
     requires room { size + 4 ≤ 2 ^ 30 }
-    ensures ends { (n : ℕ) (start : Tale) (before : Streams) (heard : List Reading) (steps : ℕ) (rig : RigState)
-        → Came n start before (streams (S.left source.old) (K.held out.old) heard steps) rig reader.old.progress size
-        read
-        → EndsCut n start before (streams (S.left source.new) (K.held out.new) heard steps) rig result }
+    ensures ends { (at : CutAt) (before : Streams) (heard : List Reading) (steps : ℕ) (rig : RigState)
+        → Came at before (streams (S.left source.old) (K.held out.old) heard steps) rig
+        (reached reader.old.progress read size)
+        → EndsCut at before (streams (S.left source.new) (K.held out.new) heard steps) rig result }
     ensures known { IsEnding result }
     ensures read_cause { MayReadFault result → Rose (S.faults source.old) (S.faults source.new) }
     ensures write_cause { MayWriteFault result → Rose (K.faults out.old) (K.faults out.new) }
@@ -67,58 +66,6 @@ pub(crate) fn write_rest<S: Source, K: Sink>(
     }
 }
 
-// The record of an event is known from version 2 on, and its values are words. It does nothing.
-fn allowed(event: Event)
-    requires { IsEvent event }
-    ensures { Allows 2 event }
-{
-    match event {
-        Event::Ram { word, .. } => {
-            let _ = word;
-        }
-        Event::Gp0 { word } => {
-            let _ = word;
-        }
-        Event::Gp1 { word } => {
-            let _ = word;
-        }
-        Event::Dma {
-            madr,
-            bcr,
-            chcr,
-            ..
-        } => {
-            let _ = (madr, bcr, chcr);
-        }
-        Event::Begin { madr, bcr, chcr } => {
-            let _ = (madr, bcr, chcr);
-        }
-        Event::Read => {}
-        Event::Stat => {}
-        Event::Turn => {}
-        Event::Skip => {}
-    }
-}
-
-// How many bytes the record of an event has.
-#[tactic(auto, using(capture_flat::proofs::Counts::record_length))]
-fn record_size(event: &Event) -> u32
-    ensures value { result ≡ length (spelled event.now) }
-    ensures few { result ≤ 16 }
-{
-    match *event {
-        Event::Ram { .. } => 12,
-        Event::Gp0 { .. } => 8,
-        Event::Gp1 { .. } => 8,
-        Event::Dma { .. } => 16,
-        Event::Begin { .. } => 16,
-        Event::Read => 4,
-        Event::Stat => 4,
-        Event::Turn => 4,
-        Event::Skip => 4,
-    }
-}
-
 // Puts the record of the event of this number behind the file so far. Where it would be too much, what is gathered is
 // written.
 fn put_record<K: Sink>(
@@ -129,12 +76,12 @@ fn put_record<K: Sink>(
 ) -> Result<(), CutEnding>
     requires event { IsEvent event.now }
     requires room { draft.old.size + 4 ≤ 2 ^ 30 }
-    ensures ok { OnOk result (PutsRecord draft.old draft.new number event.now (K.held out.old) (K.held out.new)) }
+    ensures ok { OnOk result
+        (PutsRecord number event.now (writing draft.old (K.held out.old)) (writing draft.new (K.held out.new))) }
     ensures room { OnOk result (draft.new.size + 4 ≤ 2 ^ 30) }
     ensures allowed { Allows 2 event.now }
-    ensures ends { IfErr result (EndsRecord draft.old number event.now (K.held out.old) (K.held out.new)) }
-    ensures known { IfErr result (λ ending. IsEnding ending × (MayReadFault ending → ⊥)) }
-    ensures cause { IfErr result (λ ending. MayWriteFault ending → Rose (K.faults out.old) (K.faults out.new)) }
+    ensures ends { IfErr result (EndsRecord number event.now (writing draft.old (K.held out.old)) (K.held out.new)) }
+    ensures known { IfErr result (EndsWriting (K.faults out.old) (K.faults out.new)) }
     ensures faults { K.faults out.old ≤ K.faults out.new }
 {
     allowed(*event);
@@ -151,24 +98,10 @@ fn put_record<K: Sink>(
     }
 }
 
-// Puts the bytes of the record of an event.
-fn put_bytes<K: Sink>(
-    number: u64,
-    gathered: &mut Gathered,
-    out: &mut K,
-    event: &Event,
-) -> Result<(), u64>
-    requires { IsEvent event.now }
-    ensures { Puts K.held K.faults number (spelled event.now) out.old out.new gathered.old gathered.new result }
-{
-    gathered.put(number, record_bytes(event).as_slice(), out)
-}
-
 // Ends at a record that would be too much: what is gathered is written, and that may fail.
 fn end_too_long<K: Sink>(number: u64, gathered: &mut Gathered, out: &mut K) -> CutEnding
     ensures ends { EndsTooLong number gathered.old (K.held out.old) (K.held out.new) result }
-    ensures known { IsEnding result × (MayReadFault result → ⊥) }
-    ensures cause { MayWriteFault result → Rose (K.faults out.old) (K.faults out.new) }
+    ensures known { EndsWriting (K.faults out.old) (K.faults out.new) result }
     ensures faults { K.faults out.old ≤ K.faults out.new }
 {
     match gathered.write(out) {
@@ -179,7 +112,7 @@ fn end_too_long<K: Sink>(number: u64, gathered: &mut Gathered, out: &mut K) -> C
 
 // Ends at a stop of the reader, where the next event would have this number: what is gathered is written before.
 fn end_reading<K: Sink>(stop: Stop, number: u64, draft: &mut Draft, out: &mut K) -> CutEnding
-    ensures ends { EndsReading number stop draft.old.gathered (K.held out.old) (K.held out.new) result }
+    ensures ends { EndsReading number stop (writing draft.old (K.held out.old)) (K.held out.new) result }
     ensures known { IsEnding result }
     ensures stopped { MayReadFault result → IsReadFault stop }
     ensures cause { MayWriteFault result → Rose (K.faults out.old) (K.faults out.new) }

@@ -5,7 +5,7 @@ ghost use Rattle.event_play.specs.Replay.{from_state};
 ghost use Rattle.event_play.specs.RigState.{Stands};
 ghost use Rattle.event_play.specs.Step.{Machine};
 ghost use Rattle.event_play.specs.Streams.{streams};
-ghost use Rattle.capture_cut.specs.Cut.{EndsCut, IsEnding, MayReadFault, MayWriteFault};
+ghost use Rattle.capture_cut.specs.Cut.{EndsCut, cut_at, IsEnding, MayReadFault, MayWriteFault};
 
 use crate::bounds::keep_bounds;
 use crate::ending::CutEnding;
@@ -39,7 +39,7 @@ pub fn cut<S: Source, K: Sink, T: Listener, L: Ledger>(
     requires unplayed { rig.old.played ≡ 0 }
     requires some { 1 ≤ n }
     // For every state for which the rig stood, this is how cutting the capture from it ends.
-    ensures ends { (s : Machine) → Stands rig.old s → EndsCut n (from_state s 0)
+    ensures ends { (s : Machine) → Stands rig.old s → EndsCut (cut_at n (from_state s 0))
         (streams (S.left source.old) (K.held out.old) (map T.heard taps.old.items) steps.old)
         (streams (S.left source.new) (K.held out.new) (map T.heard taps.new.items) steps.new) rig.new result }
     ensures known { IsEnding result }

@@ -171,7 +171,7 @@ raised_stays s played long = elim (cases_Bool (s.gpu.parts.regs.height == tall_h
 -- ---- the law
 
 plays_lead : PlaysLead
-plays_lead first t events before now rig plays =
+plays_lead first t events plays =
     ap (λ all. played_events first all End []) (sym (append-nil events)) ∙ plays.replays [] End []
 
 -- what a version allows, later ones allow

@@ -8,7 +8,6 @@ use Rattle.gpu_taps.specs.Tally.{Reading}
 use Rattle.event_play.specs.AlikeStates.{StandAlike, PlayAlike}
 use Rattle.event_play.specs.Out.{lines_of, out_bytes}
 use Rattle.event_play.specs.Replay.{Tale, Played, played_events, from_state}
-use Rattle.event_play.specs.RigState.{RigState}
 use Rattle.event_play.specs.Splits.{alone}
 use Rattle.event_play.specs.Streams.{Streams}
 use Rattle.event_play.specs.Told.{told_notes}
@@ -63,8 +62,7 @@ EndsOn = (start first t : Tale) (events later : List Event) (rest : List ℕ) �
 
 -- the events that cutting a capture plays have no fault, and lead to the tale whose file it writes
 abbrev pub PlaysLead : Type 0
-PlaysLead = (first t : Tale) (events : List Event) (before now : List Reading) (rig : RigState)
-    → Plays first events t before now rig → LeadsTo first events t
+PlaysLead = (first t : Tale) (events : List Event) → Plays first events t → LeadsTo first events t
 
 -- what cutting a capture has written is whole
 abbrev pub CutsAreWhole : Type 0

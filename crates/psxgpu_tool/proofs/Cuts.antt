@@ -21,7 +21,7 @@ use Rattle.event_play.specs.declared.ending.Ending.TheVariants as play
 use Rattle.event_play.specs.declared.fault.EventFault.{EventFault}
 use Rattle.capture_flat.specs.Out.{spell}
 use Rattle.capture_flat.proofs.Pieces.{spell-append}
-use Rattle.capture_cut.specs.Cut.{Way, Plays, events_of, EndsCut, IsCut, MayReadFault, MayWriteFault}
+use Rattle.capture_cut.specs.Cut.{Way, Plays, events_of, EndsCut, IsCut, cut_at, MayReadFault, MayWriteFault}
 use Rattle.capture_cut.specs.File.{snapshot, begun, cut_file}
 use Rattle.capture_cut.specs.declared.ending.CutEnding.{CutEnding}
 use Rattle.capture_cut.specs.declared.ending.CutEnding.TheVariants.{Done, PastEnd, Stopped, Faulted, TooLong}
@@ -88,8 +88,7 @@ longer t xs ys =
     omega (arith, a, b, c, d, e, f)
 
 -- a captured list of events that begins with those that were played
-module _ (n : ℕ) (way : Way) (heard heard_now : List Reading) (rig : RigState)
-    (plays : Plays (raised first way.version) way.played way.tale heard heard_now rig) where
+module _ (n : ℕ) (way : Way) (plays : Plays (raised first way.version) way.played way.tale) where
   replayed_first : played_events (raised first way.version) way.played End [] ≡ whole way.tale []
   replayed_first =
       ap (λ (events : List Event). played_events (raised first way.version) events End []) (sym (append-nil way.played))
@@ -130,12 +129,12 @@ module _ (n : ℕ) (way : Way) (heard heard_now : List Reading) (rig : RigState)
         after)
 
 -- the file of a capture that was cut goes on where it was cut
-cut_goes_on : (n : ℕ) (way : Way) (was now : Streams) (heard heard_now : List Reading) (rig : RigState)
-    → Plays (raised first way.version) way.played way.tale heard heard_now rig → IsCut n way was now
+cut_goes_on : (n : ℕ) (way : Way) (was now : Streams)
+    → Plays (raised first way.version) way.played way.tale → IsCut n way was now
     → GoesOnAs way.tale (λ rest. played_events (raised first way.version) (events_of way) End rest)
     (λ rest. play_file (cut_file way.tale way.later ++ rest))
-cut_goes_on n way was now heard heard_now rig plays is =
-    let leads = cut_files.leads (raised first way.version) way.tale way.played heard heard_now rig plays in
+cut_goes_on n way was now plays is =
+    let leads = cut_files.leads (raised first way.version) way.tale way.played plays in
     let whole = cut_files.whole n way was now is in
     record {
       writes = λ mode heard rest.
@@ -157,7 +156,7 @@ first_beyond (x ∷ xs) y ys (suc n) lt =
 module _ (n : ℕ) (small : n ≤ 4294967295) (heard heard_now : List Reading) (before now : Outside) (rig : RigState)
     (bytes : List ℕ) (told : before.source.left ≡ Some bytes) where
   abbrev Ends : CutEnding → Type 0
-  Ends ending = EndsCut n first (seen heard before) (seen heard_now now) rig ending
+  Ends ending = EndsCut (cut_at n first) (seen heard before) (seen heard_now now) rig ending
 
   taken_of : (ending : CutEnding) (ends : Ends ending) → IsPart bytes ends.way.taken now.source.left
   taken_of ending ends = cut bytes ends.way.taken now.source.left (sym told ∙ ends.bytes)
@@ -172,9 +171,9 @@ module _ (n : ℕ) (small : n ≤ 4294967295) (heard heard_now : List Reading) (
       in
       let same = ap (λ (c : Captured). c.version) captured in
       let events = ap (λ (c : Captured). c.events) captured in
-      let played = first_played n way heard heard_now rig ends.plays ends.says.all
+      let played = first_played n way ends.plays ends.says.all
       (capture bytes) way.later same events in
-      let file = file_is n way heard heard_now rig ends.plays ends.says.all (capture bytes) way.later same events in
+      let file = file_is n way ends.plays ends.says.all (capture bytes) way.later same events in
       let size = length-append way.played way.later in
       let many = ap length events in
       let all = ends.says.all in
@@ -194,7 +193,7 @@ module _ (n : ℕ) (small : n ≤ 4294967295) (heard heard_now : List Reading) (
         left = is_part.left_is ∙ ap (λ (c : Captured). Some c.rest) (sym captured);
         held = ends.says.held ∙ ap (appended before.out.held) (sym file);
         goes_on = subst File (sym file) (subst Was (sym played) (subst Whole (sym captured)
-            (cut_goes_on n way (seen heard before) (seen heard_now now) heard heard_now rig ends.plays ends.says)));
+            (cut_goes_on n way (seen heard before) (seen heard_now now) ends.plays ends.says)));
         cost = rw played ends.cost;
         box_cost = rw played ends.box_cost;
       }
@@ -211,29 +210,31 @@ module _ (n : ℕ) (small : n ≤ 4294967295) (heard heard_now : List Reading) (
   past_end number ends =
       let way = ends.way in
       let is_part = taken_of (PastEnd number) ends in
-      let captured = ap capture is_part.all ∙ ends.says.stops.says is_part.rest in
+      let captured = ap capture is_part.all ∙ ends.says.1.says is_part.rest in
       let count = ap length (ap (λ (c : Captured). c.events) captured) in
-      let none = ap length (ends.order.first ends.says.few) in
+      let none = ap length (ends.order.first ends.says.0.few) in
       let size = length-append way.played way.later in
-      let few = ends.says.few in
+      let few = ends.says.0.few in
       refused (λ cuttable. let many = cuttable.many in omega (arith, many, count, none, size, few))
 
   -- one of the first events has a fault
   fault_by : (number : ℕ) (fault : EventFault) → Ends (Faulted number fault) → EndsAsCut n (capture bytes) 2
   fault_by number fault ends =
       let way = ends.way in
-      let event = ends.says.event in
+      let early = ends.says.0 in
+      let fault_at = ends.says.1 in
+      let event = fault_at.event in
       let is_part = taken_of (Faulted number fault) ends in
-      let said = ends.says.reads.says is_part.rest in
+      let said = fault_at.reads.says is_part.rest in
       let more = said.0 in
       let captured = ap capture is_part.all ∙ said.1 in
-      let beyond = first_beyond way.played event more.events n ends.says.few in
-      let numbered = ends.says.number_is in
+      let less = early.few in
+      let beyond = first_beyond way.played event more.events n less in
+      let numbered = early.number_is in
       let counts = ends.plays.counts in
-      let less = ends.says.few in
       let number_is : number ≡ next_number way.tale.played = omega (arith, numbered, counts, less, small) in
       let step : event_step way.tale.state (next_number way.tale.played) event ≡ Err fault =
-      ap (λ n. event_step way.tale.state n event) (sym number_is) ∙ ends.says.fault_is
+      ap (λ n. event_step way.tale.state n event) (sym number_is) ∙ fault_at.fault_is
       in
       let events : take n (capture bytes).events ≡ way.played ++ event ∷ beyond.0 =
       ap (λ (c : Captured). take n c.events) captured ∙ beyond.1
@@ -242,7 +243,7 @@ module _ (n : ℕ) (small : n ≤ 4294967295) (heard heard_now : List Reading) (
       let ending : (play_first n (capture bytes)).ending ≡ play.Faulted (next_number way.tale.played) fault =
       ap (λ (xs : List Event). (played_events (raised first (capture bytes).version) xs End []).ending) events
       ∙ ap (λ (v : ℕ). (played_events (raised first v) (way.played ++ event ∷ beyond.0) End []).ending) version
-      ∙ faults_first n way heard heard_now rig ends.plays event fault step beyond.0
+      ∙ faults_first n way ends.plays event fault step beyond.0
       in
       refused (λ cuttable. absurd (cc (ending, cuttable.fine)))
 
@@ -258,7 +259,7 @@ module _ (n : ℕ) (small : n ≤ 4294967295) (heard heard_now : List Reading) (
       let events : (capture bytes).events ≡ way.played ++ (way.later ++ more.events) =
       ap (λ (c : Captured). c.events) captured ∙ append_assoc way.played way.later more.events
       in
-      let file = ap length (file_is n way heard heard_now rig ends.plays ends.says.last.all (capture bytes)
+      let file = ap length (file_is n way ends.plays ends.says.last.all (capture bytes)
       (way.later ++ more.events) version events) in
       let least = longer way.tale way.later more.events in
       let long = ends.says.long in
@@ -279,20 +280,20 @@ module _ (n : ℕ) (small : n ≤ 4294967295) (heard heard_now : List Reading) (
   cut_complete (TooLong number) ends read write = long_by number ends
   cut_complete (WriteFailed number) ends read write = absurd (write tt)
   cut_complete (Stopped number (ReadFault byte)) ends read write = absurd (read tt)
-  cut_complete (Stopped number End) ends read write = absurd ends.says.other
+  cut_complete (Stopped number End) ends read write = absurd ends.says.2
   cut_complete (Stopped number (Truncated byte)) ends read write =
       let is_part = taken_of (Stopped number (Truncated byte)) ends in
-      let says = ends.says.stops.says in
+      let says = ends.says.1.says in
       let none = none_left now.source.left is_part.rest is_part.left_is says.1 in
       stopped_by (Truncated byte) [] ends.way tt
       (ap capture (all_taken bytes ends.way.taken is_part.rest is_part.all none) ∙ says.0)
   cut_complete (Stopped number (NotCapture byte)) ends read write =
       let is_part = taken_of (Stopped number (NotCapture byte)) ends in
-      stopped_by (NotCapture byte) is_part.rest ends.way tt (ap capture is_part.all ∙ ends.says.stops.says is_part.rest)
+      stopped_by (NotCapture byte) is_part.rest ends.way tt (ap capture is_part.all ∙ ends.says.1.says is_part.rest)
   cut_complete (Stopped number (BadRecord byte word)) ends read write =
       let is_part = taken_of (Stopped number (BadRecord byte word)) ends in
       stopped_by (BadRecord byte word) is_part.rest ends.way tt
-      (ap capture is_part.all ∙ ends.says.stops.says is_part.rest)
+      (ap capture is_part.all ∙ ends.says.1.says is_part.rest)
   cut_complete (Stopped number (LongIn byte)) ends read write =
       let is_part = taken_of (Stopped number (LongIn byte)) ends in
-      stopped_by (LongIn byte) is_part.rest ends.way tt (ap capture is_part.all ∙ ends.says.stops.says is_part.rest)
+      stopped_by (LongIn byte) is_part.rest ends.way tt (ap capture is_part.all ∙ ends.says.1.says is_part.rest)

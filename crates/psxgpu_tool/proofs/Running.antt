@@ -15,7 +15,7 @@ use Rattle.event_play.specs.declared.ending.Ending.{Ending}
 use Rattle.event_play.specs.declared.ending.Ending.TheVariants.{Done, Stopped, Faulted, NoPicture, WriteFailed}
 use Rattle.event_play.specs.declared.ending.Mode.{Mode}
 use Rattle.event_play.proofs.BoxCosts.{costs_small}
-use Rattle.capture_cut.specs.Cut.{EndsCut, IsEnding as IsCutEnding, MayReadFault as MayReadCut}
+use Rattle.capture_cut.specs.Cut.{EndsCut, cut_at, IsEnding as IsCutEnding, MayReadFault as MayReadCut}
 use Rattle.capture_cut.specs.Cut.{MayWriteFault as MayWriteCut}
 use Rattle.capture_cut.specs.declared.ending.CutEnding.{CutEnding}
 use Rattle.capture_cut.specs.declared.ending.CutEnding.TheVariants as cut
@@ -363,7 +363,7 @@ module _ (heard : List Reading) (before now : Outside) (ending : SlimEnding)
 module _ (n : ℕ) (small : n ≤ 4294967295) (heard heard_now : List Reading) (before now : Outside) (ending : CutEnding)
     (says : Says before.err now.err (cut_text ending heard_now))
     (silent : cut_status ending ≡ 0 → now.err ≡ before.err) where
-  cut_run_of : (rig : RigState) → EndsCut n first (seen heard before) (seen heard_now now) rig ending
+  cut_run_of : (rig : RigState) → EndsCut (cut_at n first) (seen heard before) (seen heard_now now) rig ending
       → IsCutEnding ending
       → (MayReadCut ending → HasFailedToRead before.source now.source)
       → (MayWriteCut ending → HasFailed before.out now.out)
@@ -387,7 +387,7 @@ module _ (n : ℕ) (small : n ≤ 4294967295) (heard heard_now : List Reading) (
         (λ may. read (read_cause may)) (λ may. write (write_cause may))));
   }
 
-  pub cut_runs : (rig : RigState) → EndsCut n first (seen heard before) (seen heard_now now) rig ending
+  pub cut_runs : (rig : RigState) → EndsCut (cut_at n first) (seen heard before) (seen heard_now now) rig ending
       → IsCutEnding ending
       → (MayReadCut ending → HasFailedToRead before.source now.source)
       → (MayWriteCut ending → HasFailed before.out now.out)

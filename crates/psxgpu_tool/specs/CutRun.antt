@@ -12,7 +12,7 @@ use Rattle.event_play.specs.RigState.{RigState}
 use Rattle.event_play.specs.Told.{told_notes}
 use Rattle.event_play.specs.declared.ending.Ending.TheVariants.{Done}
 use Rattle.event_play.specs.declared.ending.Mode.{Mode}
-use Rattle.capture_cut.specs.Cut.{EndsCut, IsEnding}
+use Rattle.capture_cut.specs.Cut.{EndsCut, IsEnding, cut_at}
 use Rattle.capture_cut.specs.File.{cut_file}
 use Rattle.capture_cut.specs.declared.ending.CutEnding.{CutEnding}
 use Rattle.gpu_snapshot.specs.CutFiles.{EndAlike}
@@ -76,7 +76,7 @@ pub record CutEnds (n : ℕ) (heard : List Reading) (before now : Outside) (stat
   pub ending : CutEnding
   pub rig : RigState
   pub told : List Reading
-  pub ends : EndsCut n first (seen heard before) (seen told now) rig ending
+  pub ends : EndsCut (cut_at n first) (seen heard before) (seen told now) rig ending
   pub known : IsEnding ending
   pub status_is : status ≡ cut_status ending
   pub says : Says before.err now.err (cut_text ending told)

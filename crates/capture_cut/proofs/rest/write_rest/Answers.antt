@@ -1,15 +1,14 @@
 use Rattle.std.proofs.Common.{refl, arith}
-use Rattle.capture_cut.specs.declared.file.Draft.{Draft}
 use Rattle.capture_cut.proofs.Coming.{comes_first, pauses_on}
 use Rattle.capture_cut.proofs.Records.{came_on, pause_lacks, reading_ends, record_ends}
 use Rattle.capture_cut.proofs.rest.write_rest.Goals as goal
 
 pub events-init : goal.events-init
 events-init g c = record {
-  came = λ n start before heard steps rig came.
-      comes_first _ _ _ _ _ c.args.reader.now.progress _ _ _ _ _ refl c.new.ensures c.place-since.ensures
+  came = λ cut before heard steps rig came.
+      comes_first _ _ _ _ _ _ _ _ refl c.new.ensures c.place-since.ensures
       c.from-number.ensures came;
-  ready = c.requires.ready;
+  ready = c.requires.ready.goes_on;
   fits = c.requires.room;
   room = omega arith;
   read_faults = omega arith;
@@ -18,42 +17,41 @@ events-init g c = record {
 
 pub events-preserved : goal.events-preserved
 events-preserved g c = record {
-  came = λ n start before heard steps rig first.
-      let at = c.events.invariant.came n start before heard steps rig first in
-      let is : Draft = record { size = c.events.draft.size; gathered = c.write_at_pause.new.gathered } in
-      let paused = pauses_on _ _ _ _ _ _ c.events.draft is _ c.in-Ok.place _ (g.K.Sink.held c.write_at_pause.new.out) refl at
-      c.in-Ok.ensures.ok in
-      came_on _ _ _ _ _ _ _ _ _ paused.comes _ _ _ paused.near c.in-Ok-next.event
-      c.in-Ok-next.ensures.takes c.in-Ok-next.ensures.version _ c.put_record.new.draft refl c.in-Ok-put_record.ensures.ok
-      c.in-Ok-put_record.ensures.allowed;
+  came = λ cut before heard steps rig first.
+      let at = c.events.invariant.came cut before heard steps rig first in
+      let paused = pauses_on _ _ _ _ _ c.events.draft c.write_at_pause.new.gathered _ c.in-Ok.place _
+      (g.K.Sink.held c.write_at_pause.new.out) at c.in-Ok.ensures.ok in
+      came_on _ _ _ _ _ _ _ _ paused.comes _ _ _ paused.near c.in-Ok-next.event
+      c.in-Ok-next.ensures.takes c.in-Ok-next.ensures.version _ c.put_record.new.draft refl
+      c.in-Ok-put_record.ensures.ok c.in-Ok-put_record.ensures.allowed;
   ready = c.in-Ok-next.ensures.runs_on;
   fits = c.in-Ok-put_record.ensures.room;
   room = omega (arith, c.events.invariant.room, c.in-Ok-next.ensures.forward);
   read_faults = omega (arith, c.events.invariant.read_faults, c.in-Ok-next.ensures.faults);
-  write_faults = omega (arith, c.events.invariant.write_faults, c.in-Ok.ensures.faults, c.in-Ok-put_record.ensures.faults);
+  write_faults =
+      let was = c.events.invariant.write_faults in
+      omega (arith, was, c.in-Ok.ensures.faults, c.in-Ok-put_record.ensures.faults);
 }
 
 pub returns-in-Err-clause-ends : goal.returns-in-Err-clause-ends
-returns-in-Err-clause-ends g c = λ n start before heard steps rig first.
-    let at = c.events.invariant.came n start before heard steps rig first in
-    pause_lacks _ _ _ _ _ _ _ _ _ at _ (g.K.Sink.held c.write_at_pause.new.out) c.in-Err.event
-    at.reads.bytes c.in-Err.ensures.failed
+returns-in-Err-clause-ends g c = λ cut before heard steps rig first.
+    let at = c.events.invariant.came cut before heard steps rig first in
+    pause_lacks _ _ _ _ _ _ _ _ at _ (g.K.Sink.held c.write_at_pause.new.out) c.in-Err.event
+    at.on.reads.bytes c.in-Err.ensures.failed
 
 pub returns-in-Err-put_record-clause-ends : goal.returns-in-Err-put_record-clause-ends
-returns-in-Err-put_record-clause-ends g c = λ n start before heard steps rig first.
-    let at = c.events.invariant.came n start before heard steps rig first in
-    let is : Draft = record { size = c.events.draft.size; gathered = c.write_at_pause.new.gathered } in
-    let paused = pauses_on _ _ _ _ _ _ c.events.draft is _ c.in-Ok.place _ (g.K.Sink.held c.write_at_pause.new.out) refl at
-    c.in-Ok.ensures.ok in
-    record_ends _ _ _ _ _ _ _ _ _ paused.comes _ _ _ paused.near c.in-Ok-next.event
+returns-in-Err-put_record-clause-ends g c = λ cut before heard steps rig first.
+    let at = c.events.invariant.came cut before heard steps rig first in
+    let paused = pauses_on _ _ _ _ _ c.events.draft c.write_at_pause.new.gathered _ c.in-Ok.place _
+    (g.K.Sink.held c.write_at_pause.new.out) at c.in-Ok.ensures.ok in
+    record_ends _ _ _ _ _ _ _ _ paused.comes _ _ _ paused.near c.in-Ok-next.event
     c.in-Ok-next.ensures.takes c.in-Ok-next.ensures.version _ c.in-Err-put_record.ending refl
     c.in-Err-put_record.ensures.ends
 
 pub returns-in-Err-next-clause-ends : goal.returns-in-Err-next-clause-ends
-returns-in-Err-next-clause-ends g c = λ n start before heard steps rig first.
-    let at = c.events.invariant.came n start before heard steps rig first in
-    let is : Draft = record { size = c.events.draft.size; gathered = c.write_at_pause.new.gathered } in
-    let paused = pauses_on _ _ _ _ _ _ c.events.draft is _ c.in-Ok.place _ (g.K.Sink.held c.write_at_pause.new.out) refl at
-    c.in-Ok.ensures.ok in
-    reading_ends _ _ _ _ _ _ _ _ _ paused.comes _ _ _ paused.near c.in-Err-next.stop
+returns-in-Err-next-clause-ends g c = λ cut before heard steps rig first.
+    let at = c.events.invariant.came cut before heard steps rig first in
+    let paused = pauses_on _ _ _ _ _ c.events.draft c.write_at_pause.new.gathered _ c.in-Ok.place _
+    (g.K.Sink.held c.write_at_pause.new.out) at c.in-Ok.ensures.ok in
+    reading_ends _ _ _ _ _ _ _ _ paused.comes _ _ _ paused.near c.in-Err-next.stop
     (c.in-Err-next.ensures.stop c.events.invariant.ready) _ c.end_reading.result refl c.end_reading.ensures.ends

@@ -1,19 +1,19 @@
 use Rattle.std.proofs.Common.{◌≡◌, ◌≤◌, ◌<◌, ◌+◌, ◌^◌, ℕ, List, None}
 use Rattle.gpu_capture.specs.Reader.{work_left}
 use Rattle.gpu_taps.specs.Tally.{Reading}
-use Rattle.event_play.specs.Replay.{Tale}
 use Rattle.event_play.specs.RigState.{RigState}
 use Rattle.event_play.specs.Streams.{Streams, streams}
-use Rattle.capture_cut.specs.Came.{Came}
+use Rattle.capture_cut.specs.Came.{Came, reached}
+use Rattle.capture_cut.specs.Cut.{CutAt}
 use Rattle.capture_cut.proofs.Coming.{Comes}
 use Rattle.capture_cut.proofs.rest.write_rest.Given as goal
 
 abbrev pub invariant-events : goal.invariant-events
 invariant-events g l = record {
-  came : (n : ℕ) (start : Tale) (before : Streams) (heard : List Reading) (steps : ℕ) (rig : RigState)
-      → Came n start before (streams (g.S.Source.left l.fn.source) (g.K.Sink.held l.fn.out) heard steps) rig
-      l.fn.reader.progress l.fn.size l.read
-      → Comes n start before (streams (g.S.Source.left l.source) (g.K.Sink.held l.out) heard steps) rig
+  came : (at : CutAt) (before : Streams) (heard : List Reading) (steps : ℕ) (rig : RigState)
+      → Came at before (streams (g.S.Source.left l.fn.source) (g.K.Sink.held l.fn.out) heard steps) rig
+      (reached l.fn.reader.progress l.read l.fn.size)
+      → Comes at before (streams (g.S.Source.left l.source) (g.K.Sink.held l.out) heard steps) rig
       l.reader.progress l.draft l.since l.number;
   ready : l.reader.stop ≡ None;
   fits : l.draft.size + 4 ≤ 2 ^ 30;

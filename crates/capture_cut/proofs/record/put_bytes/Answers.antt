@@ -1,5 +1,5 @@
 use Rattle.gathered_out.proofs.Puts.{put_one}
-use Rattle.capture_cut.proofs.rest.put_bytes.Goals as goal
+use Rattle.capture_cut.proofs.record.put_bytes.Goals as goal
 
 pub returns : goal.returns
 returns g c = rw (← c.record_bytes.ensures, ← c.as_slice.ensures.value)

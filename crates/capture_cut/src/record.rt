@@ -1,0 +1,74 @@
+// The record of an event that is not played.
+ghost use Rattle.std.specs.Prelude.{◌≡◌, ◌≤◌, length};
+ghost use Rattle.gathered_out.specs.Puts.{Puts};
+ghost use Rattle.gpu_capture.specs.Record.{IsEvent};
+ghost use Rattle.gpu_capture.specs.Written.{spelled, Allows};
+
+use dev_io::Sink;
+use gathered_out::Gathered;
+use gpu_capture::{Event, record_bytes};
+
+/// The record of an event is known from version 2 on, and its values are words. It does nothing.
+pub(crate) fn allowed(event: Event)
+    requires { IsEvent event }
+    ensures { Allows 2 event }
+{
+    match event {
+        Event::Ram { word, .. } => {
+            let _ = word;
+        }
+        Event::Gp0 { word } => {
+            let _ = word;
+        }
+        Event::Gp1 { word } => {
+            let _ = word;
+        }
+        Event::Dma {
+            madr,
+            bcr,
+            chcr,
+            ..
+        } => {
+            let _ = (madr, bcr, chcr);
+        }
+        Event::Begin { madr, bcr, chcr } => {
+            let _ = (madr, bcr, chcr);
+        }
+        Event::Read => {}
+        Event::Stat => {}
+        Event::Turn => {}
+        Event::Skip => {}
+    }
+}
+
+/// How many bytes the record of an event has.
+#[tactic(auto, using(capture_flat::proofs::Counts::record_length))]
+pub(crate) fn record_size(event: &Event) -> u32
+    ensures value { result ≡ length (spelled event.now) }
+    ensures few { result ≤ 16 }
+{
+    match *event {
+        Event::Ram { .. } => 12,
+        Event::Gp0 { .. } => 8,
+        Event::Gp1 { .. } => 8,
+        Event::Dma { .. } => 16,
+        Event::Begin { .. } => 16,
+        Event::Read => 4,
+        Event::Stat => 4,
+        Event::Turn => 4,
+        Event::Skip => 4,
+    }
+}
+
+/// Puts the bytes of the record of an event.
+pub(crate) fn put_bytes<K: Sink>(
+    number: u64,
+    gathered: &mut Gathered,
+    out: &mut K,
+    event: &Event,
+) -> Result<(), u64>
+    requires { IsEvent event.now }
+    ensures { Puts K.held K.faults number (spelled event.now) out.old out.new gathered.old gathered.new result }
+{
+    gathered.put(number, record_bytes(event).as_slice(), out)
+}
