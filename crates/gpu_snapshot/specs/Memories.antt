@@ -1,11 +1,12 @@
 -- The memories of a state, as they are taken from a source.
-use Rattle.std.specs.Prelude.{◌≡◌, ◌<◌, ℕ, ◌+◌, ◌*◌, List, ◌++◌, Option, length}
-use Rattle.dev_io.specs.Device.{prepended, IsAtEnd}
+use Rattle.std.specs.Prelude.{◌≡◌, ◌≤◌, ◌<◌, ℕ, ◌+◌, ◌*◌, List, ◌++◌, Option, Result, IfErr, length}
+use Rattle.dev_io.specs.Device.{prepended, IsAtEnd, Rose}
 use Rattle.px_num.specs.Height.{IsHeight}
 use Rattle.event_play.specs.RigState.{RigState}
 use Rattle.gpu_capture.specs.Whole.{AreWords}
 use Rattle.gpu_capture.specs.declared.event.Stop.TheVariants.{Truncated, ReadFault}
 use Rattle.snapshot_words.specs.Outline.{AreCells, bytes_of}
+use Rattle.snapshot_words.specs.Taking.{IsReadFault}
 use Rattle.snapshot_words.specs.Values.{cell_words}
 use Rattle.snapshot_words.specs.declared.fault.SnapFault.{SnapFault}
 use Rattle.snapshot_words.specs.declared.fault.SnapFault.TheVariants as fault
@@ -32,6 +33,12 @@ pub record HasMemories (rig : RigState) : Type 0 where
   pub rows : length rig.gpu.parts.m ≡ 1024 * rig.gpu.parts.regs.height
   pub words : length rig.ram ≡ 524288
 
+-- video memory is so many chunks of sixteen cells, in whole rows
+pub record HasChunks (rig : RigState) (chunks : ℕ) : Type 0 where
+  pub all : 16 * chunks ≡ length rig.gpu.parts.m
+  pub rows : length rig.gpu.parts.m ≡ 1024 * rig.gpu.parts.regs.height
+  pub most : chunks ≤ 65536
+
 -- why a word breaks off at a place
 abbrev pub SaysShort : SnapFault → (place : ℕ) → (now : Option (List ℕ)) → Type 0
 SaysShort (fault.Stop (Truncated byte)) place now = (byte ≡ place) × IsAtEnd now
@@ -53,3 +60,13 @@ with_cells rig m = record rig { gpu = record rig.gpu { parts = record rig.gpu.pa
 -- a rig with other memories
 abbrev pub with_memories : RigState → (m ram : List ℕ) → RigState
 with_memories rig m ram = record (with_cells rig m) { ram = ram }
+
+-- a rig took on other memories, of the same sizes
+pub record ChangesMemories (before now : RigState) : Type 0 where
+  pub others : now ≡ with_memories before now.gpu.parts.m now.ram
+  pub sizes : HasMemories now
+
+-- by how often a source failed before and after, a read of it ended by a fault of its own only where it failed
+pub record HasCause {Value : Type 0} (before now : ℕ) (result : Result Value SnapFault) : Type 0 where
+  pub rose : IfErr result (λ fault. IsReadFault fault → Rose before now)
+  pub faults : before ≤ now

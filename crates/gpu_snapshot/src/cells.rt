@@ -3,7 +3,7 @@ ghost use Rattle.std.specs.Prelude.{◌≡◌, ◌≤◌, ◌<◌, ◌+◌, ◌*
 ghost use Rattle.dev_io.specs.Device.{Rose};
 ghost use Rattle.snapshot_words.specs.Taking.{IsReadFault};
 ghost use Rattle.gpu_core.specs.Kept.{IsSet};
-ghost use Rattle.gpu_snapshot.specs.Memories.{TakesCells, LacksWords, with_cells};
+ghost use Rattle.gpu_snapshot.specs.Memories.{HasCause, HasChunks, LacksWords, TakesCells, with_cells};
 
 use dev_io::Source;
 use event_play::Rig;
@@ -55,17 +55,14 @@ pub(crate) fn read_cells<S: Source, L: Ledger>(
     chunks: u32,
     steps: &mut Steps<L>,
 ) -> Result<(), SnapFault>
-    requires all { 16 * chunks ≡ length rig.old.gpu.parts.m }
-    requires rows { length rig.old.gpu.parts.m ≡ 1024 * rig.old.gpu.parts.regs.height }
-    requires most { chunks ≤ 65536 }
+    requires chunks { HasChunks rig.old chunks }
     requires place { place < 2 ^ 29 }
     ensures takes { OnOk result (TakesCells (S.left source.old) (S.left source.new) rig.new.gpu.parts.m) }
     ensures others { rig.new ≡ with_cells rig.old rig.new.gpu.parts.m }
     ensures long { length rig.new.gpu.parts.m ≡ length rig.old.gpu.parts.m }
     ensures fault { IfErr result (λ fault.
         LacksWords (S.left source.old) (S.left source.new) place (8 * chunks) fault) }
-    ensures cause { IfErr result (λ fault. IsReadFault fault → Rose (S.faults source.old) (S.faults source.new)) }
-    ensures faults { S.faults source.old ≤ S.faults source.new }
+    ensures cause { HasCause (S.faults source.old) (S.faults source.new) result }
     ensures cost { steps.new ≤ steps.old + chunks }
 {
     'chunks: for c in 0..chunks {

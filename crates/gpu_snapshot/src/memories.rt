@@ -1,8 +1,6 @@
 // Both memories of a state.
 ghost use Rattle.std.specs.Prelude.{◌≡◌, ◌≤◌, ◌<◌, ◌+◌, ◌*◌, ◌^◌, OnOk, IfErr};
-ghost use Rattle.dev_io.specs.Device.{Rose};
-ghost use Rattle.snapshot_words.specs.Taking.{IsReadFault};
-ghost use Rattle.gpu_snapshot.specs.Memories.{HasMemories, TakesMemories, LacksWords, with_memories};
+ghost use Rattle.gpu_snapshot.specs.Memories.{ChangesMemories, HasCause, HasMemories, LacksWords, TakesMemories};
 
 use crate::cells::read_cells;
 use crate::memory::read_words;
@@ -27,12 +25,10 @@ pub(crate) fn read_memories<S: Source, L: Ledger>(
     ensures takes { OnOk result (TakesMemories (S.left source.old) (S.left source.new)
         rig.new.gpu.parts.m rig.new.ram) }
     ensures place { OnOk result (place.new ≡ place.old + 4 * (512 * rig.old.gpu.parts.regs.height + 524288)) }
-    ensures others { rig.new ≡ with_memories rig.old rig.new.gpu.parts.m rig.new.ram }
-    ensures sizes { HasMemories rig.new }
+    ensures memories { ChangesMemories rig.old rig.new }
     ensures fault { IfErr result (λ fault. LacksWords (S.left source.old) (S.left source.new) place.old
         (512 * rig.old.gpu.parts.regs.height + 524288) fault) }
-    ensures cause { IfErr result (λ fault. IsReadFault fault → Rose (S.faults source.old) (S.faults source.new)) }
-    ensures faults { S.faults source.old ≤ S.faults source.new }
+    ensures cause { HasCause (S.faults source.old) (S.faults source.new) result }
     ensures cost { steps.new ≤ steps.old + 64 * rig.old.gpu.parts.regs.height }
 {
     let start = *place;

@@ -1,8 +1,6 @@
 // Main memory, read word by word.
 ghost use Rattle.std.specs.Prelude.{◌≡◌, ◌≤◌, ◌<◌, ◌+◌, ◌*◌, ◌^◌, length, OnOk, IfErr};
-ghost use Rattle.dev_io.specs.Device.{Rose};
-ghost use Rattle.snapshot_words.specs.Taking.{IsReadFault};
-ghost use Rattle.gpu_snapshot.specs.Memories.{TakesWords, LacksWords};
+ghost use Rattle.gpu_snapshot.specs.Memories.{HasCause, LacksWords, TakesWords};
 
 use dev_io::Source;
 use event_play::Rig;
@@ -22,8 +20,7 @@ pub(crate) fn read_words<S: Source>(
     ensures others { rig.new ≡ record rig.old { ram = rig.new.ram } }
     ensures long { length rig.new.ram ≡ 524288 }
     ensures fault { IfErr result (λ fault. LacksWords (S.left source.old) (S.left source.new) place count fault) }
-    ensures cause { IfErr result (λ fault. IsReadFault fault → Rose (S.faults source.old) (S.faults source.new)) }
-    ensures faults { S.faults source.old ≤ S.faults source.new }
+    ensures cause { HasCause (S.faults source.old) (S.faults source.new) result }
 {
     'words: for i in 0..count {
         let word = match take_word(source, place + 4 * i) {

@@ -5,7 +5,7 @@ use Rattle.gpu_snapshot.proofs.cells.read_cells.Goals as goal
 pub returns-in-Err-clause-fault : goal.returns-in-Err-clause-fault
 returns-in-Err-clause-fault g c =
     chunk_lacks _ _ _ c.chunks.rig.gpu.parts.m c.args.place c.chunks.c c.args.chunks _
-    (omega (arith, c.requires.all, c.chunks.invariant.long)) c.chunks-test.true c.chunks.invariant.takes
+    (omega (arith, c.requires.chunks.all, c.chunks.invariant.long)) c.chunks-test.true c.chunks.invariant.takes
     c.in-Err.ensures.fault
 
 pub chunks-preserved : goal.chunks-preserved

@@ -21,13 +21,13 @@ returns-in-Ok-read_memories-clause-restored g c =
     let height : c.put_outline.new.rig.gpu.parts.regs.height ≡ c.in-Ok.outline.regs.height =
     ap (λ (k : Kept). k.parts.regs.height) c.put_outline.ensures.gpu in
     let kept : c.read_memories.new.rig.gpu.parts.regs.height ≡ c.in-Ok.outline.regs.height =
-    ap (λ (r : RigState). r.gpu.parts.regs.height) c.read_memories.ensures.others ∙ height in
+    ap (λ (r : RigState). r.gpu.parts.regs.height) c.read_memories.ensures.memories.others ∙ height in
     let version : c.version_behind-version.result ≡ version_behind c.in-Ok.outline.regs.height =
     c.version_behind-version.ensures.value ∙ ap version_behind c.height.ensures.value in
     restores _ _ _ _ _ _ c.read_memories.new.place c.put_outline.new.rig c.read_memories.new.rig
     c.in-Ok.outline c.at.result c.in-Ok.ensures.takes c.put_outline.ensures
-    c.in-Ok-read_memories.ensures.takes c.read_memories.ensures.others
-    (rw kept at c.read_memories.ensures.sizes.rows) c.read_memories.ensures.sizes.words
+    c.in-Ok-read_memories.ensures.takes c.read_memories.ensures.memories.others
+    (rw kept at c.read_memories.ensures.memories.sizes.rows) c.read_memories.ensures.memories.sizes.words
     (rw height at c.in-Ok-read_memories.ensures.place)
     (reader_of c.at.result c.version_behind-version.result c.in-Ok.outline.regs.height c.read_memories.new.place
     c.at.ensures.place c.at.ensures.stop version) (rw height at c.read_memories.ensures.cost)
