@@ -12,8 +12,18 @@ use Rattle.psxgpu_c.specs.contracts.parts.Parts as Parts
 use Rattle.psxgpu_c.specs.contracts.handle.Held as Held
 
 abbrev pub E : Bx
-E = record { row = machine.the_row; laws = machine_laws.the_row_laws; al = record { row = Heap.the_row; laws =
-    heap.the_row_laws; g = ghosts; d = dict; drops = impl [] tnil dnil } }
+E = record {
+  row = machine.the_row;
+  laws = machine_laws.the_row_laws;
+  al = record {
+    row = Heap.the_row;
+    laws =
+        heap.the_row_laws;
+    g = ghosts;
+    d = dict;
+    drops = impl [] tnil dnil;
+  };
+}
 
 abbrev pub FromParts : Slot 0
 FromParts = plain (λ _. Parts.the_row machine.the_row Heap.the_row ghosts)
