@@ -7,7 +7,6 @@ ghost use Rattle.span_lanes.specs.Lanes.{DoesFor};
 
 use crate::part::Part;
 use crate::{Brush, Span};
-use px_num::halves::wanted_lanes;
 use px_num::lanes::splat;
 use std::simd::prelude::*;
 use std::sync::ledger::Ledger;
@@ -38,8 +37,7 @@ pub(crate) fn back_of<L: Ledger>(
     ensures cost { steps.new ≤ steps.old + 1 }
 {
     if looks(&span.brush) {
-        let back = vram.load16(span.x + part.first, span.y, part.k, steps);
-        wanted_lanes(part.k, back)
+        vram.load16(span.x + part.first, span.y, part.k, steps)
     } else {
         splat(0)
     }

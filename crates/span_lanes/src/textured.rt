@@ -24,7 +24,6 @@ use crate::store::store_part;
 use crate::swatches::Drawn;
 use crate::{Brush, Span, Texture};
 use blend_dither::blend_lanes;
-use px_num::halves::wanted_lanes;
 use px_num::lanes::{add, mul, shifted_down, splat, sub_or_zero};
 use std::simd::prelude::*;
 use std::sync::ledger::Ledger;
@@ -162,21 +161,6 @@ pub(crate) fn fronts(raw: bool, hues: &Hues, shifts: Shifts, first: u16, texels:
     }
 }
 
-// Of what is drawn the first k lanes.
-#[inline(always)]
-fn wanted_of(drawn: Drawn, k: u8) -> Drawn
-    requires few { k ≤ 16 }
-    requires long { (length drawn.texels ≡ 16) × (length drawn.fronts ≡ 16) }
-    ensures long { (length result.texels ≡ 16) × (length result.fronts ≡ 16) }
-    ensures texels { (j : ℕ) → j < k → slice_index result.texels j ≡ slice_index drawn.texels j }
-    ensures fronts { (j : ℕ) → j < k → slice_index result.fronts j ≡ slice_index drawn.fronts j }
-{
-    Drawn {
-        texels: wanted_lanes(k, drawn.texels),
-        fronts: wanted_lanes(k, drawn.fronts),
-    }
-}
-
 // The pixels of a part by its texels and what colours make of these.
 #[inline(always)]
 fn collect_fronts<L: Ledger>(
@@ -224,8 +208,7 @@ pub(crate) fn draw_fronts<L: Ledger>(
     ensures others { AgreesApart (chunk_place span.now part.first) part.k vram.old vram.new }
     ensures cost { steps.new ≤ steps.old + 2 }
 {
-    let wanted = wanted_of(drawn, part.k);
-    let lanes = collect_fronts(vram, span, texture, wanted, part, steps);
+    let lanes = collect_fronts(vram, span, texture, drawn, part, steps);
     store_part(vram, span, part, &lanes, steps);
 }
 

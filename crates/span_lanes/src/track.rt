@@ -130,42 +130,41 @@ impl Track {
     ghost use Rattle.span_lanes.specs.Plan.{HasTexels};
     ghost use Rattle.span_lanes.specs.Track.{CanRead};
 
-    // The texels of a part. What it works on is handed over by value: were its address handed on, the compiler would
-    // keep in memory all that stands beside it.
+    // The texels of a part.
     #[inline(never)]
     fn many_texels<L: Ledger>(
-        self,
+        &self,
         vram: &Vram,
         _span: &Span,
-        texture: Texture,
+        texture: &Texture,
         part: Part,
         steps: &mut Steps<L>,
     ) -> u16x16
-        requires { CanRead self _span.now texture part vram.now }
-        ensures texels { HasTexels _span.now texture part vram.now result }
-        ensures cost { steps.new ≤ steps.old + texel_steps texture.page.depth * part.k }
+        requires { CanRead self.now _span.now texture.now part vram.now }
+        ensures texels { HasTexels _span.now texture.now part vram.now result }
+        ensures cost { steps.new ≤ steps.old + texel_steps texture.now.page.depth * part.k }
     {
-        let at = track_lanes(&self, part.first);
-        read_texels(vram, &texture, &at, part.k, steps)
+        let at = track_lanes(self, part.first);
+        read_texels(vram, texture, &at, part.k, steps)
     }
 
     // The same where they are at most eight: compiled apart, so that the compiler may drop the other lanes.
     #[inline(never)]
     fn few_texels<L: Ledger>(
-        self,
+        &self,
         vram: &Vram,
         _span: &Span,
-        texture: Texture,
+        texture: &Texture,
         part: Part,
         steps: &mut Steps<L>,
     ) -> u16x16
-        requires can { CanRead self _span.now texture part vram.now }
+        requires can { CanRead self.now _span.now texture.now part vram.now }
         requires few { part.k ≤ 8 }
-        ensures texels { HasTexels _span.now texture part vram.now result }
-        ensures cost { steps.new ≤ steps.old + texel_steps texture.page.depth * part.k }
+        ensures texels { HasTexels _span.now texture.now part vram.now result }
+        ensures cost { steps.new ≤ steps.old + texel_steps texture.now.page.depth * part.k }
     {
-        let at = track_lanes(&self, part.first);
-        read_few(vram, &texture, &at, part.k, steps)
+        let at = track_lanes(self, part.first);
+        read_few(vram, texture, &at, part.k, steps)
     }
 }
 
@@ -184,9 +183,9 @@ impl Sampler for Track {
         steps: &mut Steps<L>,
     ) -> u16x16 {
         if part.k <= HALF {
-            self.few_texels(vram, span, *texture, part, steps)
+            self.few_texels(vram, span, texture, part, steps)
         } else {
-            self.many_texels(vram, span, *texture, part, steps)
+            self.many_texels(vram, span, texture, part, steps)
         }
     }
 }

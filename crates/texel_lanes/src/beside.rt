@@ -8,6 +8,7 @@ ghost use Rattle.texel_lanes.specs.Texels.{AreBeside, AreCoordinates, AreIndexes
 
 use crate::Texture;
 use crate::coordinates::Coordinates;
+use crate::gather::{Gather, OneByOne};
 use crate::halfwords::halfwords_of;
 use crate::nibbles::{nibbles, nibbles_from};
 use crate::octets::octets;
@@ -139,7 +140,7 @@ fn beside_indexes<L: Ledger>(
 
 // The indexes of k texels of four bits, by the cells that they stand in.
 #[inline(always)]
-fn scattered_indexes<L: Ledger>(
+fn scattered_indexes<G: Gather, L: Ledger>(
     vram: &Vram,
     texture: &Texture,
     at: &Coordinates,
@@ -154,8 +155,32 @@ fn scattered_indexes<L: Ledger>(
     ensures cost { steps.new ≤ steps.old + k }
 {
     let places = places_of(texture, at);
-    let halfwords = halfwords_of(vram, places.xs, places.ys, k, steps);
+    let halfwords = halfwords_of::<G, L>(vram, places.xs, places.ys, k, steps);
     nibbles(places.across, halfwords)
+}
+
+// The indexes of k texels of four bits by their coordinates: at once where there are many and they stand side by side.
+#[inline(always)]
+pub(crate) fn indexes_by<G: Gather, L: Ledger>(
+    vram: &Vram,
+    texture: &Texture,
+    at: &Coordinates,
+    k: u8,
+    steps: &mut Steps<L>,
+) -> u8x16
+    requires texture { IsTexture texture.now }
+    requires page { texture.now.page.y + 255 < height_of vram.now }
+    requires at { AreCoordinates at.now.us × AreCoordinates at.now.vs }
+    requires depth { texture.now.page.depth ≡ 0 }
+    requires few { (1 ≤ k) × (k ≤ 16) }
+    ensures indexes { AreIndexes texture.now at.now k vram.now result }
+    ensures cost { steps.new ≤ steps.old + k }
+{
+    if k > HALF && are_beside(texture, at) {
+        beside_indexes(vram, texture, at, steps)
+    } else {
+        scattered_indexes::<G, L>(vram, texture, at, k, steps)
+    }
 }
 
 /// The indexes of k texels of four bits by their coordinates: at once where there are many and they stand side by side.
@@ -175,9 +200,5 @@ pub fn indexes_of<L: Ledger>(
     ensures indexes { AreIndexes texture.now at.now k vram.now result }
     ensures cost { steps.new ≤ steps.old + k }
 {
-    if k > HALF && are_beside(texture, at) {
-        beside_indexes(vram, texture, at, steps)
-    } else {
-        scattered_indexes(vram, texture, at, k, steps)
-    }
+    indexes_by::<OneByOne, L>(vram, texture, at, k, steps)
 }

@@ -4,6 +4,7 @@ ghost use Rattle.px_num.specs.Lanes.{EachLane};
 ghost use Rattle.vram_store.specs.Vram.{at, height_of};
 ghost use Rattle.texel_lanes.specs.Texels.{StandNear};
 
+use crate::gather::Gather;
 use crate::table::halfwords_at;
 use px_num::halves::HALF;
 use px_num::lanes::{add, same, shifted_down, splat, sub_or_zero};
@@ -50,7 +51,7 @@ fn near_halfwords<L: Ledger>(
 // The halfwords of k cells: at once where there are many and they stand close by. For few the look costs more than
 // it spares.
 #[inline(always)]
-pub(crate) fn halfwords_of<L: Ledger>(
+pub(crate) fn halfwords_of<G: Gather, L: Ledger>(
     vram: &Vram,
     xs: u16x16,
     ys: u16x16,
@@ -71,6 +72,6 @@ pub(crate) fn halfwords_of<L: Ledger>(
     if k > HALF && stand_near(xs, ys, x, y) {
         near_halfwords(vram, xs, x, y, steps)
     } else {
-        vram.gather(xs, ys, k, steps)
+        G::gather(vram, xs, ys, k, steps)
     }
 }

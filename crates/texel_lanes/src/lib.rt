@@ -9,6 +9,7 @@
 mod beside;
 mod clut;
 mod coordinates;
+mod gather;
 mod halfwords;
 mod nibbles;
 mod octets;

@@ -14,7 +14,7 @@ use texture_page::Page;
 // Sixteen coordinates under one direction of a window.
 #[inline(always)]
 #[tactic(auto, unfolding(texture_page::specs::Page::windowed))]
-fn masked(mask: u8, off: u8, coordinates: u16x16) -> u16x16
+fn under_window(mask: u8, off: u8, coordinates: u16x16) -> u16x16
     requires mask { mask ≤ 31 }
     requires off { off ≤ 31 }
     requires long { length coordinates ≡ 16 }
@@ -26,24 +26,6 @@ fn masked(mask: u8, off: u8, coordinates: u16x16) -> u16x16
         and(coordinates, splat(255 - mask as u16 * 8)),
         splat((off & mask) as u16 * 8),
     )
-}
-
-// The same, which is quick where the window changes none.
-#[inline(always)]
-#[tactic(auto, using(crate::proofs::BesideLemmas::open_window))]
-fn under_window(mask: u8, off: u8, coordinates: u16x16) -> u16x16
-    requires mask { mask ≤ 31 }
-    requires off { off ≤ 31 }
-    requires coordinates { AreCoordinates coordinates }
-    ensures long { length result ≡ 16 }
-    ensures value { EachLane (λ i. slice_index result i ≡ windowed mask off (slice_index coordinates i)) }
-    ensures low { EachLane (λ i. slice_index result i ≤ 255) }
-{
-    if mask == 0 {
-        coordinates
-    } else {
-        masked(mask, off, coordinates)
-    }
 }
 
 // The columns of sixteen texels from their page's first cell.

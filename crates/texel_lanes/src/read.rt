@@ -5,9 +5,10 @@ ghost use Rattle.texel_lanes.specs.Texture.{IsTexture, texel_steps};
 ghost use Rattle.texel_lanes.specs.Texels.{AreCoordinates, AreTexels};
 
 use crate::Texture;
-use crate::beside::{are_beside, indexes_of, read_beside};
-use crate::clut::{gather_entries, sixteen_entries};
+use crate::beside::{are_beside, indexes_by, read_beside};
+use crate::clut::{entries_by, sixteen_entries};
 use crate::coordinates::Coordinates;
+use crate::gather::{AtOnce, Gather, OneByOne};
 use crate::halfwords::halfwords_of;
 use crate::octets::octets;
 use crate::places::places_of;
@@ -20,7 +21,7 @@ use vram_store::{Steps, Vram};
 
 // k texels of four bits.
 #[inline(always)]
-fn read_fours<L: Ledger>(
+fn read_fours<G: Gather, L: Ledger>(
     vram: &Vram,
     texture: &Texture,
     at: &Coordinates,
@@ -36,14 +37,14 @@ fn read_fours<L: Ledger>(
     ensures value { AreTexels texture.now at.now k vram.now result }
     ensures cost { steps.new ≤ steps.old + 2 * k }
 {
-    let index = indexes_of(vram, texture, at, k, steps);
+    let index = indexes_by::<G, L>(vram, texture, at, k, steps);
     let entries = sixteen_entries(vram, texture.clut, steps);
     entries_at(&table_of(entries), index)
 }
 
 // k texels of eight bits.
 #[inline(always)]
-fn read_eights<L: Ledger>(
+fn read_eights<G: Gather, L: Ledger>(
     vram: &Vram,
     texture: &Texture,
     at: &Coordinates,
@@ -60,14 +61,14 @@ fn read_eights<L: Ledger>(
     ensures cost { steps.new ≤ steps.old + 2 * k }
 {
     let places = places_of(texture, at);
-    let halfwords = halfwords_of(vram, places.xs, places.ys, k, steps);
+    let halfwords = halfwords_of::<G, L>(vram, places.xs, places.ys, k, steps);
     let index = octets(places.across, halfwords);
-    gather_entries(vram, texture.clut, index, k, steps)
+    entries_by::<G, L>(vram, texture.clut, index, k, steps)
 }
 
 // k texels of fifteen bits, by the cells that they stand in.
 #[inline(always)]
-fn read_scattered<L: Ledger>(
+fn read_scattered<G: Gather, L: Ledger>(
     vram: &Vram,
     texture: &Texture,
     at: &Coordinates,
@@ -84,12 +85,12 @@ fn read_scattered<L: Ledger>(
     ensures cost { steps.new ≤ steps.old + k }
 {
     let places = places_of(texture, at);
-    halfwords_of(vram, places.xs, places.ys, k, steps)
+    halfwords_of::<G, L>(vram, places.xs, places.ys, k, steps)
 }
 
 // k texels of fifteen bits: at once where there are many and they stand side by side.
 #[inline(always)]
-fn read_wholes<L: Ledger>(
+fn read_wholes<G: Gather, L: Ledger>(
     vram: &Vram,
     texture: &Texture,
     at: &Coordinates,
@@ -108,7 +109,7 @@ fn read_wholes<L: Ledger>(
     if k > HALF && are_beside(texture, at) {
         read_beside(vram, texture, at, k, steps)
     } else {
-        read_scattered(vram, texture, at, k, steps)
+        read_scattered::<G, L>(vram, texture, at, k, steps)
     }
 }
 
@@ -130,9 +131,9 @@ pub fn read_texels<L: Ledger>(
     ensures cost { steps.new ≤ steps.old + texel_steps texture.now.page.depth * k }
 {
     match texture.page.depth {
-        0 => read_fours(vram, texture, at, k, steps),
-        1 => read_eights(vram, texture, at, k, steps),
-        _ => read_wholes(vram, texture, at, k, steps),
+        0 => read_fours::<OneByOne, L>(vram, texture, at, k, steps),
+        1 => read_eights::<OneByOne, L>(vram, texture, at, k, steps),
+        _ => read_wholes::<OneByOne, L>(vram, texture, at, k, steps),
     }
 }
 
@@ -157,9 +158,9 @@ pub fn read_few<L: Ledger>(
     let few = k.min(HALF);
     let at = first_half(at);
     let texels = match texture.page.depth {
-        0 => read_fours(vram, texture, &at, few, steps),
-        1 => read_eights(vram, texture, &at, few, steps),
-        _ => read_scattered(vram, texture, &at, few, steps),
+        0 => read_fours::<AtOnce, L>(vram, texture, &at, few, steps),
+        1 => read_eights::<AtOnce, L>(vram, texture, &at, few, steps),
+        _ => read_scattered::<AtOnce, L>(vram, texture, &at, few, steps),
     };
     wanted_lanes(HALF, texels)
 }

@@ -5,7 +5,6 @@ ghost use Rattle.vram_store.specs.Vram.{at, height_of};
 
 use crate::steps::Steps;
 use crate::vram::Vram;
-use px_num::halves::HALF;
 use std::simd::prelude::*;
 use std::sync::ledger::Ledger;
 
@@ -31,10 +30,18 @@ impl Vram {
     /// The first `n` lanes are the cells at these columns and rows, and the others mean nothing. A step for each of the
     /// first `n`.
     ///
-    /// All lanes have to be cells: where `n` is at most eight, eight are read, which is faster than a loop over few.
+    /// So many cells are `read`, at least `n`, and all lanes have to be cells: where the number is a constant, that is
+    /// faster than a loop over few.
     #[inline(always)]
-    pub fn gather<L: Ledger>(&self, xs: u16x16, ys: u16x16, n: u8, steps: &mut Steps<L>) -> u16x16
-        requires few { n ≤ 16 }
+    pub fn gather<L: Ledger>(
+        &self,
+        xs: u16x16,
+        ys: u16x16,
+        n: u8,
+        read: u8,
+        steps: &mut Steps<L>,
+    ) -> u16x16
+        requires few { (n ≤ read) × (read ≤ 16) }
         requires long { (length xs ≡ 16) × (length ys ≡ 16) }
         requires in_row { EachLane (λ i. slice_index xs i < 1024) }
         requires in_height { EachLane (λ i. slice_index ys i < height_of self.now) }
@@ -43,10 +50,6 @@ impl Vram {
         ensures cost { steps.new ≡ steps.old + n }
     {
         steps.add(n);
-        if n <= HALF {
-            cells_at(&self.cells, xs, ys, HALF)
-        } else {
-            cells_at(&self.cells, xs, ys, n)
-        }
+        cells_at(&self.cells, xs, ys, read)
     }
 }

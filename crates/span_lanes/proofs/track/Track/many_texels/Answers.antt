@@ -10,5 +10,5 @@ read_texels-requires-clause-page g c = rw c.requires.sample.texture at c.require
 pub returns-clause-texels : goal.returns-clause-texels
 returns-clause-texels g c =
     let at = c.track_lanes-at.ensures in
-    texels_along c.args.self c.args._span.now c.args.texture c.args.part _ _ c.args.vram.now _ c.requires
+    texels_along c.args.self.now c.args._span.now c.args.texture.now c.args.part _ _ c.args.vram.now _ c.requires
     at.across at.down at.u at.v c.read_texels.ensures.long c.read_texels.ensures.value

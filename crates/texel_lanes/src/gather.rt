@@ -1,0 +1,53 @@
+// Halfwords of cells that stand anywhere.
+ghost use Rattle.std.specs.Prelude.{◌≡◌, ◌≤◌, ◌<◌, ◌+◌, ℕ, length, slice_index};
+ghost use Rattle.px_num.specs.Lanes.{EachLane};
+ghost use Rattle.vram_store.specs.Vram.{at, height_of};
+
+use px_num::halves::HALF;
+use std::simd::prelude::*;
+use std::sync::ledger::Ledger;
+use vram_store::{Steps, Vram};
+
+/// How the halfwords of k cells are read.
+pub(crate) trait Gather {
+    fn gather<L: Ledger>(vram: &Vram, xs: u16x16, ys: u16x16, k: u8, steps: &mut Steps<L>) -> u16x16
+        requires few { k ≤ 16 }
+        requires long { (length xs ≡ 16) × (length ys ≡ 16) }
+        requires in_row { EachLane (λ i. slice_index xs i < 1024) }
+        requires in_height { EachLane (λ i. slice_index ys i < height_of vram.now) }
+        ensures long { length result ≡ 16 }
+        ensures value { (j : ℕ) → j < k → slice_index result j ≡ at vram.now (slice_index xs j) (slice_index ys j) }
+        ensures cost { steps.new ≤ steps.old + k };
+}
+
+/// One after another.
+pub(crate) struct OneByOne {}
+
+/// Eight of them without a loop, where there are no more.
+pub(crate) struct AtOnce {}
+
+impl Gather for OneByOne {
+    #[inline(always)]
+    fn gather<L: Ledger>(
+        vram: &Vram,
+        xs: u16x16,
+        ys: u16x16,
+        k: u8,
+        steps: &mut Steps<L>,
+    ) -> u16x16 {
+        vram.gather(xs, ys, k, k, steps)
+    }
+}
+
+impl Gather for AtOnce {
+    #[inline(always)]
+    fn gather<L: Ledger>(
+        vram: &Vram,
+        xs: u16x16,
+        ys: u16x16,
+        k: u8,
+        steps: &mut Steps<L>,
+    ) -> u16x16 {
+        vram.gather(xs, ys, k, k.max(HALF), steps)
+    }
+}
