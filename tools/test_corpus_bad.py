@@ -57,11 +57,16 @@ class Bad(Corpus):
         return os.path.exists(self.path('golden.part')) and 'end played' in self.text('golden.part')
 
     def test_interrupted(self):
+        def listens():
+            # A shell starts what runs beside it with this signal ignored.
+            signal.signal(signal.SIGINT, signal.default_int_handler)
+
         self.write('in/a.capture', 'good\n')
         self.write('in/hang.capture', 'hang\n')
         child = subprocess.Popen([sys.executable, os.path.join(for_tests.HERE, 'corpus.py'), 'record', 'in',
                                   '--golden', 'golden', '--player', './moody', '--limit', '25'],
-                                 cwd=self.folder, text=True, stdout=subprocess.PIPE, stderr=subprocess.PIPE)
+                                 cwd=self.folder, text=True, stdout=subprocess.PIPE, stderr=subprocess.PIPE,
+                                 preexec_fn=listens)
         until = time.monotonic() + 60
         while time.monotonic() < until and not self.has_a_row():
             time.sleep(0.05)
