@@ -16,7 +16,7 @@ use crate::textured::draw_shaded;
 use crate::track::track_lanes;
 use px_num::Cell;
 use std::sync::ledger::Ledger;
-use texel_lanes::{Coordinates, read_texels};
+use texel_lanes::{Coordinates, OneByOne, read_texels};
 use vram_store::{Steps, Vram};
 
 // A part by its coordinates: at once where it does not read what it writes.
@@ -43,7 +43,7 @@ fn draw_guarded<L: Ledger>(
     if reads_itself(texture, &at, to, part.k) {
         draw_cells(vram, span, part, steps);
     } else {
-        let texels = read_texels(vram, texture, &at, part.k, steps);
+        let texels = read_texels::<OneByOne, L>(vram, texture, &at, part.k, steps);
         draw_shaded(vram, span, texture, &plan.shading, texels, part, steps);
     }
 }

@@ -16,7 +16,7 @@ use px_num::halves::HALF;
 use px_num::lanes::{add, low_bits, ramp, splat, sub_or_zero};
 use std::simd::prelude::*;
 use std::sync::ledger::Ledger;
-use texel_lanes::{Coordinates, indexes_of, read_few, read_texels};
+use texel_lanes::{AllAtOnce, Coordinates, OneByOne, indexes_of, read_few, read_texels};
 use vram_store::{Steps, Vram};
 
 // One coordinate of the texels of a span.
@@ -145,7 +145,7 @@ impl Track {
         ensures cost { steps.new ≤ steps.old + texel_steps texture.now.page.depth * part.k }
     {
         let at = track_lanes(self, part.first);
-        read_texels(vram, texture, &at, part.k, steps)
+        read_texels::<AllAtOnce, L>(vram, texture, &at, part.k, steps)
     }
 
     // The same where they are at most eight: compiled apart, so that the compiler may drop the other lanes.
@@ -205,6 +205,6 @@ impl Indexed for Track {
         steps: &mut Steps<L>,
     ) -> u8x16 {
         let at = track_lanes(self, part.first);
-        indexes_of(vram, texture, &at, part.k, steps)
+        indexes_of::<OneByOne, L>(vram, texture, &at, part.k, steps)
     }
 }

@@ -8,7 +8,7 @@ ghost use Rattle.texel_lanes.specs.Texels.{AreBeside, AreCoordinates, AreIndexes
 
 use crate::Texture;
 use crate::coordinates::Coordinates;
-use crate::gather::{Gather, OneByOne};
+use crate::gather::Gather;
 use crate::halfwords::halfwords_of;
 use crate::nibbles::{nibbles, nibbles_from};
 use crate::octets::octets;
@@ -159,9 +159,9 @@ fn scattered_indexes<G: Gather, L: Ledger>(
     nibbles(places.across, halfwords)
 }
 
-// The indexes of k texels of four bits by their coordinates: at once where there are many and they stand side by side.
+/// The indexes of k texels of four bits by their coordinates: at once where there are many and they stand side by side.
 #[inline(always)]
-pub(crate) fn indexes_by<G: Gather, L: Ledger>(
+pub fn indexes_of<G: Gather, L: Ledger>(
     vram: &Vram,
     texture: &Texture,
     at: &Coordinates,
@@ -181,24 +181,4 @@ pub(crate) fn indexes_by<G: Gather, L: Ledger>(
     } else {
         scattered_indexes::<G, L>(vram, texture, at, k, steps)
     }
-}
-
-/// The indexes of k texels of four bits by their coordinates: at once where there are many and they stand side by side.
-#[inline(always)]
-pub fn indexes_of<L: Ledger>(
-    vram: &Vram,
-    texture: &Texture,
-    at: &Coordinates,
-    k: u8,
-    steps: &mut Steps<L>,
-) -> u8x16
-    requires texture { IsTexture texture.now }
-    requires page { texture.now.page.y + 255 < height_of vram.now }
-    requires at { AreCoordinates at.now.us × AreCoordinates at.now.vs }
-    requires depth { texture.now.page.depth ≡ 0 }
-    requires few { (1 ≤ k) × (k ≤ 16) }
-    ensures indexes { AreIndexes texture.now at.now k vram.now result }
-    ensures cost { steps.new ≤ steps.old + k }
-{
-    indexes_by::<OneByOne, L>(vram, texture, at, k, steps)
 }

@@ -4,7 +4,7 @@ ghost use Rattle.px_num.specs.Lanes.{EachLane};
 ghost use Rattle.texture_page.specs.Page.{clut_place};
 ghost use Rattle.texel_lanes.specs.Texture.{at_cell, clut_row};
 
-use crate::gather::{Gather, OneByOne};
+use crate::gather::Gather;
 use px_num::lanes::{add, low_bits, splat};
 use std::simd::prelude::*;
 use std::sync::ledger::Ledger;
@@ -42,16 +42,16 @@ pub fn sixteen_entries<L: Ledger>(vram: &Vram, clut: u16, steps: &mut Steps<L>) 
     vram.load16(clut % 64 * 16, clut_row(clut), 16, steps)
 }
 
-// The entries of a palette by their indexes.
+/// The entries of a palette by their indexes.
 #[inline(always)]
-pub(crate) fn entries_by<G: Gather, L: Ledger>(
+pub fn gather_entries<G: Gather, L: Ledger>(
     vram: &Vram,
     clut: u16,
     indexes: u16x16,
     k: u8,
     steps: &mut Steps<L>,
 ) -> u16x16
-    requires few { k ≤ 16 }
+    requires few { (1 ≤ k) × (k ≤ 16) }
     requires long { length indexes ≡ 16 }
     requires low { EachLane (λ i. slice_index indexes i < 256) }
     ensures long { length result ≡ 16 }
@@ -62,24 +62,4 @@ pub(crate) fn entries_by<G: Gather, L: Ledger>(
     let _height = vram.height();
     let columns = entry_columns(clut, indexes);
     G::gather(vram, columns, splat(clut_row(clut)), k, steps)
-}
-
-/// The entries of a palette by their indexes, one by one.
-#[inline(always)]
-pub fn gather_entries<L: Ledger>(
-    vram: &Vram,
-    clut: u16,
-    indexes: u16x16,
-    k: u8,
-    steps: &mut Steps<L>,
-) -> u16x16
-    requires few { k ≤ 16 }
-    requires long { length indexes ≡ 16 }
-    requires low { EachLane (λ i. slice_index indexes i < 256) }
-    ensures long { length result ≡ 16 }
-    ensures value { (j : ℕ) → j < k
-        → slice_index result j ≡ at_cell vram.now (clut_place clut (slice_index indexes j)) }
-    ensures cost { steps.new ≤ steps.old + k }
-{
-    entries_by::<OneByOne, L>(vram, clut, indexes, k, steps)
 }

@@ -8,10 +8,11 @@ use std::simd::prelude::*;
 use std::sync::ledger::Ledger;
 use vram_store::{Steps, Vram};
 
-/// How the halfwords of k cells are read.
-pub(crate) trait Gather {
+/// How the halfwords of k cells are read. What is known of k makes a text of its own of what reads texels by it.
+pub trait Gather {
+    /// The first `k` lanes are the cells at these columns and rows, and the others mean nothing.
     fn gather<L: Ledger>(vram: &Vram, xs: u16x16, ys: u16x16, k: u8, steps: &mut Steps<L>) -> u16x16
-        requires few { k ≤ 16 }
+        requires few { (1 ≤ k) × (k ≤ 16) }
         requires long { (length xs ≡ 16) × (length ys ≡ 16) }
         requires in_row { EachLane (λ i. slice_index xs i < 1024) }
         requires in_height { EachLane (λ i. slice_index ys i < height_of vram.now) }
@@ -21,10 +22,13 @@ pub(crate) trait Gather {
 }
 
 /// One after another.
-pub(crate) struct OneByOne {}
+pub struct OneByOne {}
 
-/// Eight of them without a loop, where there are no more.
-pub(crate) struct AtOnce {}
+/// Eight without a loop: for few cells.
+pub struct HalfAtOnce {}
+
+/// Sixteen without a loop: for many.
+pub struct AllAtOnce {}
 
 impl Gather for OneByOne {
     #[inline(always)]
@@ -39,7 +43,7 @@ impl Gather for OneByOne {
     }
 }
 
-impl Gather for AtOnce {
+impl Gather for HalfAtOnce {
     #[inline(always)]
     fn gather<L: Ledger>(
         vram: &Vram,
@@ -49,5 +53,18 @@ impl Gather for AtOnce {
         steps: &mut Steps<L>,
     ) -> u16x16 {
         vram.gather(xs, ys, k, k.max(HALF), steps)
+    }
+}
+
+impl Gather for AllAtOnce {
+    #[inline(always)]
+    fn gather<L: Ledger>(
+        vram: &Vram,
+        xs: u16x16,
+        ys: u16x16,
+        k: u8,
+        steps: &mut Steps<L>,
+    ) -> u16x16 {
+        vram.gather(xs, ys, k, 16, steps)
     }
 }

@@ -22,6 +22,7 @@ mod texture;
 pub use beside::{indexes_of, sixteen_indexes, sixteen_octets};
 pub use clut::{clut_row, gather_entries, sixteen_entries};
 pub use coordinates::Coordinates;
+pub use gather::{AllAtOnce, Gather, HalfAtOnce, OneByOne};
 pub use places::{Places, places_of};
 pub use read::{read_few, read_texels};
 pub use table::{Table, entries_at, table_of};

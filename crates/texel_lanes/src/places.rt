@@ -11,17 +11,19 @@ use px_num::lanes::{add, and, low_bits, or, shifted_down, splat};
 use std::simd::prelude::*;
 use texture_page::Page;
 
-// Sixteen coordinates under one direction of a window.
+// Sixteen coordinates under one direction of a window. Most windows have no bits in their mask.
 #[inline(always)]
-#[tactic(auto, unfolding(texture_page::specs::Page::windowed))]
+#[tactic(auto, unfolding(texture_page::specs::Page::windowed), using(crate::proofs::BesideLemmas::open_window))]
 fn under_window(mask: u8, off: u8, coordinates: u16x16) -> u16x16
     requires mask { mask ≤ 31 }
     requires off { off ≤ 31 }
-    requires long { length coordinates ≡ 16 }
-    ensures long { length result ≡ 16 }
+    requires coordinates { AreCoordinates coordinates }
+    ensures coordinates { AreCoordinates result }
     ensures value { EachLane (λ i. slice_index result i ≡ windowed mask off (slice_index coordinates i)) }
-    ensures low { EachLane (λ i. slice_index result i ≤ 255) }
 {
+    if mask == 0 {
+        return coordinates;
+    }
     or(
         and(coordinates, splat(255 - mask as u16 * 8)),
         splat((off & mask) as u16 * 8),

@@ -5,10 +5,10 @@ ghost use Rattle.texel_lanes.specs.Texture.{IsTexture, texel_steps};
 ghost use Rattle.texel_lanes.specs.Texels.{AreCoordinates, AreTexels};
 
 use crate::Texture;
-use crate::beside::{are_beside, indexes_by, read_beside};
-use crate::clut::{entries_by, sixteen_entries};
+use crate::beside::{are_beside, indexes_of, read_beside};
+use crate::clut::{gather_entries, sixteen_entries};
 use crate::coordinates::Coordinates;
-use crate::gather::{AtOnce, Gather, OneByOne};
+use crate::gather::{Gather, HalfAtOnce};
 use crate::halfwords::halfwords_of;
 use crate::octets::octets;
 use crate::places::places_of;
@@ -37,7 +37,7 @@ fn read_fours<G: Gather, L: Ledger>(
     ensures value { AreTexels texture.now at.now k vram.now result }
     ensures cost { steps.new ≤ steps.old + 2 * k }
 {
-    let index = indexes_by::<G, L>(vram, texture, at, k, steps);
+    let index = indexes_of::<G, L>(vram, texture, at, k, steps);
     let entries = sixteen_entries(vram, texture.clut, steps);
     entries_at(&table_of(entries), index)
 }
@@ -63,7 +63,7 @@ fn read_eights<G: Gather, L: Ledger>(
     let places = places_of(texture, at);
     let halfwords = halfwords_of::<G, L>(vram, places.xs, places.ys, k, steps);
     let index = octets(places.across, halfwords);
-    entries_by::<G, L>(vram, texture.clut, index, k, steps)
+    gather_entries::<G, L>(vram, texture.clut, index, k, steps)
 }
 
 // k texels of fifteen bits, by the cells that they stand in.
@@ -115,7 +115,7 @@ fn read_wholes<G: Gather, L: Ledger>(
 
 /// k texels by their coordinates.
 #[inline(always)]
-pub fn read_texels<L: Ledger>(
+pub fn read_texels<G: Gather, L: Ledger>(
     vram: &Vram,
     texture: &Texture,
     at: &Coordinates,
@@ -131,9 +131,9 @@ pub fn read_texels<L: Ledger>(
     ensures cost { steps.new ≤ steps.old + texel_steps texture.now.page.depth * k }
 {
     match texture.page.depth {
-        0 => read_fours::<OneByOne, L>(vram, texture, at, k, steps),
-        1 => read_eights::<OneByOne, L>(vram, texture, at, k, steps),
-        _ => read_wholes::<OneByOne, L>(vram, texture, at, k, steps),
+        0 => read_fours::<G, L>(vram, texture, at, k, steps),
+        1 => read_eights::<G, L>(vram, texture, at, k, steps),
+        _ => read_wholes::<G, L>(vram, texture, at, k, steps),
     }
 }
 
@@ -155,13 +155,7 @@ pub fn read_few<L: Ledger>(
     ensures value { AreTexels texture.now at.now k vram.now result }
     ensures cost { steps.new ≤ steps.old + texel_steps texture.now.page.depth * k }
 {
-    let few = k.min(HALF);
-    let at = first_half(at);
-    let texels = match texture.page.depth {
-        0 => read_fours::<AtOnce, L>(vram, texture, &at, few, steps),
-        1 => read_eights::<AtOnce, L>(vram, texture, &at, few, steps),
-        _ => read_scattered::<AtOnce, L>(vram, texture, &at, few, steps),
-    };
+    let texels = read_texels::<HalfAtOnce, L>(vram, texture, &first_half(at), k.min(HALF), steps);
     wanted_lanes(HALF, texels)
 }
 

@@ -41,6 +41,7 @@ impl Vram {
         read: u8,
         steps: &mut Steps<L>,
     ) -> u16x16
+        requires some { 1 ≤ n }
         requires few { (n ≤ read) × (read ≤ 16) }
         requires long { (length xs ≡ 16) × (length ys ≡ 16) }
         requires in_row { EachLane (λ i. slice_index xs i < 1024) }

@@ -6,7 +6,7 @@ use std::alloc::Global;
 use std::marker::Brand;
 use std::sync::ledger::{Blank, Ledger};
 use std::test::Fail;
-use texel_lanes::{Coordinates, Texture, read_texel, read_texels};
+use texel_lanes::{Coordinates, OneByOne, Texture, read_texel, read_texels};
 use texture_page::{Page, Window};
 use vram_store::{Steps, Vram};
 
@@ -50,7 +50,7 @@ fn first_texels<L: Ledger>(alloc: Global, blank: Blank, depth: u8) -> Result<[u1
         us: low_bits(ramp(), 8),
         vs: low_bits(splat(0), 8),
     };
-    let texels = read_texels(&vram, &texture, &at, 3, &mut steps).to_array();
+    let texels = read_texels::<OneByOne, L>(&vram, &texture, &at, 3, &mut steps).to_array();
     let last = read_texel(&vram, &texture, 3, 0, &mut steps);
     Ok([texels[0], texels[1], texels[2], last])
 }

@@ -9,4 +9,4 @@ returns-clause-value g c = λ j lt.
     let index = c.octets-index.ensures.value j lane in
     texel_eight c.args.texture.now _ _ c.args.vram.now _ _ _ c.requires.depth (places.across j lane)
     (rw (places.column j lane, places.row j lane) at (c.halfwords_of-halfwords.ensures.value j lt))
-    (rw index at (c.entries_by.ensures.value j lt))
+    (rw index at (c.gather_entries.ensures.value j lt))
