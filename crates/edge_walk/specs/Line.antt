@@ -1,6 +1,8 @@
 -- An attribute along a row (our own rule).
 use Rattle.std.specs.Prelude.{ℕ, ◌+◌, ◌-◌, ◌*◌, ◌/◌, ◌%◌, ◌^◌, ◌<◌, ◌≡◌, ℤ, pos, ◌+ℤ◌, int_lt, unsigned_abs, IsTrue}
 use Rattle.std.specs.Prelude.{Bool, if◌then◌else◌, List, length, slice_index, ◌≤◌}
+use Rattle.px_num.specs.Lanes.{EachLane}
+use Rattle.edge_walk.specs.declared.ramp.Ramp.{Ramp}
 use Rattle.edge_walk.specs.declared.line.RowLine.{RowLine}
 use Rattle.edge_walk.specs.Triangle.{Corners, is_inside}
 use Rattle.edge_walk.specs.Attribute.{attribute_at}
@@ -12,11 +14,20 @@ wrapped falls size = if falls then (2 ^ 64 - size) % 2 ^ 64 else size
 unfoldable pub scaled : ℤ → ℕ → ℕ
 scaled step by = wrapped (int_lt step (pos 0)) (unsigned_abs step * by % 2 ^ 64)
 
+-- a step in 32 bits, rounded
+abbrev pub short_step : ℕ → ℕ
+short_step step = (step + 2 ^ 31) % 2 ^ 64 / 2 ^ 32
+
+-- how much each of sixteen numbers in 32 bits has more than the ninth, where they grow by a step
+pub record IsRamp (step : ℕ) (ramp : Ramp) : Type 0 where
+  pub long : length ramp.lanes ≡ 16
+  pub value : EachLane (λ j. slice_index ramp.lanes j ≡ (j + (2 ^ 32 - 8)) % 2 ^ 32 * short_step step % 2 ^ 32)
+
 -- the attribute j cells from one that is `at` cells from a line's own. It is reckoned from the ninth cell in 32 bits:
 -- the step is rounded, and 8 added, so that no sum that is a multiple of the area comes out below it
 unfoldable pub line_value : RowLine → ℕ → ℕ → ℕ
 line_value line at j =
-    ((j + (2 ^ 32 - 8)) % 2 ^ 32 * ((line.step + 2 ^ 31) % 2 ^ 64 / 2 ^ 32) % 2 ^ 32 +
+    ((j + (2 ^ 32 - 8)) % 2 ^ 32 * short_step line.step % 2 ^ 32 +
     ((line.first + line.step * (at + 8)) % 2 ^ 64 / 2 ^ 32 + 8) % 2 ^ 32) % 2 ^ 32 / 2 ^ 24
 
 -- the first n of sixteen numbers, and then zeros

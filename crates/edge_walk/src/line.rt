@@ -1,8 +1,9 @@
 // An attribute along a row.
-ghost use Rattle.std.specs.Prelude.{◌≡◌, ◌+◌, ◌-◌, ◌*◌, ◌/◌, ◌%◌, ◌^◌, ◌≤◌, ◌<◌, ℕ, length, slice_index};
+ghost use Rattle.std.specs.Prelude.{◌≡◌, ◌+◌, ◌*◌, ◌/◌, ◌%◌, ◌^◌, ◌≤◌, ◌<◌, length, slice_index};
 ghost use Rattle.px_num.specs.Lanes.{EachLane};
 ghost use Rattle.edge_walk.specs.Line.{AreFirst, wrapped, scaled, line_value};
 
+use crate::ramp::{lanes_by, ramp_of};
 use std::simd::prelude::*;
 
 /// An attribute along a row of cells. It is the top byte of a number of 64 bits that grows by the same step from
@@ -31,68 +32,30 @@ pub(crate) fn scaled(step: i64, by: u64) -> u64
 }
 
 impl RowLine {
-    // The number i cells further.
+    /// The number i cells further.
     #[inline(always)]
-    fn sum(&self, i: u32) -> u64
+    pub(crate) fn sum(&self, i: u32) -> u64
         ensures { result ≡ (self.now.first + self.now.step * i) % 2 ^ 64 }
     {
         self.first.wrapping_add(self.step.wrapping_mul(i as u64))
-    }
-
-    // The step in 32 bits, rounded.
-    #[inline(always)]
-    fn short_step(&self) -> u32
-        ensures { result ≡ (self.now.step + 2 ^ 31) % 2 ^ 64 / 2 ^ 32 }
-    {
-        (self.step.wrapping_add(0x8000_0000) >> 32) as u32
     }
 
     /// The attribute at sixteen cells, the first of them `at` cells from the line's own.
     ///
     /// They are reckoned in 32 bits from the one in the middle.
     #[inline(always)]
-    #[tactic(auto, unfolding(crate::specs::Line::line_value))]
     pub fn lanes(&self, at: u16) -> u16x16
         ensures long { length result ≡ 16 }
         ensures value { EachLane (λ j. slice_index result j ≡ line_value self.now at j) }
         ensures bytes { EachLane (λ j. slice_index result j ≤ 255) }
     {
-        let middle = (self.sum(at as u32 + 8) >> 32) as u32;
-        top_bytes(stepped(middle.wrapping_add(8), self.short_step()))
+        lanes_by(self, &ramp_of(self.step), at)
     }
 }
 
-const RAMP: [u32; 16] = [
-    0xffff_fff8,
-    0xffff_fff9,
-    0xffff_fffa,
-    0xffff_fffb,
-    0xffff_fffc,
-    0xffff_fffd,
-    0xffff_fffe,
-    0xffff_ffff,
-    0,
-    1,
-    2,
-    3,
-    4,
-    5,
-    6,
-    7,
-];
-
-// The numbers of sixteen lanes less 8, which wrap.
+/// The products, which wrap.
 #[inline(always)]
-fn ramp() -> u32x16
-    ensures long { length result ≡ 16 }
-    ensures value { EachLane (λ j. slice_index result j ≡ (j + (2 ^ 32 - 8)) % 2 ^ 32) }
-{
-    u32x16::from_array(RAMP)
-}
-
-// The products, which wrap.
-#[inline(always)]
-fn times(a: u32x16, b: u32) -> u32x16
+pub(crate) fn times(a: u32x16, b: u32) -> u32x16
     requires { length a ≡ 16 }
     ensures long { length result ≡ 16 }
     ensures value { EachLane (λ j. slice_index result j ≡ slice_index a j * b % 2 ^ 32) }
@@ -100,24 +63,14 @@ fn times(a: u32x16, b: u32) -> u32x16
     a * u32x16::splat(b)
 }
 
-// The sums, which wrap.
+/// The sums, which wrap.
 #[inline(always)]
-fn plus(a: u32x16, b: u32) -> u32x16
+pub(crate) fn plus(a: u32x16, b: u32) -> u32x16
     requires { length a ≡ 16 }
     ensures long { length result ≡ 16 }
     ensures value { EachLane (λ j. slice_index result j ≡ (slice_index a j + b) % 2 ^ 32) }
 {
     a + u32x16::splat(b)
-}
-
-// Sixteen numbers that grow by a step and wrap, the ninth of them given.
-#[inline(always)]
-fn stepped(middle: u32, step: u32) -> u32x16
-    ensures long { length result ≡ 16 }
-    ensures value { EachLane (λ j. slice_index result j
-        ≡ ((j + (2 ^ 32 - 8)) % 2 ^ 32 * step % 2 ^ 32 + middle) % 2 ^ 32) }
-{
-    plus(times(ramp(), step), middle)
 }
 
 #[inline(always)]
@@ -139,9 +92,9 @@ fn narrow(a: u32x16) -> u16x16
     a.cast::<u16>()
 }
 
-// The top bytes of sixteen numbers.
+/// The top bytes of sixteen numbers.
 #[inline(always)]
-fn top_bytes(a: u32x16) -> u16x16
+pub(crate) fn top_bytes(a: u32x16) -> u16x16
     requires long { length a ≡ 16 }
     requires word { EachLane (λ j. slice_index a j < 2 ^ 32) }
     ensures long { length result ≡ 16 }

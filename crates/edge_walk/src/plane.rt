@@ -19,7 +19,7 @@ use crate::upright::Upright;
 #[derive(Clone, Copy)]
 pub struct Plane {
     base: u64,
-    across: u64,
+    pub(crate) across: u64,
     down: u64,
 }
 
@@ -84,7 +84,7 @@ impl Plane {
     }
 
     #[inline(always)]
-    fn line_at(&self, x: i32, y: i32) -> RowLine
+    pub(crate) fn line_at(&self, x: i32, y: i32) -> RowLine
         ensures { result ≡ line_at self.now x y }
     {
         RowLine {

@@ -13,8 +13,7 @@ use Rattle.span_lanes.specs.Guard.{paint_texels, palette_of, target, IsApart}
 use Rattle.texel_lanes.specs.Texels.{AreCoordinates}
 use Rattle.span_lanes.specs.Lanes.{HasCoordinates}
 use Rattle.span_lanes.specs.Plan.{HasTexels}
-use Rattle.span_lanes.specs.declared.part.Part.{Part}
-use Rattle.span_lanes.specs.Track.{along_at, IsTrack, CanRead}
+use Rattle.span_lanes.specs.Track.{along_at, IsTrack}
 use Rattle.span_lanes.specs.Paints.{paint_u, paint_v}
 use Rattle.span_lanes.proofs.CostLemmas.{textured_cost}
 
@@ -43,20 +42,6 @@ texels_here span t first k us vs m lanes at long read = record {
   long = long;
   value = λ j lt. rw (at.u j lt, at.v j lt) at (read j lt);
 }
-
--- the texels of a part that were read by the coordinates of its span
-pub texels_along : (track : Track) (span : Span) (t : Texture) (p : Part) (us vs m lanes : List ℕ) → CanRead track span t p m
-    → AreCoordinates us → AreCoordinates vs
-    → ((j : ℕ) → j < 16 → get_or us j 0 ≡ along_at track.u p.first j)
-    → ((j : ℕ) → j < 16 → get_or vs j 0 ≡ along_at track.v p.first j)
-    → length lanes ≡ 16
-    → ((j : ℕ) → j < p.k → get_or lanes j 0 ≡ texel t (get_or us j 0) (get_or vs j 0) m)
-    → HasTexels span t p m lanes
-texels_along track span t p us vs m lanes can across down u v long read =
-    texels_here span t p.first p.k us vs m lanes
-    (coordinates_here span.paint span.x span.y span.n p.first p.k track us vs can.finds can.part.within can.part.few
-    across down u v)
-    long read
 
 -- the cost of a chunk that lies apart
 pub apart_cost : (span : Span) (t : Texture) (first k : ℕ) → IsApart span → first + k ≤ span.n → texture_of span.paint

@@ -4,11 +4,12 @@ use Rattle.edge_walk.specs.Attribute.{IsUnscaled}
 use Rattle.span_lanes.specs.declared.block.Block.{Block}
 use Rattle.span_lanes.specs.declared.sheet.Sheet.{Sheet}
 use Rattle.span_lanes.specs.declared.sheet.Way.{Way}
-use Rattle.span_lanes.specs.declared.sheet.Way.TheVariants.{Strip, Beside, Scaled}
+use Rattle.span_lanes.specs.declared.sheet.Way.TheVariants.{Strip, Beside, Scaled, Mixed}
 use Rattle.texel_lanes.specs.declared.texture.Texture.{Texture}
 use Rattle.span_lanes.specs.declared.swatches.Swatches.{Swatches}
 use Rattle.span_lanes.specs.declared.tint.Tint.TheVariants.{Plain}
 use Rattle.span_lanes.specs.Frame.{Framed, IsBlockApart}
+use Rattle.span_lanes.specs.Ramped.{AreRampedColors, AreRampedSlopes}
 use Rattle.span_lanes.specs.Sheet.{IsSheet, sheet_ink}
 use Rattle.texel_lanes.specs.Texture.{IsTexture}
 use Rattle.span_lanes.specs.Swatches.{AreColored, entries_of}
@@ -38,7 +39,8 @@ pub record IsPlain (sheet : Sheet) (color : ℕ) : Type 0 where
 abbrev pub IsWay : Sheet → Way → Type 0
 IsWay sheet (Strip color) = IsBeside sheet × IsPlain sheet color
 IsWay sheet Beside = IsBeside sheet
-IsWay sheet Scaled = Unit {0}
+IsWay sheet (Scaled color slopes) = (sheet.tint ≡ Plain color) × AreRampedSlopes sheet.tri slopes
+IsWay sheet (Mixed slopes colors) = AreRampedSlopes sheet.tri slopes × AreRampedColors sheet.tri colors
 
 -- what is one for all spans of a triangle in a block, and a palette under a colour, if it is kept
 pub record IsBlockPen (sheet : Sheet) (b : Block) (way : Way) (last : Option Swatches) : Type 0 where

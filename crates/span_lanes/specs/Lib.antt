@@ -12,9 +12,11 @@ pub mod Laws
 pub mod Paints
 pub mod Pen
 pub mod Plan
+pub mod Ramped
 pub mod Ready
 pub mod Shade
 pub mod Sheet
+pub mod Slant
 pub mod Solid
 pub mod Spans
 pub mod Stretch

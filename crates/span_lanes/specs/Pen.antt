@@ -61,16 +61,6 @@ IsTint (Shaded tri) tint = IsTintOf tri tint
 IsTint (TexturedTri tri texture) tint = IsTintOf tri tint
 IsTint (TexturedRow color texture u v flip) tint = tint ≡ Plain color
 
--- one colour
-abbrev pub IsOne : Tint → Type 0
-IsOne (Plain color) = Unit {0}
-IsOne (Planes red green blue) = ⊥
-
--- three channels
-abbrev pub AreSeveral : Tint → Type 0
-AreSeveral (Plain color) = ⊥
-AreSeveral (Planes red green blue) = Unit {0}
-
 -- the texel coordinates of a triangle, and whether they are known to go from cell to cell as texels do
 pub record AreSlopes (tri : Corners) (slopes : Slopes) : Type 0 where
   pub u : IsPlane tri 3 slopes.u

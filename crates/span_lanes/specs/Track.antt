@@ -24,10 +24,10 @@ pub record IsTrack (paint : Paint) (x y n : ℕ) (track : Track) : Type 0 where
   pub u : (at j : ℕ) → j < 16 → at + j < n → along_at track.u at j ≡ paint_u paint (x + (at + j)) y (at + j)
   pub v : (at j : ℕ) → j < 16 → at + j < n → along_at track.v at j ≡ paint_v paint (x + (at + j)) y (at + j)
 
--- the texels of a part of a span can be read by its coordinates
-pub record CanRead (track : Track) (span : Span) (t : Texture) (p : Part) (m : List ℕ) : Type 0 where
+-- the texels of a part of a span can be read by its coordinates; that these can be found is given
+pub record CanRead (span : Span) (t : Texture) (p : Part) (found : Type 0) (m : List ℕ) : Type 0 where
   pub sample : CanSample span t m
-  pub finds : IsTrack span.paint span.x span.y span.n track
+  pub places : found
   pub part : IsPart span p
 
 -- a coordinate at the cells of a triangle is its attribute there, from (x, y) on

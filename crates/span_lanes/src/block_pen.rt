@@ -8,10 +8,12 @@ ghost use Rattle.span_lanes.specs.Sheet.{IsSheet};
 
 use crate::apart::is_block_apart;
 use crate::draw::draw_beside_row;
+use crate::mixed::draw_mixed;
 use crate::plainly::is_plain;
+use crate::ramped::{ramped_colors, ramped_slopes};
 use crate::scaled::draw_scaled;
 use crate::shading::has_even_palette;
-use crate::sheet::{Sheet, Way, row_span, sheet_of};
+use crate::sheet::{Row, Sheet, Way, row_span, sheet_of};
 use crate::stretch::has_room;
 use crate::strip::draw_plain_strip;
 use crate::swatches::Swatches;
@@ -48,6 +50,25 @@ fn is_beside(sheet: &Sheet) -> bool
     sheet.slopes.unscaled && sheet.texture.window.mask_x == 0 && room
 }
 
+// How rows are drawn by the coordinates of each texel.
+#[inline(always)]
+fn scaled_way(sheet: &Sheet) -> Way
+    requires ready { IsSheet sheet.now }
+    ensures { IsWay sheet.now result }
+{
+    let slopes = ramped_slopes(&sheet.slopes);
+    match &sheet.tint {
+        Tint::Plain { color } => Way::Scaled {
+            color: *color,
+            slopes,
+        },
+        Tint::Planes { red, green, blue } => Way::Mixed {
+            slopes,
+            colors: ramped_colors(red, green, blue),
+        },
+    }
+}
+
 // How rows are drawn that read nothing that they write.
 #[inline(always)]
 fn way_of(sheet: &Sheet) -> Way
@@ -56,7 +77,7 @@ fn way_of(sheet: &Sheet) -> Way
     ensures { IsWay sheet.now result }
 {
     if !is_beside(sheet) {
-        return Way::Scaled;
+        return scaled_way(sheet);
     }
     match plain_color(sheet) {
         Some(color) => Way::Strip { color },
@@ -132,16 +153,23 @@ impl BlockPen {
             (record { m = vram.old; steps = steps.old }) (record { m = vram.new; steps = steps.new }) }
     {
         let sheet = &self.sheet;
-        match self.way {
+        match &self.way {
             Way::Strip { color } => {
                 let span = row_span(sheet, x, y, n);
-                draw_plain_strip(vram, &span, sheet, color, &mut self.last, steps)
+                draw_plain_strip(vram, &span, sheet, *color, &mut self.last, steps)
             }
             Way::Beside => {
                 let span = row_span(sheet, x, y, n);
                 draw_beside_row(vram, &span, sheet, &mut self.last, steps)
             }
-            Way::Scaled => draw_scaled(vram, sheet, x, y, n, &mut self.last, steps),
+            Way::Scaled { color, slopes } => {
+                let row = Row { x, y, n };
+                draw_scaled(vram, sheet, slopes, *color, row, &mut self.last, steps)
+            }
+            Way::Mixed { slopes, colors } => {
+                self.last = None;
+                draw_mixed(vram, sheet, slopes, colors, Row { x, y, n }, steps)
+            }
         }
     }
 }

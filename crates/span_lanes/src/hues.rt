@@ -3,15 +3,15 @@ ghost use Rattle.std.specs.Prelude.{◌+◌, ◌*◌, ℕ, pos, IsTrue};
 ghost use Rattle.edge_walk.specs.Line.{line_value};
 ghost use Rattle.edge_walk.specs.Plane.{IsPlane};
 ghost use Rattle.edge_walk.specs.Triangle.{Corners, is_inside};
-ghost use Rattle.span_lanes.specs.declared.hues.Hues.TheVariants.{One};
 ghost use Rattle.span_lanes.specs.declared.tint.Tint.TheVariants.{Planes};
 ghost use Rattle.span_lanes.specs.Shade.{IsSpan};
-ghost use Rattle.span_lanes.specs.Hues.{hue_at, AreHues, AreHuesOf, IsLineOf};
+ghost use Rattle.span_lanes.specs.Hues.{AreHues, AreHuesOf, IsLineOf};
 ghost use Rattle.span_lanes.specs.Lanes.{HasColors};
-ghost use Rattle.span_lanes.specs.Pen.{AreSeveral, IsOne, IsTint, IsTintOf};
+ghost use Rattle.span_lanes.specs.Pen.{IsTint, IsTintOf};
 
 use crate::Span;
 use crate::colors::{Colors, one_color};
+use crate::hued::Hued;
 use crate::tint::Tint;
 use edge_walk::{Plane, RowLine};
 
@@ -62,34 +62,6 @@ pub(crate) fn hues_of(span: &Span, tint: &Tint) -> Hues
     }
 }
 
-// The colour of a span that has one.
-#[inline(always)]
-pub(crate) fn one_of(span: &Span, tint: &Tint) -> u32
-    requires span { IsSpan span.now }
-    requires tint { IsTint span.now.paint tint.now }
-    requires one { IsOne tint.now }
-    ensures { AreHues span.now.paint span.now.x span.now.y span.now.n (One result) }
-{
-    match tint {
-        Tint::Plain { color } => *color,
-        Tint::Planes { .. } => unreachable!(),
-    }
-}
-
-// The colours of a span that has several.
-#[inline(always)]
-pub(crate) fn several_of(span: &Span, tint: &Tint) -> Hues
-    requires span { IsSpan span.now }
-    requires tint { IsTint span.now.paint tint.now }
-    requires several { AreSeveral tint.now }
-    ensures { AreHues span.now.paint span.now.x span.now.y span.now.n result }
-{
-    match tint {
-        Tint::Plain { .. } => unreachable!(),
-        Tint::Planes { red, green, blue } => tri_lines(red, green, blue, span.x, span.y),
-    }
-}
-
 #[inline(always)]
 fn line_colors(red: &RowLine, green: &RowLine, blue: &RowLine, first: u16) -> Colors
     ensures { HasColors
@@ -103,13 +75,16 @@ fn line_colors(red: &RowLine, green: &RowLine, blue: &RowLine, first: u16) -> Co
     }
 }
 
-// The colours of sixteen cells from cell `first` on.
-#[inline(always)]
-pub(crate) fn hue_lanes(hues: &Hues, first: u16) -> Colors
-    ensures { HasColors (λ j. hue_at hues.now first j) 16 result.red result.green result.blue }
-{
-    match hues {
-        Hues::One { color } => one_color(*color),
-        Hues::Lines { red, green, blue } => line_colors(red, green, blue, first),
+impl Hued for Hues {
+    ghost use Rattle.span_lanes.specs.Hues.{hue_at};
+
+    ghost hue = { hue_at };
+
+    #[inline(always)]
+    fn colors(&self, first: u16) -> Colors {
+        match self {
+            Hues::One { color } => one_color(*color),
+            Hues::Lines { red, green, blue } => line_colors(red, green, blue, first),
+        }
     }
 }

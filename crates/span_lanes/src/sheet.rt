@@ -3,6 +3,7 @@ ghost use Rattle.std.specs.Prelude.{◌≡◌};
 ghost use Rattle.span_lanes.specs.declared.span.Paint.TheVariants.{TexturedTri};
 ghost use Rattle.span_lanes.specs.Sheet.{IsSheet, sheet_ink, sheet_span};
 
+use crate::ramped::{RampedColors, RampedSlopes};
 use crate::slopes::{Slopes, tri_slopes};
 use crate::tint::{Tint, tri_tint};
 use crate::{Brush, Paint, Span, Texture};
@@ -25,8 +26,18 @@ pub(crate) enum Way {
     Strip { color: u32 },
     // texels side by side
     Beside,
-    // by the coordinates of each texel
-    Scaled,
+    // by the coordinates of each texel, under one colour
+    Scaled { color: u32, slopes: RampedSlopes },
+    // the same under several
+    Mixed { slopes: RampedSlopes, colors: RampedColors },
+}
+
+// n cells of a row from (x, y) to the right.
+#[derive(Clone, Copy)]
+pub(crate) struct Row {
+    pub(crate) x: u16,
+    pub(crate) y: u16,
+    pub(crate) n: u16,
 }
 
 // A triangle made ready.

@@ -8,10 +8,10 @@ ghost use Rattle.span_lanes.specs.Swatches.{AreColored, AreEntries, IsPalette, S
 ghost use Rattle.texel_lanes.specs.Table.{entry_at};
 
 use crate::colors::no_shifts;
+use crate::fronts::fronts;
 use crate::hues::Hues;
 use crate::plan::Plan;
 use crate::shading::has_even_palette;
-use crate::textured::fronts;
 use crate::{Span, Texture};
 use std::simd::prelude::*;
 use std::sync::ledger::Ledger;

@@ -15,8 +15,7 @@ ghost use Rattle.span_lanes.specs.Plan.{IsShading, HasTexels, HasFronts};
 ghost use Rattle.span_lanes.specs.Lanes.{AreShifts};
 
 use crate::back::back_of;
-use crate::colors::{Shifts, modulated_by};
-use crate::hues::{Hues, hue_lanes};
+use crate::fronts::fronts_of;
 use crate::lanes::{Lanes, both, drawn_bits};
 use crate::part::Part;
 use crate::shading::Shading;
@@ -131,36 +130,6 @@ fn plotted_of(brush: &Brush, raw: bool, back: u16x16, drawn: Drawn, k: u8) -> u1
     }
 }
 
-// Sixteen texels under the colours from cell `first` on.
-#[inline(always)]
-fn modulated(hues: &Hues, shifts: Shifts, first: u16, texels: u16x16) -> u16x16
-    requires shifts { AreShifts shifts.lanes }
-    requires long { length texels ≡ 16 }
-    ensures long { length result ≡ 16 }
-    ensures value { EachLane (λ j. slice_index result j
-        ≡ modulated_of (slice_index texels j) (red_of (hue_at hues.now first j)) (green_of (hue_at hues.now first j))
-        (blue_of (hue_at hues.now first j)) (slice_index_or shifts.lanes j (pos 0))) }
-{
-    modulated_by(texels, hue_lanes(hues, first), shifts)
-}
-
-// The colours of sixteen texels from cell `first` on, or the texels themselves.
-#[inline(always)]
-#[tactic(auto, unfolding(crate::specs::Shade::front_of))]
-pub(crate) fn fronts(raw: bool, hues: &Hues, shifts: Shifts, first: u16, texels: u16x16) -> u16x16
-    requires shifts { AreShifts shifts.lanes }
-    requires long { length texels ≡ 16 }
-    ensures long { length result ≡ 16 }
-    ensures value { EachLane (λ j. slice_index result j
-        ≡ front_of raw (hue_at hues.now first j) (slice_index_or shifts.lanes j (pos 0)) (slice_index texels j)) }
-{
-    if raw {
-        texels
-    } else {
-        modulated(hues, shifts, first, texels)
-    }
-}
-
 // The pixels of a part by its texels and what colours make of these.
 #[inline(always)]
 fn collect_fronts<L: Ledger>(
@@ -232,12 +201,6 @@ pub(crate) fn draw_shaded<L: Ledger>(
     ensures others { AgreesApart (chunk_place span.now part.first) part.k vram.old vram.new }
     ensures cost { steps.new ≤ steps.old + 2 }
 {
-    let fronts = fronts(
-        texture.raw,
-        &shading.hues,
-        shading.shifts,
-        part.first,
-        texels,
-    );
+    let fronts = fronts_of(span, texture, &shading.hues, shading.shifts, texels, part);
     draw_fronts(vram, span, texture, Drawn { texels, fronts }, part, steps);
 }

@@ -8,15 +8,15 @@ ghost use Rattle.span_lanes.specs.Track.{along_at, IsAlong};
 
 use crate::hues::line_of;
 use crate::part::Part;
+use crate::placed::{Placed, placed_indexes, placed_texels};
 use crate::sampler::{Indexed, Sampler};
 use crate::slopes::Slopes;
 use crate::{Span, Texture};
 use edge_walk::RowLine;
-use px_num::halves::HALF;
 use px_num::lanes::{add, low_bits, ramp, splat, sub_or_zero};
 use std::simd::prelude::*;
 use std::sync::ledger::Ledger;
-use texel_lanes::{AllAtOnce, Coordinates, OneByOne, indexes_of, read_few, read_texels};
+use texel_lanes::Coordinates;
 use vram_store::{Steps, Vram};
 
 // One coordinate of the texels of a span.
@@ -124,47 +124,14 @@ pub(crate) fn track_lanes(track: &Track, first: u16) -> Coordinates
     }
 }
 
-impl Track {
-    ghost use Rattle.std.specs.Prelude.{◌≤◌, ◌+◌, ◌*◌};
-    ghost use Rattle.texel_lanes.specs.Texture.{texel_steps};
-    ghost use Rattle.span_lanes.specs.Plan.{HasTexels};
-    ghost use Rattle.span_lanes.specs.Track.{CanRead};
+impl Placed for Track {
+    ghost use Rattle.span_lanes.specs.Track.{IsTrack};
 
-    // The texels of a part.
-    #[inline(never)]
-    fn many_texels<L: Ledger>(
-        &self,
-        vram: &Vram,
-        _span: &Span,
-        texture: &Texture,
-        part: Part,
-        steps: &mut Steps<L>,
-    ) -> u16x16
-        requires { CanRead self.now _span.now texture.now part vram.now }
-        ensures texels { HasTexels _span.now texture.now part vram.now result }
-        ensures cost { steps.new ≤ steps.old + texel_steps texture.now.page.depth * part.k }
-    {
-        let at = track_lanes(self, part.first);
-        read_texels::<AllAtOnce, L>(vram, texture, &at, part.k, steps)
-    }
+    ghost places = { λ track s. IsTrack s.paint s.x s.y s.n track };
 
-    // The same where they are at most eight: compiled apart, so that the compiler may drop the other lanes.
-    #[inline(never)]
-    fn few_texels<L: Ledger>(
-        &self,
-        vram: &Vram,
-        _span: &Span,
-        texture: &Texture,
-        part: Part,
-        steps: &mut Steps<L>,
-    ) -> u16x16
-        requires can { CanRead self.now _span.now texture.now part vram.now }
-        requires few { part.k ≤ 8 }
-        ensures texels { HasTexels _span.now texture.now part vram.now result }
-        ensures cost { steps.new ≤ steps.old + texel_steps texture.now.page.depth * part.k }
-    {
-        let at = track_lanes(self, part.first);
-        read_few(vram, texture, &at, part.k, steps)
+    #[inline(always)]
+    fn coordinates(&self, _span: &Span, part: Part) -> Coordinates {
+        track_lanes(self, part.first)
     }
 }
 
@@ -182,11 +149,7 @@ impl Sampler for Track {
         part: Part,
         steps: &mut Steps<L>,
     ) -> u16x16 {
-        if part.k <= HALF {
-            self.few_texels(vram, span, texture, part, steps)
-        } else {
-            self.many_texels(vram, span, texture, part, steps)
-        }
+        placed_texels(self, vram, span, texture, part, steps)
     }
 }
 
@@ -199,12 +162,11 @@ impl Indexed for Track {
     fn read_indexes<L: Ledger>(
         &self,
         vram: &Vram,
-        _span: &Span,
+        span: &Span,
         texture: &Texture,
         part: Part,
         steps: &mut Steps<L>,
     ) -> u8x16 {
-        let at = track_lanes(self, part.first);
-        indexes_of::<OneByOne, L>(vram, texture, &at, part.k, steps)
+        placed_indexes(self, vram, span, texture, part, steps)
     }
 }

@@ -26,6 +26,13 @@ draw_scaled-requires-clause-can g c =
     can_draw_row _ _ _ _ _ _ c.self.invariant.ready c.self.invariant.apart (rw (← is) at asked.span)
     (rw (← is) at asked.height) (rw (← is) at asked.block)
 
+pub draw_mixed-requires-clause-can : goal.draw_mixed-requires-clause-can
+draw_mixed-requires-clause-can g c =
+    let asked = c.requires in
+    let is = c.self.view_is in
+    can_draw_row _ _ _ _ _ _ c.self.invariant.ready c.self.invariant.apart (rw (← is) at asked.span)
+    (rw (← is) at asked.height) (rw (← is) at asked.block)
+
 pub returns-in-Strip-clause-drawn : goal.returns-in-Strip-clause-drawn
 returns-in-Strip-clause-drawn g c =
     rw (← c.self.view_is)
@@ -42,3 +49,8 @@ pub returns-in-Scaled-clause-drawn : goal.returns-in-Scaled-clause-drawn
 returns-in-Scaled-clause-drawn g c =
     rw (← c.self.view_is)
     (draws_cells (sheet_ink c.self.inside.sheet) c.args.x c.args.y c.args.n _ _ c.draw_scaled.ensures.drawn)
+
+pub returns-in-Mixed-clause-drawn : goal.returns-in-Mixed-clause-drawn
+returns-in-Mixed-clause-drawn g c =
+    rw (← c.self.view_is)
+    (draws_cells (sheet_ink c.self.inside.sheet) c.args.x c.args.y c.args.n _ _ c.draw_mixed.ensures)

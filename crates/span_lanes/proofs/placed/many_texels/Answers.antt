@@ -1,5 +1,5 @@
-use Rattle.span_lanes.proofs.PlanLemmas.{texels_along}
-use Rattle.span_lanes.proofs.track.Track.many_texels.Goals as goal
+use Rattle.span_lanes.proofs.PlanLemmas.{texels_here}
+use Rattle.span_lanes.proofs.placed.many_texels.Goals as goal
 
 pub read_texels-requires-clause-texture : goal.read_texels-requires-clause-texture
 read_texels-requires-clause-texture g c = rw c.requires.sample.texture at c.requires.sample.can.span.texture
@@ -9,6 +9,5 @@ read_texels-requires-clause-page g c = rw c.requires.sample.texture at c.require
 
 pub returns-clause-texels : goal.returns-clause-texels
 returns-clause-texels g c =
-    let at = c.track_lanes-at.ensures in
-    texels_along c.args.self.now c.args._span.now c.args.texture.now c.args.part _ _ c.args.vram.now _ c.requires
-    at.across at.down at.u at.v c.read_texels.ensures.long c.read_texels.ensures.value
+    texels_here c.args.span.now c.args.texture.now c.args.part.first c.args.part.k _ _ c.args.vram.now _
+    c.coordinates-at.ensures c.read_texels.ensures.long c.read_texels.ensures.value

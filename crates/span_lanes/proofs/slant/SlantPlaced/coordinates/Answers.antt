@@ -1,0 +1,11 @@
+use Rattle.span_lanes.specs.Slant.{track_of}
+use Rattle.span_lanes.proofs.PlanLemmas.{coordinates_here}
+use Rattle.span_lanes.proofs.slant.SlantPlaced.coordinates.Goals as goal
+
+pub returns : goal.returns
+returns c =
+    let span = c.args._span.now in
+    let part = c.args.part in
+    let at = c.slant_lanes.ensures in
+    coordinates_here span.paint span.x span.y span.n part.first part.k (track_of c.args.self.now) _ _ c.requires.places
+    c.requires.part.within c.requires.part.few at.across at.down at.u at.v
