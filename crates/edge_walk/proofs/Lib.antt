@@ -9,6 +9,7 @@ pub mod MixLemmas
 pub mod NearLemmas
 pub mod NumberLemmas
 pub mod PlaneLemmas
+pub mod RampLemmas
 pub mod RowLemmas
 pub mod ScaleLemmas
 pub mod ShareLemmas

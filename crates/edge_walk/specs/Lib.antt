@@ -4,6 +4,8 @@ pub mod Extent
 pub mod Held
 pub mod Line
 pub mod Plane
+pub mod Ramp
+pub mod Ramped
 pub mod Row
 pub mod Triangle
 pub mod Upright

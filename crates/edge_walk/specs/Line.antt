@@ -23,12 +23,15 @@ pub record IsRamp (step : ℕ) (ramp : Ramp) : Type 0 where
   pub long : length ramp.lanes ≡ 16
   pub value : EachLane (λ j. slice_index ramp.lanes j ≡ (j + (2 ^ 32 - 8)) % 2 ^ 32 * short_step step % 2 ^ 32)
 
+-- the attribute of lane j by the number of the ninth in 32 bits
+abbrev pub short_value : (step ninth j : ℕ) → ℕ
+short_value step ninth j = ((j + (2 ^ 32 - 8)) % 2 ^ 32 * short_step step % 2 ^ 32 + ninth) % 2 ^ 32 / 2 ^ 24
+
 -- the attribute j cells from one that is `at` cells from a line's own. It is reckoned from the ninth cell in 32 bits:
 -- the step is rounded, and 8 added, so that no sum that is a multiple of the area comes out below it
 unfoldable pub line_value : RowLine → ℕ → ℕ → ℕ
 line_value line at j =
-    ((j + (2 ^ 32 - 8)) % 2 ^ 32 * short_step line.step % 2 ^ 32 +
-    ((line.first + line.step * (at + 8)) % 2 ^ 64 / 2 ^ 32 + 8) % 2 ^ 32) % 2 ^ 32 / 2 ^ 24
+    short_value line.step (((line.first + line.step * (at + 8)) % 2 ^ 64 / 2 ^ 32 + 8) % 2 ^ 32) j
 
 -- the first n of sixteen numbers, and then zeros
 pub record AreFirst (lanes : List ℕ) (n : ℕ) (kept : List ℕ) : Type 0 where

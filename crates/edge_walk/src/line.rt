@@ -3,7 +3,7 @@ ghost use Rattle.std.specs.Prelude.{◌≡◌, ◌+◌, ◌*◌, ◌/◌, ◌%�
 ghost use Rattle.px_num.specs.Lanes.{EachLane};
 ghost use Rattle.edge_walk.specs.Line.{AreFirst, wrapped, scaled, line_value};
 
-use crate::ramp::{lanes_by, ramp_of};
+use crate::ramp::{around, ramp_of};
 use std::simd::prelude::*;
 
 /// An attribute along a row of cells. It is the top byte of a number of 64 bits that grows by the same step from
@@ -32,9 +32,9 @@ pub(crate) fn scaled(step: i64, by: u64) -> u64
 }
 
 impl RowLine {
-    /// The number i cells further.
+    // The number i cells further.
     #[inline(always)]
-    pub(crate) fn sum(&self, i: u32) -> u64
+    fn sum(&self, i: u32) -> u64
         ensures { result ≡ (self.now.first + self.now.step * i) % 2 ^ 64 }
     {
         self.first.wrapping_add(self.step.wrapping_mul(i as u64))
@@ -44,12 +44,14 @@ impl RowLine {
     ///
     /// They are reckoned in 32 bits from the one in the middle.
     #[inline(always)]
+    #[tactic(auto, unfolding(crate::specs::Line::line_value))]
     pub fn lanes(&self, at: u16) -> u16x16
         ensures long { length result ≡ 16 }
         ensures value { EachLane (λ j. slice_index result j ≡ line_value self.now at j) }
         ensures bytes { EachLane (λ j. slice_index result j ≤ 255) }
     {
-        lanes_by(self, &ramp_of(self.step), at)
+        let ninth = (self.sum(at as u32 + 8) >> 32) as u32;
+        around(ninth.wrapping_add(8), &ramp_of(self.step))
     }
 }
 

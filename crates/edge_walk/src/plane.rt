@@ -20,7 +20,7 @@ use crate::upright::Upright;
 pub struct Plane {
     base: u64,
     pub(crate) across: u64,
-    down: u64,
+    pub(crate) down: u64,
 }
 
 #[inline(always)]
@@ -30,9 +30,9 @@ fn from_least(x: i32) -> u64
     (x as i64 + 0x8000_0000) as u64
 }
 
-// A number after so many steps, which wrap.
+/// A number after so many steps, which wrap.
 #[inline(always)]
-fn after_steps(from: u64, step: u64, steps: u64) -> u64
+pub(crate) fn after_steps(from: u64, step: u64, steps: u64) -> u64
     ensures { result ≡ (from + step * steps) % 2 ^ 64 }
 {
     from.wrapping_add(step.wrapping_mul(steps))
@@ -95,7 +95,7 @@ impl Plane {
 
     #[inline(always)]
     #[tactic(auto, unfolding(crate::specs::Plane::number_at))]
-    fn number_at(&self, x: i32, y: i32) -> u64
+    pub(crate) fn number_at(&self, x: i32, y: i32) -> u64
         ensures { result ≡ number_at self.now x y }
     {
         let row = after_steps(self.base, self.down, from_least(y));

@@ -1,12 +1,9 @@
 // How an attribute grows along a row, reckoned once for many rows.
-ghost use Rattle.std.specs.Prelude.{◌≡◌, ◌+◌, ◌-◌, ◌*◌, ◌/◌, ◌%◌, ◌^◌, ◌≤◌, ℕ, IsTrue, length, slice_index};
+ghost use Rattle.std.specs.Prelude.{◌≡◌, ◌+◌, ◌-◌, ◌*◌, ◌/◌, ◌%◌, ◌^◌, ◌≤◌, ℕ, length, slice_index};
 ghost use Rattle.px_num.specs.Lanes.{EachLane};
-ghost use Rattle.edge_walk.specs.Line.{IsRamp, IsRowLine, line_value, short_step};
-ghost use Rattle.edge_walk.specs.Plane.{IsPlane};
-ghost use Rattle.edge_walk.specs.Triangle.{Corners, is_inside};
+ghost use Rattle.edge_walk.specs.Line.{IsRamp, short_step, short_value};
 
-use crate::line::{RowLine, plus, times, top_bytes};
-use crate::plane::Plane;
+use crate::line::{plus, times, top_bytes};
 use std::simd::prelude::*;
 
 /// How much the numbers of sixteen cells in 32 bits have more than that in the middle, for all lines of one step.
@@ -61,68 +58,13 @@ pub(crate) fn ramp_of(step: u64) -> Ramp
     }
 }
 
-/// The attribute at sixteen cells, by the ramp of the line's step.
+/// The attribute at sixteen cells by the number of the ninth in 32 bits.
 #[inline(always)]
-#[tactic(auto, unfolding(crate::specs::Line::line_value))]
-pub(crate) fn lanes_by(line: &RowLine, ramp: &Ramp, at: u16) -> u16x16
-    requires { IsRamp line.now.step ramp.now }
+pub(crate) fn around(ninth: u32, ramp: &Ramp) -> u16x16
+    requires { length ramp.now.lanes ≡ 16 }
     ensures long { length result ≡ 16 }
-    ensures value { EachLane (λ j. slice_index result j ≡ line_value line.now at j) }
+    ensures value { (step : ℕ) → IsRamp step ramp.now → EachLane (λ j. slice_index result j ≡ short_value step ninth j) }
     ensures bytes { EachLane (λ j. slice_index result j ≤ 255) }
 {
-    let middle = (line.sum(at as u32 + 8) >> 32) as u32;
-    top_bytes(plus(ramp.lanes, middle.wrapping_add(8)))
-}
-
-/// A line with the ramp of its step.
-#[derive(Clone, Copy)]
-pub struct RampedLine<'a> {
-    line: RowLine,
-    ramp: &'a Ramp,
-    ghost is_ramp: { IsRamp line.step ramp.now },
-}
-
-impl<'a> RampedLine<'a> {
-    /// As [`RowLine::lanes`].
-    #[inline(always)]
-    pub fn lanes(&self, at: u16) -> u16x16
-        ensures long { length result ≡ 16 }
-        ensures value { EachLane (λ j. slice_index result j ≡ line_value self.now.line at j) }
-        ensures bytes { EachLane (λ j. slice_index result j ≤ 255) }
-    {
-        lanes_by(&self.line, self.ramp, at)
-    }
-}
-
-/// A plane with the ramp of all its lines: a line of many rows costs less by it.
-#[derive(Clone, Copy)]
-pub struct RampedPlane {
-    plane: Plane,
-    ramp: Ramp,
-    ghost is_ramp: { IsRamp plane.across ramp },
-}
-
-impl RampedPlane {
-    /// This plane with its ramp.
-    #[inline(always)]
-    pub fn of(plane: &Plane) -> RampedPlane
-        ensures { result.plane ≡ plane.now }
-    {
-        RampedPlane {
-            plane: *plane,
-            ramp: ramp_of(plane.across),
-        }
-    }
-
-    /// The line from (x, y) to the right.
-    #[inline(always)]
-    pub fn line<'a>(&'a self, x: i32, y: i32) -> RampedLine<'a>
-        ensures { (t : Corners) (which : ℕ)
-            → IsPlane t which self.now.plane → IsTrue (is_inside t x y) → IsRowLine t which x y result.line }
-    {
-        RampedLine {
-            line: self.plane.line_at(x, y),
-            ramp: &self.ramp,
-        }
-    }
+    top_bytes(plus(ramp.lanes, ninth))
 }

@@ -1,5 +1,6 @@
 -- The texel coordinates and the colours of a row of a triangle, by ramps.
 use Rattle.std.specs.Prelude.{ℕ}
+use Rattle.edge_walk.specs.Ramped.{line_of}
 use Rattle.span_lanes.specs.declared.hues.Hues.{Hues}
 use Rattle.span_lanes.specs.declared.hues.Hues.TheVariants.{Lines}
 use Rattle.span_lanes.specs.declared.mixed.RampedHues.{RampedHues}
@@ -10,7 +11,7 @@ use Rattle.span_lanes.specs.declared.track.Track.{Track}
 use Rattle.span_lanes.specs.Track.{IsTrack}
 
 abbrev pub track_of : Slant → Track
-track_of slant = record { u = Line slant.u.line; v = Line slant.v.line }
+track_of slant = record { u = Line (line_of slant.u); v = Line (line_of slant.v) }
 
 -- the coordinates of n cells are those of a paint from (x, y) on
 abbrev pub IsSlant : Paint → (x y n : ℕ) → Slant → Type 0
@@ -18,4 +19,4 @@ IsSlant paint x y n slant = IsTrack paint x y n (track_of slant)
 
 -- the same colours by lines alone
 abbrev pub lines_of : RampedHues → Hues
-lines_of hues = Lines hues.red.line hues.green.line hues.blue.line
+lines_of hues = Lines (line_of hues.red) (line_of hues.green) (line_of hues.blue)

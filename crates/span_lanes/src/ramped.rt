@@ -1,6 +1,7 @@
 // The attributes of a triangle with their ramps, for the rows of a pen.
 ghost use Rattle.std.specs.Prelude.{ℕ, pos, IsTrue};
 ghost use Rattle.edge_walk.specs.Plane.{IsPlane};
+ghost use Rattle.edge_walk.specs.Ramped.{line_of};
 ghost use Rattle.edge_walk.specs.Triangle.{Corners, is_inside};
 ghost use Rattle.span_lanes.specs.Hues.{IsLineOf};
 ghost use Rattle.span_lanes.specs.Pen.{AreSlopes, IsTintOf};
@@ -50,7 +51,7 @@ pub(crate) fn ramped_colors(red: &Plane, green: &Plane, blue: &Plane) -> RampedC
 #[inline(always)]
 pub(crate) fn ramped_line<'a>(ramped: &'a RampedPlane, x: u16, y: u16) -> RampedLine<'a>
     ensures { (tri : Corners) (which : ℕ) → IsPlane tri which ramped.now.plane
-        → IsTrue (is_inside tri (pos x) (pos y)) → IsLineOf tri which x y result.line }
+        → IsTrue (is_inside tri (pos x) (pos y)) → IsLineOf tri which x y (line_of result) }
 {
-    ramped.line(x as i32, y as i32)
+    ramped.line(x, y)
 }

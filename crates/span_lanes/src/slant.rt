@@ -1,6 +1,7 @@
 // The texel coordinates of a row of a triangle, by the ramps of its pen.
 ghost use Rattle.std.specs.Prelude.{◌≡◌, ◌<◌, ℕ, pos, IsTrue, slice_index};
 ghost use Rattle.edge_walk.specs.Line.{line_value};
+ghost use Rattle.edge_walk.specs.Ramped.{line_of};
 ghost use Rattle.edge_walk.specs.Triangle.{Corners, is_inside};
 ghost use Rattle.span_lanes.specs.Ramped.{AreRampedSlopes};
 ghost use Rattle.span_lanes.specs.Shade.{IsSpan};
@@ -33,9 +34,9 @@ pub(crate) struct Slant<'a> {
 #[inline(always)]
 pub(crate) fn slant_of<'a>(slopes: &'a RampedSlopes, x: u16, y: u16) -> Slant<'a>
     ensures u { (tri : Corners) → AreRampedSlopes tri slopes.now
-        → IsTrue (is_inside tri (pos x) (pos y)) → IsAlong tri 3 x y (Line result.u.line) }
+        → IsTrue (is_inside tri (pos x) (pos y)) → IsAlong tri 3 x y (Line (line_of result.u)) }
     ensures v { (tri : Corners) → AreRampedSlopes tri slopes.now
-        → IsTrue (is_inside tri (pos x) (pos y)) → IsAlong tri 4 x y (Line result.v.line) }
+        → IsTrue (is_inside tri (pos x) (pos y)) → IsAlong tri 4 x y (Line (line_of result.v)) }
 {
     Slant {
         u: ramped_line(&slopes.u, x, y),
@@ -59,8 +60,8 @@ pub(crate) fn row_slant<'a>(span: &Span, sheet: &Sheet, slopes: &'a RampedSlopes
 fn slant_lanes(slant: &Slant, first: u16) -> Coordinates
     ensures across { AreCoordinates result.us }
     ensures down { AreCoordinates result.vs }
-    ensures u { (j : ℕ) → j < 16 → slice_index result.us j ≡ line_value slant.now.u.line first j }
-    ensures v { (j : ℕ) → j < 16 → slice_index result.vs j ≡ line_value slant.now.v.line first j }
+    ensures u { (j : ℕ) → j < 16 → slice_index result.us j ≡ line_value (line_of slant.now.u) first j }
+    ensures v { (j : ℕ) → j < 16 → slice_index result.vs j ≡ line_value (line_of slant.now.v) first j }
 {
     Coordinates {
         us: slant.u.lanes(first),

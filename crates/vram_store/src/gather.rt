@@ -1,5 +1,5 @@
 // Cells here and there, at once.
-ghost use Rattle.std.specs.Prelude.{◌≡◌, ◌≤◌, ◌<◌, ◌+◌, ◌*◌, ℕ, length, slice_index};
+ghost use Rattle.std.specs.Prelude.{◌≡◌, ◌≤◌, ◌<◌, ◌+◌, ◌*◌, ◌^◌, ℕ, length, slice_index};
 ghost use Rattle.px_num.specs.Lanes.{EachLane};
 ghost use Rattle.vram_store.specs.Vram.{at, height_of};
 
@@ -8,20 +8,68 @@ use crate::vram::Vram;
 use std::simd::prelude::*;
 use std::sync::ledger::Ledger;
 
+// The same numbers in lanes of 32 bits.
+#[inline(always)]
+fn widened(a: u16x16) -> u32x16
+    requires { length a ≡ 16 }
+    ensures long { length result ≡ 16 }
+    ensures value { EachLane (λ i. slice_index result i ≡ slice_index a i) }
+{
+    a.cast::<u32>()
+}
+
+// The products, which fit.
+#[inline(always)]
+fn product(a: u32x16, b: u32x16) -> u32x16
+    requires { EachLane (λ i. slice_index a i * slice_index b i < 2 ^ 32) }
+    ensures long { length result ≡ 16 }
+    ensures value { EachLane (λ i. slice_index result i ≡ slice_index a i * slice_index b i) }
+{
+    a.strict_mul(b)
+}
+
+// The sums, which fit.
+#[inline(always)]
+fn sum(a: u32x16, b: u32x16) -> u32x16
+    requires { EachLane (λ i. slice_index a i + slice_index b i < 2 ^ 32) }
+    ensures long { length result ≡ 16 }
+    ensures value { EachLane (λ i. slice_index result i ≡ slice_index a i + slice_index b i) }
+{
+    a.strict_add(b)
+}
+
+// The length of a row in each lane.
+#[inline(always)]
+fn row_lengths() -> u32x16
+    ensures long { length result ≡ 16 }
+    ensures value { EachLane (λ i. slice_index result i ≡ 1024) }
+{
+    u32x16::splat(1024)
+}
+
+// Where cells of these columns and rows stand among all.
+#[inline(always)]
+fn numbers_of(xs: u16x16, ys: u16x16) -> u32x16
+    requires long { (length xs ≡ 16) × (length ys ≡ 16) }
+    ensures long { length result ≡ 16 }
+    ensures value { EachLane (λ i. slice_index result i ≡ 1024 * slice_index ys i + slice_index xs i) }
+{
+    sum(product(row_lengths(), widened(ys)), widened(xs))
+}
+
 // The first n of these cells. Where n is a constant, the compiler writes them one after another.
 #[inline(always)]
-fn cells_at(cells: &[u16], xs: u16x16, ys: u16x16, n: u8) -> u16x16
+fn cells_at(cells: &[u16], numbers: u32x16, n: u8) -> u16x16
     requires few { n ≤ 16 }
-    requires long { (length xs ≡ 16) × (length ys ≡ 16) }
-    requires in_cells { EachLane (λ i. 1024 * slice_index ys i + slice_index xs i < length cells.now) }
+    requires long { length numbers ≡ 16 }
+    requires in_cells { EachLane (λ i. slice_index numbers i < length cells.now) }
     ensures long { length result ≡ 16 }
-    ensures value { (j : ℕ) → j < n → slice_index result j ≡ at cells.now (slice_index xs j) (slice_index ys j) }
+    ensures value { (j : ℕ) → j < n → slice_index result j ≡ slice_index cells.now (slice_index numbers j) }
 {
-    let xs = xs.to_array();
-    let ys = ys.to_array();
+    let numbers = numbers.to_array();
     let mut lanes = [0; 16];
     for j in 0..n {
-        lanes[j as usize] = cells[1024 * ys[j as usize] as usize + xs[j as usize] as usize];
+        lanes[j as usize] = cells[numbers[j as usize] as usize];
     }
     u16x16::from_array(lanes)
 }
@@ -51,6 +99,6 @@ impl Vram {
         ensures cost { steps.new ≡ steps.old + n }
     {
         steps.add(n);
-        cells_at(&self.cells, xs, ys, read)
+        cells_at(&self.cells, numbers_of(xs, ys), read)
     }
 }
