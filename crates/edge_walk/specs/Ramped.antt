@@ -1,9 +1,10 @@
--- Lines by what is one for all of a plane (our own rule).
-use Rattle.std.specs.Prelude.{pos}
-use Rattle.edge_walk.specs.declared.line.RowLine.{RowLine}
-use Rattle.edge_walk.specs.declared.ramped.RampedLine.{RampedLine}
-use Rattle.edge_walk.specs.Plane.{line_at}
+-- Attributes of cells side by side (our own rule).
+use Rattle.std.specs.Prelude.{ℕ, List, ◌≡◌, ◌≤◌, ◌<◌, ◌+◌, pos, IsTrue, slice_index}
+use Rattle.edge_walk.specs.Attribute.{attribute_at}
+use Rattle.edge_walk.specs.Triangle.{Corners, is_inside}
 
--- the line that one stands for
-abbrev pub line_of : RampedLine → RowLine
-line_of line = line_at line.over.now.plane (pos line.x) (pos line.y)
+-- the lanes are an attribute of the cells from (x, y) on, as far as these are inside, if the cells of their row that are
+-- inside begin at x or before
+abbrev pub AreAttributes : Corners → (which x y : ℕ) → (lanes : List ℕ) → Type 0
+AreAttributes t which x y lanes = (from j : ℕ) → from ≤ x → IsTrue (is_inside t (pos from) (pos y)) → j < 16
+    → IsTrue (is_inside t (pos (x + j)) (pos y)) → slice_index lanes j ≡ attribute_at t which (pos (x + j)) (pos y)

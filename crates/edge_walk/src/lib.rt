@@ -24,6 +24,6 @@ mod weights;
 pub use divisor::Divisor;
 pub use line::RowLine;
 pub use plane::Plane;
-pub use ramped::{RampedLine, RampedPlane};
+pub use ramped::RampedPlane;
 pub use triangle::Tri;
 pub use walk::RowWalk;

@@ -19,17 +19,6 @@ pub struct RampedPlane {
     ghost is_ramp: { IsRamp plane.across ramp },
 }
 
-/// A line of a [`RampedPlane`] from a cell to the right.
-#[derive(Clone, Copy)]
-pub struct RampedLine<'a> {
-    over: &'a RampedPlane,
-    x: u16,
-    y: u16,
-    // the number of the ninth of sixteen cells, for those of which the first is that of the row in column 0
-    row: u64,
-    ghost row_is: { row ≡ (over.now.start + over.now.plane.down * y) % 2 ^ 64 },
-}
-
 // The number of the ninth of sixteen cells, for those of which the first is (0, 0).
 #[inline(always)]
 fn start_of(plane: &Plane) -> u64
@@ -39,11 +28,11 @@ fn start_of(plane: &Plane) -> u64
 }
 
 impl RampedPlane {
-    ghost use Rattle.std.specs.Prelude.{ℕ, pos, IsTrue};
-    ghost use Rattle.edge_walk.specs.Line.{IsRowLine};
+    ghost use Rattle.std.specs.Prelude.{◌≤◌, ℕ, length, slice_index};
+    ghost use Rattle.px_num.specs.Lanes.{EachLane};
     ghost use Rattle.edge_walk.specs.Plane.{IsPlane};
-    ghost use Rattle.edge_walk.specs.Ramped.{line_of};
-    ghost use Rattle.edge_walk.specs.Triangle.{Corners, is_inside};
+    ghost use Rattle.edge_walk.specs.Ramped.{AreAttributes};
+    ghost use Rattle.edge_walk.specs.Triangle.{Corners};
 
     /// This plane with its ramp.
     #[inline(always)]
@@ -57,37 +46,15 @@ impl RampedPlane {
         }
     }
 
-    /// The line from (x, y) to the right.
+    /// The attribute at sixteen cells from (x, y) to the right.
     #[inline(always)]
-    pub fn line<'a>(&'a self, x: u16, y: u16) -> RampedLine<'a>
-        ensures { (t : Corners) (which : ℕ) → IsPlane t which self.now.plane
-            → IsTrue (is_inside t (pos x) (pos y)) → IsRowLine t which (pos x) (pos y) (line_of result) }
-    {
-        RampedLine {
-            over: self,
-            x,
-            y,
-            row: after_steps(self.start, self.plane.down, y as u64),
-        }
-    }
-}
-
-impl<'a> RampedLine<'a> {
-    ghost use Rattle.std.specs.Prelude.{◌≤◌, length, slice_index};
-    ghost use Rattle.px_num.specs.Lanes.{EachLane};
-    ghost use Rattle.edge_walk.specs.Line.{line_value};
-    ghost use Rattle.edge_walk.specs.Ramped.{line_of};
-
-    /// As [`RowLine::lanes`](crate::RowLine::lanes).
-    #[inline(always)]
-    pub fn lanes(&self, at: u16) -> u16x16
+    pub fn lanes(&self, x: u16, y: u16) -> u16x16
         ensures long { length result ≡ 16 }
-        ensures value { EachLane (λ j. slice_index result j ≡ line_value (line_of self.now) at j) }
+        ensures value { (t : Corners) (which : ℕ) → IsPlane t which self.now.plane → AreAttributes t which x y result }
         ensures bytes { EachLane (λ j. slice_index result j ≤ 255) }
     {
-        let over = self.over;
-        let cells = self.x as u64 + at as u64;
-        let ninth = after_steps(self.row, over.plane.across, cells);
-        around((ninth >> 32) as u32, &over.ramp)
+        let row = after_steps(self.start, self.plane.down, y as u64);
+        let ninth = after_steps(row, self.plane.across, x as u64);
+        around((ninth >> 32) as u32, &self.ramp)
     }
 }

@@ -10,6 +10,7 @@ pub mod GuardLemmas
 pub mod PartLemmas
 pub mod PlainLemmas
 pub mod PlanLemmas
+pub mod RampedLemmas
 pub mod SolidLemmas
 pub mod SpansLemmas
 mod SheetLemmas

@@ -8,11 +8,13 @@ use Rattle.span_lanes.specs.declared.sheet.Way.TheVariants.{Strip, Beside, Scale
 use Rattle.texel_lanes.specs.declared.texture.Texture.{Texture}
 use Rattle.span_lanes.specs.declared.swatches.Swatches.{Swatches}
 use Rattle.span_lanes.specs.declared.tint.Tint.TheVariants.{Plain}
+use Rattle.span_lanes.specs.declared.span.Span.{Span}
 use Rattle.span_lanes.specs.Frame.{Framed, IsBlockApart}
+use Rattle.span_lanes.specs.Pen.{ink_of, loaded_of}
 use Rattle.span_lanes.specs.Ramped.{AreRampedColors, AreRampedSlopes}
-use Rattle.span_lanes.specs.Sheet.{IsSheet, sheet_ink}
+use Rattle.span_lanes.specs.Sheet.{IsSheetOf}
 use Rattle.texel_lanes.specs.Texture.{IsTexture}
-use Rattle.span_lanes.specs.Swatches.{AreColored, entries_of}
+use Rattle.span_lanes.specs.Swatches.{AreColored}
 
 -- a page whose texels of any column, and those that are read with them, stand in cells that do not wrap
 pub record HasRoom (t : Texture) : Type 0 where
@@ -40,17 +42,14 @@ abbrev pub IsWay : Sheet → Way → Type 0
 IsWay sheet (Strip color) = IsBeside sheet × IsPlain sheet color
 IsWay sheet Beside = IsBeside sheet
 IsWay sheet (Scaled color slopes) = (sheet.tint ≡ Plain color) × AreRampedSlopes sheet.tri slopes
-IsWay sheet (Mixed slopes colors) = AreRampedSlopes sheet.tri slopes × AreRampedColors sheet.tri colors
+IsWay sheet (Mixed mix) = AreRampedSlopes sheet.tri mix.slopes × AreRampedColors sheet.tri mix.colors
 
 -- what is one for all spans of a triangle in a block, and a palette under a colour, if it is kept
-pub record IsBlockPen (sheet : Sheet) (b : Block) (way : Way) (last : Option Swatches) : Type 0 where
-  pub ready : IsSheet sheet
+pub record IsBlockPen (span : Span) (sheet : Sheet) (b : Block) (way : Way) (last : Option Swatches) : Type 0 where
+  pub ready : IsSheetOf (ink_of span) sheet
   pub rows : IsWay sheet way
   pub apart : IsBlockApart b sheet.texture
   pub colored : IfSome last AreColored
 
-abbrev pub framed_of : Sheet → Block → Option Swatches → Framed
-framed_of sheet b last = record {
-  loaded = record { ink = sheet_ink sheet; palette = entries_of last };
-  block = b;
-}
+abbrev pub framed_of : Span → Block → Option Swatches → Framed
+framed_of span b last = record { loaded = loaded_of span last; block = b }

@@ -16,7 +16,6 @@ pub mod Ramped
 pub mod Ready
 pub mod Shade
 pub mod Sheet
-pub mod Slant
 pub mod Solid
 pub mod Spans
 pub mod Stretch

@@ -1,5 +1,5 @@
 -- What is one for all chunks of a textured span.
-use Rattle.std.specs.Prelude.{ℕ, ℤ, ◌≡◌, ◌+◌, ◌<◌, ◌&&◌, not, IsTrue, List, Some, length, slice_index}
+use Rattle.std.specs.Prelude.{ℕ, ◌≡◌, ◌+◌, ◌<◌, ◌&&◌, not, IsTrue, List, Some, length, slice_index}
 use Rattle.span_lanes.specs.declared.part.Part.{Part}
 use Rattle.span_lanes.specs.declared.plan.Plan.{Plan}
 use Rattle.span_lanes.specs.declared.shading.Shading.{Shading}
@@ -8,18 +8,15 @@ use Rattle.span_lanes.specs.declared.span.Span.{Span}
 use Rattle.texel_lanes.specs.Texture.{texel}
 use Rattle.span_lanes.specs.Shade.{front_of, shift_of, texture_of}
 use Rattle.span_lanes.specs.Guard.{IsApart}
-use Rattle.span_lanes.specs.Hues.{hue_at}
+use Rattle.span_lanes.specs.Hues.{AreHues}
 use Rattle.span_lanes.specs.Lanes.{AreShiftsAt}
 use Rattle.span_lanes.specs.Track.{IsTrack}
 use Rattle.span_lanes.specs.Paints.{paint_color, paint_u, paint_v}
 
--- the colours of a textured span, by how far a chunk is from its first cell, and its dither offsets
-pub record AreShades (span : Span) (t : Texture) (hue : (at j : ℕ) → ℕ) (offsets : List ℤ) : Type 0 where
-  pub hues : (at j : ℕ) → j < 16 → at + j < span.n → hue at j ≡ paint_color span.paint (span.x + (at + j)) span.y
-  pub shifts : AreShiftsAt (span.brush.dither && not t.raw) span.x span.y offsets
-
-abbrev pub IsShading : Span → Texture → Shading → Type 0
-IsShading span t shading = AreShades span t (hue_at shading.hues) shading.shifts.lanes
+-- the colours of a textured span, and its dither offsets
+pub record IsShading (span : Span) (t : Texture) (shading : Shading) : Type 0 where
+  pub hues : AreHues span.paint span.x span.y span.n shading.hues
+  pub shifts : AreShiftsAt (span.brush.dither && not t.raw) span.x span.y shading.shifts.lanes
 
 pub record IsPlan (span : Span) (plan : Plan) : Type 0 where
   pub texture : texture_of span.paint ≡ Some plan.texture

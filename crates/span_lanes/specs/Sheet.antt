@@ -5,15 +5,7 @@ use Rattle.span_lanes.specs.declared.span.Paint.TheVariants.{TexturedTri}
 use Rattle.span_lanes.specs.declared.span.Span.{Span}
 use Rattle.span_lanes.specs.Draws.{CanDraw}
 use Rattle.span_lanes.specs.Guard.{IsApart, IsInOtherRow}
-use Rattle.span_lanes.specs.Pen.{AreSlopes, Ink, IsTintOf, ink_of, ink_span}
-
--- what the cells are drawn with
-abbrev pub sheet_ink : Sheet → Ink
-sheet_ink sheet = record { paint = TexturedTri sheet.tri sheet.texture; brush = sheet.brush }
-
--- n cells of a row from (x, y) on
-abbrev pub sheet_span : Sheet → (x y n : ℕ) → Span
-sheet_span sheet x y n = ink_span (sheet_ink sheet) x y n
+use Rattle.span_lanes.specs.Pen.{AreSlopes, Ink, IsTintOf, ink_of}
 
 -- the colours and the coordinates are those of the triangle
 pub record IsSheet (sheet : Sheet) : Type 0 where
@@ -33,7 +25,3 @@ pub record CanDrawSheet (sheet : Sheet) (span : Span) (m : List ℕ) : Type 0 wh
   pub can : CanDraw span m
   pub apart : IsApart span
   pub palette : IsInOtherRow sheet.texture span.y
-
--- n cells from (x, y) on can
-abbrev pub CanDrawRow : Sheet → (x y n : ℕ) → List ℕ → Type 0
-CanDrawRow sheet x y n m = CanDrawSheet sheet (sheet_span sheet x y n) m

@@ -10,15 +10,15 @@ use crate::apart::is_block_apart;
 use crate::draw::draw_beside_row;
 use crate::mixed::draw_mixed;
 use crate::plainly::is_plain;
-use crate::ramped::{ramped_colors, ramped_slopes};
+use crate::ramped::{Mix, ramped_colors, ramped_slopes};
 use crate::scaled::draw_scaled;
 use crate::shading::has_even_palette;
-use crate::sheet::{Row, Sheet, Way, row_span, sheet_of};
+use crate::sheet::{Sheet, Way, sheet_of};
 use crate::stretch::has_room;
 use crate::strip::draw_plain_strip;
 use crate::swatches::Swatches;
 use crate::tint::Tint;
-use crate::{Block, Brush, Paint, Texture};
+use crate::{Block, Brush, Paint, Span, Texture};
 use std::marker::Model;
 use std::sync::ledger::Ledger;
 use vram_store::{Steps, Vram};
@@ -63,8 +63,10 @@ fn scaled_way(sheet: &Sheet) -> Way
             slopes,
         },
         Tint::Planes { red, green, blue } => Way::Mixed {
-            slopes,
-            colors: ramped_colors(red, green, blue),
+            mix: Mix {
+                slopes,
+                colors: ramped_colors(red, green, blue),
+            },
         },
     }
 }
@@ -89,6 +91,8 @@ fn way_of(sheet: &Sheet) -> Way
 /// page or of the palette: what is one for all of them is asked once.
 #[derive(Drop)]
 pub struct BlockPen {
+    // the last span that was drawn; at first one of no cells
+    span: Span,
     sheet: Sheet,
     block: Block,
     way: Way,
@@ -102,9 +106,9 @@ impl Model for BlockPen {
 
     ghost Value = { Framed };
 
-    ghost view = { λ pen. framed_of pen.sheet pen.block pen.last };
+    ghost view = { λ pen. framed_of pen.span pen.block pen.last };
 
-    ghost invariant = { λ pen. IsBlockPen pen.sheet pen.block pen.way pen.last };
+    ghost invariant = { λ pen. IsBlockPen pen.span pen.sheet pen.block pen.way pen.last };
 }
 
 impl BlockPen {
@@ -131,6 +135,13 @@ impl BlockPen {
         }
         let sheet = sheet_of(tri, texture, brush);
         Some(BlockPen {
+            span: Span {
+                x: 0,
+                y: 0,
+                n: 0,
+                paint: *paint,
+                brush: *brush,
+            },
             sheet,
             block: *block,
             way: way_of(&sheet),
@@ -152,23 +163,21 @@ impl BlockPen {
         ensures drawn { DrawsCells self.old.loaded.ink x y n
             (record { m = vram.old; steps = steps.old }) (record { m = vram.new; steps = steps.new }) }
     {
-        let sheet = &self.sheet;
+        self.span.x = x;
+        self.span.y = y;
+        self.span.n = n;
+        let (span, sheet) = (&self.span, &self.sheet);
         match &self.way {
             Way::Strip { color } => {
-                let span = row_span(sheet, x, y, n);
-                draw_plain_strip(vram, &span, sheet, *color, &mut self.last, steps)
+                draw_plain_strip(vram, span, sheet, *color, &mut self.last, steps)
             }
-            Way::Beside => {
-                let span = row_span(sheet, x, y, n);
-                draw_beside_row(vram, &span, sheet, &mut self.last, steps)
-            }
+            Way::Beside => draw_beside_row(vram, span, sheet, &mut self.last, steps),
             Way::Scaled { color, slopes } => {
-                let row = Row { x, y, n };
-                draw_scaled(vram, sheet, slopes, *color, row, &mut self.last, steps)
+                draw_scaled(vram, span, sheet, *color, slopes, &mut self.last, steps)
             }
-            Way::Mixed { slopes, colors } => {
+            Way::Mixed { mix } => {
                 self.last = None;
-                draw_mixed(vram, sheet, slopes, colors, Row { x, y, n }, steps)
+                draw_mixed(vram, span, &sheet.texture, mix, steps)
             }
         }
     }

@@ -5,13 +5,14 @@ ghost use Rattle.edge_walk.specs.Plane.{IsPlane};
 ghost use Rattle.edge_walk.specs.Triangle.{Corners, is_inside};
 ghost use Rattle.span_lanes.specs.declared.tint.Tint.TheVariants.{Planes};
 ghost use Rattle.span_lanes.specs.Shade.{IsSpan};
-ghost use Rattle.span_lanes.specs.Hues.{AreHues, AreHuesOf, IsLineOf};
+ghost use Rattle.span_lanes.specs.Hues.{hue_at, AreHues, AreHuesOf, IsLineOf};
 ghost use Rattle.span_lanes.specs.Lanes.{HasColors};
 ghost use Rattle.span_lanes.specs.Pen.{IsTint, IsTintOf};
 
 use crate::Span;
 use crate::colors::{Colors, one_color};
 use crate::hued::Hued;
+use crate::part::Part;
 use crate::tint::Tint;
 use edge_walk::{Plane, RowLine};
 
@@ -75,16 +76,22 @@ fn line_colors(red: &RowLine, green: &RowLine, blue: &RowLine, first: u16) -> Co
     }
 }
 
-impl Hued for Hues {
-    ghost use Rattle.span_lanes.specs.Hues.{hue_at};
+// The colours of sixteen cells from cell `first` on.
+#[inline(always)]
+pub(crate) fn hue_lanes(hues: &Hues, first: u16) -> Colors
+    ensures { HasColors (λ j. hue_at hues.now first j) 16 result.red result.green result.blue }
+{
+    match hues {
+        Hues::One { color } => one_color(*color),
+        Hues::Lines { red, green, blue } => line_colors(red, green, blue, first),
+    }
+}
 
-    ghost hue = { hue_at };
+impl Hued for Hues {
+    ghost suits = { λ hues s. AreHues s.paint s.x s.y s.n hues };
 
     #[inline(always)]
-    fn colors(&self, first: u16) -> Colors {
-        match self {
-            Hues::One { color } => one_color(*color),
-            Hues::Lines { red, green, blue } => line_colors(red, green, blue, first),
-        }
+    fn colors(&self, _span: &Span, part: Part) -> Colors {
+        hue_lanes(self, part.first)
     }
 }

@@ -37,7 +37,6 @@ mod sampler;
 mod scaled;
 mod shading;
 mod sheet;
-mod slant;
 mod slopes;
 mod solid;
 mod span;

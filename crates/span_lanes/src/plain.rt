@@ -12,8 +12,7 @@ ghost use Rattle.span_lanes.specs.Toned.{CanTone};
 use crate::Span;
 use crate::back::back_of;
 use crate::colors::{Shifts, tones_of};
-use crate::hued::Hued;
-use crate::hues::Hues;
+use crate::hues::{Hues, hue_lanes};
 use crate::lanes::Lanes;
 use crate::part::Part;
 use blend_dither::{blend_lanes, plain_tone_lanes, tone};
@@ -49,7 +48,7 @@ fn mixed_tones(hues: &Hues, shifts: Shifts, first: u16) -> u16x16
     ensures value { EachLane (λ j. slice_index result j
         ≡ tone_with (hue_at hues.now first j) (slice_index_or shifts.lanes j (pos 0))) }
 {
-    tones_of(hues.colors(first), shifts)
+    tones_of(hue_lanes(hues, first), shifts)
 }
 
 // The tones of sixteen cells from cell `first` on, by their channels, without dither.
@@ -59,7 +58,7 @@ fn even_tones(hues: &Hues, first: u16) -> u16x16
     ensures low { EachLane (λ i. slice_index result i < 2 ^ 15) }
     ensures value { EachLane (λ j. slice_index result j ≡ tone_with (hue_at hues.now first j) (pos 0)) }
 {
-    let colors = hues.colors(first);
+    let colors = hue_lanes(hues, first);
     plain_tone_lanes(colors.red, colors.green, colors.blue)
 }
 

@@ -57,6 +57,22 @@ pub(crate) trait Indexed {
         ensures cost { steps.new ≤ steps.old + part.k };
 }
 
+impl<S: Sampler> Sampler for &S {
+    ghost finds = { λ sampler. S.finds sampler.now };
+
+    #[inline(always)]
+    fn read_texels<L: Ledger>(
+        &self,
+        vram: &Vram,
+        span: &Span,
+        texture: &Texture,
+        part: Part,
+        steps: &mut Steps<L>,
+    ) -> u16x16 {
+        (**self).read_texels(vram, span, texture, part, steps)
+    }
+}
+
 impl<S: Indexed> Indexed for &S {
     ghost finds = { λ sampler. S.finds sampler.now };
 

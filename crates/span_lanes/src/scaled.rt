@@ -5,17 +5,15 @@ ghost use Rattle.span_lanes.specs.declared.tint.Tint.TheVariants.{Plain};
 ghost use Rattle.span_lanes.specs.Draws.{DrawsSpan, at_stage};
 ghost use Rattle.span_lanes.specs.Hues.{AreHues};
 ghost use Rattle.span_lanes.specs.Kept.{CanTake};
-ghost use Rattle.span_lanes.specs.Ramped.{AreRampedSlopes};
-ghost use Rattle.span_lanes.specs.Sheet.{CanDrawRow, sheet_ink, sheet_span};
-ghost use Rattle.span_lanes.specs.Slant.{IsSlant};
+ghost use Rattle.span_lanes.specs.Ramped.{AreSlopesOf};
+ghost use Rattle.span_lanes.specs.Sheet.{CanDrawSheet};
 ghost use Rattle.span_lanes.specs.Swatches.{IsKept, SuitsPalette};
 
 use crate::hues::Hues;
 use crate::loops::draw_parts;
 use crate::ramped::RampedSlopes;
 use crate::shading::shading_of;
-use crate::sheet::{Row, Sheet, row_span};
-use crate::slant::{Slant, row_slant};
+use crate::sheet::Sheet;
 use crate::strip::suits_strip;
 use crate::swatches::{Swatches, swatches_of};
 use crate::texels::{Kept, Shaded};
@@ -29,18 +27,17 @@ fn draw_shaded<L: Ledger>(
     vram: &mut Vram,
     span: &Span,
     texture: &Texture,
-    slant: Slant,
+    slopes: &RampedSlopes,
     color: u32,
     steps: &mut Steps<L>,
 )
-    requires take { CanTake span.now texture.now
-        (IsSlant span.now.paint span.now.x span.now.y span.now.n slant) vram.old }
+    requires take { CanTake span.now texture.now (AreSlopesOf span.now.paint slopes.now) vram.old }
     requires hue { AreHues span.now.paint span.now.x span.now.y span.now.n (One color) }
     ensures { DrawsSpan span.now 0 (at_stage vram.old steps.old) (at_stage vram.new steps.new) }
 {
     let shaded = Shaded {
         texture: *texture,
-        sampler: slant,
+        sampler: slopes,
         shading: shading_of(span, texture, Hues::One { color }),
     };
     draw_parts(vram, span, &shaded, steps);
@@ -52,13 +49,12 @@ fn draw_kept<L: Ledger>(
     vram: &mut Vram,
     span: &Span,
     texture: &Texture,
-    slant: Slant,
+    slopes: &RampedSlopes,
     color: u32,
     last: &mut Option<Swatches>,
     steps: &mut Steps<L>,
 )
-    requires take { CanTake span.now texture.now
-        (IsSlant span.now.paint span.now.x span.now.y span.now.n slant) vram.old }
+    requires take { CanTake span.now texture.now (AreSlopesOf span.now.paint slopes.now) vram.old }
     requires hue { AreHues span.now.paint span.now.x span.now.y span.now.n (One color) }
     requires suits { SuitsPalette span.now texture.now }
     requires last { IsKept span.now.paint vram.old last.old }
@@ -68,7 +64,7 @@ fn draw_kept<L: Ledger>(
     let swatches = swatches_of(vram, texture, color, last, steps);
     let kept = Kept {
         texture: *texture,
-        sampler: slant,
+        sampler: slopes,
         swatches,
     };
     draw_parts(vram, span, &kept, steps);
@@ -78,27 +74,25 @@ fn draw_kept<L: Ledger>(
 #[inline(never)]
 pub(crate) fn draw_scaled<L: Ledger>(
     vram: &mut Vram,
+    span: &Span,
     sheet: &Sheet,
-    slopes: &RampedSlopes,
     color: u32,
-    row: Row,
+    slopes: &RampedSlopes,
     last: &mut Option<Swatches>,
     steps: &mut Steps<L>,
 )
-    requires can { CanDrawRow sheet.now row.x row.y row.n vram.old }
-    requires slopes { AreRampedSlopes sheet.now.tri slopes.now }
+    requires can { CanDrawSheet sheet.now span.now vram.old }
+    requires slopes { AreSlopesOf span.now.paint slopes.now }
     requires one { sheet.now.tint ≡ Plain color }
-    requires last { IsKept (sheet_ink sheet.now).paint vram.old last.old }
-    ensures drawn { DrawsSpan (sheet_span sheet.now row.x row.y row.n) 0
-        (at_stage vram.old steps.old) (at_stage vram.new steps.new) }
-    ensures last { IsKept (sheet_ink sheet.now).paint vram.new last.new }
+    requires last { IsKept span.now.paint vram.old last.old }
+    ensures drawn { DrawsSpan span.now 0 (at_stage vram.old steps.old) (at_stage vram.new steps.new) }
+    ensures last { IsKept span.now.paint vram.new last.new }
 {
-    let span = row_span(sheet, row.x, row.y, row.n);
-    let slant = row_slant(&span, sheet, slopes);
-    if suits_strip(&span, &sheet.texture) {
-        draw_kept(vram, &span, &sheet.texture, slant, color, last, steps);
+    let texture = &sheet.texture;
+    if suits_strip(span, texture) {
+        draw_kept(vram, span, texture, slopes, color, last, steps);
     } else {
         *last = None;
-        draw_shaded(vram, &span, &sheet.texture, slant, color, steps);
+        draw_shaded(vram, span, texture, slopes, color, steps);
     }
 }

@@ -7,9 +7,7 @@ ghost use Rattle.span_lanes.specs.Shade.{front_of};
 ghost use Rattle.span_lanes.specs.Swatches.{AreColored, AreEntries, IsPalette, SuitsPalette};
 ghost use Rattle.texel_lanes.specs.Table.{entry_at};
 
-use crate::colors::no_shifts;
-use crate::fronts::fronts;
-use crate::hues::Hues;
+use crate::fronts::even_fronts;
 use crate::plan::Plan;
 use crate::shading::has_even_palette;
 use crate::{Span, Texture};
@@ -43,12 +41,11 @@ fn colored(raw: bool, color: u32, entries: u16x16) -> Swatches
     ensures color { result.color ≡ color }
     ensures entries { EachLane (λ i. entry_at result.entries i ≡ slice_index entries i) }
 {
-    let hues = Hues::One { color };
     Swatches {
         raw,
         color,
         entries: table_of(entries),
-        fronts: table_of(fronts(raw, &hues, no_shifts(), 0, entries)),
+        fronts: table_of(even_fronts(raw, color, entries)),
     }
 }
 

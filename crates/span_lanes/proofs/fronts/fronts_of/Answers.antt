@@ -1,15 +1,21 @@
-use Rattle.std.proofs.Common.{ℕ, ◌≡◌, ◌<◌, ◌+◌, ◌&&◌, not, ◌∙◌, arith}
+use Rattle.std.proofs.Common.{ℕ, ◌<◌, ◌+◌, ◌&&◌, not, refl, ◌∙◌, arith}
+use Rattle.span_lanes.specs.Shade.{front_of}
 use Rattle.span_lanes.proofs.ColorLemmas.{shift_again}
 use Rattle.span_lanes.proofs.fronts.fronts_of.Goals as goal
+use Rattle.span_lanes.proofs.fronts.fronts_of.Goals.{then-texture, else-texture}
 
 pub returns-clause-fronts : goal.returns-clause-fronts
-returns-clause-fronts g c j lt =
+unfolding front_of
+returns-clause-fronts g c j lt = elim c.if-texture.branch [
+    then-texture w ↦ rw (w.result-is, w.if-texture.true) refl
+  | else-texture w ↦
     let span = c.args.span.now in
     let t = c.args.texture.now in
-    let in_lanes : j < 16 = omega arith in
+    let lane : j < 16 = omega (arith, c.requires.part.few) in
     let x : ℕ = span.x + c.args.part.first + j in
-    let same_x : span.x + (c.args.part.first + j) ≡ x = omega arith in
-    let hue = rw same_x at (c.requires.shades.hues c.args.part.first j in_lanes (omega arith)) in
-    let again = c.requires.shades.shifts.value j in_lanes
+    let again = c.requires.shifts.value j lane
     ∙ shift_again (span.brush.dither && not t.raw) span.x x span.y j (omega (arith, c.requires.part.cut)) in
-    rw (hue, again) at (c.fronts.ensures.value j in_lanes)
+    let colors = w.colors.ensures in
+    let value = rw (again, w.if-texture.false) at (w.modulated_by.ensures.value j lane) in
+    rw (w.result-is, w.if-texture.false, colors.red j lt, colors.green j lt, colors.blue j lt) value
+  ]
