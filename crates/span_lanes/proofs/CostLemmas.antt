@@ -75,6 +75,15 @@ pub textured_cost : (span : Span) (t : Texture) (first k : ℕ) (cells : List Ce
 unfolding has_hazard
 textured_cost span t first k cells e same = rw (e, same) refl
 
+-- those of which it is known whether they read what they write
+pub free_cost : (span : Span) (t : Texture) (first k : ℕ) → texture_of span.paint ≡ Some t
+    → has_hazard span first k ≡ false → chunk_cost span first k ≡ 2 + texel_steps t.page.depth * k
+free_cost span t first k e free = rw (free, e) refl
+
+pub hazard_cost : (span : Span) (t : Texture) (first k : ℕ) → texture_of span.paint ≡ Some t
+    → has_hazard span first k ≡ true → chunk_cost span first k ≡ (texel_steps t.page.depth + 2) * k
+hazard_cost span t first k e hazard = rw (hazard, e) refl
+
 one_step : (hazard : Bool) (d k : ℕ) → 1 ≤ k → 1 ≤ steps_of hazard d k
 one_step true d k some = grind arith
 one_step false d k some = omega arith

@@ -1,5 +1,5 @@
 -- What is one for all chunks of a textured span.
-use Rattle.std.proofs.Common.{◌≡◌, ◌<◌, ◌≤◌, ℕ, List, Some, ◌+◌, ◌*◌, get_or, length, refl, ap, ◌∙◌, arith}
+use Rattle.std.proofs.Common.{◌≡◌, ◌<◌, ◌≤◌, ℕ, List, Some, false, ◌+◌, ◌*◌, get_or, length, ap, ◌∙◌, arith}
 use Rattle.overlap_guard.proofs.TestLemmas.{texture_iff, false_of}
 use Rattle.overlap_guard.specs.Hazard.{has_texture_hazard}
 use Rattle.texel_lanes.specs.declared.texture.Texture.{Texture}
@@ -9,13 +9,13 @@ use Rattle.span_lanes.specs.declared.track.Track.{Track}
 use Rattle.texel_lanes.specs.Texture.{texel, texel_steps}
 use Rattle.span_lanes.specs.Shade.{texture_of}
 use Rattle.span_lanes.specs.Cost.{chunk_cost}
-use Rattle.span_lanes.specs.Guard.{paint_texels, palette_of, target, IsApart}
+use Rattle.span_lanes.specs.Guard.{has_hazard, paint_texels, palette_of, target, IsApart}
 use Rattle.texel_lanes.specs.Texels.{AreCoordinates}
 use Rattle.span_lanes.specs.Lanes.{HasCoordinates}
 use Rattle.span_lanes.specs.Plan.{HasTexels}
 use Rattle.span_lanes.specs.Track.{along_at, IsTrack}
 use Rattle.span_lanes.specs.Paints.{paint_u, paint_v}
-use Rattle.span_lanes.proofs.CostLemmas.{textured_cost}
+use Rattle.span_lanes.proofs.CostLemmas.{free_cost}
 
 -- the coordinates of a chunk by those of its span
 pub coordinates_here : (paint : Paint) (x y n first k : ℕ) (track : Track) (us vs : List ℕ) → IsTrack paint x y n track
@@ -43,14 +43,19 @@ texels_here span t first k us vs m lanes at long read = record {
   value = λ j lt. rw (at.u j lt, at.v j lt) at (read j lt);
 }
 
+-- a chunk that lies apart reads nothing that it writes
+pub apart_free : (span : Span) (t : Texture) (first k : ℕ) → IsApart span → first + k ≤ span.n
+    → texture_of span.paint ≡ Some t → has_hazard span first k ≡ false
+unfolding has_hazard
+apart_free span t first k apart within of_paint =
+    rw of_paint (false_of (has_texture_hazard (paint_texels span.paint t span.x span.y first k) (palette_of t)
+    (target span.x span.y first) k)
+    (texture_iff (paint_texels span.paint t span.x span.y first k) (palette_of t) (target span.x span.y first) k)
+    (λ h. apart.free first k within (rw of_paint h)))
+
 -- the cost of a chunk that lies apart
 pub apart_cost : (span : Span) (t : Texture) (first k : ℕ) → IsApart span → first + k ≤ span.n → texture_of span.paint
     ≡ Some t
     → chunk_cost span first k ≡ 2 + texel_steps t.page.depth * k
-apart_cost span t first k apart within of_paint =
-    let none = false_of
-    (has_texture_hazard (paint_texels span.paint t span.x span.y first k) (palette_of t)
-    (target span.x span.y first) k)
-    (texture_iff (paint_texels span.paint t span.x span.y first k) (palette_of t) (target span.x span.y first) k)
-    (λ h. apart.free first k within (rw of_paint h)) in
-    textured_cost span t first k _ of_paint refl ∙ rw none refl
+apart_cost span t first k apart within of_paint = free_cost span t first k of_paint
+    (apart_free span t first k apart within of_paint)

@@ -8,8 +8,8 @@ ghost use Rattle.span_lanes.specs.Track.{along_at, IsAlong};
 
 use crate::hues::line_of;
 use crate::part::Part;
-use crate::placed::{Placed, placed_indexes, placed_texels};
-use crate::sampler::{Indexed, Sampler};
+use crate::placed::{Placed, placed_indexes};
+use crate::sampler::Indexed;
 use crate::slopes::Slopes;
 use crate::{Span, Texture};
 use edge_walk::RowLine;
@@ -132,24 +132,6 @@ impl Placed for Track {
     #[inline(always)]
     fn coordinates(&self, _span: &Span, part: Part) -> Coordinates {
         track_lanes(self, part.first)
-    }
-}
-
-impl Sampler for Track {
-    ghost use Rattle.span_lanes.specs.Track.{IsTrack};
-
-    ghost finds = { λ track s t. IsTrack s.paint s.x s.y s.n track };
-
-    #[inline(always)]
-    fn read_texels<L: Ledger>(
-        &self,
-        vram: &Vram,
-        span: &Span,
-        texture: &Texture,
-        part: Part,
-        steps: &mut Steps<L>,
-    ) -> u16x16 {
-        placed_texels(self, vram, span, texture, part, steps)
     }
 }
 

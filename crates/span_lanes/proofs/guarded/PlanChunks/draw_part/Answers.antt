@@ -10,10 +10,5 @@ draw_guarded-requires-clause-at g c =
     coordinates_here span.paint span.x span.y span.n part.first part.k c.args.self.now.track _ _
     c.requires.serves.1.track c.requires.part.within c.requires.part.few at.across at.down at.u at.v
 
-pub returns-then-self-clause-serves : goal.returns-then-self-clause-serves
-returns-then-self-clause-serves g c =
-    (draw_stays c.requires.serves.0 c.draw_apart.ensures.long, c.requires.serves.1)
-
-pub returns-else-self-clause-serves : goal.returns-else-self-clause-serves
-returns-else-self-clause-serves g c =
-    (draw_stays c.requires.serves.0 c.draw_guarded.ensures.long, c.requires.serves.1)
+pub returns-clause-serves : goal.returns-clause-serves
+returns-clause-serves g c = (draw_stays c.requires.serves.0 c.draw_guarded.ensures.long, c.requires.serves.1)
