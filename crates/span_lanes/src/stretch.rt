@@ -18,7 +18,7 @@ use crate::{Span, Texture};
 use std::simd::prelude::*;
 use std::sync::ledger::Ledger;
 use texel_lanes::{
-    OneByOne, entries_at, gather_entries, sixteen_entries, sixteen_indexes, sixteen_octets, table_of,
+    AllAtOnce, entries_at, gather_entries, sixteen_entries, sixteen_indexes, sixteen_octets, table_of,
 };
 use texture_page::texel_cell;
 use vram_store::{Steps, Vram};
@@ -163,7 +163,7 @@ impl Sampler for Eights {
     ) -> u16x16 {
         let Stretch { u, y } = self.stretch;
         let index = sixteen_octets(vram, texture.page.x, u + part.first, y, steps);
-        gather_entries::<OneByOne, L>(vram, texture.clut, index, part.k, steps)
+        gather_entries::<AllAtOnce, L>(vram, texture.clut, index, part.k, steps)
     }
 }
 
