@@ -1,5 +1,5 @@
 // An attribute over a triangle, with what is one for all its lines.
-ghost use Rattle.std.specs.Prelude.{◌≡◌, ◌+◌, ◌*◌, ◌%◌, ◌^◌};
+ghost use Rattle.std.specs.Prelude.{◌≡◌, ◌*◌};
 ghost use Rattle.edge_walk.specs.Line.{IsRamp};
 ghost use Rattle.edge_walk.specs.Ramp.{start_of};
 

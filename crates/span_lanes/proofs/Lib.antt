@@ -5,7 +5,6 @@ pub mod CellsLemmas
 pub mod ChunkLemmas
 pub mod ColorLemmas
 pub mod CostLemmas
-pub mod DrawnBits
 pub mod GuardLemmas
 pub mod PartLemmas
 pub mod PlainLemmas

@@ -1,5 +1,5 @@
 -- Pixels without a texture.
-use Rattle.std.proofs.Common.{◌≡◌, ◌<◌, ℕ, ℤ, List, Option, None, Some, Bool, true, false, cond, ◌+◌, ◌^◌, refl, ap}
+use Rattle.std.proofs.Common.{◌≡◌, ◌<◌, ℕ, ℤ, List, Option, None, Some, Bool, true, false, cond, ◌+◌, ◌^◌, inl, inr, refl, ap}
 use Rattle.std.proofs.Common.{◌∙◌, arith}
 use Rattle.vram_store.specs.Vram.{at}
 use Rattle.vram_store.specs.Plot.{is_kept, forced, written_over}
@@ -10,7 +10,9 @@ use Rattle.span_lanes.specs.declared.span.Paint.{Paint}
 use Rattle.span_lanes.specs.declared.span.Paint.TheVariants.{Flat, Shaded, TexturedTri, TexturedRow}
 use Rattle.span_lanes.specs.declared.span.Span.{Span}
 use Rattle.span_lanes.specs.Shade.{texture_of, flat_pixel, blended_if, shift_of, paint_pixel, shade}
+use Rattle.span_lanes.specs.Lanes.{DoesFor}
 use Rattle.span_lanes.specs.Paints.{paint_color}
+use Rattle.span_lanes.proofs.BackLemmas.{kept_free}
 
 paint_plain : (paint : Paint) (brush : Brush) (x y i : ℕ) (m : List ℕ) → texture_of paint ≡ None
     → paint_pixel paint brush x y i m ≡ flat_pixel brush (paint_color paint x y) (shift_of brush.dither x y) (at m x y)
@@ -36,10 +38,20 @@ plain_is brush color shift back t h tone e low =
     ap (λ (n : ℕ). Some n) (packed_low _ h (e ∙ ap (blended_if brush.semi brush.mode back) tone) low)
 
 -- a lane whose pixel is there
-pub plain_lane : (mask c : ℕ) (pixel : Option ℕ) (p b h : ℕ) → pixel ≡ Some p → b ≡ cond (is_kept mask c) 0 1
-    → h ≡ forced mask p → IsLane (written_over mask c pixel) b h
-plain_lane mask c pixel p b h e f g = rw e (by_kept (is_kept mask c) (forced mask p) f g)
+pub plain_lane : (brush : Brush) (cell back : ℕ) (pixel : Option ℕ) (p w b h : ℕ) → pixel ≡ Some p
+    → DoesFor brush cell back → b ≡ 1 → w ≡ forced brush.mask p → h ≡ cond (is_kept brush.mask back) back w
+    → IsLane (written_over brush.mask cell pixel) b h cell
+plain_lane brush cell back pixel p w b h e does one write over =
+    rw e (by_back does (over ∙ ap (cond (is_kept brush.mask back) back) write))
   where
-    by_kept : (kept : Bool) (q : ℕ) → b ≡ cond kept 0 1 → h ≡ q → IsLane (cond kept None (Some q)) b h
-    by_kept true q f g = λ one. absurd (omega arith)
-    by_kept false q f g = (f, g)
+    by_kept : (kept : Bool) (q : ℕ) → h ≡ cond kept cell q → IsLane (cond kept None (Some q)) b h cell
+    by_kept true q e = inr e
+    by_kept false q e = (one, e)
+
+    by_back : DoesFor brush cell back → h ≡ cond (is_kept brush.mask back) back (forced brush.mask p)
+        → IsLane (cond (is_kept brush.mask cell) None (Some (forced brush.mask p))) b h cell
+    by_back (inl same) e = by_kept (is_kept brush.mask cell) (forced brush.mask p) (rw same at e)
+    by_back (inr free) e =
+        let off : is_kept brush.mask back ≡ false = kept_free brush.mask back free.1 in
+        let shut : is_kept brush.mask cell ≡ false = kept_free brush.mask cell free.1 in
+        rw shut (one, rw off at e)

@@ -1,6 +1,6 @@
 -- Texels of a chunk.
 use Rattle.std.proofs.Common.{◌≡◌, ◌<◌, ℕ, ℤ, List, Option, None, Some, Bool, true}
-use Rattle.std.proofs.Common.{false, cond, eqb, ◌&&◌, not, ◌+◌, min, refl, ap}
+use Rattle.std.proofs.Common.{false, cond, eqb, ◌&&◌, ◌||◌, not, ◌+◌, inr, refl, ap}
 use Rattle.std.proofs.Common.{◌∙◌, ◌^◌, IsTrue, arith}
 use Rattle.std.proofs.lemmas.Bool.Decides.{nat_tests}
 use Rattle.vram_store.specs.Vram.{at}
@@ -15,6 +15,7 @@ use Rattle.span_lanes.specs.declared.span.Span.{Span}
 use Rattle.texel_lanes.specs.Texture.{texel}
 use Rattle.span_lanes.specs.Shade.{texture_of, textured_pixel, blended_if, front_of, is_high, shift_of}
 use Rattle.span_lanes.specs.Shade.{paint_pixel, shade}
+use Rattle.span_lanes.specs.Lanes.{IsDrawnOver}
 use Rattle.span_lanes.specs.Paints.{paint_color, paint_u, paint_v}
 
 -- a halfword has its own bit 15
@@ -46,30 +47,27 @@ unfolding shade
 shade_textured span t i x m is e = rw e (paint_textured span.paint t span.brush (span.x + i) span.y i m is)
 
 -- a lane whose texel may be none
-pub textured_lane : (mask c : ℕ) (pixel : Option ℕ) (brush : Brush) (raw : Bool) (color : ℕ) (shift : ℤ)
-    (back t p front b open_bit texel_bit h : ℕ)
-    → pixel ≡ textured_pixel brush raw color shift back t
+pub textured_lane : (mask cell : ℕ) (pixel : Option ℕ) (brush : Brush) (raw : Bool) (color : ℕ) (shift : ℤ)
+    (t p front b h : ℕ)
+    → pixel ≡ textured_pixel brush raw color shift cell t
     → front ≡ front_of raw color shift t
-    → p ≡ packed_pixel (blended_if (brush.semi && is_high t) brush.mode back front) (is_high t) false
-    → b ≡ min open_bit texel_bit → open_bit ≡ cond (is_kept mask c) 0 1 → texel_bit ≡ cond (eqb t 0) 0 1
-    → h ≡ forced mask p
-    → IsLane (written_over mask c pixel) b h
+    → p ≡ packed_pixel (blended_if (brush.semi && is_high t) brush.mode cell front) (is_high t) false
+    → b ≡ 1 → IsDrawnOver mask cell t p h
+    → IsLane (written_over mask cell pixel) b h cell
 unfolding textured_pixel
-textured_lane mask c pixel brush raw color shift back t p front b open_bit texel_bit h is front_is plotted bits shown
-    drawn stored =
+textured_lane mask cell pixel brush raw color shift t p front b h is front_is plotted one over =
     rw is (by_texel (eqb t 0)
-    (packed_pixel (blended_if (brush.semi && is_high t) brush.mode back (front_of raw color shift t))
+    (packed_pixel (blended_if (brush.semi && is_high t) brush.mode cell (front_of raw color shift t))
     (is_high t) false)
-    (plotted ∙ ap (λ (f : ℕ). packed_pixel (blended_if (brush.semi && is_high t) brush.mode back f) (is_high t) false)
-    front_is) drawn)
+    (plotted ∙ ap (λ (f : ℕ). packed_pixel (blended_if (brush.semi && is_high t) brush.mode cell f) (is_high t) false)
+    front_is) over)
   where
-    by_kept : (kept : Bool) (q : ℕ) → open_bit ≡ cond kept 0 1 → texel_bit ≡ 1 → h ≡ q
-        → IsLane (cond kept None (Some q)) b h
-    by_kept true q e one f = λ got. absurd (omega arith)
-    by_kept false q e one f = (omega arith, f)
+    by_kept : (kept : Bool) (q : ℕ) → h ≡ cond kept cell q → IsLane (cond kept None (Some q)) b h cell
+    by_kept true q e = inr e
+    by_kept false q e = (one, e)
 
-    by_texel : (none : Bool) (q : ℕ) → p ≡ q → texel_bit ≡ cond none 0 1
-        → IsLane (written_over mask c (cond none None (Some q))) b h
-    by_texel true q same bit_is = λ got. absurd (omega arith)
-    by_texel false q same bit_is = by_kept (is_kept mask c) (forced mask q) shown bit_is
-        (stored ∙ ap (forced mask) same)
+    by_texel : (none : Bool) (q : ℕ) → p ≡ q → h ≡ cond (none || is_kept mask cell) cell (forced mask p)
+        → IsLane (written_over mask cell (cond none None (Some q))) b h cell
+    by_texel true q same e = inr e
+    by_texel false q same e = by_kept (is_kept mask cell) (forced mask q)
+        (e ∙ ap (λ (n : ℕ). cond (is_kept mask cell) cell (forced mask n)) same)

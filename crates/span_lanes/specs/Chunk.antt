@@ -2,7 +2,6 @@
 use Rattle.std.specs.Prelude.{ℕ, ◌+◌, ◌*◌, List}
 use Rattle.vram_store.specs.Plot.{drawn_lanes, later}
 use Rattle.vram_store.specs.Chunk.{HasLanes}
-use Rattle.span_lanes.specs.declared.lanes.Lanes.{Lanes}
 use Rattle.span_lanes.specs.declared.part.Part.{Part}
 use Rattle.span_lanes.specs.declared.span.Span.{Span}
 use Rattle.span_lanes.specs.Shade.{shade}
@@ -16,6 +15,6 @@ abbrev pub drawn_chunk : Span → Part → List ℕ → List ℕ
 drawn_chunk s p m = drawn_lanes (later (shade s) p.first) s.brush.mask (chunk_place s p.first) p.k m
 
 -- lanes that hold what all these cells become, each by video memory as it is
-abbrev pub HasChunk : Span → Part → List ℕ → Lanes → Type 0
+abbrev pub HasChunk : Span → Part → (m lanes : List ℕ) → Type 0
 HasChunk s p m lanes =
-    HasLanes (later (shade s) p.first) s.brush.mask (chunk_place s p.first) p.k m lanes.cells lanes.bits
+    HasLanes (later (shade s) p.first) s.brush.mask (chunk_place s p.first) p.k m lanes 65535

@@ -1,9 +1,9 @@
 -- The parts of the pixels of a chunk, lane by lane.
-use Rattle.std.specs.Prelude.{ℕ, Bool, false, ◌≡◌, ◌+◌, ◌<◌, ◌≤◌, ◌⊎◌, ℤ, pos, List, Some, length, slice_index}
+use Rattle.std.specs.Prelude.{ℕ, Bool, false, ◌==◌, ◌||◌, if◌then◌else◌, ◌≡◌, ◌+◌, ◌<◌, ◌≤◌, ◌⊎◌, ℤ, pos, List, Some, length, slice_index}
 use Rattle.std.specs.Prelude.{slice_index_or}
 use Rattle.px_num.specs.Lanes.{EachLane}
 use Rattle.blend_dither.specs.Color.{IsShift, tone_of, red_of, green_of, blue_of}
-use Rattle.vram_store.specs.Plot.{is_testing, written_over}
+use Rattle.vram_store.specs.Plot.{forced, is_kept, is_testing, written_over}
 use Rattle.texel_lanes.specs.Texels.{AreCoordinates}
 use Rattle.span_lanes.specs.declared.span.Brush.{Brush}
 use Rattle.span_lanes.specs.declared.span.Paint.{Paint}
@@ -58,3 +58,8 @@ DoesFor brush cell h = (h ≡ cell) ⊎ ((brush.semi ≡ false) × (is_testing b
 pub record IsSolid (span : Span) (h : ℕ) : Type 0 where
   pub same : (i : ℕ) (m now : List ℕ) → shade span i now ≡ shade span i m
   pub written : (i cell : ℕ) (m : List ℕ) → written_over span.brush.mask cell (shade span i m) ≡ Some h
+
+-- what a cell that holds this halfword becomes where the halfword of a texel is plotted over it
+abbrev pub IsDrawnOver : (mask cell texel plotted after : ℕ) → Type 0
+IsDrawnOver mask cell texel plotted after =
+    after ≡ (if texel == 0 || is_kept mask cell then cell else forced mask plotted)

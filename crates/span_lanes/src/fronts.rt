@@ -1,5 +1,5 @@
 // What colours make of texels.
-ghost use Rattle.std.specs.Prelude.{◌≡◌, ◌+◌, ◌&&◌, not, ℕ, pos, length, slice_index};
+ghost use Rattle.std.specs.Prelude.{◌≡◌, ◌&&◌, not, pos, length, slice_index};
 ghost use Rattle.px_num.specs.Lanes.{EachLane};
 ghost use Rattle.span_lanes.specs.Draws.{IsPart};
 ghost use Rattle.span_lanes.specs.Lanes.{AreShiftsAt};

@@ -18,7 +18,6 @@ mod guard;
 mod guarded;
 mod hued;
 mod hues;
-mod lanes;
 pub mod laws;
 mod loops;
 mod mixed;

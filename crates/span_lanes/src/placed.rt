@@ -1,7 +1,7 @@
 // Texels by the coordinates of a part's cells.
 ghost use Rattle.std.specs.Prelude.{◌≡◌, ◌≤◌, ◌+◌, ◌*◌};
 ghost use Rattle.texel_lanes.specs.Texture.{texel_steps};
-ghost use Rattle.span_lanes.specs.Draws.{CanSample, IsPart};
+ghost use Rattle.span_lanes.specs.Draws.{IsPart};
 ghost use Rattle.span_lanes.specs.Kept.{HasIndexes};
 ghost use Rattle.span_lanes.specs.Lanes.{HasCoordinates};
 ghost use Rattle.span_lanes.specs.Plan.{HasTexels};

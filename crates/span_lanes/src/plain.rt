@@ -13,13 +13,12 @@ use crate::Span;
 use crate::back::back_of;
 use crate::colors::{Shifts, tones_of};
 use crate::hues::{Hues, hue_lanes};
-use crate::lanes::Lanes;
 use crate::part::Part;
 use blend_dither::{blend_lanes, plain_tone_lanes, tone};
 use px_num::lanes::splat;
 use std::simd::prelude::*;
 use std::sync::ledger::Ledger;
-use vram_store::mask::{force_lanes, open_bits};
+use vram_store::mask::{force_lanes, over_lanes};
 use vram_store::{Steps, Vram};
 
 #[tactic(auto, unfolding(crate::specs::Shade::blended_if))]
@@ -101,17 +100,15 @@ pub(crate) fn collect_plain<L: Ledger>(
     shifts: Shifts,
     part: Part,
     steps: &mut Steps<L>,
-) -> Lanes
+) -> u16x16
     requires tones { CanTone span.now hues.now shifts.lanes vram.now }
     requires part { IsPart span.now part }
+    ensures long { length result ≡ 16 }
     ensures lanes { HasChunk span.now part vram.now result }
     ensures cost { steps.new ≤ steps.old + 1 }
 {
     let back = back_of(vram, span, part, steps);
     let tones = hue_tones(hues, span.brush.dither, shifts, part.first);
     let plotted = blend_lanes_if(span.brush.semi, span.brush.mode, back, tones);
-    Lanes {
-        cells: force_lanes(span.brush.mask, plotted),
-        bits: open_bits(span.brush.mask, back),
-    }
+    over_lanes(span.brush.mask, back, force_lanes(span.brush.mask, plotted))
 }

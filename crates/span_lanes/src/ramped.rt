@@ -1,5 +1,5 @@
 // The attributes of a triangle with their ramps, for the rows of a pen.
-ghost use Rattle.std.specs.Prelude.{◌≡◌, ◌≤◌, ◌+◌, ◌*◌};
+ghost use Rattle.std.specs.Prelude.{◌+◌, ◌*◌};
 ghost use Rattle.edge_walk.specs.Triangle.{Corners};
 ghost use Rattle.span_lanes.specs.Pen.{AreSlopes, IsTintOf};
 ghost use Rattle.span_lanes.specs.Ramped.{AreColorsOf, AreRampedColors, AreRampedSlopes, AreSlopesOf};

@@ -8,8 +8,8 @@ ghost use Rattle.span_lanes.specs.Guard.{HasHazard};
 
 use crate::Span;
 use crate::cells::draw_cell;
-use crate::lanes::Lanes;
 use crate::part::Part;
+use std::simd::prelude::*;
 use std::sync::ledger::Ledger;
 use vram_store::{Steps, Vram};
 
@@ -33,17 +33,18 @@ pub(crate) fn store_part<L: Ledger>(
     vram: &mut Vram,
     span: &Span,
     part: Part,
-    lanes: &Lanes,
+    lanes: u16x16,
     steps: &mut Steps<L>,
 )
     requires can { CanDraw span.now vram.old }
     requires part { IsPart span.now part }
     requires free { HasHazard span.now part.first part.k → ⊥ }
-    requires lanes { HasChunk span.now part vram.old lanes.now }
+    requires long { length lanes ≡ 16 }
+    requires lanes { HasChunk span.now part vram.old lanes }
     ensures cells { vram.new ≡ drawn_chunk span.now part vram.old }
     ensures others { AgreesApart (chunk_place span.now part.first) part.k vram.old vram.new }
     ensures cost { steps.new ≤ steps.old + 1 }
 {
     let x = span.x + part.first;
-    vram.store16(x, span.y, part.k, lanes.cells, lanes.bits, steps);
+    vram.store16(x, span.y, part.k, lanes, 0xffff, steps);
 }

@@ -18,7 +18,8 @@ use crate::{Span, Texture};
 use std::simd::prelude::*;
 use std::sync::ledger::Ledger;
 use texel_lanes::{
-    AllAtOnce, entries_at, gather_entries, sixteen_entries, sixteen_indexes, sixteen_octets, table_of,
+    AllAtOnce, entries_at, gather_entries, sixteen_entries, sixteen_indexes, sixteen_octets,
+    table_of,
 };
 use texture_page::texel_cell;
 use vram_store::{Steps, Vram};

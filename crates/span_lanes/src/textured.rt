@@ -1,32 +1,29 @@
 // Textured chunks, all their lanes at once.
 ghost use Rattle.std.specs.Prelude.{◌≡◌, ◌≤◌, ◌<◌, ◌+◌, ◌==◌, ◌&&◌, if◌then◌else◌};
-ghost use Rattle.std.specs.Prelude.{false, pos, IsTrue, ℕ};
-ghost use Rattle.std.specs.Prelude.{length, slice_index, slice_index_or};
-ghost use Rattle.blend_dither.specs.Color.{modulated_of, packed_pixel, red_of, green_of, blue_of};
+ghost use Rattle.std.specs.Prelude.{false, IsTrue, ℕ};
+ghost use Rattle.std.specs.Prelude.{length, slice_index};
+ghost use Rattle.blend_dither.specs.Color.{packed_pixel};
 ghost use Rattle.px_num.specs.Lanes.{EachLane};
 ghost use Rattle.vram_store.specs.Chunk.{AgreesApart};
 ghost use Rattle.vram_store.specs.Vram.{bit};
 ghost use Rattle.span_lanes.specs.Chunk.{chunk_place, drawn_chunk, HasChunk};
 ghost use Rattle.span_lanes.specs.Draws.{CanSample, IsPart};
 ghost use Rattle.span_lanes.specs.Guard.{HasHazard};
-ghost use Rattle.span_lanes.specs.Shade.{is_high, blended_if, front_of};
-ghost use Rattle.span_lanes.specs.Hues.{hue_at};
+ghost use Rattle.span_lanes.specs.Shade.{is_high, blended_if};
 ghost use Rattle.span_lanes.specs.Plan.{IsShading, HasTexels, HasFronts};
-ghost use Rattle.span_lanes.specs.Lanes.{AreShifts};
+ghost use Rattle.span_lanes.specs.Lanes.{IsDrawnOver};
 
-use crate::back::back_of;
 use crate::fronts::fronts_of;
-use crate::lanes::{Lanes, both, drawn_bits};
 use crate::part::Part;
 use crate::shading::Shading;
 use crate::store::store_part;
 use crate::swatches::Drawn;
 use crate::{Brush, Span, Texture};
 use blend_dither::blend_lanes;
-use px_num::lanes::{add, mul, shifted_down, splat, sub_or_zero};
+use px_num::lanes::{add, low_bits, mul, shifted_down, splat, sub_or_zero, where_equal};
 use std::simd::prelude::*;
 use std::sync::ledger::Ledger;
-use vram_store::mask::{force_lanes, open_bits};
+use vram_store::mask::{force_lanes, over_lanes};
 use vram_store::{Steps, Vram};
 
 // Bit 15 of each lane.
@@ -60,9 +57,7 @@ fn with_high(lanes: u16x16, bits: u16x16) -> u16x16
     ensures value { EachLane (λ i. slice_index result i
         ≡ packed_pixel (slice_index lanes i) (slice_index bits i == 1) false) }
 {
-    let above = mul(shifted_down(lanes, 15), splat(0x8000));
-    let below = sub_or_zero(lanes, above);
-    add(below, mul(bits, splat(0x8000)))
+    add(low_bits(lanes, 15), mul(bits, splat(0x8000)))
 }
 
 // Sixteen fronts over the contents of their cells, blended where they are semi-transparent and the bit is 1.
@@ -130,7 +125,19 @@ fn plotted_of(brush: &Brush, raw: bool, back: u16x16, drawn: Drawn, k: u8) -> u1
     }
 }
 
-// The pixels of a part by its texels and what colours make of these.
+// What sixteen cells become where these halfwords of texels are written over them: a texel of 0 draws nothing.
+#[inline(always)]
+fn drawn_over(mask: u8, cells: u16x16, texels: u16x16, plotted: u16x16) -> u16x16
+    requires long { (length cells ≡ 16) × (length texels ≡ 16) × (length plotted ≡ 16) }
+    ensures long { length result ≡ 16 }
+    ensures value { EachLane (λ i. IsDrawnOver mask (slice_index cells i) (slice_index texels i)
+        (slice_index plotted i) (slice_index result i)) }
+{
+    let written = over_lanes(mask, cells, force_lanes(mask, plotted));
+    where_equal(texels, splat(0), cells, written)
+}
+
+// What the cells of a part become, by its texels and what colours make of these.
 #[inline(always)]
 fn collect_fronts<L: Ledger>(
     vram: &Vram,
@@ -139,22 +146,20 @@ fn collect_fronts<L: Ledger>(
     drawn: Drawn,
     part: Part,
     steps: &mut Steps<L>,
-) -> Lanes
+) -> u16x16
     requires sample { CanSample span.now texture.now vram.now }
     requires part { IsPart span.now part }
     requires texels { HasTexels span.now texture.now part vram.now drawn.texels }
     requires long { length drawn.fronts ≡ 16 }
     requires front { HasFronts span.now texture.now part drawn.texels drawn.fronts }
+    ensures long { length result ≡ 16 }
     ensures lanes { HasChunk span.now part vram.now result }
     ensures cost { steps.new ≤ steps.old + 1 }
 {
     let brush = span.brush;
-    let back = back_of(vram, span, part, steps);
+    let back = vram.load16(span.x + part.first, span.y, part.k, steps);
     let plotted = plotted_of(&brush, texture.raw, back, drawn, part.k);
-    Lanes {
-        cells: force_lanes(brush.mask, plotted),
-        bits: both(open_bits(brush.mask, back), drawn_bits(drawn.texels)),
-    }
+    drawn_over(brush.mask, back, drawn.texels, plotted)
 }
 
 // Draws a part that reads nothing that it writes, by its texels and what colours make of these.
@@ -178,7 +183,7 @@ pub(crate) fn draw_fronts<L: Ledger>(
     ensures cost { steps.new ≤ steps.old + 2 }
 {
     let lanes = collect_fronts(vram, span, texture, drawn, part, steps);
-    store_part(vram, span, part, &lanes, steps);
+    store_part(vram, span, part, lanes, steps);
 }
 
 // The same by its texels and the colours of the span.

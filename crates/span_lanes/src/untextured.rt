@@ -35,7 +35,7 @@ impl Chunks for Toned {
     #[inline(always)]
     fn draw_part<L: Ledger>(&self, vram: &mut Vram, span: &Span, part: Part, steps: &mut Steps<L>) {
         let lanes = collect_plain(vram, span, &self.hues, self.shifts, part, steps);
-        store_part(vram, span, part, &lanes, steps);
+        store_part(vram, span, part, lanes, steps);
     }
 
     ghost can = { λ c s m serves. serves.can };

@@ -82,9 +82,10 @@ blind_of m s t n free room_s room_t = record {
   blind = λ j lt now apart. ap Some (apart.others (place s + j) (away s t n j free room_s room_t lt));
 }
 
-pub lane_of : (kept : Bool) (b h color : ℕ) → b ≡ cond kept 0 1 → h ≡ color → IsLane (cond kept None (Some color)) b h
-lane_of true b h color e f = λ one. absurd (omega (arith, e, one))
-lane_of false b h color e f = (e, f)
+pub lane_of : (kept : Bool) (b h color cell : ℕ) → b ≡ cond kept 0 1 → h ≡ color
+    → IsLane (cond kept None (Some color)) b h cell
+lane_of true b h color cell e f = inl (λ one. absurd (omega (arith, e, one)))
+lane_of false b h color cell e f = (e, f)
 
 -- what one store writes for a run: each colour as it is written, and each bit as the cell is open
 pub record IsLaneRun (m : List ℕ) (mask : ℕ) (s t : Cell) (n : ℕ) (lanes : List ℕ) (bits : ℕ) : Type 0 where
@@ -95,7 +96,7 @@ lanes_of : (m : List ℕ) (mask : ℕ) (s t : Cell) (n : ℕ) (lanes : List ℕ)
     → HasLanes (read_from s) mask (place t) n m lanes bits
 lanes_of m mask s t n lanes bits run = record {
   lane = λ j lt. lane_of (is_kept mask (get_or m (place t + j) 0)) (bit bits j) (get_or lanes j 0)
-      (forced mask (get_or m (place s + j) 0)) (run.open_cells j lt) (run.colors j lt);
+      (forced mask (get_or m (place s + j) 0)) _ (run.open_cells j lt) (run.colors j lt);
 }
 
 pub run_at_once : (old new : List ℕ) (mask : ℕ) (s t : Cell) (n : ℕ) (lanes : List ℕ) (bits : ℕ)

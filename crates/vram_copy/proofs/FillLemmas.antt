@@ -17,7 +17,7 @@ set_over : (cell color : ℕ) → written_over 0 cell (Some color) ≡ Some colo
 unfolding is_testing is_forcing
 set_over cell color = rw (kept_untested 0 cell refl, forced_off 0 color refl) refl
 
-set_lane : (cell color j h : ℕ) → j ≡ 1 → h ≡ color → IsLane (written_over 0 cell (Some color)) j h
+set_lane : (cell color j h : ℕ) → j ≡ 1 → h ≡ color → IsLane (written_over 0 cell (Some color)) j h cell
 set_lane cell color j h one same = rw (set_over cell color) (one, same)
 
 draws_set : (color start j : ℕ) (m : List ℕ) → draw_lane (λ i cells. Some color) 0 start j m

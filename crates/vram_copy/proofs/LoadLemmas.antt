@@ -43,7 +43,7 @@ run_at_once old new mask to words first n lanes bits colors open_cells stored =
     chunk_law (given words first) mask (place to) n old lanes new bits (record { blind = λ j lt now apart. refl })
     (record {
       lane = λ j lt. lane_of (is_kept mask (get_or old (place to + j) 0)) (bit bits j) (get_or lanes j 0)
-          (forced mask (pixel_of words (first + j))) (open_cells j lt) (colors j lt);
+          (forced mask (pixel_of words (first + j))) _ (open_cells j lt) (colors j lt);
     })
     stored
     ∙ sym (run_is old mask to words first n)

@@ -6,9 +6,9 @@ use Rattle.span_lanes.proofs.fronts.even_fronts.Goals.{then-raw, else-raw}
 pub returns-clause-value : goal.returns-clause-value
 unfolding front_of
 returns-clause-value c j lane = elim c.if-raw.branch [
-    then-raw w ↦ rw (w.result-is, w.if-raw.true) refl
+  | then-raw w ↦ rw (w.result-is, w.if-raw.true) refl
   | else-raw w ↦
-    let colors = w.one_color.ensures 16 (omega arith) in
-    let value = rw (w.no_shifts.ensures.value j lane) at (w.modulated_by.ensures.value j lane) in
-    rw (w.result-is, w.if-raw.false, colors.red j lane, colors.green j lane, colors.blue j lane) value
-  ]
+      let colors = w.one_color.ensures 16 (omega arith) in
+      let value = rw (w.no_shifts.ensures.value j lane) at (w.modulated_by.ensures.value j lane) in
+      rw (w.result-is, w.if-raw.false, colors.red j lane, colors.green j lane, colors.blue j lane) value
+]

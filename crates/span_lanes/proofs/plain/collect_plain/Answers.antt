@@ -1,8 +1,9 @@
-use Rattle.std.proofs.Common.{ℕ, ◌≡◌, ◌<◌, ◌+◌, ◌*◌, Bool, cond, get_or, ap, ◌∙◌, arith}
+use Rattle.std.proofs.Common.{ℕ, ◌≡◌, ◌<◌, ◌+◌, ◌*◌, get_or, ap, ◌∙◌, arith}
 use Rattle.span_lanes.specs.Shade.{flat_pixel, shift_of}
 use Rattle.span_lanes.specs.Paints.{paint_color}
 use Rattle.span_lanes.specs.Lanes.{DoesFor}
-use Rattle.span_lanes.proofs.BackLemmas.{flat_back, kept_back}
+use Rattle.vram_store.proofs.Ones.{ones}
+use Rattle.span_lanes.proofs.BackLemmas.{flat_back}
 use Rattle.span_lanes.proofs.ColorLemmas.{shift_again, no_shift}
 use Rattle.span_lanes.proofs.PlainLemmas.{shade_plain, plain_is, plain_lane}
 use Rattle.span_lanes.proofs.plain.collect_plain.Goals as goal
@@ -24,14 +25,13 @@ returns-clause-lanes g c = record {
       let hue = rw same_x at (c.requires.tones.colors c.args.part.first j in_lanes (omega arith)) in
       let again = c.requires.tones.offsets.value j in_lanes ∙ shift_again span.brush.dither span.x x span.y j
       (omega (arith, c.requires.part.cut)) in
-      plain_lane span.brush.mask _ _ _ _ _
+      plain_lane span.brush cell _ _ _ _ _ _
       (shade_plain span (c.args.part.first + j) x c.args.vram.now c.requires.tones.plain (omega arith)
       ∙ ap (flat_pixel span.brush color (shift_of span.brush.dither x span.y)) here
       ∙ flat_back span.brush color (shift_of span.brush.dither x span.y) cell _ back
       ∙ plain_is span.brush color _ _ _ _ (rw (hue, again) at (c.hue_tones-tones.ensures.value j in_lanes))
       (c.blend_lanes_if-plotted.ensures.value j in_lanes) (c.blend_lanes_if-plotted.ensures.low j in_lanes))
-      (c.open_bits.ensures j in_lanes ∙ ap (λ (b : Bool). cond b 0 1) (kept_back span.brush cell _ back))
-      (c.force_lanes.ensures.value j in_lanes);
+      back (ones j in_lanes) (c.force_lanes.ensures.value j in_lanes) (c.over_lanes.ensures.value j in_lanes);
 }
 
 pub hue_tones-tones-requires-clause-none : goal.hue_tones-tones-requires-clause-none

@@ -1,9 +1,8 @@
-use Rattle.std.proofs.Common.{ℕ, ℤ, ◌≡◌, ◌<◌, ◌+◌, ◌*◌, ◌&&◌, not, Bool, cond, get_or, sym, ap, ◌∙◌, arith}
+use Rattle.std.proofs.Common.{ℕ, ℤ, ◌≡◌, ◌<◌, ◌+◌, ◌*◌, ◌&&◌, not, get_or, sym, ap, ◌∙◌, arith}
+use Rattle.vram_store.proofs.Ones.{ones}
 use Rattle.texel_lanes.specs.Texture.{texel}
 use Rattle.span_lanes.specs.Shade.{textured_pixel, shift_of}
 use Rattle.span_lanes.specs.Paints.{paint_color, paint_u, paint_v}
-use Rattle.span_lanes.specs.Lanes.{DoesFor}
-use Rattle.span_lanes.proofs.BackLemmas.{textured_back, kept_back}
 use Rattle.span_lanes.proofs.TexelLemmas.{raw_front, shade_textured, textured_lane}
 use Rattle.span_lanes.proofs.textured.collect_fronts.Goals as goal
 
@@ -15,29 +14,24 @@ returns-clause-lanes g c = record {
       let in_lanes : j < 16 = omega arith in
       let x : ℕ = span.x + c.args.part.first + j in
       let i : ℕ = c.args.part.first + j in
-      let same_x : span.x + (c.args.part.first + j) ≡ x = omega arith in
       let place : 1024 * span.y + (span.x + c.args.part.first + j)
       ≡ 1024 * span.y + (span.x + c.args.part.first) + j = omega arith in
       let cell : ℕ = get_or c.args.vram.now (1024 * span.y + (span.x + c.args.part.first) + j) 0 in
-      let back : DoesFor span.brush cell (get_or c.back_of-back.result j 0) = c.back_of-back.ensures.value j lt in
-      let here : get_or c.args.vram.now (1024 * span.y + (span.x + c.args.part.first + j)) 0
-      ≡ cell = ap (λ (k : ℕ). get_or c.args.vram.now k 0) place in
+      let back : get_or c.load16-back.result j 0 ≡ cell = c.load16-back.ensures.lanes.cells j lt in
       let same = c.requires.texels.value j lt in
       let color : ℕ = paint_color span.paint x span.y in
       let shift : ℤ = shift_of (span.brush.dither && not t.raw) x span.y in
       let u : ℕ = paint_u span.paint x span.y i in
       let v : ℕ = paint_v span.paint x span.y i in
-      textured_lane span.brush.mask _ _ span.brush t.raw color shift _ _ _ _ _ _ _ _
+      textured_lane span.brush.mask cell _ span.brush t.raw color shift _ _ _ _ _
       (shade_textured span t i x c.args.vram.now c.requires.sample.texture (omega arith)
-      ∙ ap (λ (b : ℕ). textured_pixel span.brush t.raw color shift b (texel t u v c.args.vram.now)) here
-      ∙ textured_back span.brush t.raw color shift cell _ (texel t u v c.args.vram.now) back
-      ∙ ap (λ (h : ℕ). textured_pixel span.brush t.raw color shift (get_or c.back_of-back.result j 0) h) (sym same))
+      ∙ ap (λ (p : ℕ). textured_pixel span.brush t.raw color shift (get_or c.args.vram.now p 0) (texel t u v c.args.vram.now))
+      place
+      ∙ ap (λ (h : ℕ). textured_pixel span.brush t.raw color shift cell h) (sym same))
       (c.requires.front j lt)
-      (c.plotted_of-plotted.ensures.value j lt)
-      (c.both.ensures j in_lanes)
-      (c.open_bits.ensures j in_lanes ∙ ap (λ (b : Bool). cond b 0 1) (kept_back span.brush cell _ back))
-      (c.drawn_bits.ensures j in_lanes)
-      (c.force_lanes.ensures.value j in_lanes);
+      (rw back at (c.plotted_of-plotted.ensures.value j lt))
+      (ones j in_lanes)
+      (rw back at (c.drawn_over.ensures.value j in_lanes));
 }
 
 pub plotted_of-plotted-requires-clause-raw : goal.plotted_of-plotted-requires-clause-raw
