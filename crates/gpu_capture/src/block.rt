@@ -1,6 +1,6 @@
 // Words of a Gp0 record that are taken at once.
 ghost use Rattle.std.specs.Prelude.{◌≡◌, ◌≤◌, ◌<◌, ◌+◌, ◌*◌, ◌/◌, ◌%◌, ◌^◌, List, ℕ, Option, []};
-ghost use Rattle.std.specs.Prelude.{length, drop, IfErr, OnOk};
+ghost use Rattle.std.specs.Prelude.{length, drop, min, IfErr, OnOk};
 ghost use Rattle.dev_io.specs.Device.{Rose, prepended};
 ghost use Rattle.gpu_capture.specs.Reader.{IsProgress, IsReadFault};
 ghost use Rattle.gpu_capture.specs.Record.{IsDue};
@@ -68,7 +68,7 @@ impl WordBlock {
         ensures takes { OnOk result
             (TakesWords progress.old progress.new (S.left source.old) (S.left source.new) self.new) }
         ensures goes_on { GoesOn progress.old progress.new }
-        ensures few { progress.new.place ≤ progress.old.place + 2048 }
+        ensures few { progress.new.place ≤ progress.old.place + min (4 * most) 2048 }
         ensures stop { IfErr result (λ stop.
             StopsBehind progress.old progress.new (S.left source.old) (S.left source.new) self.new stop) }
         ensures cause { IfErr result (λ stop. IsReadFault stop → Rose (S.faults source.old) (S.faults source.new)) }
@@ -121,7 +121,7 @@ fn take_words<S: Source>(
     ensures takes { OnOk result
         (TakesWords progress.old progress.new (S.left source.old) (S.left source.new) words.new.items) }
     ensures goes_on { GoesOn progress.old progress.new }
-    ensures few { progress.new.place ≤ progress.old.place + 2048 }
+    ensures few { progress.new.place ≤ progress.old.place + 4 * count }
     ensures stop { IfErr result (λ stop.
         StopsBehind progress.old progress.new (S.left source.old) (S.left source.new) words.new.items stop) }
     ensures cause { IfErr result (λ stop. IsReadFault stop → Rose (S.faults source.old) (S.faults source.new)) }
@@ -145,7 +145,7 @@ fn fill_words<S: Source>(
     ensures takes { OnOk result
         (TakesWords progress.old progress.new (S.left source.old) (S.left source.new) words.new.items) }
     ensures goes_on { GoesOn progress.old progress.new }
-    ensures few { progress.new.place ≤ progress.old.place + 2048 }
+    ensures few { progress.new.place ≤ progress.old.place + length bytes.old }
     ensures stop { IfErr result (λ stop.
         StopsBehind progress.old progress.new (S.left source.old) (S.left source.new) words.new.items stop) }
     ensures cause { IfErr result (λ stop. IsReadFault stop → Rose (S.faults source.old) (S.faults source.new)) }

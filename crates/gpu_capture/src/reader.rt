@@ -1,5 +1,6 @@
 // The events of a capture, one after another, and the stop that a reader has answered.
-ghost use Rattle.std.specs.Prelude.{◌≡◌, ◌≤◌, ◌<◌, ◌+◌, ◌%◌, ◌^◌, [], ◌∷◌, false, None, Some, IfSome, IfOk, IfErr, OnOk, Err};
+ghost use Rattle.std.specs.Prelude.{◌≡◌, ◌≤◌, ◌<◌, ◌+◌, ◌*◌, ◌%◌, ◌^◌, [], ◌∷◌, false, None, Some, min};
+ghost use Rattle.std.specs.Prelude.{IfSome, IfOk, IfErr, OnOk, Err};
 ghost use Rattle.dev_io.specs.Device.{Rose};
 ghost use Rattle.gpu_capture.specs.Record.{IsEvent};
 ghost use Rattle.gpu_capture.specs.Reader.{StopsAt, Takes, IsReadFault, IsStart, work_left, tag_due};
@@ -145,7 +146,7 @@ impl EventReader {
         requires { self.old.stop ≡ None }
         ensures takes { OnOk result
             (TakesWords self.old.progress self.new.progress (S.left source.old) (S.left source.new) block.new) }
-        ensures few { self.new.progress.place ≤ self.old.progress.place + 2048 }
+        ensures few { self.new.progress.place ≤ self.old.progress.place + min (4 * most) 2048 }
         ensures version { self.new.progress.version ≡ self.old.progress.version }
         ensures forward { work_left self.new.progress ≤ work_left self.old.progress }
         ensures runs_on { OnOk result (self.new.stop ≡ None) }
