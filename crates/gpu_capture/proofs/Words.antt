@@ -25,15 +25,16 @@ use Rattle.gpu_capture.proofs.Steps.{split, word_needed, took_says, on, at_word,
 
 -- ---- no word, and one more
 
--- where two readers say the same of every rest, no word lies between them
-pub words_none : (p q : Progress) (left : Option (List ℕ))
+-- where two readers stand at the same place and say the same of every rest, no word lies between them
+pub words_none : (p q : Progress) (left : Option (List ℕ)) → q.place ≡ p.place
     → ((rest : List ℕ) → capture_from p rest ≡ capture_from q rest)
     → TakesWords p q left left []
-words_none p q left same = record {
+words_none p q left at same = record {
   taken = [];
   bytes = prepended-nil left;
   needed = none;
   says = same;
+  place = omega (arith, at);
 }
   where
     none : (part more : List ℕ) → [] ≡ part ++ more → (more ≡ [] → ⊥) → IsCutWithin p [] part
@@ -50,7 +51,8 @@ events_on words word c =
     ap (λ (events : List Event). record c { events = events }) (sym e)
 
 module _ (p q r : Progress) (before mid now : Option (List ℕ)) (words : List ℕ) (word : ℕ)
-    (first : TakesWords p q before mid words) (next : Takes q r mid now (Gp0 word ∷ [])) where
+    (first : TakesWords p q before mid words) (next : Takes q r mid now (Gp0 word ∷ []))
+    (at : r.place ≡ q.place + 4) where
   longer : length words < length (words ++ word ∷ [])
   longer = let e = length-append words (word ∷ []) in omega (arith, e)
 
@@ -87,6 +89,7 @@ module _ (p q r : Progress) (before mid now : Option (List ℕ)) (words : List �
     needed = cut_on;
     says = λ rest. ap (capture_from p) (append_assoc first.taken next.taken rest) ∙ first.says (next.taken ++ rest)
         ∙ ap (then_events (word_events words)) (next.says rest) ∙ events_on words word (capture_from r rest);
+    place = let was = first.place in let long = length-append words (word ∷ []) in omega (arith, was, at, long);
   }
 
 -- ---- a word of an open record
@@ -137,7 +140,7 @@ module _ (p : Progress) (most : ℕ) (may : MayTake p most) where
       ∙ sym (behind_say p 0 rest may.started)
 
   pub none_taken : (left : Option (List ℕ)) → TakesWords p (behind_words p 0) left left []
-  none_taken left = words_none p (behind_words p 0) left same_none
+  none_taken left = words_none p (behind_words p 0) left (omega arith) same_none
 
   module _ (count word : ℕ) (lt : count < most) where
     less : count < gp0_left p.due

@@ -26,13 +26,15 @@ pub record IsCutWithin (old : Progress) (words bytes : List ℕ) : Type 0 where
       ≡ then_events (word_events (take count words)) (ended version (Truncated byte) [])
 
 -- Words were taken, each of them an event: what the format says of their bytes and any rest is these events, and then
--- what it says of the rest from the new place on. No byte is one too many: a proper part of them gives fewer words.
+-- what it says of the rest from the new place on. No byte is one too many: a proper part of them gives fewer words. Each
+-- word has four bytes.
 pub record TakesWords (old new : Progress) (before now : Option (List ℕ)) (words : List ℕ) : Type 0 where
   pub taken : List ℕ
   pub bytes : before ≡ prepended taken now
   pub needed : (part more : List ℕ) → taken ≡ part ++ more → (more ≡ [] → ⊥) → IsCutWithin old words part
   pub says : (rest : List ℕ) →
       capture_from old (taken ++ rest) ≡ then_events (word_events words) (capture_from new rest)
+  pub place : new.place ≡ old.place + 4 * length words
 
 -- words were taken, and then the reader stopped behind them
 pub record StopsBehind (old new : Progress) (before now : Option (List ℕ)) (words : List ℕ) (stop : Stop) : Type 0 where

@@ -20,4 +20,6 @@ pub use head::head_among;
 pub use progress::Progress;
 pub use reader::EventReader;
 pub use record::Due;
-pub use write::{RECORD_MOST, head_bytes, record_bytes, write_end, write_event, write_start};
+pub use write::{
+    RECORD_MOST, head_bytes, record_bytes, word_record, write_end, write_event, write_start,
+};

@@ -43,6 +43,16 @@ pub fn record_bytes(event: &Event) -> ArrayVec<u8, RECORD_MOST>
     }
 }
 
+/// The record of a word that is written to GP0.
+#[tactic(auto, unfolding(crate::specs::Written::word_bytes))]
+pub fn word_record(word: u32) -> [u8; 8]
+    ensures { result ≡ spelled (Event.Gp0 word) }
+{
+    let [a, b, c, d] = bytes(tag(2, 1));
+    let [e, f, g, h] = bytes(word);
+    [a, b, c, d, e, f, g, h]
+}
+
 /// Writes the head of a capture of this version. After a failure a proper part of it was written.
 pub fn write_start<K: Sink>(sink: &mut K, version: u8) -> Result<(), Failed>
     requires { IsVersion version }

@@ -21,5 +21,5 @@ loop-i-preserved c = record {
       rw c.push.ensures.items
       (words_on p (behind_words p c.loop-i.i) (behind_words p (c.loop-i.i + 1)) _ _ _ c.loop-i.words.items
       c.read_u32.result (c.loop-i.invariant.takes now)
-      (word_taken p _ c.requires.may c.loop-i.i c.read_u32.result lt _ _ took));
+      (word_taken p _ c.requires.may c.loop-i.i c.read_u32.result lt _ _ took) (omega arith));
 }

@@ -3,4 +3,4 @@ use Rattle.gpu_capture.proofs.Words.{words_none}
 use Rattle.gpu_capture.proofs.block.WordBlock.take.Goals as goal
 
 pub returns-then-due-eq0-clause-takes : goal.returns-then-due-eq0-clause-takes
-returns-then-due-eq0-clause-takes g c = rw c.clear.ensures (words_none _ _ _ (λ rest. refl))
+returns-then-due-eq0-clause-takes g c = rw c.clear.ensures (words_none _ _ _ refl (λ rest. refl))
