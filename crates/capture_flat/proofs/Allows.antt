@@ -1,5 +1,6 @@
 -- Flat events can be written.
 use Rattle.std.proofs.Common.{◌<◌, ◌≤◌, ◌+◌, ◌++◌, ◌^◌, ℕ, zero, suc, List, [], ◌∷◌, map, replicate, flat_map, arith}
+use Rattle.std.proofs.Common.{slice_index}
 use Rattle.gpu_capture.specs.Written.{Allows, AllowsAll}
 use Rattle.gpu_capture.specs.declared.event.Event.{Event}
 use Rattle.gpu_capture.specs.declared.event.Event.TheVariants as event
@@ -42,6 +43,14 @@ words_allowed : (words : List ℕ) → AreWords words → AllowsAll 2 (map event
 words_allowed [] fit = tt
 words_allowed (word ∷ words) fit =
     (record { known = omega arith; event = tt; words = fit.0 }, words_allowed words fit.1)
+
+-- words of 32 bits
+pub words_fit : (words : List ℕ) → ((k : ℕ) → slice_index words k < 2 ^ 32) → AllowsAll 2 (map event.Gp0 words)
+words_fit words fit = words_allowed words (all_fit words fit)
+  where
+    all_fit : (words : List ℕ) → ((k : ℕ) → slice_index words k < 2 ^ 32) → AreWords words
+    all_fit [] fit = tt
+    all_fit (word ∷ words) fit = (fit 0, all_fit words (λ k. fit (suc k)))
 
 pub block_allowed : (ram : List ℕ) (block : Block) → ((address : ℕ) → word_at ram address < 2 ^ 32)
     → AllowsAll 2 (map event.Gp0 (block_words ram block))

@@ -97,7 +97,7 @@ pub follows_none : (first : Tale) → Follows first [] first []
 follows_none first =
     record { replays = λ more stop rest. refl; flats = λ more. refl; fresh = λ none. refl; allowed = tt }
 
-follows_on : (first tale next : Tale) (events flat : List Event) (given : Event) → Follows first events tale flat
+pub follows_on : (first tale next : Tale) (events flat : List Event) (given : Event) → Follows first events tale flat
     → after_event tale given ≡ Ok next
     → next.played ≡ next_number tale.played → AllowsAll 2 (flat_events tale.state given)
     → Follows first (events ++ given ∷ []) next (flat ++ flat_events tale.state given)
@@ -135,7 +135,7 @@ file_fits first version before now rig progress draft since was =
 
 -- ---- sums
 
-heard_on : (before mid now : List Reading) (told notes : List Note) → mid ≡ told_notes told before
+pub heard_on : (before mid now : List Reading) (told notes : List Note) → mid ≡ told_notes told before
     → now ≡ told_notes notes mid → now ≡ told_notes (told ++ notes) before
 heard_on before mid now told notes was took = took ∙ ap (told_notes notes) was ∙ sym (told-append told notes before)
 

@@ -1,5 +1,6 @@
 pub mod Alike
 pub mod Allows
+pub mod AtOnce
 pub mod Awaiting
 pub mod Controls
 pub mod Counts
@@ -9,5 +10,7 @@ pub mod Needed
 pub mod Output
 pub mod Passes
 pub mod Pieces
+pub mod PlayedWords
 pub mod Ports
+pub mod Putting
 pub mod Stopping

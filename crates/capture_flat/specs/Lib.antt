@@ -4,3 +4,4 @@ pub mod Laws
 pub mod OneEvent
 pub mod Out
 pub mod Passing
+pub mod Records

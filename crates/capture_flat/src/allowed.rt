@@ -1,5 +1,5 @@
 // The flat events of a work can be written: they hold words, and are known from version 2 on.
-ghost use Rattle.std.specs.Prelude.{map};
+ghost use Rattle.std.specs.Prelude.{◌<◌, ◌^◌, ℕ, map, slice_index};
 ghost use Rattle.gpu_capture.specs.Written.{AllowsAll};
 ghost use Rattle.gpu_capture.specs.declared.event.Event.TheVariants.{Gp0};
 ghost use Rattle.event_play.specs.Step.{words_of};
@@ -26,6 +26,20 @@ pub(crate) fn allowed(ram: &Ram, work: Work)
         Work::Clear { .. } => {}
         Work::Begin { .. } => {}
     }
+}
+
+/// Words can be written. It does nothing.
+pub(crate) fn slice_allowed(words: &[u32])
+    ensures { AllowsAll 2 (map Gp0 words.now) }
+{
+    words_fit(words);
+}
+
+// Each word has 32 bits. It does nothing.
+fn words_fit(words: &[u32])
+    ensures { (k : ℕ) → slice_index words.now k < 2 ^ 32 }
+{
+    let _ = words.len();
 }
 
 // The words of main memory and one that the processor writes can be written.

@@ -2,6 +2,7 @@
 #![tactic(auto)]
 
 mod allowed;
+mod block;
 mod count;
 mod ending;
 mod file;

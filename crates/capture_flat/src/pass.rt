@@ -14,7 +14,7 @@ ghost use Rattle.capture_flat.specs.Passing.{EndsWriting};
 use crate::allowed::allowed;
 use crate::count::count_work;
 use crate::ending::FlatEnding;
-use crate::file::Draft;
+use crate::file::{Draft, LIMIT};
 use crate::spell::spell_work;
 use dev_io::Sink;
 use event_play::{Rig, Work};
@@ -24,9 +24,6 @@ use gpu_taps::Listener;
 use ot_clear_dma::Ram;
 use std::sync::ledger::Ledger;
 use vram_store::Steps;
-
-/// A written file has no more bytes.
-const LIMIT: u32 = 1 << 30;
 
 /// Plays one event, and then puts its records behind the file so far. Where it has a fault, or its records are too
 /// many, nothing is put or written.

@@ -7,6 +7,7 @@ ghost use Rattle.event_play.specs.Step.{Machine};
 ghost use Rattle.event_play.specs.Streams.{streams};
 ghost use Rattle.capture_flat.specs.Passing.{EndsFlat, MayReadFault, MayWriteFault, IsEnding};
 
+use crate::block::{pass_words, words_at_once};
 use crate::ending::FlatEnding;
 use crate::file::{Draft, FlatFile};
 use crate::pass::pass_event;
@@ -14,7 +15,7 @@ use crate::stop::{end_behind, end_reading};
 use dev_io::{Sink, Source};
 use event_play::{Rig, write_at_pause};
 use gathered_out::Gathered;
-use gpu_capture::EventReader;
+use gpu_capture::{EventReader, WordBlock};
 use gpu_taps::Listener;
 use std::sync::ledger::Ledger;
 use vram_store::Steps;
@@ -23,8 +24,9 @@ use vram_store::Steps;
 const TALL_VERSION: u8 = 3;
 
 /// Plays a capture on a new rig, and writes the capture of its flat events: of version 3 where the capture's is 3, else
-/// of version 2. An event is played first, and then its records are judged and put behind those before. It takes no
-/// memory.
+/// of version 2. An event is played first, and then its records are judged and put behind those before. The words of a
+/// record that are at hand are played at once, as many as have records for which there is surely room, and then these are
+/// put, an event each. It takes no memory.
 ///
 /// Records are gathered, up to 4,096 bytes, and written together: where there is no room for one more, before a read
 /// that may have to wait, and before every ending. So a write that fails may show at a later event, and is still that
@@ -51,6 +53,7 @@ pub fn flat<S: Source, K: Sink, T: Listener, L: Ledger>(
     ensures read_faults { S.faults source.old ≤ S.faults source.new }
     ensures write_faults { K.faults out.old ≤ K.faults out.new }
 {
+    let mut block = WordBlock::new();
     let mut reader = EventReader::new();
     let mut next = reader.next(source);
     let version = reader.version();
@@ -67,6 +70,19 @@ pub fn flat<S: Source, K: Sink, T: Listener, L: Ledger>(
                 match write_at_pause(&reader, source, since, &mut draft.gathered, out) {
                     Ok(place) => since = place,
                     Err(event) => return FlatEnding::WriteFailed { event },
+                }
+                let most = words_at_once(&reader, source, since, draft.file.size);
+                let read = reader.words(source, most, &mut block);
+                let words = block.as_slice();
+                if let Err(event) = pass_words(rig, words, &mut draft, out, taps, steps) {
+                    return FlatEnding::WriteFailed { event };
+                }
+                if let Err(stop) = read {
+                    return end_reading(stop, &mut draft, rig.played(), out);
+                }
+                match write_at_pause(&reader, source, since, &mut draft.gathered, out) {
+                    Ok(place) => since = place,
+                    Err(lacking) => return FlatEnding::WriteFailed { event: lacking },
                 }
                 next = reader.next(source);
             }

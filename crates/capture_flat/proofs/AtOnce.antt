@@ -1,0 +1,247 @@
+-- Words that were read, played and put at once, an event each.
+use Rattle.std.proofs.Common.{◌≡◌, ◌≤◌, ◌<◌, ◌+◌, ◌*◌, ◌++◌, inr, ℕ, List, [], ◌∷◌, Option, Result, Ok, Err, OnOk, IfErr}
+use Rattle.std.proofs.Common.{length, refl, ap, sym, subst, ◌∙◌, append_assoc, append-nil, arith}
+use Rattle.dev_io.proofs.Parts.{taken_on}
+use Rattle.gathered_out.specs.Pieces.{Piece}
+use Rattle.gathered_out.specs.Puts.{BreaksWriting}
+use Rattle.gathered_out.proofs.Gathers.{gathers_more, gathers_off}
+use Rattle.gpu_capture.specs.Capture.{capture, limit}
+use Rattle.gpu_capture.specs.Reader.{AreNeeded as ReaderNeeds, capture_from}
+use Rattle.gpu_capture.specs.Words.{StopsBehind, TakesWords, word_events}
+use Rattle.gpu_capture.specs.Written.{AllowsAll}
+use Rattle.gpu_capture.specs.declared.event.Event.{Event}
+use Rattle.gpu_capture.specs.declared.event.Stop.{Stop}
+use Rattle.gpu_capture.specs.declared.progress.Progress.{Progress}
+use Rattle.gpu_capture.proofs.Versions.{version_from}
+use Rattle.gpu_taps.specs.Tally.{Reading}
+use Rattle.event_play.specs.Listing.{ArePut, PutsPieces}
+use Rattle.event_play.specs.OwnWords.{Tells}
+use Rattle.event_play.specs.PlayedWords.{after_words}
+use Rattle.event_play.specs.Replay.{Tale, Script, from_state, raised}
+use Rattle.event_play.specs.RigState.{RigState, Stands}
+use Rattle.event_play.specs.Step.{Machine}
+use Rattle.event_play.specs.Streams.{Streams, sink_with, streams, without_sink}
+use Rattle.event_play.specs.Told.{told_notes}
+use Rattle.event_play.proofs.Following.{ReadsTo, read_words}
+use Rattle.event_play.proofs.InARow.{words_are}
+use Rattle.capture_flat.specs.Out.{begun}
+use Rattle.capture_flat.specs.Passing.{EndsFlat, Way}
+use Rattle.capture_flat.specs.Records.{longer, record_pieces}
+use Rattle.capture_flat.specs.declared.ending.FlatEnding.TheVariants.{WriteFailed}
+use Rattle.capture_flat.specs.declared.file.Draft.{Draft}
+use Rattle.capture_flat.specs.declared.file.FlatFile.{FlatFile}
+use Rattle.capture_flat.proofs.Following.{Passes, few_behind, heard_on, spent_within}
+use Rattle.capture_flat.proofs.Lacking.{WasDue, due_more, lacks_records}
+use Rattle.capture_flat.proofs.PlayedWords.{more_cost, more_notes, same_played, same_state, words_follow, words_gathered}
+use Rattle.capture_flat.proofs.PlayedWords.{words_length, words_small}
+use Rattle.capture_flat.proofs.Stopping.{reading_ends}
+
+-- how many words were taken, whether or not the reader stopped behind them
+pub words_count : {Value : Type 0} (p q : Progress) (left after : Option (List ℕ)) (words : List ℕ)
+    (read : Result Value Stop) → OnOk read (TakesWords p q left after words)
+    → IfErr read (λ stop. StopsBehind p q left after words stop) → q.place ≡ p.place + 4 * length words
+words_count p q left after words (Ok v) takes behind = takes.place
+words_count p q left after words (Err stop) takes behind = behind.takes.place
+
+-- none is one too many of no bytes
+none_needed : (p : Progress) → ReaderNeeds p []
+none_needed p [] more is some = absurd (some (sym is))
+none_needed p (x ∷ part) more is some = absurd cc
+
+-- what is gathered behind some events could not be written
+pub passes_off : (start : Tale) (version : ℕ) (before now : Streams) (rig : RigState) (p : Progress) (draft : Draft)
+    (since : ℕ) → Passes (raised start version) version before now rig p draft since → p.place < since + 4096
+    → 1 ≤ p.version → version ≡ p.version → (held : Option (List ℕ)) (lacking : ℕ)
+    → BreaksWriting now.held held draft.gathered lacking
+    → EndsFlat start before (streams now.left held now.heard now.steps) rig (WriteFailed lacking)
+passes_off start version before now rig p draft since was near known same held lacking breaks =
+    let first = raised start version in
+    let way : Way = record {
+      version = version;
+      taken = was.taken;
+      events = was.events;
+      flat = was.flat;
+      tale = was.tale;
+    } in
+    let few = few_behind p was.events was.taken [] was.flushed since was.reading was.says was.since_is near
+    (none_needed p) in
+    lacks_records start before (streams now.left held now.heard now.steps) rig way was.flushed lacking was.bytes
+    was.follows (λ rest. (capture_from p rest, was.says rest, version_from p rest known ∙ sym same))
+    (gathers_off (WasDue first version was.events was.flushed was.taken) before.held
+    (begun version was.tale.played was.flat) now.held held draft.gathered lacking was.gathers breaks)
+    (rw (append-nil was.taken) at few) was.stands was.heard was.cost
+    (spent_within before.steps now.steps was.tale.cost was.tale.box_cost was.cost was.small)
+
+-- what was gathered may be out
+pub pieces_out : (first : Tale) (version : ℕ) (before : Streams) (left held now : Option (List ℕ))
+    (heard : List Reading) (steps : ℕ) (rig : RigState) (p : Progress) (file : FlatFile)
+    (gathered pieces new : List Piece) (since : ℕ)
+    → Passes first version before (streams left held heard steps) rig p
+    (record { file = file; gathered = gathered ++ pieces }) since
+    → ArePut pieces (sink_with held gathered) (sink_with now new)
+    → Passes first version before (streams left now heard steps) rig p (record { file = file; gathered = new }) since
+pieces_out first version before left held now heard steps rig p file gathered pieces new since was put = record {
+  taken = was.taken;
+  bytes = was.bytes;
+  events = was.events;
+  reading = was.reading;
+  says = was.says;
+  needed = was.needed;
+  tale = was.tale;
+  flat = was.flat;
+  follows = was.follows;
+  stands = was.stands;
+  version_is = was.version_is;
+  size_is = was.size_is;
+  fits = was.fits;
+  flushed = was.flushed;
+  behind = was.behind;
+  taken_is = was.taken_is;
+  since_is = was.since_is;
+  gathers = record {
+    mid = was.gathers.mid;
+    pieces = was.gathers.pieces;
+    out = put.out was.gathers.mid was.gathers.pieces was.gathers.out;
+    all_are = was.gathers.all_are;
+    parts = was.gathers.parts;
+  };
+  heard = was.heard;
+  cost = was.cost;
+  small = was.small;
+}
+
+-- ---- words that were taken and played: as if all their records were gathered yet
+
+module _ (start : Tale) (version : ℕ) (before : Streams) (left held : Option (List ℕ))
+    (heard heard_now : List Reading) (steps steps_now : ℕ) (was_rig rig : RigState) (p q : Progress) (draft : Draft)
+    (since : ℕ) (words : List ℕ)
+    (was : Passes (raised start version) version before (streams left held heard steps) was_rig p draft since)
+    (known : 1 ≤ p.version) (on : q.version ≡ p.version) (same : version ≡ p.version) (some : 1 ≤ was_rig.played)
+    (tells : (s : Machine) → Stands was_rig s → Tells (after_words (from_state s was_rig.played) words)
+    (without_sink heard steps) (without_sink heard_now steps_now) rig)
+    (allows : AllowsAll 2 (word_events words)) (fits : draft.file.size + 8 * length words + 4 ≤ limit) where
+  abbrev first : Tale
+  first = raised start version
+
+  abbrev next : Tale
+  next = after_words was.tale words
+
+  abbrev events : List Event
+  events = was.events ++ word_events words
+
+  -- the draft, with their records gathered
+  abbrev gathering : Draft
+  gathering = record {
+    file = longer draft.file (8 * length words);
+    gathered = draft.gathered ++ record_pieces was_rig.played words;
+  }
+
+  -- what the bytes say, by any machine
+  abbrev script : List ℕ → Script
+  script bytes = record { first = first; captured = capture bytes }
+
+  reads_before : ReadsTo script p was.tale was.taken was.events []
+  reads_before = record {
+    first = first;
+    version = p.version;
+    begins = λ rest. refl;
+    says = λ rest. rw (append-nil was.events) (was.says rest);
+    version_is = λ rest. version_from p rest known;
+    needed = rw (append-nil was.events) was.needed;
+    follows = record { replays = was.follows.replays };
+  }
+
+  reads_all : (after : Option (List ℕ)) (takes : TakesWords p q left after words)
+      → ReadsTo script q next (was.taken ++ takes.taken) events []
+  reads_all after takes = read_words script p q left after was.tale next was.taken words was.events reads_before takes
+      (record {
+        replays = λ more stop rest.
+            words_are was.tale words (record { version = 0; events = more; ending = stop; rest = rest });
+      })
+
+  counted : 1 ≤ was.tale.played
+  counted = let e = was.stands.played in omega (arith, e, some)
+
+  -- the rig and the taps, by the tale before them
+  told : Tells (after_words (from_state was.tale.state was.tale.played) words) (without_sink heard steps)
+      (without_sink heard_now steps_now) rig
+  told = rw was.stands.played (tells was.tale.state was.stands.state)
+
+  words_play : (after : Option (List ℕ)) → TakesWords p q left after words
+      → Passes first version before (streams after held heard_now steps_now) rig q gathering since
+  words_play after takes =
+      let reads = reads_all after takes in
+      let taken = was.taken ++ takes.taken in
+      let size_is = was.size_is in
+      let length_is = words_length version was.tale was.flat words counted in
+      let cost = was.cost in
+      let spent = told.cost in
+      let costs = more_cost was.tale words in
+      record {
+        taken = taken;
+        bytes = taken_on before.left left after was.taken takes.taken was.bytes takes.bytes;
+        events = events;
+        reading = inr (omega (arith, known, on));
+        says = λ rest. rw (append-nil events) at (reads.says rest);
+        needed = rw (append-nil events) at reads.needed;
+        tale = next;
+        flat = was.flat ++ word_events words;
+        follows = words_follow first was.tale was.events was.flat words was.follows allows;
+        stands = record {
+          state = rw (same_state was.tale words) told.stands.state;
+          played = same_played was.tale words ∙ told.stands.played;
+        };
+        version_is = was.version_is;
+        size_is = omega (arith, size_is, length_is);
+        fits = omega (arith, fits);
+        flushed = was.flushed;
+        behind = was.behind ++ takes.taken;
+        taken_is = ap (λ bs. bs ++ takes.taken) was.taken_is ∙ append_assoc was.flushed was.behind takes.taken;
+        since_is = was.since_is;
+        gathers = rw (← was.stands.played)
+            (words_gathered first version was.flushed was.behind takes.taken taken before.held held
+            (ap (λ bs. bs ++ takes.taken) was.taken_is) words was.tale was.events was.flat draft.gathered was.follows
+            allows counted (omega (arith, fits, size_is)) (rw was.taken_is at was.needed)
+            (gathers_more (WasDue first version was.events was.flushed was.taken)
+            (WasDue first version was.events was.flushed taken) before.held (begun version was.tale.played was.flat)
+            held draft.gathered
+            (due_more first version was.events [] was.events was.flushed was.taken takes.taken
+            (sym (append-nil was.events)))
+            was.gathers));
+        heard = heard_on before.heard heard heard_now was.tale.notes _ was.heard told.heard
+            ∙ ap (λ notes. told_notes notes before.heard) (sym (more_notes was.tale words));
+        cost = omega (arith, cost, spent, costs);
+        small = words_small was.tale words was.small;
+      }
+
+  -- ---- their records are put
+
+  module _ (is : Draft) (now : Option (List ℕ)) (file : is.file ≡ longer draft.file (8 * length words)) where
+    abbrev Puts : {Value : Type 0} → Result Value ℕ → Type 0
+    Puts result = PutsPieces (record_pieces was_rig.played words) (sink_with held draft.gathered)
+        (sink_with now is.gathered) result
+
+    -- all of them were
+    pub words_went : {Value : Type 0} (after : Option (List ℕ)) (v : Value) → Puts {Value = Value} (Ok v)
+        → TakesWords p q left after words
+        → Passes first version before (streams after now heard_now steps_now) rig q is since
+    words_went after v puts takes =
+        let P : FlatFile → Type 0 = λ f. Passes first version before (streams after now heard_now steps_now) rig q
+        (record { file = f; gathered = is.gathered }) since in
+        subst P (sym file)
+        (pieces_out first version before after held now heard_now steps_now rig q
+        (longer draft.file (8 * length words)) draft.gathered (record_pieces was_rig.played words) is.gathered since
+        (words_play after takes) puts.ok)
+
+    -- one could not be put, whether or not the reader stopped behind them
+    pub words_fail : {Value Got : Type 0} (after : Option (List ℕ)) (lacking : ℕ) (read : Result Got Stop)
+        → Puts {Value = Value} (Err lacking) → OnOk read (TakesWords p q left after words)
+        → IfErr read (λ stop. StopsBehind p q left after words stop) → q.place < since + 4096 → version ≤ 3
+        → EndsFlat start before (streams after now heard_now steps_now) rig (WriteFailed lacking)
+    words_fail after lacking (Ok v) puts takes behind near low =
+        passes_off start version before (streams after held heard_now steps_now) rig q gathering since
+        (words_play after takes) near (omega (arith, known, on)) (same ∙ sym on) now lacking puts.failed
+    words_fail after lacking (Err stop) puts takes behind near low =
+        reading_ends start version before behind.left after held now heard_now steps_now rig q q gathering since
+        (words_play behind.left behind.takes) near (same ∙ sym on) rig.played stop (WriteFailed lacking) behind.stops
+        low refl (inr (lacking, refl, puts.failed))

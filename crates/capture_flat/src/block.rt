@@ -1,0 +1,93 @@
+// Words of an open record are played at once, an event each, and their flat records gathered.
+ghost use Rattle.std.specs.Prelude.{◌≡◌, ◌≤◌, ◌<◌, ◌+◌, ◌*◌, ◌^◌, length, map, OnErr};
+ghost use Rattle.dev_io.specs.Device.{Rose};
+ghost use Rattle.gpu_capture.specs.Words.{word_events};
+ghost use Rattle.gpu_capture.specs.Written.{AllowsAll};
+ghost use Rattle.event_play.specs.Listing.{PutsPieces};
+ghost use Rattle.event_play.specs.OwnWords.{Tells};
+ghost use Rattle.event_play.specs.PlayedWords.{after_words};
+ghost use Rattle.event_play.specs.Replay.{from_state};
+ghost use Rattle.event_play.specs.RigState.{Stands};
+ghost use Rattle.event_play.specs.Step.{Machine};
+ghost use Rattle.event_play.specs.Streams.{sink_with, without_sink};
+ghost use Rattle.capture_flat.specs.Records.{longer, record_pieces};
+
+use crate::allowed::slice_allowed;
+use crate::file::{Draft, LIMIT};
+use dev_io::{Sink, Source};
+use event_play::Rig;
+use gathered_out::Gathered;
+use gpu_capture::{EventReader, word_record};
+use gpu_taps::Listener;
+use std::sync::ledger::Ledger;
+use vram_store::Steps;
+
+/// How many words may be taken at once, where all was last written at this place of the reader and the file has so many
+/// bytes: those that are at hand, fewer than 4,096 bytes behind that place, and whose records surely fit.
+pub(crate) fn words_at_once<S: Source>(
+    reader: &EventReader,
+    source: &S,
+    since: u32,
+    size: u32,
+) -> usize
+    requires { size + 4 ≤ 2 ^ 30 }
+    ensures near { reader.now.progress.place < since + 4096 → reader.now.progress.place + 4 * result < since + 4096 }
+    ensures fits { size + 8 * result + 4 ≤ 2 ^ 30 }
+{
+    let near = since.saturating_add(4095).saturating_sub(reader.place()) / 4;
+    let fitting = (LIMIT - 4 - size) / 8;
+    (source.ready() / 4).min(near.min(fitting) as usize)
+}
+
+/// Plays words that are written to GP0, an event each, and puts their records behind the file so far, for all of which
+/// there is room. Where that fails, all of them are played all the same, and the answer is the number of the first event
+/// whose record lacks a byte.
+/// As with one event, playing touches the rig, the taps and the steps, and putting the file and the sink.
+pub(crate) fn pass_words<K: Sink, T: Listener, L: Ledger>(
+    rig: &mut Rig,
+    words: &[u32],
+    draft: &mut Draft,
+    out: &mut K,
+    taps: &mut Vec<T>,
+    steps: &mut Steps<L>,
+) -> Result<(), u64>
+    requires { draft.old.file.size + 8 * length words.now + 4 ≤ 2 ^ 30 }
+    ensures tells { (s : Machine) → Stands rig.old s → Tells (after_words (from_state s rig.old.played) words.now)
+        (without_sink (map T.heard taps.old.items) steps.old)
+        (without_sink (map T.heard taps.new.items) steps.new) rig.new }
+    ensures allowed { AllowsAll 2 (word_events words.now) }
+    ensures puts { PutsPieces (record_pieces rig.old.played words.now)
+        (sink_with (K.held out.old) draft.old.gathered) (sink_with (K.held out.new) draft.new.gathered) result }
+    ensures file { draft.new.file ≡ longer draft.old.file (8 * length words.now) }
+    ensures cause { OnErr result (Rose (K.faults out.old) (K.faults out.new)) }
+    ensures faults { K.faults out.old ≤ K.faults out.new }
+{
+    slice_allowed(words);
+    let played = rig.played();
+    rig.take_words(words, taps, steps);
+    draft.file.size += 8 * words.len() as u32;
+    put_words(played, words, &mut draft.gathered, out)
+}
+
+// Puts the records of words behind so many events, an event each. The answer to a failure is the number of the first
+// event whose record lacks a byte.
+fn put_words<K: Sink>(
+    played: u64,
+    words: &[u32],
+    gathered: &mut Gathered,
+    out: &mut K,
+) -> Result<(), u64>
+    ensures puts { PutsPieces (record_pieces played words.now)
+        (sink_with (K.held out.old) gathered.old) (sink_with (K.held out.new) gathered.new) result }
+    ensures cause { OnErr result (Rose (K.faults out.old) (K.faults out.new)) }
+    ensures faults { K.faults out.old ≤ K.faults out.new }
+{
+    let mut number = played;
+    for word in words {
+        number = number.saturating_add(1);
+        if let Err(lacking) = gathered.put(number, &word_record(*word), out) {
+            return Err(lacking);
+        }
+    }
+    Ok(())
+}
