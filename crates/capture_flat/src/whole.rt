@@ -25,8 +25,8 @@ const TALL_VERSION: u8 = 3;
 
 /// Plays a capture on a new rig, and writes the capture of its flat events: of version 3 where the capture's is 3, else
 /// of version 2. An event is played first, and then its records are judged and put behind those before. The words of a
-/// record that are at hand are played at once, as many as have records for which there is surely room, and then these are
-/// put, an event each. It takes no memory.
+/// record that are at hand are played at once, as many as have records for which there is surely room, and then these
+/// are put, an event each. It takes no memory.
 ///
 /// Records are gathered, up to 4,096 bytes, and written together: where there is no room for one more, before a read
 /// that may have to wait, and before every ending. So a write that fails may show at a later event, and is still that
