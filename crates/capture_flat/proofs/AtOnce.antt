@@ -1,12 +1,14 @@
 -- Words that were read, played and put at once, an event each.
-use Rattle.std.proofs.Common.{◌≡◌, ◌≤◌, ◌<◌, ◌+◌, ◌*◌, ◌++◌, inr, ℕ, List, [], ◌∷◌, Option, Result, Ok, Err, OnOk, IfErr}
-use Rattle.std.proofs.Common.{length, refl, ap, sym, subst, ◌∙◌, append_assoc, append-nil, arith}
+use Rattle.std.proofs.Common.{◌≡◌, ◌≤◌, ◌<◌, ◌+◌, ◌*◌, ◌++◌, inr, ℕ, List, [], ◌∷◌, Option, Result, Ok, Err, OnOk}
+use Rattle.std.proofs.Common.{IfErr}
+use Rattle.std.proofs.Common.{◌^◌, None, length, refl, ap, sym, subst, ◌∙◌, append_assoc, append-nil, arith}
 use Rattle.dev_io.proofs.Parts.{taken_on}
 use Rattle.gathered_out.specs.Pieces.{Piece}
 use Rattle.gathered_out.specs.Puts.{BreaksWriting}
 use Rattle.gathered_out.proofs.Gathers.{gathers_more, gathers_off}
 use Rattle.gpu_capture.specs.Capture.{capture, limit}
-use Rattle.gpu_capture.specs.Reader.{AreNeeded as ReaderNeeds, capture_from}
+use Rattle.gpu_capture.specs.Reader.{AreNeeded as ReaderNeeds, Takes, capture_from, work_left}
+use Rattle.gpu_capture.specs.State.{ReaderState}
 use Rattle.gpu_capture.specs.Words.{StopsBehind, TakesWords, word_events}
 use Rattle.gpu_capture.specs.Written.{AllowsAll}
 use Rattle.gpu_capture.specs.declared.event.Event.{Event}
@@ -16,24 +18,28 @@ use Rattle.gpu_capture.proofs.Versions.{version_from}
 use Rattle.gpu_taps.specs.Tally.{Reading}
 use Rattle.event_play.specs.Listing.{ArePut, PutsPieces}
 use Rattle.event_play.specs.OwnWords.{Tells}
+use Rattle.event_play.specs.Pausing.{Pauses}
 use Rattle.event_play.specs.PlayedWords.{after_words}
 use Rattle.event_play.specs.Replay.{Tale, Script, from_state, raised}
-use Rattle.event_play.specs.RigState.{RigState, Stands}
+use Rattle.event_play.specs.RigState.{RigState, Stands as RigStands}
 use Rattle.event_play.specs.Step.{Machine}
-use Rattle.event_play.specs.Streams.{Streams, sink_with, streams, without_sink}
+use Rattle.event_play.specs.Streams.{Outlets, Streams, sink_with, streams, without_sink}
 use Rattle.event_play.specs.Told.{told_notes}
 use Rattle.event_play.proofs.Following.{ReadsTo, read_words}
 use Rattle.event_play.proofs.InARow.{words_are}
+use Rattle.event_play.proofs.Reaching.{beside}
+use Rattle.capture_flat.specs.OneEvent.{PassesEvent, stage}
 use Rattle.capture_flat.specs.Out.{begun}
 use Rattle.capture_flat.specs.Passing.{EndsFlat, Way}
 use Rattle.capture_flat.specs.Records.{longer, record_pieces}
 use Rattle.capture_flat.specs.declared.ending.FlatEnding.TheVariants.{WriteFailed}
 use Rattle.capture_flat.specs.declared.file.Draft.{Draft}
 use Rattle.capture_flat.specs.declared.file.FlatFile.{FlatFile}
-use Rattle.capture_flat.proofs.Following.{Passes, few_behind, heard_on, spent_within}
+use Rattle.capture_flat.proofs.Awaiting.{Paused, pauses_on}
+use Rattle.capture_flat.proofs.Following.{Passes, few_behind, heard_on, passes_on, spent_within}
 use Rattle.capture_flat.proofs.Lacking.{WasDue, due_more, lacks_records}
-use Rattle.capture_flat.proofs.PlayedWords.{more_cost, more_notes, same_played, same_state, words_follow, words_gathered}
-use Rattle.capture_flat.proofs.PlayedWords.{words_length, words_small}
+use Rattle.capture_flat.proofs.PlayedWords.{more_cost, more_notes, same_played, same_state, words_follow}
+use Rattle.capture_flat.proofs.PlayedWords.{words_gathered, words_length, words_small}
 use Rattle.capture_flat.proofs.Stopping.{reading_ends}
 
 -- how many words were taken, whether or not the reader stopped behind them
@@ -110,14 +116,53 @@ pieces_out first version before left held now heard steps rig p file gathered pi
   small = was.small;
 }
 
+-- ---- behind an event, and behind the words that were taken at once, if some were
+
+-- playing goes on so
+pub record GoesOn (start : Tale) (version : ℕ) (before now : Streams) (rig : RigState) (progress : Progress)
+    (draft : Draft) (since : ℕ) : Type 0 where
+  pub paused : Paused (raised start version) version before now rig progress draft since
+  pub same : version ≡ progress.version
+  pub known : 1 ≤ progress.version
+
+-- the reader, the draft, the source and the sink are so, by the counts of faults
+pub record Keeps (version work : ℕ) (read_before read_now write_before write_now : ℕ) (reader : ReaderState)
+    (draft : Draft) : Type 0 where
+  pub running : reader.stop ≡ None
+  pub forward : work_left reader.progress ≤ work
+  pub few : draft.file.size + 4 ≤ 2 ^ 30
+  pub version_is : draft.file.version ≡ version
+  pub read_faults : read_before ≤ read_now
+  pub write_faults : write_before ≤ write_now
+
+-- an event was played and put, and then was a pause
+pub event_goes : (start : Tale) (version : ℕ) (before : Streams) (left_mid left : Option (List ℕ)) (mid now : Outlets)
+    (was_rig rig : RigState) (old new : Progress) (draft : Draft) (since : ℕ)
+    (was : Passes (raised start version) version before (beside left_mid mid) was_rig old draft since)
+    → old.place < since + 4096 → (given : Event) → Takes old new left_mid left (given ∷ []) → version ≡ new.version
+    → 1 ≤ new.version → (is last : Draft) (at : ℕ) (held : Option (List ℕ))
+    → PassesEvent was.tale given (stage draft mid was_rig) (stage is now rig) → last.file ≡ is.file
+    → Pauses new.place since is.gathered last.gathered now.held held at
+    → GoesOn start version before (streams left held now.heard now.steps) rig new last at
+event_goes start version before left_mid left mid now was_rig rig old new draft since was near given takes same known is
+    last at held passed file pauses = record {
+      paused = pauses_on (raised start version) version before (beside left now) rig new is last since at held known
+          file
+          (passes_on start version before left_mid left mid now was_rig rig old new draft since was near given takes
+          same known is passed) pauses;
+      same = same;
+      known = known;
+    }
+
 -- ---- words that were taken and played: as if all their records were gathered yet
 
 module _ (start : Tale) (version : ℕ) (before : Streams) (left held : Option (List ℕ))
     (heard heard_now : List Reading) (steps steps_now : ℕ) (was_rig rig : RigState) (p q : Progress) (draft : Draft)
     (since : ℕ) (words : List ℕ)
     (was : Passes (raised start version) version before (streams left held heard steps) was_rig p draft since)
-    (known : 1 ≤ p.version) (on : q.version ≡ p.version) (same : version ≡ p.version) (some : 1 ≤ was_rig.played)
-    (tells : (s : Machine) → Stands was_rig s → Tells (after_words (from_state s was_rig.played) words)
+    (started : 1 ≤ p.version) (version_is : version ≡ p.version) (on : q.version ≡ p.version)
+    (some : 1 ≤ was_rig.played)
+    (tells : (s : Machine) → RigStands was_rig s → Tells (after_words (from_state s was_rig.played) words)
     (without_sink heard steps) (without_sink heard_now steps_now) rig)
     (allows : AllowsAll 2 (word_events words)) (fits : draft.file.size + 8 * length words + 4 ≤ limit) where
   abbrev first : Tale
@@ -146,7 +191,7 @@ module _ (start : Tale) (version : ℕ) (before : Streams) (left held : Option (
     version = p.version;
     begins = λ rest. refl;
     says = λ rest. rw (append-nil was.events) (was.says rest);
-    version_is = λ rest. version_from p rest known;
+    version_is = λ rest. version_from p rest started;
     needed = rw (append-nil was.events) was.needed;
     follows = record { replays = was.follows.replays };
   }
@@ -158,6 +203,12 @@ module _ (start : Tale) (version : ℕ) (before : Streams) (left held : Option (
         replays = λ more stop rest.
             words_are was.tale words (record { version = 0; events = more; ending = stop; rest = rest });
       })
+
+  known : 1 ≤ q.version
+  known = rw on started
+
+  same : version ≡ q.version
+  same = version_is ∙ sym on
 
   counted : 1 ≤ was.tale.played
   counted = let e = was.stands.played in omega (arith, e, some)
@@ -181,7 +232,7 @@ module _ (start : Tale) (version : ℕ) (before : Streams) (left held : Option (
         taken = taken;
         bytes = taken_on before.left left after was.taken takes.taken was.bytes takes.bytes;
         events = events;
-        reading = inr (omega (arith, known, on));
+        reading = inr known;
         says = λ rest. rw (append-nil events) at (reads.says rest);
         needed = rw (append-nil events) at reads.needed;
         tale = next;
@@ -233,6 +284,18 @@ module _ (start : Tale) (version : ℕ) (before : Streams) (left held : Option (
         (longer draft.file (8 * length words)) draft.gathered (record_pieces was_rig.played words) is.gathered since
         (words_play after takes) puts.ok)
 
+    -- and then was a pause
+    pub words_go : {Value : Type 0} (after : Option (List ℕ)) (v : Value) → Puts {Value = Value} (Ok v)
+        → TakesWords p q left after words → (last : Draft) (at : ℕ) (written : Option (List ℕ)) → last.file ≡ is.file
+        → Pauses q.place since is.gathered last.gathered now written at
+        → GoesOn start version before (streams after written heard_now steps_now) rig q last at
+    words_go after v puts takes last at written same_file pauses = record {
+      paused = pauses_on first version before (streams after now heard_now steps_now) rig q is last since at written
+          known same_file (words_went after v puts takes) pauses;
+      same = same;
+      known = known;
+    }
+
     -- one could not be put, whether or not the reader stopped behind them
     pub words_fail : {Value Got : Type 0} (after : Option (List ℕ)) (lacking : ℕ) (read : Result Got Stop)
         → Puts {Value = Value} (Err lacking) → OnOk read (TakesWords p q left after words)
@@ -240,8 +303,8 @@ module _ (start : Tale) (version : ℕ) (before : Streams) (left held : Option (
         → EndsFlat start before (streams after now heard_now steps_now) rig (WriteFailed lacking)
     words_fail after lacking (Ok v) puts takes behind near low =
         passes_off start version before (streams after held heard_now steps_now) rig q gathering since
-        (words_play after takes) near (omega (arith, known, on)) (same ∙ sym on) now lacking puts.failed
+        (words_play after takes) near known same now lacking puts.failed
     words_fail after lacking (Err stop) puts takes behind near low =
         reading_ends start version before behind.left after held now heard_now steps_now rig q q gathering since
-        (words_play behind.left behind.takes) near (same ∙ sym on) rig.played stop (WriteFailed lacking) behind.stops
+        (words_play behind.left behind.takes) near same rig.played stop (WriteFailed lacking) behind.stops
         low refl (inr (lacking, refl, puts.failed))

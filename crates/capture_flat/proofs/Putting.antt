@@ -1,5 +1,6 @@
 -- Records of words that are put, one after another.
-use Rattle.std.proofs.Common.{◌≡◌, ◌<◌, ◌+◌, ◌++◌, ℕ, List, [], ◌∷◌, Option, Result, Ok, Err, drop, length, slice_index, ap, sym, ◌∙◌}
+use Rattle.std.proofs.Common.{◌≡◌, ◌<◌, ◌+◌, ◌++◌, ℕ, List, [], ◌∷◌, Option, Result, Ok, Err, drop, length}
+use Rattle.std.proofs.Common.{slice_index, ap, sym, ◌∙◌}
 use Rattle.std.proofs.Common.{append_assoc, subst}
 use Rattle.std.proofs.lemmas.List.{drop_more}
 use Rattle.gathered_out.specs.Pieces.{AreOut, Piece, piece}

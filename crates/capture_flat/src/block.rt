@@ -22,8 +22,9 @@ use gpu_taps::Listener;
 use std::sync::ledger::Ledger;
 use vram_store::Steps;
 
-/// How many words may be taken at once, where all was last written at this place of the reader and the file has so many
-/// bytes: those that are at hand, fewer than 4,096 bytes behind that place, and whose records surely fit.
+/// How many words of an open record may be taken at once, where all was last written at this place of the reader and
+/// the file has so many bytes: those that are left and at hand, fewer than 4,096 bytes behind that place, and whose
+/// records surely fit.
 pub(crate) fn words_at_once<S: Source>(
     reader: &EventReader,
     source: &S,
@@ -36,12 +37,13 @@ pub(crate) fn words_at_once<S: Source>(
 {
     let near = since.saturating_add(4095).saturating_sub(reader.place()) / 4;
     let fitting = (LIMIT - 4 - size) / 8;
-    (source.ready() / 4).min(near.min(fitting) as usize)
+    let due = reader.words_left().min(near).min(fitting);
+    (source.ready() / 4).min(due as usize)
 }
 
 /// Plays words that are written to GP0, an event each, and puts their records behind the file so far, for all of which
-/// there is room. Where that fails, all of them are played all the same, and the answer is the number of the first event
-/// whose record lacks a byte.
+/// there is room. Where that fails, all of them are played all the same, and the answer is the number of the first
+/// event whose record lacks a byte.
 /// As with one event, playing touches the rig, the taps and the steps, and putting the file and the sink.
 pub(crate) fn pass_words<K: Sink, T: Listener, L: Ledger>(
     rig: &mut Rig,

@@ -72,17 +72,19 @@ pub fn flat<S: Source, K: Sink, T: Listener, L: Ledger>(
                     Err(event) => return FlatEnding::WriteFailed { event },
                 }
                 let most = words_at_once(&reader, source, since, draft.file.size);
-                let read = reader.words(source, most, &mut block);
-                let words = block.as_slice();
-                if let Err(event) = pass_words(rig, words, &mut draft, out, taps, steps) {
-                    return FlatEnding::WriteFailed { event };
-                }
-                if let Err(stop) = read {
-                    return end_reading(stop, &mut draft, rig.played(), out);
-                }
-                match write_at_pause(&reader, source, since, &mut draft.gathered, out) {
-                    Ok(place) => since = place,
-                    Err(lacking) => return FlatEnding::WriteFailed { event: lacking },
+                if most > 0 {
+                    let read = reader.words(source, most, &mut block);
+                    let words = block.as_slice();
+                    if let Err(event) = pass_words(rig, words, &mut draft, out, taps, steps) {
+                        return FlatEnding::WriteFailed { event };
+                    }
+                    if let Err(stop) = read {
+                        return end_reading(stop, &mut draft, rig.played(), out);
+                    }
+                    match write_at_pause(&reader, source, since, &mut draft.gathered, out) {
+                        Ok(place) => since = place,
+                        Err(lacking) => return FlatEnding::WriteFailed { event: lacking },
+                    }
                 }
                 next = reader.next(source);
             }

@@ -97,7 +97,7 @@ fn words_at_once(progress: &Progress) -> usize
 }
 
 /// How many words are left of an open Gp0 record.
-fn gp0_left(due: Due) -> u32
+pub(crate) fn gp0_left(due: Due) -> u32
     ensures { result ≡ gp0_left due }
 {
     match due {

@@ -6,9 +6,9 @@ ghost use Rattle.gpu_capture.specs.Record.{IsEvent};
 ghost use Rattle.gpu_capture.specs.Reader.{StopsAt, Takes, IsReadFault, IsStart, work_left, tag_due};
 ghost use Rattle.gpu_capture.specs.Capture.{IsVersion};
 ghost use Rattle.gpu_capture.specs.State.{ReaderState};
-ghost use Rattle.gpu_capture.specs.Words.{TakesWords, StopsBehind};
+ghost use Rattle.gpu_capture.specs.Words.{TakesWords, StopsBehind, gp0_left};
 
-use crate::block::WordBlock;
+use crate::block::{WordBlock, gp0_left};
 use crate::event::{Event, Stop};
 use crate::progress::{Progress, advance, at_tag};
 use crate::record::Due;
@@ -89,6 +89,13 @@ impl EventReader {
         ensures { result ≡ self.now.progress.place }
     {
         self.progress.place
+    }
+
+    /// How many words are left of an open Gp0 record. None are left where no such record is open.
+    pub fn words_left(&self) -> u32
+        ensures { result ≡ gp0_left self.now.progress.due }
+    {
+        gp0_left(self.progress.due)
     }
 
     /// Whether what is gathered for a sink should be written before the next event is asked for: since the source may
