@@ -1,6 +1,9 @@
 -- Triangles with a texture, made ready for their rows.
 use Rattle.std.specs.Prelude.{ℕ, ◌≡◌, List}
+use Rattle.edge_walk.specs.Triangle.{Corners}
+use Rattle.texel_lanes.specs.declared.texture.Texture.{Texture}
 use Rattle.span_lanes.specs.declared.sheet.Sheet.{Sheet}
+use Rattle.span_lanes.specs.declared.span.Brush.{Brush}
 use Rattle.span_lanes.specs.declared.span.Paint.TheVariants.{TexturedTri}
 use Rattle.span_lanes.specs.declared.span.Span.{Span}
 use Rattle.span_lanes.specs.Draws.{CanDraw}
@@ -16,6 +19,13 @@ pub record IsSheet (sheet : Sheet) : Type 0 where
 pub record IsSheetOf (ink : Ink) (sheet : Sheet) : Type 0 where
   pub paint : ink.paint ≡ TexturedTri sheet.tri sheet.texture
   pub brush : ink.brush ≡ sheet.brush
+  pub ready : IsSheet sheet
+
+-- a triangle, a texture and a brush are, made ready
+pub record IsSheetFor (corners : Corners) (t : Texture) (with : Brush) (sheet : Sheet) : Type 0 where
+  pub tri : sheet.tri ≡ corners
+  pub texture : sheet.texture ≡ t
+  pub brush : sheet.brush ≡ with
   pub ready : IsSheet sheet
 
 -- a span of a triangle can be drawn in video memory, reads nothing that it writes, and has another row than the

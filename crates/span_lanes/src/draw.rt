@@ -90,7 +90,7 @@ pub(crate) fn draw_beside_row<L: Ledger>(
     steps: &mut Steps<L>,
 )
     requires can { CanDrawSheet sheet.now span.now vram.old }
-    requires beside { IsBeside sheet.now }
+    requires beside { IsBeside sheet.now.tri sheet.now.texture }
     requires last { IsKept span.now.paint vram.old last.old }
     ensures drawn { DrawsSpan span.now 0 (at_stage vram.old steps.old) (at_stage vram.new steps.new) }
     ensures last { IsKept span.now.paint vram.new last.new }

@@ -1,18 +1,15 @@
 // The attributes of a triangle with their ramps, for the rows of a pen.
-ghost use Rattle.std.specs.Prelude.{◌+◌, ◌*◌};
-ghost use Rattle.edge_walk.specs.Triangle.{Corners};
-ghost use Rattle.span_lanes.specs.Pen.{AreSlopes, IsTintOf};
+ghost use Rattle.std.specs.Prelude.{◌≡◌, ◌+◌, ◌*◌};
+ghost use Rattle.edge_walk.specs.Held.{divisor_for};
 ghost use Rattle.span_lanes.specs.Ramped.{AreColorsOf, AreRampedColors, AreRampedSlopes, AreSlopesOf};
-ghost use Rattle.span_lanes.specs.declared.tint.Tint.TheVariants.{Planes};
 
 use crate::colors::Colors;
 use crate::hued::Hued;
 use crate::part::Part;
 use crate::placed::{Placed, placed_indexes, placed_texels};
 use crate::sampler::{Indexed, Sampler};
-use crate::slopes::Slopes;
 use crate::{Span, Texture};
-use edge_walk::{Plane, RampedPlane};
+use edge_walk::{Divisor, RampedPlane, Tri};
 use std::simd::prelude::*;
 use std::sync::ledger::Ledger;
 use texel_lanes::Coordinates;
@@ -40,24 +37,41 @@ pub(crate) struct Mix {
     pub(crate) colors: RampedColors,
 }
 
+// The coordinates of a triangle.
 #[inline(always)]
-pub(crate) fn ramped_slopes(slopes: &Slopes) -> RampedSlopes
-    ensures { (tri : Corners) → AreSlopes tri slopes.now → AreRampedSlopes tri result }
+pub(crate) fn tri_ramped_slopes(tri: &Tri, divisor: &Divisor) -> RampedSlopes
+    requires divisor { divisor.now ≡ divisor_for tri.now }
+    ensures { AreRampedSlopes tri.now result }
 {
     RampedSlopes {
-        u: RampedPlane::of(&slopes.u),
-        v: RampedPlane::of(&slopes.v),
+        u: RampedPlane::of(&tri.plane(3, divisor)),
+        v: RampedPlane::of(&tri.plane(4, divisor)),
     }
 }
 
-#[inline(always)]
-pub(crate) fn ramped_colors(red: &Plane, green: &Plane, blue: &Plane) -> RampedColors
-    ensures { (tri : Corners) → IsTintOf tri (Planes red.now green.now blue.now) → AreRampedColors tri result }
+// Its channels.
+#[inline(never)]
+fn tri_ramped_colors(tri: &Tri, divisor: &Divisor) -> RampedColors
+    requires divisor { divisor.now ≡ divisor_for tri.now }
+    ensures { AreRampedColors tri.now result }
 {
     RampedColors {
-        red: RampedPlane::of(red),
-        green: RampedPlane::of(green),
-        blue: RampedPlane::of(blue),
+        red: RampedPlane::of(&tri.plane(0, divisor)),
+        green: RampedPlane::of(&tri.plane(1, divisor)),
+        blue: RampedPlane::of(&tri.plane(2, divisor)),
+    }
+}
+
+// Both.
+#[inline(always)]
+pub(crate) fn tri_mix(tri: &Tri, divisor: &Divisor) -> Mix
+    requires divisor { divisor.now ≡ divisor_for tri.now }
+    ensures slopes { AreRampedSlopes tri.now result.slopes }
+    ensures colors { AreRampedColors tri.now result.colors }
+{
+    Mix {
+        slopes: tri_ramped_slopes(tri, divisor),
+        colors: tri_ramped_colors(tri, divisor),
     }
 }
 

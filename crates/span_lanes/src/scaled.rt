@@ -1,19 +1,16 @@
 // Rows of one colour by the coordinates of their texels, which read nothing that they write.
-ghost use Rattle.std.specs.Prelude.{◌≡◌};
 ghost use Rattle.span_lanes.specs.declared.hues.Hues.TheVariants.{One};
-ghost use Rattle.span_lanes.specs.declared.tint.Tint.TheVariants.{Plain};
 ghost use Rattle.span_lanes.specs.Draws.{DrawsSpan, at_stage};
 ghost use Rattle.span_lanes.specs.Hues.{AreHues};
+ghost use Rattle.span_lanes.specs.Guard.{IsInOtherRow};
 ghost use Rattle.span_lanes.specs.Kept.{CanTake};
 ghost use Rattle.span_lanes.specs.Ramped.{AreSlopesOf};
-ghost use Rattle.span_lanes.specs.Sheet.{CanDrawSheet};
 ghost use Rattle.span_lanes.specs.Swatches.{IsKept, SuitsPalette};
 
 use crate::hues::Hues;
 use crate::loops::draw_parts;
 use crate::ramped::RampedSlopes;
 use crate::shading::shading_of;
-use crate::sheet::Sheet;
 use crate::strip::suits_strip;
 use crate::swatches::{Swatches, swatches_of};
 use crate::texels::{Kept, Shaded};
@@ -75,20 +72,19 @@ fn draw_kept<L: Ledger>(
 pub(crate) fn draw_scaled<L: Ledger>(
     vram: &mut Vram,
     span: &Span,
-    sheet: &Sheet,
+    texture: &Texture,
     color: u32,
     slopes: &RampedSlopes,
     last: &mut Option<Swatches>,
     steps: &mut Steps<L>,
 )
-    requires can { CanDrawSheet sheet.now span.now vram.old }
-    requires slopes { AreSlopesOf span.now.paint slopes.now }
-    requires one { sheet.now.tint ≡ Plain color }
+    requires take { CanTake span.now texture.now (AreSlopesOf span.now.paint slopes.now) vram.old }
+    requires palette { IsInOtherRow texture.now span.now.y }
+    requires hue { AreHues span.now.paint span.now.x span.now.y span.now.n (One color) }
     requires last { IsKept span.now.paint vram.old last.old }
     ensures drawn { DrawsSpan span.now 0 (at_stage vram.old steps.old) (at_stage vram.new steps.new) }
     ensures last { IsKept span.now.paint vram.new last.new }
 {
-    let texture = &sheet.texture;
     if suits_strip(span, texture) {
         draw_kept(vram, span, texture, slopes, color, last, steps);
     } else {

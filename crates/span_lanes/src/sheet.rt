@@ -1,13 +1,13 @@
 // Triangles with a texture, made ready for their rows.
 ghost use Rattle.std.specs.Prelude.{◌≡◌};
-ghost use Rattle.span_lanes.specs.declared.span.Paint.TheVariants.{TexturedTri};
-ghost use Rattle.span_lanes.specs.Sheet.{IsSheetOf};
+ghost use Rattle.edge_walk.specs.Held.{divisor_for};
+ghost use Rattle.span_lanes.specs.Pen.{IsTintOf};
+ghost use Rattle.span_lanes.specs.Sheet.{IsSheetFor};
 
-use crate::ramped::{Mix, RampedSlopes};
 use crate::slopes::{Slopes, tri_slopes};
 use crate::tint::{Tint, tri_tint};
 use crate::{Brush, Texture};
-use edge_walk::Tri;
+use edge_walk::{Divisor, Tri};
 
 // What is one for all rows of a triangle.
 #[derive(Clone, Copy)]
@@ -19,31 +19,34 @@ pub(crate) struct Sheet {
     pub(crate) slopes: Slopes,
 }
 
-// How rows are drawn that read nothing that they write.
-#[derive(Clone, Copy)]
-pub(crate) enum Way {
-    // texels side by side, the palette coloured once, and pixels stored as they are
-    Strip { color: u32 },
-    // texels side by side
-    Beside,
-    // by the coordinates of each texel, under one colour
-    Scaled { color: u32, slopes: RampedSlopes },
-    // the same under several
-    Mixed { mix: Mix },
-}
-
 // A triangle made ready.
 #[inline(always)]
 pub(crate) fn sheet_of(tri: &Tri, texture: &Texture, brush: &Brush) -> Sheet
-    ensures ready { IsSheetOf (record { paint = TexturedTri tri.now texture.now; brush = brush.now }) result }
-    ensures texture { result.texture ≡ texture.now }
+    ensures { IsSheetFor tri.now texture.now brush.now result }
 {
     let divisor = tri.area_divisor();
+    let tint = tri_tint(tri, &divisor);
+    sheet_under(tri, texture, brush, tint, &divisor)
+}
+
+// One whose colours are known.
+#[inline(always)]
+pub(crate) fn sheet_under(
+    tri: &Tri,
+    texture: &Texture,
+    brush: &Brush,
+    tint: Tint,
+    divisor: &Divisor,
+) -> Sheet
+    requires tint { IsTintOf tri.now tint }
+    requires divisor { divisor.now ≡ divisor_for tri.now }
+    ensures { IsSheetFor tri.now texture.now brush.now result }
+{
     Sheet {
         tri: *tri,
         texture: *texture,
         brush: *brush,
-        tint: tri_tint(tri, &divisor),
-        slopes: tri_slopes(tri, &divisor),
+        tint,
+        slopes: tri_slopes(tri, divisor),
     }
 }

@@ -1,4 +1,8 @@
 // What a span is.
+ghost use Rattle.std.specs.Prelude.{◌≡◌};
+ghost use Rattle.span_lanes.specs.Pen.{ink_of};
+ghost use Rattle.span_lanes.specs.declared.span.Paint.TheVariants.{TexturedTri};
+
 use edge_walk::Tri;
 use texel_lanes::Texture;
 
@@ -63,4 +67,21 @@ pub struct Span {
     pub paint: Paint,
     /// How their pixels come to them.
     pub brush: Brush,
+}
+
+/// A span of a triangle that has no cells yet.
+#[inline(always)]
+pub(crate) fn no_cells(tri: &Tri, texture: &Texture, brush: &Brush) -> Span
+    ensures { ink_of result ≡ record { paint = TexturedTri tri.now texture.now; brush = brush.now } }
+{
+    Span {
+        x: 0,
+        y: 0,
+        n: 0,
+        paint: Paint::TexturedTri {
+            tri: *tri,
+            texture: *texture,
+        },
+        brush: *brush,
+    }
 }

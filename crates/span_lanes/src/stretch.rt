@@ -105,7 +105,7 @@ pub(crate) fn row_stretch(span: &Span, texture: &Texture, row: TexelRow) -> Opti
 pub(crate) fn place_row(span: &Span, sheet: &Sheet) -> Stretch
     requires span { IsSpan span.now }
     requires sheet { IsSheetOf (ink_of span.now) sheet.now }
-    requires beside { IsBeside sheet.now }
+    requires beside { IsBeside sheet.now.tri sheet.now.texture }
     ensures { IsStretch span.now sheet.now.texture result }
 {
     let u = value_of(&sheet.slopes.u, span.x, span.y);

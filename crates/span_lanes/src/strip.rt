@@ -89,8 +89,8 @@ pub(crate) fn draw_plain_strip<L: Ledger>(
     steps: &mut Steps<L>,
 )
     requires can { CanDrawSheet sheet.now span.now vram.old }
-    requires beside { IsBeside sheet.now }
-    requires plain { IsPlain sheet.now color }
+    requires beside { IsBeside sheet.now.tri sheet.now.texture }
+    requires plain { IsPlain sheet.now.tri sheet.now.texture sheet.now.brush color }
     requires last { IsKept span.now.paint vram.old last.old }
     ensures drawn { DrawsSpan span.now 0 (at_stage vram.old steps.old) (at_stage vram.new steps.new) }
     ensures last { IsKept span.now.paint vram.new last.new }

@@ -1,7 +1,8 @@
 // The colours of a paint.
-ghost use Rattle.std.specs.Prelude.{◌≡◌};
+ghost use Rattle.std.specs.Prelude.{◌≡◌, IfSome};
 ghost use Rattle.edge_walk.specs.Held.{divisor_for};
 ghost use Rattle.span_lanes.specs.Pen.{IsTintOf};
+ghost use Rattle.span_lanes.specs.declared.tint.Tint.TheVariants.{Plain};
 
 use edge_walk::{Divisor, Plane, Tri};
 
@@ -30,12 +31,20 @@ fn tri_planes(tri: &Tri, divisor: &Divisor) -> Tint
     }
 }
 
+// The colour of all cells of a triangle, where it is seen that they have one.
+#[inline(always)]
+pub(crate) fn one_color(tri: &Tri) -> Option<u32>
+    ensures { IfSome result (λ color. IsTintOf tri.now (Plain color)) }
+{
+    tri.one_color()
+}
+
 #[inline(always)]
 pub(crate) fn tri_tint(tri: &Tri, divisor: &Divisor) -> Tint
     requires divisor { divisor.now ≡ divisor_for tri.now }
     ensures { IsTintOf tri.now result }
 {
-    match tri.one_color() {
+    match one_color(tri) {
         Some(color) => Tint::Plain { color },
         None => tri_planes(tri, divisor),
     }

@@ -1,0 +1,16 @@
+use Rattle.span_lanes.specs.Pen.{ink_of}
+use Rattle.span_lanes.proofs.SheetLemmas.{can_draw_row}
+use Rattle.span_lanes.proofs.PartLemmas.{draws_cells}
+use Rattle.span_lanes.proofs.beside_pen.BesidePenBlockPen.draw.Goals as goal
+
+pub draw_beside_row-requires-clause-can : goal.draw_beside_row-requires-clause-can
+draw_beside_row-requires-clause-can g c =
+    let asked = c.requires in
+    let is = c.self.view_is in
+    can_draw_row _ _ _ _ c.self.invariant.ready c.self.invariant.apart (rw (← is) at asked.span)
+    (rw (← is) at asked.height) (rw (← is) at asked.block)
+
+pub returns-clause-drawn : goal.returns-clause-drawn
+returns-clause-drawn g c =
+    rw (← c.self.view_is)
+    (draws_cells (ink_of c.self.inside.span) c.args.x c.args.y c.args.n _ _ c.draw_beside_row.ensures.drawn)

@@ -1,0 +1,80 @@
+// A pen for rows of texels of four bits side by side, whose palette is coloured once.
+ghost use Rattle.span_lanes.specs.BlockPen.{Serves};
+ghost use Rattle.span_lanes.specs.declared.block_pen.Way.TheVariants.{Strip};
+ghost use Rattle.span_lanes.specs.declared.span.Paint.TheVariants.{TexturedTri};
+
+use crate::block_pen::BlockPen;
+use crate::sheet::{Sheet, sheet_under};
+use crate::span::no_cells;
+use crate::strip::draw_plain_strip;
+use crate::swatches::Swatches;
+use crate::tint::Tint;
+use crate::{Block, Brush, Span, Texture};
+use edge_walk::Tri;
+use std::marker::Model;
+use std::sync::ledger::Ledger;
+use vram_store::{Steps, Vram};
+
+/// Texels of four bits side by side under one colour: the palette is coloured once, and pixels are stored as they are.
+#[derive(Drop)]
+pub struct StripPen {
+    // the last span that was drawn; at first one of no cells
+    span: Span,
+    sheet: Sheet,
+    color: u32,
+    block: Block,
+    // the palette that was seen, and what the colour makes of it
+    last: Option<Swatches>,
+}
+
+impl Model for StripPen {
+    ghost use Rattle.span_lanes.specs.Frame.{Framed};
+    ghost use Rattle.span_lanes.specs.BlockPen.{IsStripPen, framed_of};
+
+    ghost Value = { Framed };
+
+    ghost view = { λ pen. framed_of pen.span pen.block pen.last };
+
+    ghost invariant = { λ pen. IsStripPen pen.span pen.sheet pen.color pen.block pen.last };
+}
+
+impl StripPen {
+    ghost use Rattle.std.specs.Prelude.{◌≡◌};
+    ghost use Rattle.span_lanes.specs.Frame.{framed_in};
+
+    /// A pen for a triangle, a texture and a brush in a block.
+    #[inline(always)]
+    pub fn new(tri: &Tri, texture: &Texture, brush: &Brush, block: &Block, color: u32) -> StripPen
+        requires { Serves tri.now texture.now brush.now block.now (Strip color) }
+        ensures { result ≡ framed_in (TexturedTri tri.now texture.now) brush.now block.now }
+    {
+        let divisor = tri.area_divisor();
+        StripPen {
+            span: no_cells(tri, texture, brush),
+            sheet: sheet_under(tri, texture, brush, Tint::Plain { color }, &divisor),
+            color,
+            block: *block,
+            last: None,
+        }
+    }
+}
+
+impl BlockPen for StripPen {
+    ghost framed = { λ pen. pen };
+
+    #[inline(always)]
+    #[tactic(auto, using(crate::proofs::SwatchLemmas::kept_of_fresh, crate::proofs::SwatchLemmas::fresh_of_kept))]
+    fn draw<L: Ledger>(&mut self, vram: &mut Vram, x: u16, y: u16, n: u16, steps: &mut Steps<L>) {
+        self.span.x = x;
+        self.span.y = y;
+        self.span.n = n;
+        draw_plain_strip(
+            vram,
+            &self.span,
+            &self.sheet,
+            self.color,
+            &mut self.last,
+            steps,
+        );
+    }
+}
