@@ -1,5 +1,6 @@
 pub mod Apart
 pub mod Areas
+pub mod Blocks
 pub mod Boxes
 pub mod Costs
 pub mod Draw

@@ -6,6 +6,7 @@
 #![tactic(auto)]
 
 mod area;
+mod blocks;
 mod boxes;
 mod coat;
 pub mod laws;

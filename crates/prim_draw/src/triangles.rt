@@ -22,7 +22,7 @@ use crate::style::Style;
 use edge_walk::{RowWalk, Tri};
 use gp1_status::Regs;
 use px_num::{Box2, Vertex};
-use span_lanes::{BlockPen, Paint, Pen};
+use span_lanes::{Paint, Pen};
 use std::marker::Model;
 use std::sync::ledger::Ledger;
 use vram_store::{Steps, Vram};
@@ -102,49 +102,6 @@ impl RowPen for Pen {
     ) {
         if let Some(run) = found {
             self.draw(vram, run.x, y, run.n, steps);
-        }
-    }
-}
-
-impl RowPen for BlockPen {
-    ghost use Rattle.span_lanes.specs.Pen.{IsFresh};
-    ghost use Rattle.prim_draw.specs.Walks.{LiesInBlock, coat_of_ink};
-
-    ghost coat = { λ pen. coat_of_ink pen.loaded.ink };
-
-    ghost reaches = { λ pen. LiesInBlock pen.block };
-
-    ghost ready = { λ pen. IsFresh pen.loaded };
-
-    #[inline(always)]
-    fn draw_run<L: Ledger>(
-        &mut self,
-        vram: &mut Vram,
-        found: Option<Run>,
-        y: u16,
-        steps: &mut Steps<L>,
-    ) {
-        if let Some(Run { x, n }) = found {
-            self.draw(vram, x, y, n, steps);
-        }
-    }
-}
-
-impl Coat {
-    // Draws the cells of a box that are inside of a triangle.
-    #[inline(always)]
-    fn draw_rows<L: Ledger>(&self, vram: &mut Vram, tri: &Tri, clip: &Box2, steps: &mut Steps<L>)
-        requires coat { IsCoat (height_of vram.old) self.now }
-        requires fits { FitsTriangle tri.now self.now.paint }
-        requires small { IsOnScreen 1024 clip.now }
-        requires clip { IsOnScreen (height_of vram.old) clip.now }
-        requires inside { LiesIn (bounding_box tri.now) clip.now }
-        ensures { DrawsRows self.now tri.now (block_of clip.now) (block_of clip.now).h
-            (record { m = vram.old; steps = steps.old }) (record { m = vram.new; steps = steps.new }) }
-    {
-        match BlockPen::new(&self.paint, &self.brush, &block_of(clip)) {
-            Some(pen) => draw_rows(vram, pen, tri, clip, steps),
-            None => draw_rows(vram, Pen::new(&self.paint, &self.brush), tri, clip, steps),
         }
     }
 }

@@ -1,6 +1,5 @@
 -- A paint and a brush for many spans.
 use Rattle.std.specs.Prelude.{ℕ, List, Option, None, IfSome, ◌≡◌, ◌≤◌, ◌+◌, length, pos, IsTrue}
-use Rattle.edge_walk.specs.Attribute.{IsUnscaled}
 use Rattle.edge_walk.specs.Plane.{IsPlane}
 use Rattle.edge_walk.specs.Triangle.{Corners, is_inside}
 use Rattle.span_lanes.specs.declared.slopes.Slopes.{Slopes}
@@ -61,11 +60,10 @@ IsTint (Shaded tri) tint = IsTintOf tri tint
 IsTint (TexturedTri tri texture) tint = IsTintOf tri tint
 IsTint (TexturedRow color texture u v flip) tint = tint ≡ Plain color
 
--- the texel coordinates of a triangle, and whether they are known to go from cell to cell as texels do
+-- the texel coordinates of a triangle
 pub record AreSlopes (tri : Corners) (slopes : Slopes) : Type 0 where
   pub u : IsPlane tri 3 slopes.u
   pub v : IsPlane tri 4 slopes.v
-  pub unscaled : IsTrue slopes.unscaled → IsUnscaled tri
 
 -- the halfword that all cells of one colour become, where there is one whatever they hold
 abbrev pub HasHalfword : Paint → Brush → Option ℕ → Type 0

@@ -13,8 +13,6 @@ use edge_walk::{Divisor, Plane, Tri};
 pub(crate) struct Slopes {
     pub(crate) u: Plane,
     pub(crate) v: Plane,
-    // whether it is known that u rises by one from cell to cell of each row, and v stays
-    pub(crate) unscaled: bool,
 }
 
 #[inline(always)]
@@ -25,7 +23,6 @@ pub(crate) fn tri_slopes(tri: &Tri, divisor: &Divisor) -> Slopes
     Slopes {
         u: tri.plane(3, divisor),
         v: tri.plane(4, divisor),
-        unscaled: tri.is_unscaled(),
     }
 }
 

@@ -18,7 +18,7 @@ use crate::{Span, Texture};
 use std::simd::prelude::*;
 use std::sync::ledger::Ledger;
 use texel_lanes::{
-    AllAtOnce, entries_at, gather_entries, sixteen_entries, sixteen_indexes, sixteen_octets,
+    OneByOne, entries_at, gather_entries, sixteen_entries, sixteen_indexes, sixteen_octets,
     table_of,
 };
 use texture_page::texel_cell;
@@ -164,7 +164,7 @@ impl Sampler for Eights {
     ) -> u16x16 {
         let Stretch { u, y } = self.stretch;
         let index = sixteen_octets(vram, texture.page.x, u + part.first, y, steps);
-        gather_entries::<AllAtOnce, L>(vram, texture.clut, index, part.k, steps)
+        gather_entries::<OneByOne, L>(vram, texture.clut, index, part.k, steps)
     }
 }
 

@@ -42,8 +42,8 @@ pub fn sixteen_entries<L: Ledger>(vram: &Vram, clut: u16, steps: &mut Steps<L>) 
     vram.load16(clut % 64 * 16, clut_row(clut), 16, steps)
 }
 
-/// The entries of a palette by their indexes: compiled apart, so that loops over chunks stay small.
-#[inline(never)]
+/// The entries of a palette by their indexes.
+#[inline(always)]
 pub fn gather_entries<G: Gather, L: Ledger>(
     vram: &Vram,
     clut: u16,

@@ -1,12 +1,12 @@
 use Rattle.std.proofs.Common.{◌∙◌}
 use Rattle.prim_draw.specs.Walks.{coat_of_ink}
 use Rattle.prim_draw.proofs.RowLemmas.{span_of_row, span_pixels}
-use Rattle.prim_draw.proofs.triangles.BlockPenRowPen.draw_run.Goals as goal
+use Rattle.prim_draw.proofs.blocks.InBlockRowPen.draw_run.Goals as goal
 
 pub returns-in-Some-clause-drawn : goal.returns-in-Some-clause-drawn
 returns-in-Some-clause-drawn g c =
     let run = c.in-Some.field-0 in
-    let coat = coat_of_ink c.args.self.now.loaded.ink in
+    let coat = coat_of_ink (g.P.BlockPen.framed c.args.self.now.pen).loaded.ink in
     let can = rw c.in-Some.is at c.requires.run in
     let drawn = c.draw.ensures.drawn in
     record {
