@@ -1,2 +1,3 @@
 pub mod BiasLemmas
+pub mod MeanLemmas
 pub mod Offsets

@@ -8,6 +8,7 @@
 
 mod lanes;
 pub mod laws;
+mod mean;
 mod pixel;
 mod wide;
 

@@ -5,6 +5,7 @@ ghost use Rattle.px_num.specs.Lanes.{EachLane};
 ghost use Rattle.blend_dither.specs.Color.{IsShift, tone_of, packed, modulated_of, blended_of, blended_channel};
 
 use crate::lanes::{biased, low5};
+use crate::mean::mean_lanes;
 use px_num::lanes::{add, mul, shifted_down, smaller, splat, sub_or_zero};
 use std::simd::prelude::*;
 
@@ -75,6 +76,22 @@ pub fn modulate_lanes(
 
 /// [`blend`](crate::blend) in each lane.
 pub fn blend_lanes(mode: u8, back: u16x16, front: u16x16) -> u16x16
+    requires mode { mode ≤ 3 }
+    requires long { (length back ≡ 16) × (length front ≡ 16) }
+    ensures long { length result ≡ 16 }
+    ensures value { EachLane (λ i. slice_index result i
+        ≡ blended_of mode (slice_index back i) (slice_index front i)) }
+    ensures low { EachLane (λ i. slice_index result i < 2 ^ 15) }
+{
+    if mode == 0 {
+        mean_lanes(back, front)
+    } else {
+        blended_channels(mode, back, front)
+    }
+}
+
+// The same, channel by channel.
+fn blended_channels(mode: u8, back: u16x16, front: u16x16) -> u16x16
     requires mode { mode ≤ 3 }
     requires long { (length back ≡ 16) × (length front ≡ 16) }
     ensures long { length result ≡ 16 }
