@@ -6,12 +6,12 @@
 //
 // - `Solid`, in `draw_ready` and `draw_solid`: all cells become one halfword, and nothing is read. [triangle flat]
 // - `Toned`, in `draw_one`: one colour that is blended, tested or dithered; its channels are known. [rectangle B+F]
-// - `Toned`, in `draw_lines`: colours along the row, three lines a part. [triangle gouraud]
-// - `Kept<Stretch>`, in `BlockPen::draw`: a palette coloured once, as it is; it stands in the loop over the rows.
+// - `Toned`, two in `draw_lines`: colours along the row, three lines a part, as it is or not. [triangle gouraud]
+// - `Kept<Stretch>`, in `StripPen::draw`: a palette coloured once, as it is; it stands in the loop over the rows.
 //   [triangle 4-bit modulated]
-// - `Kept<Track>` and `Shaded<Track>`, in `draw_plain` of scaled.rt: by the coordinates of each texel under one colour,
-//   apart from what is written. No line belongs to them.
-// - `Shaded<Track>`, in `draw_mixed` of scaled.rt: the same under several. [triangle turned, gouraud, dithered, half]
+// - `Kept<&RampedSlopes>` and `Shaded<&RampedSlopes>`, in `draw_scaled`: by the coordinates of each texel under one
+//   colour, apart from what is written. No line belongs to them.
+// - `Mixed`, in `draw_mixed`: the same under several. [triangle turned, gouraud, dithered, half]
 // - `Kept<Stretch>`, four in `draw_strip`: the same of other spans, raw or not, as it is or not: two look-ups or four.
 // - `Raw<Fours>`, `Raw<Eights>`, `Raw<Wholes>`, each as it is or not, in `draw_raw`: texels side by side without a
 //   colour. [triangle 15-bit raw]

@@ -1,7 +1,8 @@
 // Spans without a texture, part by part.
 ghost use Rattle.std.specs.Prelude.{◌≡◌, None};
 ghost use Rattle.span_lanes.specs.Draws.{CanDraw, DrawsSpan, at_stage};
-ghost use Rattle.span_lanes.specs.Shade.{texture_of};
+ghost use Rattle.span_lanes.specs.Lanes.{AreShiftsAt};
+ghost use Rattle.span_lanes.specs.Shade.{IsSpan, texture_of};
 ghost use Rattle.span_lanes.specs.declared.hues.Hues.TheVariants.{One, Lines};
 ghost use Rattle.span_lanes.specs.Pen.{IsTint};
 ghost use Rattle.span_lanes.specs.Hues.{AreHues};
@@ -9,7 +10,7 @@ ghost use Rattle.span_lanes.specs.Hues.{AreHues};
 use crate::Span;
 use crate::colors::{Shifts, shifts_of};
 use crate::hues::{Hues, hues_of};
-use crate::loops::{Chunks, draw_parts};
+use crate::loops::{Chunks, draw_by_brush, draw_parts};
 use crate::part::Part;
 use crate::plain::collect_plain;
 use crate::store::store_part;
@@ -43,14 +44,15 @@ impl Chunks for Toned {
 
 // A span without a texture, by its colours.
 #[inline(always)]
-fn draw_hues<L: Ledger>(vram: &mut Vram, span: &Span, hues: Hues, steps: &mut Steps<L>)
-    requires can { CanDraw span.now vram.old }
-    requires plain { texture_of span.now.paint ≡ None }
-    requires hues { AreHues span.now.paint span.now.x span.now.y span.now.n hues }
-    ensures drawn { DrawsSpan span.now 0 (at_stage vram.old steps.old) (at_stage vram.new steps.new) }
+fn toned_by(span: &Span, hues: Hues) -> Toned
+    requires span { IsSpan span.now }
+    ensures hues { result.hues ≡ hues }
+    ensures shifts { AreShiftsAt span.now.brush.dither span.now.x span.now.y result.shifts.lanes }
 {
-    let shifts = shifts_of(span.brush.dither, span.x, span.y);
-    draw_parts(vram, span, &Toned { hues, shifts }, steps);
+    Toned {
+        hues,
+        shifts: shifts_of(span.brush.dither, span.x, span.y),
+    }
 }
 
 // A span of one colour.
@@ -61,7 +63,7 @@ fn draw_one<L: Ledger>(vram: &mut Vram, span: &Span, color: u32, steps: &mut Ste
     requires hues { AreHues span.now.paint span.now.x span.now.y span.now.n (One color) }
     ensures drawn { DrawsSpan span.now 0 (at_stage vram.old steps.old) (at_stage vram.new steps.new) }
 {
-    draw_hues(vram, span, Hues::One { color }, steps);
+    draw_parts(vram, span, &toned_by(span, Hues::One { color }), steps);
 }
 
 // A span of colours along the row.
@@ -79,7 +81,8 @@ fn draw_lines<L: Ledger>(
     requires hues { AreHues span.now.paint span.now.x span.now.y span.now.n (Lines red green blue) }
     ensures drawn { DrawsSpan span.now 0 (at_stage vram.old steps.old) (at_stage vram.new steps.new) }
 {
-    draw_hues(vram, span, Hues::Lines { red, green, blue }, steps);
+    let hues = Hues::Lines { red, green, blue };
+    draw_by_brush(vram, span, &toned_by(span, hues), steps);
 }
 
 // A span without a texture.
