@@ -96,33 +96,35 @@ impl Coat {
     {
         let block = block_of(clip);
         let brush = &self.brush;
-        let Some(
-            Blocked {
-                tri: own,
-                texture,
-                way,
-            },
-        ) = self.blocked(&block)
-        else {
-            let pen = Pen::new(&self.paint, brush);
-            return draw_rows(vram, pen, tri, clip, steps);
+        let Some(found) = self.blocked(&block) else {
+            let mut pen = Pen::new(&self.paint, brush);
+            return draw_rows(vram, &mut pen, tri, clip, steps);
         };
-        match way {
+        let (own, texture) = (found.tri, found.texture);
+        match found.way {
             Way::Strip { color } => {
-                let pen = StripPen::new(own, texture, brush, &block, color);
-                draw_rows(vram, InBlock { pen }, tri, clip, steps)
+                let mut pen = InBlock {
+                    pen: StripPen::new(own, texture, brush, &block, color),
+                };
+                draw_rows(vram, &mut pen, tri, clip, steps)
             }
             Way::Beside => {
-                let pen = BesidePen::new(own, texture, brush, &block);
-                draw_rows(vram, InBlock { pen }, tri, clip, steps)
+                let mut pen = InBlock {
+                    pen: BesidePen::new(own, texture, brush, &block),
+                };
+                draw_rows(vram, &mut pen, tri, clip, steps)
             }
             Way::Scaled { color } => {
-                let pen = ScaledPen::new(own, texture, brush, &block, color);
-                draw_rows(vram, InBlock { pen }, tri, clip, steps)
+                let mut pen = InBlock {
+                    pen: ScaledPen::new(own, texture, brush, &block, color),
+                };
+                draw_rows(vram, &mut pen, tri, clip, steps)
             }
             Way::Mixed => {
-                let pen = MixedPen::new(own, texture, brush, &block);
-                draw_rows(vram, InBlock { pen }, tri, clip, steps)
+                let mut pen = InBlock {
+                    pen: MixedPen::new(own, texture, brush, &block),
+                };
+                draw_rows(vram, &mut pen, tri, clip, steps)
             }
         }
     }

@@ -50,19 +50,19 @@ pub(crate) trait RowPen: Drop {
 /// Draws the cells of a box that are inside of a triangle.
 pub(crate) fn draw_rows<P: RowPen, L: Ledger>(
     vram: &mut Vram,
-    mut pen: P,
+    pen: &mut P,
     tri: &Tri,
     clip: &Box2,
     steps: &mut Steps<L>,
 )
-    requires coat { IsCoat (height_of vram.old) (P.coat pen) }
-    requires fits { FitsTriangle tri.now (P.coat pen).paint }
-    requires reaches { (y : ℕ) (run : Run) → LiesInBlock (block_of clip.now) y run → P.reaches pen y run }
-    requires ready { P.ready pen vram.old }
+    requires coat { IsCoat (height_of vram.old) (P.coat pen.old) }
+    requires fits { FitsTriangle tri.now (P.coat pen.old).paint }
+    requires reaches { (y : ℕ) (run : Run) → LiesInBlock (block_of clip.now) y run → P.reaches pen.old y run }
+    requires ready { P.ready pen.old vram.old }
     requires small { IsOnScreen 1024 clip.now }
     requires clip { IsOnScreen (height_of vram.old) clip.now }
     requires inside { LiesIn (bounding_box tri.now) clip.now }
-    ensures { DrawsRows (P.coat pen) tri.now (block_of clip.now) (block_of clip.now).h
+    ensures { DrawsRows (P.coat pen.old) tri.now (block_of clip.now) (block_of clip.now).h
         (record { m = vram.old; steps = steps.old }) (record { m = vram.new; steps = steps.new }) }
 {
     let block = block_of(clip);

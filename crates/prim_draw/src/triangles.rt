@@ -167,7 +167,7 @@ fn draw_inside<L: Ledger>(
         (record { m = vram.old; steps = steps.old }) (record { m = vram.new; steps = steps.new }) }
 {
     match solid_in(regs, style) {
-        Some(solid) => draw_rows(vram, solid, tri, clip, steps),
+        Some(mut solid) => draw_rows(vram, &mut solid, tri, clip, steps),
         None => coat_of(regs, style, tri).draw_rows(vram, tri, clip, steps),
     }
 }

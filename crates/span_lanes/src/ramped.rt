@@ -50,7 +50,7 @@ pub(crate) fn tri_ramped_slopes(tri: &Tri, divisor: &Divisor) -> RampedSlopes
 }
 
 // Its channels.
-#[inline(never)]
+#[inline(always)]
 fn tri_ramped_colors(tri: &Tri, divisor: &Divisor) -> RampedColors
     requires divisor { divisor.now ≡ divisor_for tri.now }
     ensures { AreRampedColors tri.now result }

@@ -24,7 +24,7 @@ loop-j-init g c = record {
 
 pub next_run-run-requires : goal.next_run-run-requires
 next_run-run-requires g c =
-    on_row (g.P.RowPen.coat c.args.pen) c.args.tri.now c.args.clip.now c.block_of-block.result c.requires.small
+    on_row (g.P.RowPen.coat c.args.pen.now) c.args.tri.now c.args.clip.now c.block_of-block.result c.requires.small
     c.block_of-block.ensures.value c.loop-j.j c.loop-j.rows c.loop-j-test.true c.loop-j.invariant.behind.stands
 
 pub draw_run-requires-clause-run : goal.draw_run-requires-clause-run
@@ -33,7 +33,7 @@ draw_run-requires-clause-run g c =
     let row = row_at _ _ _ _ _ c.requires.small c.block_of-block.ensures.value c.loop-j-test.true
     c.loop-j.invariant.behind.stands in
     subst (λ coat. IfSome c.next_run-run.result (CanDraw coat.paint y)) (sym c.loop-j.invariant.coat)
-    (can_draw c.args.tri.now (g.P.RowPen.coat c.args.pen).paint y c.next_run-run.result c.requires.fits
+    (can_draw c.args.tri.now (g.P.RowPen.coat c.args.pen.now).paint y c.next_run-run.result c.requires.fits
     (c.next_run-run.ensures.inside _ _ _ row))
 
 pub draw_run-requires-clause-reaches : goal.draw_run-requires-clause-reaches
