@@ -176,7 +176,7 @@ pub fn indexes_of<G: Gather, L: Ledger>(
     ensures indexes { AreIndexes texture.now at.now k vram.now result }
     ensures cost { steps.new ≤ steps.old + k }
 {
-    if k > HALF && are_beside(texture, at) {
+    if G::looks() && k > HALF && are_beside(texture, at) {
         beside_indexes(vram, texture, at, steps)
     } else {
         scattered_indexes::<G, L>(vram, texture, at, k, steps)

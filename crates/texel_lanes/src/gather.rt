@@ -10,6 +10,9 @@ use vram_store::{Steps, Vram};
 
 /// How the halfwords of k cells are read. What is known of k makes a text of its own of what reads texels by it.
 pub trait Gather {
+    /// Whether it pays to ask first if the cells stand side by side, or close by.
+    fn looks() -> bool;
+
     /// The first `k` lanes are the cells at these columns and rows, and the others mean nothing.
     fn gather<L: Ledger>(vram: &Vram, xs: u16x16, ys: u16x16, k: u8, steps: &mut Steps<L>) -> u16x16
         requires few { (1 ≤ k) × (k ≤ 16) }
@@ -32,6 +35,11 @@ pub struct AllAtOnce {}
 
 impl Gather for OneByOne {
     #[inline(always)]
+    fn looks() -> bool {
+        true
+    }
+
+    #[inline(always)]
     fn gather<L: Ledger>(
         vram: &Vram,
         xs: u16x16,
@@ -45,6 +53,11 @@ impl Gather for OneByOne {
 
 impl Gather for HalfAtOnce {
     #[inline(always)]
+    fn looks() -> bool {
+        false
+    }
+
+    #[inline(always)]
     fn gather<L: Ledger>(
         vram: &Vram,
         xs: u16x16,
@@ -57,6 +70,11 @@ impl Gather for HalfAtOnce {
 }
 
 impl Gather for AllAtOnce {
+    #[inline(always)]
+    fn looks() -> bool {
+        false
+    }
+
     #[inline(always)]
     fn gather<L: Ledger>(
         vram: &Vram,

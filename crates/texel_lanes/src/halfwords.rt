@@ -69,7 +69,7 @@ pub(crate) fn halfwords_of<G: Gather, L: Ledger>(
 {
     let x = xs.to_array()[0].min(xs.to_array()[15]);
     let y = ys.to_array()[0];
-    if k > HALF && stand_near(xs, ys, x, y) {
+    if G::looks() && k > HALF && stand_near(xs, ys, x, y) {
         near_halfwords(vram, xs, x, y, steps)
     } else {
         G::gather(vram, xs, ys, k, steps)

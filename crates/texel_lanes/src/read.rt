@@ -106,7 +106,7 @@ fn read_wholes<G: Gather, L: Ledger>(
     ensures value { AreTexels texture.now at.now k vram.now result }
     ensures cost { steps.new ≤ steps.old + k }
 {
-    if k > HALF && are_beside(texture, at) {
+    if G::looks() && k > HALF && are_beside(texture, at) {
         read_beside(vram, texture, at, k, steps)
     } else {
         read_scattered::<G, L>(vram, texture, at, k, steps)
