@@ -3,8 +3,9 @@ use Rattle.std.proofs.Common.{◌≡◌, ◌≤◌, ℕ, ◌+◌, List, [], Opti
 use Rattle.gpu_capture.specs.declared.event.Event.{Event}
 use Rattle.gpu_core.specs.Kept.{kept_of}
 use Rattle.gpu_core.specs.Machine.{State}
-use Rattle.event_play.specs.Does.{Does}
+use Rattle.event_play.specs.Does.{Does, setting}
 use Rattle.event_play.specs.Fed.{fed_notes}
+use Rattle.event_play.specs.Feeding.{in_event}
 use Rattle.event_play.specs.Lines.{lines_cost}
 use Rattle.event_play.specs.RigState.{RigState, Stands, machine_of}
 use Rattle.event_play.specs.Step.{Machine, Stepped, asked_words, event_step, event_cost, event_words, done}
@@ -68,13 +69,15 @@ only_stepped s number event shown before now rig did = record {
 module _ (mode : Mode) (was mid rig : RigState) (number counted : ℕ) (event : Event) (asked : Work) (shown : Option ℕ)
     (before now : Outlets)
     (is : Ok asked ≡ work_of was.ram was.running event) (same : mid ≡ rig)
-    (does : (s : State) → kept_of s ≡ was.gpu → Does mode (machine_of was s) number asked shown before now rig) where
+    (does : (s : State) → kept_of s ≡ was.gpu → (shown ≡ (done (machine_of was s) number asked).shown)
+    × Does (in_event number mode) (machine_of was s) asked before (setting now rig)) where
   pub has_done : (s : Machine) → Stands was s → HasDone mode s number event shown before now
       (record mid { played = counted })
   unfolding event_step event_cost
   has_done s stands =
       let counts : RigState = record mid { played = counted } in
-      let did = does s.gpu stands.gpu in
+      let did = (does s.gpu stands.gpu).1 in
+      let shows = (does s.gpu stands.gpu).0 in
       let m : Machine = machine_of was s.gpu in
       let after : Stepped = done m number asked in
       let at_rig : HasDone mode m number event shown before now counts = record {
@@ -83,7 +86,7 @@ module _ (mode : Mode) (was mid rig : RigState) (number counted : ℕ) (event : 
           machine = after.machine;
           notes = after.notes;
           is = rw (← is) (ap (λ x. Ok (record { machine = after.machine; shown = x; notes = after.notes }))
-              (sym did.shows));
+              (sym shows));
           stands = rw same (record { gpu = did.stands.gpu; ram = did.stands.ram; running = did.stands.running });
           heard = did.heard;
           cost = omega arith;

@@ -13,7 +13,7 @@ use Rattle.gpu_taps.specs.Tally.{Reading}
 use Rattle.px_num.specs.declared.shape.Cell.{Cell}
 use Rattle.packet_text.specs.Line.{listed}
 use Rattle.event_play.specs.Fed.{fed, fed_notes, fed_cost}
-use Rattle.event_play.specs.Feeding.{Feeds, StopsFeeding, FeedsWords, fed_lines, fed_lines_cost}
+use Rattle.event_play.specs.Feeding.{Feeds, StopsFeeding, FeedsWords, drawing, fed_lines, fed_lines_cost, in_event}
 use Rattle.event_play.specs.Lines.{IsGathered, lines_while, lines_cost}
 use Rattle.event_play.specs.Streams.{Outlets}
 use Rattle.event_play.specs.Strokes.{Stroke, stroke_of, fed_strokes, seen_cell, change_of}
@@ -76,7 +76,7 @@ fed_lines_cost-append mode s number xs ys =
 -- ---- no word, and one
 
 pub feeds_none : (mode : Mode) (s : State) (number : ℕ) (at : Outlets) (gpu : Kept) → kept_of s ≡ gpu
-    → Feeds mode s number [] at at gpu
+    → Feeds (in_event number mode) s [] at (drawing at gpu)
 feeds_none mode s number at gpu stands = record {
   stands = stands;
   heard = refl;
@@ -95,14 +95,14 @@ module _ (mode : Mode) (s : State) (number word : ℕ) (note : Option Note) (bef
   word_notes : fed_notes s number (word ∷ []) ≡ option_to_list note ++ []
   word_notes = ap (λ n. option_to_list n ++ []) noted
 
-  pub word_feeds : Feeds mode s number (word ∷ []) before now gpu
+  pub word_feeds : Feeds (in_event number mode) s (word ∷ []) before (drawing now gpu)
   word_feeds = record {
     stands = stands;
     heard = told ∙ told_one note before.heard ∙ ap (λ ns. told_notes ns before.heard) (sym word_notes);
     cost = omega (arith, cost);
   }
 
-  pub word_stops : StopsFeeding mode s number (word ∷ []) before now gpu
+  pub word_stops : StopsFeeding (in_event number mode) s (word ∷ []) before (drawing now gpu)
   word_stops = record {
     before = [];
     word = word;
@@ -141,7 +141,7 @@ pub quiet_feeds : (mode : Mode) (number word : ℕ) (note : Option Note) (before
     → ((s : State) → kept_of s ≡ was → gp0_note s number word ≡ note)
     → now.heard ≡ told_option note before.heard
     → ((s : State) → kept_of s ≡ was → now.steps ≤ before.steps + gp0_cost s word)
-    → FeedsWords {Value = Unit {0}} mode number (word ∷ []) before now was gpu (Ok tt)
+    → FeedsWords {Value = Unit {0}} (in_event number mode) (word ∷ []) (drawing before was) (drawing now gpu) (Ok tt)
 quiet_feeds mode number word note before now was gpu not held faults gathered stands noted told cost = record {
   ok = λ s is. word_feeds mode s number word note before now gpu (stands s is) (noted s is) told (cost s is);
   failed = λ s is. tt;
@@ -173,14 +173,14 @@ module _ (cell : Cell) (s : State) (number word : ℕ) (note : Option Note) (gpu
   watched_notes : fed_notes s number (word ∷ []) ≡ option_to_list note ++ []
   watched_notes = ap (λ n. option_to_list n ++ []) noted
 
-  pub watched_feeds : Feeds (Pixel cell) s number (word ∷ []) before now gpu
+  pub watched_feeds : Feeds (in_event number (Pixel cell)) s (word ∷ []) before (drawing now gpu)
   watched_feeds = record {
     stands = stands;
     heard = told ∙ told_one note before.heard ∙ ap (λ ns. told_notes ns before.heard) (sym watched_notes);
     cost = omega (arith, cost);
   }
 
-  pub watched_stops : StopsFeeding (Pixel cell) s number (word ∷ []) before now gpu
+  pub watched_stops : StopsFeeding (in_event number (Pixel cell)) s (word ∷ []) before (drawing now gpu)
   watched_stops = record {
     before = [];
     word = word;
@@ -194,8 +194,9 @@ module _ (cell : Cell) (s : State) (number word : ℕ) (note : Option Note) (gpu
 -- ---- part by part
 
 module _ (mode : Mode) (s : State) (number : ℕ) (xs ys : List ℕ) (before mid now : Outlets) (was gpu : Kept)
-    (first : Feeds mode s number xs before mid was) where
-  pub feeds_on : Feeds mode (fed s xs) number ys mid now gpu → Feeds mode s number (xs ++ ys) before now gpu
+    (first : Feeds (in_event number mode) s xs before (drawing mid was)) where
+  pub feeds_on : Feeds (in_event number mode) (fed s xs) ys mid (drawing now gpu)
+      → Feeds (in_event number mode) s (xs ++ ys) before (drawing now gpu)
   feeds_on next = record {
     stands = ap kept_of (fed-append s xs ys) ∙ next.stands;
     heard = next.heard ∙ ap (told_notes (fed_notes (fed s xs) number ys)) first.heard
@@ -204,8 +205,8 @@ module _ (mode : Mode) (s : State) (number : ℕ) (xs ys : List ℕ) (before mid
     cost = let e = fed_lines_cost-append mode s number xs ys in omega (arith, e, first.cost, next.cost);
   }
 
-  pub stops_on : StopsFeeding mode (fed s xs) number ys mid now gpu
-      → StopsFeeding mode s number (xs ++ ys) before now gpu
+  pub stops_on : StopsFeeding (in_event number mode) (fed s xs) ys mid (drawing now gpu)
+      → StopsFeeding (in_event number mode) s (xs ++ ys) before (drawing now gpu)
   stops_on next =
       let done = next.before ++ next.word ∷ [] in
       let all : (xs ++ next.before) ++ next.word ∷ [] ≡ xs ++ done = append_assoc xs next.before (next.word ∷ []) in
@@ -226,7 +227,8 @@ module _ (mode : Mode) (s : State) (number : ℕ) (xs ys : List ℕ) (before mid
 -- words behind those that were fed change nothing of a stop
 pub stops_early : (mode : Mode) (s : State) (number : ℕ) (words xs ys : List ℕ) (before now : Outlets) (gpu : Kept)
     → words ≡ xs ++ ys
-    → StopsFeeding mode s number xs before now gpu → StopsFeeding mode s number words before now gpu
+    → StopsFeeding (in_event number mode) s xs before (drawing now gpu)
+    → StopsFeeding (in_event number mode) s words before (drawing now gpu)
 stops_early mode s number words xs ys before now gpu are stop = record {
   before = stop.before;
   word = stop.word;
@@ -239,16 +241,17 @@ stops_early mode s number words xs ys before now gpu are stop = record {
 
 pub feeds_same : (mode : Mode) (s : State) (number : ℕ) (words xs : List ℕ) (before now : Outlets) (gpu : Kept)
     → words ≡ xs
-    → Feeds mode s number xs before now gpu → Feeds mode s number words before now gpu
+    → Feeds (in_event number mode) s xs before (drawing now gpu)
+    → Feeds (in_event number mode) s words before (drawing now gpu)
 feeds_same mode s number words xs before now gpu are feeds =
-    let P : List ℕ → Type 0 = λ words. Feeds mode s number words before now gpu in
+    let P : List ℕ → Type 0 = λ words. Feeds (in_event number mode) s words before (drawing now gpu) in
     subst P (sym are) feeds
 
 -- ---- calls that feed words, for every state for which the drawing processor stands
 
 -- these words were fed since the drawing processor kept this, and their lines put
 pub record AreFed (mode : Mode) (number : ℕ) (words : List ℕ) (before now : Outlets) (was gpu : Kept) : Type 0 where
-  pub feeds : (s : State) → kept_of s ≡ was → Feeds mode s number words before now gpu
+  pub feeds : (s : State) → kept_of s ≡ was → Feeds (in_event number mode) s words before (drawing now gpu)
   pub put : (s : State) → kept_of s ≡ was → HasPut (λ (at : Outlets). at.held) (λ (at : Outlets). at.faults) number
       (fed_lines mode s number words) before now before.gathered now.gathered
   pub kept : IsGathered mode ⊎ (now.gathered ≡ before.gathered)
@@ -268,7 +271,7 @@ fed_none mode number at gpu = record {
 pub words_fed : {Value : Type 0} (mode : Mode) (number : ℕ) (words xs : List ℕ) (before now : Outlets)
     (was gpu : Kept) (v : Value)
     → words ≡ xs → AreFed mode number xs before now was gpu
-    → FeedsWords {Value = Value} mode number words before now was gpu (Ok v)
+    → FeedsWords {Value = Value} (in_event number mode) words (drawing before was) (drawing now gpu) (Ok v)
 words_fed mode number words xs before now was gpu v are all = record {
   ok = λ s is. feeds_same mode s number words xs before now gpu are (all.feeds s is);
   failed = λ s is. tt;
@@ -292,7 +295,8 @@ module _ {Value : Type 0} (mode : Mode) (number : ℕ) (xs ys : List ℕ) (befor
     (was at gpu : Kept)
     (first : AreFed mode number xs before mid was at) where
   -- more of them were fed
-  pub fed_on : (v : Value) → FeedsWords {Value = Value} mode number ys mid now at gpu (Ok v)
+  pub fed_on : (v : Value)
+      → FeedsWords {Value = Value} (in_event number mode) ys (drawing mid at) (drawing now gpu) (Ok v)
       → AreFed mode number (xs ++ ys) before now was gpu
   fed_on v next = record {
     feeds = λ s is.
@@ -310,8 +314,8 @@ module _ {Value : Type 0} (mode : Mode) (number : ℕ) (xs ys : List ℕ) (befor
 
   -- of more of them a line could not be put
   pub words_stop : {Other : Type 0} (words zs : List ℕ) (e : ℕ) → words ≡ (xs ++ ys) ++ zs
-      → FeedsWords {Value = Value} mode number ys mid now at gpu (Err e)
-      → FeedsWords {Value = Other} mode number words before now was gpu (Err e)
+      → FeedsWords {Value = Value} (in_event number mode) ys (drawing mid at) (drawing now gpu) (Err e)
+      → FeedsWords {Value = Other} (in_event number mode) words (drawing before was) (drawing now gpu) (Err e)
   words_stop words zs e are next = record {
     ok = λ s is. tt;
     failed = λ s is.

@@ -9,15 +9,15 @@ use Rattle.gp0_packets.specs.declared.note.Note.{Note}
 use Rattle.gpu_capture.specs.declared.event.Event.{Event}
 use Rattle.gpu_core.specs.Kept.{Kept, kept_of}
 use Rattle.gpu_core.specs.Machine.{State}
-use Rattle.event_play.specs.Does.{Does, Stops, work_lines}
+use Rattle.event_play.specs.Does.{Does, Setting, Stops, setting, work_lines}
 use Rattle.event_play.specs.Ends.{FeedsPart, PlaysEvent, ShowsPart, event_lines, event_lines_cost}
-use Rattle.event_play.specs.Feeding.{Feeds, StopsFeeding, fed_lines}
+use Rattle.event_play.specs.Feeding.{Feeds, StopsFeeding, drawing, fed_lines, in_event}
 use Rattle.event_play.specs.Frames.{Frame, frames_behind}
 use Rattle.event_play.specs.Lines.{IsGathered, MayGather, WritesBehind, lines_for, lines_while, lines_behind}
 use Rattle.event_play.specs.Lines.{lines_cost}
 use Rattle.event_play.specs.Replay.{Tale, next_number}
 use Rattle.event_play.specs.RigState.{RigState, StandsFor, machine_of}
-use Rattle.event_play.specs.Step.{asked_words, event_words}
+use Rattle.event_play.specs.Step.{asked_words, done, event_words}
 use Rattle.event_play.specs.Stepping.{HasStepped}
 use Rattle.event_play.specs.Streams.{Outlets}
 use Rattle.event_play.specs.Strokes.{Stroke, event_strokes}
@@ -88,9 +88,11 @@ module _ (mode : Mode) (was mid rig : RigState) (t : Tale) (counted : ℕ) (even
     (before now : Outlets) (held : Option (List ℕ)) (faults steps : ℕ)
     (is : Ok asked ≡ work_of was.ram was.running event) (same : mid ≡ rig) (stands : StandsFor was t)
     (number : counted ≡ next_number t.played)
-    (does : (s : State) → kept_of s ≡ was.gpu → Does mode (machine_of was s) counted asked shown before now rig)
+    (does : (s : State) → kept_of s ≡ was.gpu → (shown ≡ (done (machine_of was s) counted asked).shown)
+    × Does (in_event counted mode) (machine_of was s) asked before (setting now rig))
     (put : (s : State) → kept_of s ≡ was.gpu
-    → IsPut counted (work_lines mode (machine_of was s) counted asked) before.held now.held before.gathered now.gathered)
+    → IsPut counted (work_lines (in_event counted mode) (machine_of was s) asked).bytes before.held now.held
+    before.gathered now.gathered)
     (kept : IsGathered mode ⊎ (now.gathered ≡ before.gathered)) (free : MayGather mode before.gathered) where
   -- behind what is due behind the event
   abbrev written : Outlets
@@ -204,15 +206,18 @@ module _ (mode : Mode) (was mid rig : RigState) (t : Tale) (counted : ℕ) (even
 pub feeds_part : (mode : Mode) (was rig : RigState) (t : Tale) (counted : ℕ) (event : Event) (asked : Work)
     (before now : Outlets) (lacking : ℕ) → Ok asked ≡ work_of was.ram was.running event → StandsFor was t
     → counted ≡ next_number t.played → IsGathered mode
-    → BreaksPut counted (work_lines mode (machine_of was t.state.gpu) counted asked) before.held now.held before.gathered
-    lacking
-    → Stops mode (machine_of was t.state.gpu) counted asked before now rig → rig.played ≡ was.played
+    → BreaksPut counted (work_lines (in_event counted mode) (machine_of was t.state.gpu) asked).bytes before.held now.held
+    before.gathered lacking
+    → Stops (in_event counted mode) (machine_of was t.state.gpu) asked before (setting now rig)
+    → rig.played ≡ was.played
     → FeedsPart mode t event before now rig lacking
 feeds_part mode was rig t counted event asked before now lacking is stands number gathers breaks stops played =
     let asked_are : asked_words was.ram (Ok asked) ≡ event_words t.state event =
     rw (stands.state.ram, stands.state.running, ← is) refl in
-    let P : ℕ → Type 0 = λ n. StopsFeeding mode t.state.gpu n (asked_words was.ram (Ok asked)) before now rig.gpu in
-    let Q : List ℕ → Type 0 = λ words. StopsFeeding mode t.state.gpu (next_number t.played) words before now rig.gpu in
+    let now_at = drawing now rig.gpu in
+    let P : ℕ → Type 0 = λ n. StopsFeeding (in_event n mode) t.state.gpu (asked_words was.ram (Ok asked)) before now_at in
+    let Q : List ℕ → Type 0 = λ words. StopsFeeding (in_event (next_number t.played) mode) t.state.gpu words before
+    now_at in
     record {
       gathers = gathers;
       breaks = breaks_at counted (next_number t.played) _ _ before.held now.held before.gathered lacking number
@@ -232,12 +237,17 @@ nothing_behind mode held = sym (ap (appended held) (lines-none mode) ∙ appende
 -- ---- a word that is written to GP0
 
 module _ (mode : Mode) (was : RigState) (counted word : ℕ) (before now : Outlets) (gpu : Kept) (s : State) where
-  pub word_done : Feeds mode s counted (word ∷ []) before now gpu
-      → Does mode (machine_of was s) counted (work.Feed (One word) was.running) None before now
-      (record was { gpu = gpu })
-  word_done feeds = record {
-    shows = refl;
-    stands = record { gpu = feeds.stands; ram = refl; running = refl };
-    heard = feeds.heard;
-    cost = feeds.cost;
-  }
+  abbrev pub fed_now : Setting
+  fed_now = setting now (record was { gpu = gpu })
+
+  pub word_done : Feeds (in_event counted mode) s (word ∷ []) before (drawing now gpu)
+      → (None ≡ (done (machine_of was s) counted (work.Feed (One word) was.running)).shown)
+      × Does (in_event counted mode) (machine_of was s) (work.Feed (One word) was.running) before fed_now
+  word_done feeds = (
+    refl,
+    record {
+      stands = record { gpu = feeds.stands; ram = refl; running = refl };
+      heard = feeds.heard;
+      cost = feeds.cost;
+    },
+  )

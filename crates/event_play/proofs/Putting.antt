@@ -17,14 +17,14 @@ use Rattle.event_play.specs.declared.ending.Mode.TheVariants.{List as Listing, P
 
 -- what a call puts into a sink, by what playing works on
 pub lines_put : {Value : Type 0} (number : ℕ) (bytes : List ℕ) (was is : SinkState) (heard heard_now : List Reading)
-    (steps steps_now : ℕ) (result : Result Value ℕ) → PutsLine number bytes was is result
-    → PutsLines number bytes (with_sink was heard steps) (with_sink is heard_now steps_now) result
+    (steps steps_now : ℕ) (result : Result Value ℕ) → PutsLine (piece number bytes) was is result
+    → PutsLines (piece number bytes) (with_sink was heard steps) (with_sink is heard_now steps_now) result
 lines_put number bytes was is heard heard_now steps steps_now result puts =
     record { ok = puts.ok; failed = puts.failed; cause = puts.cause; faults = puts.faults }
 
 -- the same bytes
 pub puts_same : {Value : Type 0} (number : ℕ) (xs ys : List ℕ) (before now : Outlets) (result : Result Value ℕ)
-    → xs ≡ ys → PutsLines number xs before now result → PutsLines number ys before now result
+    → xs ≡ ys → PutsLines (piece number xs) before now result → PutsLines (piece number ys) before now result
 puts_same number xs ys before now result same puts = rw (← same) puts
 
 put_same : (number : ℕ) (xs ys : List ℕ) (before now : Option (List ℕ)) (old new : List Piece) → xs ≡ ys
@@ -44,7 +44,7 @@ breaks_at n m xs ys before now old lacking number same put = rw (← number, ←
 -- nothing was put
 pub puts_none : {Value : Type 0} (number : ℕ) (bytes : List ℕ) (before now : Outlets) (v : Value) → bytes ≡ []
     → now.held ≡ before.held → now.faults ≡ before.faults → now.gathered ≡ before.gathered
-    → PutsLines {Value = Value} number bytes before now (Ok v)
+    → PutsLines {Value = Value} (piece number bytes) before now (Ok v)
 puts_none number bytes before now v none held faults gathered = record {
   ok = unput number bytes before.held now.held before.gathered now.gathered none held gathered;
   failed = tt;

@@ -8,7 +8,7 @@ use Rattle.gpu_capture.specs.declared.event.Stop.{Stop}
 use Rattle.gpu_capture.specs.declared.event.Stop.TheVariants.{End}
 use Rattle.gpu_core.specs.Machine.{State}
 use Rattle.event_play.specs.Causes.{MayReadFault, MayWriteFault, IsEnding}
-use Rattle.event_play.specs.Feeding.{StopsFeeding, fed_lines}
+use Rattle.event_play.specs.Feeding.{StopsFeeding, drawing, fed_lines, in_event}
 use Rattle.event_play.specs.Frames.{frames_behind}
 use Rattle.event_play.specs.Lines.{IsGathered, MayGather, WritesBehind, lines_for, lines_cost}
 use Rattle.event_play.specs.Out.{final_bytes, final_cost, lacks_picture}
@@ -62,7 +62,8 @@ pub record FeedsPart (mode : Mode) (t : Tale) (event : Event) (before now : Outl
   pub breaks : BreaksPut (next_number t.played)
       (fed_lines mode t.state.gpu (next_number t.played) (event_words t.state event)) before.held now.held
       before.gathered lacking
-  pub feeding : StopsFeeding mode t.state.gpu (next_number t.played) (event_words t.state event) before now rig.gpu
+  pub feeding : StopsFeeding (in_event (next_number t.played) mode) t.state.gpu (event_words t.state event) before
+      (drawing now rig.gpu)
   pub ram : t.state.ram ≡ rig.ram
   pub running : t.state.running ≡ rig.running
   pub played : t.played ≡ rig.played

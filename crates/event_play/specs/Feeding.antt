@@ -3,12 +3,14 @@ use Rattle.std.specs.Prelude.{◌≡◌, ◌≤◌, ◌⊎◌, ℕ, ◌+◌, Lis
 use Rattle.dev_io.specs.Device.{Rose}
 use Rattle.gpu_core.specs.Kept.{Kept, kept_of}
 use Rattle.gpu_core.specs.Machine.{State}
+use Rattle.gathered_out.specs.Pieces.{Piece, piece}
 use Rattle.event_play.specs.Fed.{fed, fed_notes, fed_cost}
 use Rattle.event_play.specs.Lines.{IsGathered, lines_while, lines_cost}
 use Rattle.event_play.specs.Streams.{Outlets, PutsLines}
 use Rattle.event_play.specs.Strokes.{fed_strokes}
 use Rattle.event_play.specs.Told.{told_notes}
 use Rattle.event_play.specs.declared.ending.Mode.{Mode}
+use Rattle.event_play.specs.declared.ending.Within.{Within}
 
 -- the lines of words that are fed in the event of this number, and what they cost with feeding them
 abbrev pub fed_lines : Mode → State → (number : ℕ) → List ℕ → List ℕ
@@ -17,33 +19,47 @@ fed_lines mode s number words = lines_while mode (fed_notes s number words) (fed
 abbrev pub fed_lines_cost : Mode → State → (number : ℕ) → List ℕ → ℕ
 fed_lines_cost mode s number words = fed_cost s words + lines_cost mode [] (fed_strokes s number words)
 
--- these words were fed in the event of this number
-pub record Feeds (mode : Mode) (s : State) (number : ℕ) (words : List ℕ) (before now : Outlets) (gpu : Kept)
-    : Type 0 where
-  pub stands : kept_of (fed s words) ≡ gpu
-  pub heard : now.heard ≡ told_notes (fed_notes s number words) before.heard
-  pub cost : now.steps ≤ before.steps + fed_lines_cost mode s number words
+-- the event of this number, and what is written of it
+abbrev pub in_event : (number : ℕ) → Mode → Within
+in_event number mode = record { number = number; mode = mode }
+
+-- what words reach that are fed: the outlets, and what the drawing processor keeps
+pub record Drawing : Type 0 where
+  pub out : Outlets
+  pub gpu : Kept
+
+abbrev pub drawing : Outlets → Kept → Drawing
+drawing out gpu = record { out = out; gpu = gpu }
+
+-- these words were fed in this event, to a drawing processor in this state
+pub record Feeds (within : Within) (s : State) (words : List ℕ) (before : Outlets) (now : Drawing) : Type 0 where
+  pub stands : kept_of (fed s words) ≡ now.gpu
+  pub heard : now.out.heard ≡ told_notes (fed_notes s within.number words) before.heard
+  pub cost : now.out.steps ≤ before.steps + fed_lines_cost within.mode s within.number words
 
 -- of these words the first were fed, up to one whose line could not be put
-pub record StopsFeeding (mode : Mode) (s : State) (number : ℕ) (words : List ℕ) (was now : Outlets) (gpu : Kept)
-    : Type 0 where
+pub record StopsFeeding (within : Within) (s : State) (words : List ℕ) (was : Outlets) (now : Drawing) : Type 0 where
   pub before : List ℕ
   pub word : ℕ
   pub after : List ℕ
   pub is : words ≡ before ++ word ∷ after
-  pub stands : kept_of (fed s (before ++ word ∷ [])) ≡ gpu
-  pub heard : now.heard ≡ told_notes (fed_notes s number (before ++ word ∷ [])) was.heard
-  pub cost : now.steps ≤ was.steps + fed_lines_cost mode s number (before ++ word ∷ [])
+  pub stands : kept_of (fed s (before ++ word ∷ [])) ≡ now.gpu
+  pub heard : now.out.heard ≡ told_notes (fed_notes s within.number (before ++ word ∷ [])) was.heard
+  pub cost : now.out.steps ≤ was.steps + fed_lines_cost within.mode s within.number (before ++ word ∷ [])
+
+-- the lines that are due for words in this event
+abbrev pub due_lines : Within → State → List ℕ → Piece
+due_lines within s words = piece within.number (fed_lines within.mode s within.number words)
 
 -- What a call does that feeds words, for every state of which the drawing processor keeps what it does: Ok where all
 -- were fed and every line that is due for them was put, and else a line could not be put. There are lines in modes alone
 -- whose lines are gathered.
-pub record FeedsWords {Value : Type 0} (mode : Mode) (number : ℕ) (words : List ℕ) (before now : Outlets)
-    (was gpu : Kept) (result : Result Value ℕ) : Type 0 where
-  pub ok : (s : State) → kept_of s ≡ was → OnOk result (Feeds mode s number words before now gpu)
-  pub failed : (s : State) → kept_of s ≡ was → OnErr result (StopsFeeding mode s number words before now gpu)
-  pub puts : (s : State) → kept_of s ≡ was → PutsLines number (fed_lines mode s number words) before now result
-  pub kept : IsGathered mode ⊎ (now.gathered ≡ before.gathered)
-  pub gathers : OnErr result (IsGathered mode)
-  pub cause : OnErr result (Rose before.faults now.faults)
-  pub faults : before.faults ≤ now.faults
+pub record FeedsWords {Value : Type 0} (within : Within) (words : List ℕ) (before now : Drawing)
+    (result : Result Value ℕ) : Type 0 where
+  pub ok : (s : State) → kept_of s ≡ before.gpu → OnOk result (Feeds within s words before.out now)
+  pub failed : (s : State) → kept_of s ≡ before.gpu → OnErr result (StopsFeeding within s words before.out now)
+  pub puts : (s : State) → kept_of s ≡ before.gpu → PutsLines (due_lines within s words) before.out now.out result
+  pub kept : IsGathered within.mode ⊎ (now.out.gathered ≡ before.out.gathered)
+  pub gathers : OnErr result (IsGathered within.mode)
+  pub cause : OnErr result (Rose before.out.faults now.out.faults)
+  pub faults : before.out.faults ≤ now.out.faults

@@ -22,12 +22,11 @@ outlets held faults heard steps =
 abbrev pub gathering : List Piece → Outlets → Outlets
 gathering pieces at = record at { gathered = pieces }
 
--- what a call that puts these bytes, due at the event of this number, does to the sink and to what is gathered for it
-abbrev pub PutsLines : {Value : Type 0} → (number : ℕ) → (bytes : List ℕ) → (before now : Outlets)
-    → Result Value ℕ → Type 0
-PutsLines number bytes before now result =
-    Puts (λ (at : Outlets). at.held) (λ (at : Outlets). at.faults) number bytes before now before.gathered now.gathered
-    result
+-- what a call that puts bytes, due at the event of their number, does to the sink and to what is gathered for it
+abbrev pub PutsLines : {Value : Type 0} → (due : Piece) → (before now : Outlets) → Result Value ℕ → Type 0
+PutsLines due before now result =
+    Puts (λ (at : Outlets). at.held) (λ (at : Outlets). at.faults) due.number due.bytes before now before.gathered
+    now.gathered result
 
 -- ---- a sink and what is gathered for it, alone
 
@@ -44,11 +43,10 @@ abbrev pub with_sink : SinkState → (heard : List Reading) (steps : ℕ) → Ou
 with_sink at heard steps = gathering at.gathered (outlets at.held at.faults heard steps)
 
 -- what a call that puts one line does to them
-abbrev pub PutsLine : {Value : Type 0} → (number : ℕ) → (line : List ℕ) → (before now : SinkState)
-    → Result Value ℕ → Type 0
-PutsLine number line before now result =
-    Puts (λ (at : SinkState). at.held) (λ (at : SinkState). at.faults) number line before now before.gathered
-    now.gathered result
+abbrev pub PutsLine : {Value : Type 0} → (line : Piece) → (before now : SinkState) → Result Value ℕ → Type 0
+PutsLine line before now result =
+    Puts (λ (at : SinkState). at.held) (λ (at : SinkState). at.faults) line.number line.bytes before now
+    before.gathered now.gathered result
 
 -- those of a call that writes nothing
 abbrev pub without_sink : (heard : List Reading) (steps : ℕ) → Outlets

@@ -59,7 +59,7 @@ begin_work (Err why) = Err (fault_of why)
 -- ---- turns
 
 -- what is left of a transfer of words, if any word is left
-abbrev pub words_left : (at left block : ℕ) (back to_ram : Bool) → Run
+abbrev pub words_left : (at left block : ℕ) → (back to_ram : Bool) → Run
 words_left at left block back to_ram = if left == 0 then run.Idle else run.Words at left block back to_ram
 
 -- what is left of a list, from this node on

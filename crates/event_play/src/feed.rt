@@ -1,7 +1,7 @@
 // Words that go to GP0, one after another. A call that feeds words has six parameters, since a word reaches all that
 // playing works on: the drawing processor, what puts lines, the taps and the steps.
 ghost use Rattle.std.specs.Prelude.{◌≡◌, ◌≤◌, ◌<◌, ◌+◌, [], ◌∷◌, length, take, map};
-ghost use Rattle.event_play.specs.Feeding.{FeedsWords};
+ghost use Rattle.event_play.specs.Feeding.{FeedsWords, drawing, in_event};
 ghost use Rattle.event_play.specs.PlayedWords.{IsTold, after_words, number_behind};
 ghost use Rattle.event_play.specs.Replay.{Tale};
 ghost use Rattle.event_play.specs.Streams.{Outlets, with_sink, without_sink};
@@ -27,9 +27,9 @@ pub(crate) fn feed<O: Outlet, T: Listener, L: Ledger>(
     taps: &mut Vec<T>,
     steps: &mut Steps<L>,
 ) -> Result<(), u64>
-    ensures feeds { FeedsWords within.mode within.number words.entry
-        (with_sink (O.state lines.old) (map T.heard taps.old.items) steps.old)
-        (with_sink (O.state lines.new) (map T.heard taps.new.items) steps.new) gpu.old gpu.new result }
+    ensures feeds { FeedsWords within words.entry
+        (drawing (with_sink (O.state lines.old) (map T.heard taps.old.items) steps.old) gpu.old)
+        (drawing (with_sink (O.state lines.new) (map T.heard taps.new.items) steps.new) gpu.new) result }
     ensures same { O.same lines.old lines.new }
 {
     let mut left = words;
@@ -52,9 +52,9 @@ pub(crate) fn feed_word<O: Outlet, T: Listener, L: Ledger>(
     taps: &mut Vec<T>,
     steps: &mut Steps<L>,
 ) -> Result<(), u64>
-    ensures feeds { FeedsWords within.mode within.number (word ∷ [])
-        (with_sink (O.state lines.old) (map T.heard taps.old.items) steps.old)
-        (with_sink (O.state lines.new) (map T.heard taps.new.items) steps.new) gpu.old gpu.new result }
+    ensures feeds { FeedsWords within (word ∷ [])
+        (drawing (with_sink (O.state lines.old) (map T.heard taps.old.items) steps.old) gpu.old)
+        (drawing (with_sink (O.state lines.new) (map T.heard taps.new.items) steps.new) gpu.new) result }
     ensures same { O.same lines.old lines.new }
 {
     let number = within.number;
@@ -87,9 +87,9 @@ fn feed_watched<O: Outlet, T: Listener, L: Ledger>(
     taps: &mut Vec<T>,
     steps: &mut Steps<L>,
 ) -> Result<(), u64>
-    ensures feeds { FeedsWords (Mode.Pixel watch.cell) watch.number (word ∷ [])
-        (with_sink (O.state lines.old) (map T.heard taps.old.items) steps.old)
-        (with_sink (O.state lines.new) (map T.heard taps.new.items) steps.new) gpu.old gpu.new result }
+    ensures feeds { FeedsWords (in_event watch.number (Mode.Pixel watch.cell)) (word ∷ [])
+        (drawing (with_sink (O.state lines.old) (map T.heard taps.old.items) steps.old) gpu.old)
+        (drawing (with_sink (O.state lines.new) (map T.heard taps.new.items) steps.new) gpu.new) result }
     ensures same { O.same lines.old lines.new }
 {
     let before = seen_cell(gpu, watch.cell, steps);

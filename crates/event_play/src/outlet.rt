@@ -1,6 +1,7 @@
 // What puts the lines of items.
 ghost use Rattle.std.specs.Prelude.{◌≡◌, ◌≤◌, flat_map, length, option_to_list, IfSome, OnErr};
 ghost use Rattle.dev_io.specs.Device.{Rose};
+ghost use Rattle.gathered_out.specs.Pieces.{piece};
 ghost use Rattle.packet_text.specs.Line.{change_line, listed, note_line};
 ghost use Rattle.event_play.specs.Listing.{PutsPieces, listed_pieces};
 ghost use Rattle.event_play.specs.Streams.{PutsLine, SinkState, sink_with};
@@ -23,7 +24,7 @@ pub(crate) trait Outlet {
     /// whose lines lack a byte.
     fn put(&mut self, number: u64, line: &[u8]) -> Result<(), u64>
         requires { length line.now ≤ 4096 }
-        ensures puts { PutsLine number line.now (state self.old) (state self.new) result }
+        ensures puts { PutsLine (piece number line.now) (state self.old) (state self.new) result }
         ensures same { same self.old self.new };
 
     ghost same_at_first: { (x : Self) → same x x };
@@ -82,7 +83,8 @@ pub(crate) fn put_changed<O: Outlet>(
     after: u16,
     lines: &mut O,
 ) -> Result<(), u64>
-    ensures puts { PutsLine number (change_of note.now before after) (O.state lines.old) (O.state lines.new) result }
+    ensures puts { PutsLine (piece number (change_of note.now before after))
+        (O.state lines.old) (O.state lines.new) result }
     ensures same { O.same lines.old lines.new }
 {
     match note {
@@ -98,7 +100,8 @@ pub(crate) fn put_listed<O: Outlet>(
     lines: &mut O,
 ) -> Result<(), u64>
     requires { IfSome note.now (λ note. note.class ≤ 9) }
-    ensures puts { PutsLine number (flat_map listed (option_to_list note.now)) (O.state lines.old) (O.state lines.new) result }
+    ensures puts { PutsLine (piece number (flat_map listed (option_to_list note.now)))
+        (O.state lines.old) (O.state lines.new) result }
     ensures same { O.same lines.old lines.new }
 {
     match note {
@@ -131,7 +134,7 @@ pub(crate) fn put_noted<K: Sink>(note: &Option<Note>, lines: &mut Lines<K>) -> R
 // Puts the line of a note.
 fn put_note<O: Outlet>(number: u64, note: &Note, lines: &mut O) -> Result<(), u64>
     requires { note.now.class ≤ 9 }
-    ensures puts { PutsLine number (note_line note.now) (O.state lines.old) (O.state lines.new) result }
+    ensures puts { PutsLine (piece number (note_line note.now)) (O.state lines.old) (O.state lines.new) result }
     ensures same { O.same lines.old lines.new }
 {
     lines.put(number, note_text(note).as_slice())
@@ -145,7 +148,8 @@ fn put_change<O: Outlet>(
     after: u16,
     lines: &mut O,
 ) -> Result<(), u64>
-    ensures puts { PutsLine number (change_line note.now before after) (O.state lines.old) (O.state lines.new) result }
+    ensures puts { PutsLine (piece number (change_line note.now before after))
+        (O.state lines.old) (O.state lines.new) result }
     ensures same { O.same lines.old lines.new }
 {
     lines.put(number, change_text(note, before, after).as_slice())

@@ -1,7 +1,7 @@
 // The machine that plays events.
 ghost use Rattle.std.specs.Prelude.{◌≡◌, None, map, IfOk, IfErr, OnOk, OnErr, Ok, Err};
 ghost use Rattle.list_dma.specs.Plans.{IsRun};
-ghost use Rattle.event_play.specs.Does.{Performs, PutsWork};
+ghost use Rattle.event_play.specs.Does.{Performs, PutsWork, setting};
 ghost use Rattle.event_play.specs.Replay.{next_number};
 ghost use Rattle.event_play.specs.RigState.{RigState, first_rig, Stands};
 ghost use Rattle.event_play.specs.Step.{Machine, event_step, tall_machine};
@@ -136,12 +136,12 @@ impl Rig {
         steps: &mut Steps<L>,
     ) -> Result<Option<u32>, u64>
         requires { IsWork work }
-        ensures performs { Performs within.mode within.number work
-            (with_sink (O.state lines.old) (map T.heard taps.old.items) steps.old)
-            (with_sink (O.state lines.new) (map T.heard taps.new.items) steps.new) self.old self.new result }
-        ensures puts { PutsWork within.mode within.number work
-            (with_sink (O.state lines.old) (map T.heard taps.old.items) steps.old)
-            (with_sink (O.state lines.new) (map T.heard taps.new.items) steps.new) self.old result }
+        ensures performs { Performs within work
+            (setting (with_sink (O.state lines.old) (map T.heard taps.old.items) steps.old) self.old)
+            (setting (with_sink (O.state lines.new) (map T.heard taps.new.items) steps.new) self.new) result }
+        ensures puts { PutsWork within work
+            (setting (with_sink (O.state lines.old) (map T.heard taps.old.items) steps.old) self.old)
+            (setting (with_sink (O.state lines.new) (map T.heard taps.new.items) steps.new) self.new) result }
         ensures same { O.same lines.old lines.new }
     {
         match work {
