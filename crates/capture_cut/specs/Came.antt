@@ -14,8 +14,9 @@ use Rattle.picture_out.specs.Dump.{dump_cost}
 use Rattle.event_play.specs.Ends.{IsNotEnd}
 use Rattle.event_play.specs.Replay.{Tale, raised, next_number}
 use Rattle.event_play.specs.RigState.{RigState}
+use Rattle.event_play.specs.Setting.{setting}
 use Rattle.event_play.specs.Step.{event_step}
-use Rattle.event_play.specs.Stepping.{HasStepped}
+use Rattle.event_play.specs.Stepping.{HasStepped, numbered}
 use Rattle.event_play.specs.Streams.{Outlets, Streams}
 use Rattle.capture_flat.specs.Passing.{AreNeeded}
 use Rattle.capture_cut.specs.Cut.{CutAt, Way, events_of, Plays, StandsBehind}
@@ -30,7 +31,7 @@ use Rattle.capture_cut.specs.declared.file.Draft.{Draft}
 -- the reader answered an event, and it was played
 pub record PlaysNext (t : Tale) (event : Event) (before now : Outlets) (rig : RigState) : Type 0 where
   pub shown : Option ℕ
-  pub step : HasStepped t.state (next_number t.played) event shown before now rig
+  pub step : HasStepped t.state (numbered (next_number t.played) event) shown before (setting now rig)
   pub played : rig.played ≡ next_number t.played
 
 abbrev pub PlaysAnswer : Tale → Result Event Stop → (before now : Outlets) → (rig : RigState) → Type 0

@@ -142,7 +142,7 @@ pub event_goes : (start : Tale) (version : ℕ) (before : Streams) (left_mid lef
     → old.place < since + 4096 → (given : Event) → Takes old new left_mid left (given ∷ []) → version ≡ new.version
     → 1 ≤ new.version → (is last : Draft) (at : ℕ) (held : Option (List ℕ))
     → PassesEvent was.tale given (stage draft mid was_rig) (stage is now rig) → last.file ≡ is.file
-    → Pauses new.place since is.gathered last.gathered now.held held at
+    → Pauses new.place since (sink_with now.held is.gathered) (sink_with held last.gathered) at
     → GoesOn start version before (streams left held now.heard now.steps) rig new last at
 event_goes start version before left_mid left mid now was_rig rig old new draft since was near given takes same known is
     last at held passed file pauses = record {
@@ -287,7 +287,7 @@ module _ (start : Tale) (version : ℕ) (before : Streams) (left held : Option (
     -- and then was a pause
     pub words_go : {Value : Type 0} (after : Option (List ℕ)) (v : Value) → Puts {Value = Value} (Ok v)
         → TakesWords p q left after words → (last : Draft) (at : ℕ) (written : Option (List ℕ)) → last.file ≡ is.file
-        → Pauses q.place since is.gathered last.gathered now written at
+        → Pauses q.place since (sink_with now is.gathered) (sink_with written last.gathered) at
         → GoesOn start version before (streams after written heard_now steps_now) rig q last at
     words_go after v puts takes last at written same_file pauses = record {
       paused = pauses_on first version before (streams after now heard_now steps_now) rig q is last since at written

@@ -16,7 +16,7 @@ use Rattle.gathered_out.specs.Puts.{BreaksPut, BreaksWriting, IsPut, IsWritten}
 use Rattle.gathered_out.proofs.Gathers.{BreaksDue, Gathers, breaks_put, gathers_more, gathers_off, gathers_on}
 use Rattle.gathered_out.proofs.Gathers.{gathers_written}
 use Rattle.gpu_taps.specs.Tally.{Reading}
-use Rattle.event_play.specs.Ends.{FaultsEvent}
+use Rattle.event_play.specs.Ends.{FaultsEvent, coming}
 use Rattle.event_play.specs.Pausing.{most_behind}
 use Rattle.event_play.specs.Replay.{Tale, played_events, after_event, go_on, next_number, raised}
 use Rattle.event_play.specs.RigState.{RigState, StandsFor}
@@ -40,6 +40,7 @@ use Rattle.capture_flat.proofs.Allows.{allows_append}
 use Rattle.capture_flat.proofs.Lacking.{WasDue, due_here, due_more, lacks_records}
 use Rattle.capture_flat.proofs.Needed.{needed_on, says_on}
 use Rattle.capture_flat.proofs.Output.{begun_on, written_length, written_fits}
+use Rattle.event_play.specs.Setting.{setting}
 
 -- a reader is at its start, or behind the head
 abbrev pub IsReading : Progress → List ℕ → List Event → Type 0
@@ -339,7 +340,8 @@ module _ (start : Tale) (version : ℕ) (before : Streams) (left_mid left : Opti
 
   -- what is gathered is written before
   fault_ends : (number : ℕ) (fault : EventFault) (held : Option (List ℕ)) → number ≡ next_number was.tale.played
-      → FaultsEvent was.tale given fault mid now was_rig rig → IsWritten mid.held held draft.gathered
+      → FaultsEvent (coming was.tale given) fault (setting mid was_rig) (setting now rig)
+      → IsWritten mid.held held draft.gathered
       → EndsFlat start before (streams left held now.heard now.steps) rig (Faulted number fault)
   fault_ends number fault held at faults written =
       let heard : now.heard ≡ mid.heard = ap (λ (at : Outlets). at.heard) faults.unchanged in
@@ -375,7 +377,8 @@ module _ (start : Tale) (version : ℕ) (before : Streams) (left_mid left : Opti
       )
 
   fault_lacks : (number : ℕ) (fault : EventFault) (held : Option (List ℕ)) (lacking : ℕ)
-      → FaultsEvent was.tale given fault mid now was_rig rig → BreaksWriting mid.held held draft.gathered lacking
+      → FaultsEvent (coming was.tale given) fault (setting mid was_rig) (setting now rig)
+      → BreaksWriting mid.held held draft.gathered lacking
       → EndsFlat start before (streams left held now.heard now.steps) rig (WriteFailed lacking)
   fault_lacks number fault held lacking faults breaks =
       let heard : now.heard ≡ mid.heard = ap (λ (at : Outlets). at.heard) faults.unchanged in

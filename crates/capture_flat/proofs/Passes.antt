@@ -5,11 +5,11 @@ use Rattle.gathered_out.specs.Puts.{BreaksPut, IsPut}
 use Rattle.gpu_capture.specs.Capture.{limit}
 use Rattle.gpu_capture.specs.Written.{AllowsAll}
 use Rattle.gpu_capture.specs.declared.event.Event.{Event}
-use Rattle.event_play.specs.Ends.{FaultsEvent}
+use Rattle.event_play.specs.Ends.{FaultsEvent, coming}
 use Rattle.event_play.specs.Replay.{Tale, next_number}
 use Rattle.event_play.specs.RigState.{RigState, Stands, StandsFor}
 use Rattle.event_play.specs.Step.{Machine, Stepped, event_step, stepped, done}
-use Rattle.event_play.specs.Stepping.{HasStepped}
+use Rattle.event_play.specs.Stepping.{HasStepped, numbered}
 use Rattle.event_play.specs.Streams.{Outlets, without_sink}
 use Rattle.event_play.specs.Work.{work_of}
 use Rattle.event_play.specs.declared.fault.EventFault.{EventFault}
@@ -18,6 +18,7 @@ use Rattle.event_play.specs.declared.work.Work.TheVariants as work
 use Rattle.capture_flat.specs.Flat.{flat_events, flat_work, flat_asked}
 use Rattle.capture_flat.specs.Out.{spell, head_due, due_at}
 use Rattle.capture_flat.specs.OneEvent.{PlaysFlat}
+use Rattle.event_play.specs.Setting.{setting}
 
 -- what an event asks for, by a rig that stands for the machine
 asks : (rig : RigState) (s : Machine) (event : Event) (asked : Result Work EventFault) → Stands rig s
@@ -33,7 +34,7 @@ step_is s number event asked is = ap (stepped s number) is
 
 pub faults_event : (t : Tale) (rig now : RigState) (event : Event) (fault : EventFault) (at : Outlets)
     → now ≡ rig → StandsFor rig t → Err fault ≡ work_of rig.ram rig.running event
-    → FaultsEvent t event fault at at rig now
+    → FaultsEvent (coming t event) fault (setting at rig) (setting at now)
 faults_event t rig now event fault at same stands is = record {
   is = step_is t.state (next_number t.played) event (Err fault) (asks rig t.state event (Err fault) stands.state is);
   stands = same;
@@ -61,7 +62,7 @@ same_flat s number (work.Begin next) = refl
 -- the flat events of an event, by main memory after it
 flat_is : (t : Tale) (rig now : RigState) (event : Event) (asked : Work) (shown : Option ℕ) (before behind : Outlets)
     → StandsFor rig t → Ok asked ≡ work_of rig.ram rig.running event
-    → HasStepped t.state (next_number t.played) event shown before behind now
+    → HasStepped t.state (numbered (next_number t.played) event) shown before (setting behind now)
     → flat_work now.ram asked ≡ flat_events t.state event
 unfolding flat_events
 flat_is t rig now event asked shown before behind stands is step =
@@ -79,13 +80,13 @@ flat_is t rig now event asked shown before behind stands is step =
 pub plays_flat : (t : Tale) (rig mid now : RigState) (event : Event) (asked : Work) (shown : Option ℕ)
     (before behind : Outlets)
     (ram : List ℕ) → StandsFor rig t → mid ≡ rig → Ok asked ≡ work_of rig.ram rig.running event
-    → HasStepped t.state (next_number mid.played) event shown (without_sink before.heard before.steps)
-    (without_sink behind.heard behind.steps) now
+    → HasStepped t.state (numbered (next_number mid.played) event) shown
+    (without_sink before.heard before.steps) (setting (without_sink behind.heard behind.steps) now)
     → now.played ≡ next_number mid.played → ram ≡ now.ram → AllowsAll 2 (flat_work ram asked)
     → PlaysFlat t event before behind now
 plays_flat t rig mid now event asked shown before behind ram stands same is step played after allows =
     let counted : mid.played ≡ t.played = ap (λ (r : RigState). r.played) same ∙ sym stands.played in
-    let stepped : HasStepped t.state (next_number t.played) event shown before behind now = record {
+    let stepped : HasStepped t.state (numbered (next_number t.played) event) shown before (setting behind now) = record {
       machine = step.machine;
       notes = step.notes;
       is = rw counted at step.is;

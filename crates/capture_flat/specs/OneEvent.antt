@@ -8,10 +8,11 @@ use Rattle.gpu_capture.specs.Written.{spelled_end, AllowsAll}
 use Rattle.gpu_capture.specs.declared.event.Event.{Event}
 use Rattle.gpu_capture.specs.declared.event.Stop.{Stop}
 use Rattle.gpu_capture.specs.declared.event.Stop.TheVariants.{End}
-use Rattle.event_play.specs.Ends.{FaultsEvent, IsNotEnd}
+use Rattle.event_play.specs.Ends.{FaultsEvent, IsNotEnd, coming}
 use Rattle.event_play.specs.Replay.{Tale, next_number}
 use Rattle.event_play.specs.RigState.{RigState}
-use Rattle.event_play.specs.Stepping.{HasStepped}
+use Rattle.event_play.specs.Setting.{setting}
+use Rattle.event_play.specs.Stepping.{HasStepped, numbered}
 use Rattle.event_play.specs.Streams.{Outlets}
 use Rattle.capture_flat.specs.Flat.{flat_events}
 use Rattle.capture_flat.specs.Out.{due_at, head_due}
@@ -22,7 +23,7 @@ use Rattle.capture_flat.specs.declared.file.Draft.{Draft}
 -- an event was played, and its flat events can be written
 pub record PlaysFlat (t : Tale) (event : Event) (before now : Outlets) (rig : RigState) : Type 0 where
   pub shown : Option ℕ
-  pub step : HasStepped t.state (next_number t.played) event shown before now rig
+  pub step : HasStepped t.state (numbered (next_number t.played) event) shown before (setting now rig)
   pub played : rig.played ≡ next_number t.played
   pub allowed : AllowsAll 2 (flat_events t.state event)
 
@@ -65,7 +66,8 @@ pub record LacksPut (t : Tale) (event : Event) (before now : Stage) (lacking : �
 -- how an event ends it: at its number, but for a write that fails
 abbrev pub EndsEvent : Tale → Event → (before now : Stage) → FlatEnding → Type 0
 EndsEvent t event before now (Faulted number fault) =
-    (number ≡ next_number t.played) × FaultsEvent t event fault before.out now.out before.rig now.rig
+    (number ≡ next_number t.played)
+    × FaultsEvent (coming t event) fault (setting before.out before.rig) (setting now.out now.rig)
     × (now.draft ≡ before.draft)
 EndsEvent t event before now (TooLong number) = (number ≡ next_number t.played) × IsTooLong t event before now
 EndsEvent t event before now (WriteFailed number) = LacksPut t event before now number

@@ -3,13 +3,13 @@ use Rattle.std.proofs.Common.{◌≡◌, ◌≤◌, ℕ, ◌+◌, List, [], Opti
 use Rattle.gpu_capture.specs.declared.event.Event.{Event}
 use Rattle.gpu_core.specs.Kept.{kept_of}
 use Rattle.gpu_core.specs.Machine.{State}
-use Rattle.event_play.specs.Does.{Does, setting}
+use Rattle.event_play.specs.Does.{Does}
 use Rattle.event_play.specs.Fed.{fed_notes}
 use Rattle.event_play.specs.Feeding.{in_event}
 use Rattle.event_play.specs.Lines.{lines_cost}
 use Rattle.event_play.specs.RigState.{RigState, Stands, machine_of}
 use Rattle.event_play.specs.Step.{Machine, Stepped, asked_words, event_step, event_cost, event_words, done}
-use Rattle.event_play.specs.Stepping.{HasStepped}
+use Rattle.event_play.specs.Stepping.{HasStepped, numbered}
 use Rattle.event_play.specs.Streams.{Outlets}
 use Rattle.event_play.specs.Strokes.{event_strokes}
 use Rattle.event_play.specs.Work.{work_of}
@@ -18,6 +18,7 @@ use Rattle.event_play.specs.declared.ending.Mode.TheVariants.{Vram}
 use Rattle.event_play.specs.declared.fault.EventFault.{EventFault}
 use Rattle.event_play.specs.declared.work.Work.{Work}
 use Rattle.event_play.specs.declared.work.Work.TheVariants as work
+use Rattle.event_play.specs.Setting.{setting}
 
 -- all but the drawing processor's state is the rig's
 pub stands_is : (rig : RigState) (s : Machine) → Stands rig s → machine_of rig s.gpu ≡ s
@@ -49,14 +50,15 @@ notes_are s number (work.Begin next) = refl
 pub record HasDone (mode : Mode) (s : Machine) (number : ℕ) (event : Event) (shown : Option ℕ) (before now : Outlets)
     (rig : RigState) : Type 0 where
   pub at : ℕ
-  pub step : HasStepped s number event shown before (record now { steps = at }) rig
+  pub step : HasStepped s (numbered number event) shown before (setting (record now { steps = at }) rig)
   pub asked_notes : step.notes ≡ fed_notes s.gpu number (event_words s event)
   pub spent : now.steps ≤ at + lines_cost mode [] (event_strokes s number event)
 
 -- where nothing is written, all steps are those of the event
 pub only_stepped : (s : Machine) (number : ℕ) (event : Event) (shown : Option ℕ) (before now : Outlets)
     (rig : RigState)
-    → HasDone Vram s number event shown before now rig → HasStepped s number event shown before now rig
+    → HasDone Vram s number event shown before now rig
+    → HasStepped s (numbered number event) shown before (setting now rig)
 only_stepped s number event shown before now rig did = record {
   machine = did.step.machine;
   notes = did.step.notes;

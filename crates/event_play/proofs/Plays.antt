@@ -9,8 +9,8 @@ use Rattle.gp0_packets.specs.declared.note.Note.{Note}
 use Rattle.gpu_capture.specs.declared.event.Event.{Event}
 use Rattle.gpu_core.specs.Kept.{Kept, kept_of}
 use Rattle.gpu_core.specs.Machine.{State}
-use Rattle.event_play.specs.Does.{Does, Setting, Stops, setting, work_lines}
-use Rattle.event_play.specs.Ends.{FeedsPart, PlaysEvent, ShowsPart, event_lines, event_lines_cost}
+use Rattle.event_play.specs.Does.{Does, Stops, work_lines}
+use Rattle.event_play.specs.Ends.{FeedsPart, PlaysEvent, ShowsPart, coming, event_lines, event_lines_cost}
 use Rattle.event_play.specs.Feeding.{Feeds, StopsFeeding, drawing, fed_lines, in_event}
 use Rattle.event_play.specs.Frames.{Frame, frames_behind}
 use Rattle.event_play.specs.Lines.{IsGathered, MayGather, WritesBehind, lines_for, lines_while, lines_behind}
@@ -18,7 +18,7 @@ use Rattle.event_play.specs.Lines.{lines_cost}
 use Rattle.event_play.specs.Replay.{Tale, next_number}
 use Rattle.event_play.specs.RigState.{RigState, StandsFor, machine_of}
 use Rattle.event_play.specs.Step.{asked_words, done, event_words}
-use Rattle.event_play.specs.Stepping.{HasStepped}
+use Rattle.event_play.specs.Stepping.{HasStepped, numbered}
 use Rattle.event_play.specs.Streams.{Outlets}
 use Rattle.event_play.specs.Strokes.{Stroke, event_strokes}
 use Rattle.event_play.specs.Work.{work_of}
@@ -31,6 +31,8 @@ use Rattle.event_play.specs.declared.work.Words.TheVariants.{One}
 use Rattle.event_play.proofs.Events.{HasDone, has_done}
 use Rattle.event_play.proofs.Grows.{lines-none}
 use Rattle.event_play.proofs.Putting.{breaks_at, held_same, never_both, put_at, put_behind, put_both}
+use Rattle.event_play.specs.Setting.{Setting, setting}
+use Rattle.event_play.specs.Step.{showing}
 
 -- first the lines of words, and then what is due behind the event
 pub lines_both : (mode : Mode) (shown : List ℕ) (frames : List Frame) (notes : List Note) (strokes : List Stroke)
@@ -102,9 +104,11 @@ module _ (mode : Mode) (was mid rig : RigState) (t : Tale) (counted : ℕ) (even
   counts = record mid { played = counted }
 
   -- the step, by the number of the tale
-  abbrev numbered : (at : ℕ) → HasStepped t.state counted event shown before (record now { steps = at }) counts
-      → HasStepped t.state (next_number t.played) event shown before (record written { steps = at }) counts
-  numbered at step = record {
+  abbrev by_tale : (at : ℕ)
+      → HasStepped t.state (numbered counted event) shown before (setting (record now { steps = at }) counts)
+      → HasStepped t.state (numbered (next_number t.played) event) shown before
+      (setting (record written { steps = at }) counts)
+  by_tale at step = record {
     machine = step.machine;
     notes = step.notes;
     is = rw (← number) step.is;
@@ -135,7 +139,7 @@ module _ (mode : Mode) (was mid rig : RigState) (t : Tale) (counted : ℕ) (even
 
   -- all lines of the event
   lines_are : lines_while mode did.step.notes strokes ++ lines_behind mode words frames
-      ≡ event_lines mode t event did.step.machine shown did.step.notes
+      ≡ event_lines mode (coming t event) (showing did.step.machine shown did.step.notes)
   lines_are = lines_both mode words frames did.step.notes strokes
       ∙ ap (λ frames. lines_for mode words frames did.step.notes strokes) frames_are
       ∙ ap (lines_for mode words (frames_behind event (next_number t.played) did.step.machine.gpu.parts)
@@ -156,21 +160,21 @@ module _ (mode : Mode) (was mid rig : RigState) (t : Tale) (counted : ℕ) (even
   free_behind = still_free mode before.gathered now.gathered kept free
 
   all_spent : steps ≤ now.steps + lines_cost mode frames []
-      → steps ≤ did.at + event_lines_cost mode t event did.step.machine
+      → steps ≤ did.at + event_lines_cost mode (coming t event) did.step.machine
   all_spent behind =
       let spent = did.spent in
       let both = costs_both mode frames strokes in
-      let e : lines_cost mode frames strokes ≡ event_lines_cost mode t event did.step.machine =
+      let e : lines_cost mode frames strokes ≡ event_lines_cost mode (coming t event) did.step.machine =
       ap (λ frames. lines_cost mode frames strokes) frames_are
       ∙ ap (lines_cost mode (frames_behind event (next_number t.played) did.step.machine.gpu.parts)) strokes_are in
       omega (arith, behind, spent, both, e)
 
   pub plays : held ≡ appended now.held (lines_behind mode words frames) → steps ≤ now.steps + lines_cost mode frames []
-      → PlaysEvent mode t event before written counts
+      → PlaysEvent mode (coming t event) before (setting written counts)
   plays wrote spent = record {
     shown = shown;
     at = did.at;
-    step = numbered did.at did.step;
+    step = by_tale did.at did.step;
     played = number;
     put = put_at counted (next_number t.played) _ _ before.held held before.gathered now.gathered number lines_are
         (put_both counted (lines_while mode did.step.notes strokes) (lines_behind mode words frames) before.held now.held
@@ -182,11 +186,11 @@ module _ (mode : Mode) (was mid rig : RigState) (t : Tale) (counted : ℕ) (even
 
   pub shows_part : WritesBehind mode → AppendsPart now.held held (lines_behind mode words frames)
       → steps ≤ now.steps + lines_cost mode frames []
-      → ShowsPart mode t event before written counts
+      → ShowsPart mode (coming t event) before (setting written counts)
   shows_part behind part spent =
       let due = lines_behind mode words frames in
       let none : lines_while mode did.step.notes strokes ≡ [] = while_none mode did.step.notes strokes behind in
-      let all : due ≡ event_lines mode t event did.step.machine shown did.step.notes =
+      let all : due ≡ event_lines mode (coming t event) (showing did.step.machine shown did.step.notes) =
       ap (λ xs. xs ++ due) (sym none) ∙ lines_are in
       let same : now.held ≡ before.held = unwritten mode counted (lines_while mode did.step.notes strokes) before.held
       now.held before.gathered now.gathered behind kept free none words_put in
@@ -194,7 +198,7 @@ module _ (mode : Mode) (was mid rig : RigState) (t : Tale) (counted : ℕ) (even
         mode_is = behind;
         shown = shown;
         at = did.at;
-        step = numbered did.at did.step;
+        step = by_tale did.at did.step;
         played = number;
         held = let P : List ℕ → Type 0 = λ xs. AppendsPart before.held held xs in
             let Q : Option (List ℕ) → Type 0 = λ h. AppendsPart h held due in
@@ -210,7 +214,7 @@ pub feeds_part : (mode : Mode) (was rig : RigState) (t : Tale) (counted : ℕ) (
     before.gathered lacking
     → Stops (in_event counted mode) (machine_of was t.state.gpu) asked before (setting now rig)
     → rig.played ≡ was.played
-    → FeedsPart mode t event before now rig lacking
+    → FeedsPart mode (coming t event) before (setting now rig) lacking
 feeds_part mode was rig t counted event asked before now lacking is stands number gathers breaks stops played =
     let asked_are : asked_words was.ram (Ok asked) ≡ event_words t.state event =
     rw (stands.state.ram, stands.state.running, ← is) refl in

@@ -15,7 +15,7 @@ use Rattle.gpu_capture.specs.declared.event.Event.{Event}
 use Rattle.gpu_capture.specs.declared.progress.Progress.{Progress}
 use Rattle.gpu_taps.specs.Tally.{Reading}
 use Rattle.event_play.specs.Ends.{PlaysEvent, ShowsPart, FeedsPart, FaultsEvent, EndsEvent}
-use Rattle.event_play.specs.Ends.{event_lines, event_lines_cost}
+use Rattle.event_play.specs.Ends.{coming, event_lines, event_lines_cost}
 use Rattle.event_play.specs.Frames.{frames_behind}
 use Rattle.event_play.specs.Fed.{fed_notes}
 use Rattle.event_play.specs.Feeding.{fed_lines}
@@ -44,6 +44,8 @@ use Rattle.event_play.proofs.Grows.{lines-append, lines_cost-append, tale_on, af
 use Rattle.event_play.proofs.Lacking.{WasDue, due_here, due_on, lacks_lines}
 use Rattle.event_play.proofs.Parts.{event_feeds, no_frames, part_cost}
 use Rattle.event_play.proofs.Putting.{never_both}
+use Rattle.event_play.specs.Setting.{setting}
+use Rattle.event_play.specs.Step.{showing}
 
 -- ---- one event more
 
@@ -57,7 +59,7 @@ goes_on t next event c is =
 -- what was due, and what is due for an event
 lines_more : (mode : Mode) (t : Tale) (event : Event) (machine : Machine) (shown : Option ℕ) (notes : List Note)
     → lines_of mode (tale_on t event machine shown notes)
-    ≡ lines_of mode t ++ event_lines mode t event machine shown notes
+    ≡ lines_of mode t ++ event_lines mode (coming t event) (showing machine shown notes)
 lines_more mode t event machine shown notes = lines-append mode t.shown (option_to_list shown)
     t.frames (frames_behind event (next_number t.played) machine.gpu.parts) t.notes notes t.strokes
     (event_strokes t.state (next_number t.played) event)
@@ -73,7 +75,7 @@ spent_on before mid now a b was took = omega arith
 cost_on : (mode : Mode) (before mid at now : ℕ) (t : Tale) (event : Event) (machine : Machine) (shown : Option ℕ)
     (notes : List Note)
     → mid ≤ before + tale_cost mode t → at ≤ mid + event_cost t.state event
-    → now ≤ at + event_lines_cost mode t event machine
+    → now ≤ at + event_lines_cost mode (coming t event) machine
     → now ≤ before + tale_cost mode (tale_on t event machine shown notes)
 cost_on mode before mid at now t event machine shown notes was took spent =
     let e = lines_cost-append mode t.frames (frames_behind event (next_number t.played) machine.gpu.parts) t.strokes
@@ -152,7 +154,7 @@ module _ (mode : Mode) (script : List ℕ → Script) (before : Streams) (left :
       read.begins read.follows reached.taken_is read.needed is lines)
       now.held now.gathered put)
 
-  pub plays_on : PlaysEvent mode reached.tale event mid now rig
+  pub plays_on : PlaysEvent mode (coming reached.tale event) mid (setting now rig)
       → Reaches mode script before (beside left now) now.gathered rig (GoesOn mode script since p)
   plays_on plays =
       let t = reached.tale in
@@ -174,7 +176,8 @@ module _ (mode : Mode) (script : List ℕ → Script) (before : Streams) (left :
           few = reached.says.few;
         };
         stands = record { state = plays.step.stands; played = sym plays.played };
-        gathers = put_on next (event_lines mode t event plays.step.machine plays.shown plays.step.notes) is
+        gathers = put_on next
+            (event_lines mode (coming t event) (showing plays.step.machine plays.shown plays.step.notes)) is
             (lines_more mode t event plays.step.machine plays.shown plays.step.notes) plays.put;
         free = plays.free;
         heard = heard_on before.heard mid.heard now.heard t.notes plays.step.notes reached.heard plays.step.heard;
@@ -228,7 +231,8 @@ module _ (mode : Mode) (script : List ℕ → Script) (before : Streams) (left :
 
     -- it has a fault, behind what is gathered
     fault_ends : (number : ℕ) (fault : EventFault) (held : Option (List ℕ)) (result : Ending)
-        → number ≡ next_number reached.tale.played → FaultsEvent reached.tale event fault mid now was rig
+        → number ≡ next_number reached.tale.played
+        → FaultsEvent (coming reached.tale event) fault (setting mid was) (setting now rig)
         → WritesBefore (Faulted number fault) now.gathered now.held held result
         → EndsPlay mode script before (streams left held now.heard now.steps) rig result
     fault_ends number fault held result at faults writes =
@@ -265,14 +269,15 @@ module _ (mode : Mode) (script : List ℕ → Script) (before : Streams) (left :
               stands (heard ∙ reached.heard) cost)
         ]
 
-    shows_ends : (number : ℕ) → number ≡ next_number reached.tale.played → ShowsPart mode reached.tale event mid now rig
+    shows_ends : (number : ℕ) → number ≡ next_number reached.tale.played
+        → ShowsPart mode (coming reached.tale event) mid (setting now rig)
         → EndsPlay mode script before (beside left now) rig (WriteFailed number)
     shows_ends number at parts =
         let t = reached.tale in
         let stood = held_all mode script reached.events reached.flushed reached.taken before.held (lines_of mode t)
         mid.held mid.gathered (none_gathered_for mode mid.gathered parts.mode_is reached.free) reached.gathers in
         let next = tale_on t event parts.step.machine parts.shown parts.step.notes in
-        let due = event_lines mode t event parts.step.machine parts.shown parts.step.notes in
+        let due = event_lines mode (coming t event) (showing parts.step.machine parts.shown parts.step.notes) in
         let is = after-event t event parts.step.machine parts.shown parts.step.notes parts.step.is in
         let says = λ (rest : List ℕ). reached.says.says rest ∙ goes_on t next event (capture_from p rest) is in
         ends_at t next (WriteFailed number) now.held
@@ -304,7 +309,7 @@ module _ (mode : Mode) (script : List ℕ → Script) (before : Streams) (left :
         (cost_on mode before.steps mid.steps parts.at now.steps t event parts.step.machine parts.shown parts.step.notes
         reached.cost parts.step.cost parts.spent))
 
-    feeds_ends : (number : ℕ) → FeedsPart mode reached.tale event mid now rig number
+    feeds_ends : (number : ℕ) → FeedsPart mode (coming reached.tale event) mid (setting now rig) number
         → EndsPlay mode script before (beside left now) rig (WriteFailed number)
     feeds_ends number parts =
         let t = reached.tale in
@@ -349,7 +354,7 @@ module _ (mode : Mode) (script : List ℕ → Script) (before : Streams) (left :
         (event_cost t.state event) mid.steps now.steps feeds.cost stop.cost))))
 
     pub event_ends : (ending : Ending) (held : Option (List ℕ)) (result : Ending)
-        → EndsEvent mode reached.tale event mid now was rig ending
+        → EndsEvent mode (coming reached.tale event) (setting mid was) (setting now rig) ending
         → EndsBehind ending now.gathered now.held held result
         → EndsPlay mode script before (streams left held now.heard now.steps) rig result
     event_ends (Faulted number fault) held result ends behind = fault_ends number fault held result ends.0 ends.1 behind

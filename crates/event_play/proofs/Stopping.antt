@@ -13,7 +13,7 @@ use Rattle.gpu_capture.specs.declared.event.Event.{Event}
 use Rattle.gpu_capture.specs.declared.event.Stop.{Stop}
 use Rattle.gpu_capture.specs.declared.event.Stop.TheVariants.{End, NotCapture, Truncated, BadRecord, TooLong, ReadFault}
 use Rattle.gpu_capture.specs.declared.progress.Progress.{Progress}
-use Rattle.event_play.specs.Ends.{EndsAt, EndsReading}
+use Rattle.event_play.specs.Ends.{EndsAt, EndsReading, finale}
 use Rattle.event_play.specs.Ends.{WritesEnd, WritesEndPart, IsNotEnd}
 use Rattle.event_play.specs.Out.{lines_of, tale_cost, final_bytes, final_cost, ending_under, lacks_picture}
 use Rattle.event_play.specs.Out.{out_cost}
@@ -133,11 +133,11 @@ module _ (mode : Mode) (script : List ℕ → Script) (before : Streams) (left :
       (spent_on before.steps mid.steps now.steps (tale_cost mode reached.tale)
       (final_cost mode reached.tale.state.gpu) reached.cost spent)
 
-  done_ends : WritesEnd mode reached.tale.state.gpu (next_number rig.played) mid now
+  done_ends : WritesEnd (finale mode reached.tale.state.gpu (next_number rig.played)) mid now
       → EndsPlay mode script before (beside left now) rig Done
   done_ends wrote =
       let t = reached.tale in
-      let Q : ℕ → Type 0 = λ number. WritesEnd mode t.state.gpu number mid now in
+      let Q : ℕ → Type 0 = λ number. WritesEnd (finale mode t.state.gpu number) mid now in
       let writes = subst Q (number_of rig t reached.stands) wrote in
       let due = final_bytes mode mid.heard (next_number t.played) t.state.gpu in
       let heard : mid.heard ≡ told_notes t.notes before.heard = reached.heard in
@@ -152,11 +152,11 @@ module _ (mode : Mode) (script : List ℕ → Script) (before : Streams) (left :
       refl (end_costs writes.shows writes.cost)
 
   finals_end : (number : ℕ) → number ≡ next_number rig.played
-      → WritesEndPart mode reached.tale.state.gpu (next_number rig.played) mid now
+      → WritesEndPart (finale mode reached.tale.state.gpu (next_number rig.played)) mid now
       → EndsPlay mode script before (beside left now) rig (WriteFailed number)
   finals_end number at wrote =
       let t = reached.tale in
-      let Q : ℕ → Type 0 = λ number. WritesEndPart mode t.state.gpu number mid now in
+      let Q : ℕ → Type 0 = λ number. WritesEndPart (finale mode t.state.gpu number) mid now in
       let writes = subst Q (number_of rig t reached.stands) wrote in
       let due = final_bytes mode mid.heard (next_number t.played) t.state.gpu in
       ends_behind mode script before left mid now since rig p End reached is_small same (WriteFailed number)
@@ -209,17 +209,17 @@ module _ (mode : Mode) (script : List ℕ → Script) (before : Streams) (left :
 
   stop_ends : (stop : Stop) (reached : Awaits mode script before (beside left mid) [] since rig p (Err stop))
       → AreSmall (plays script) → now.heard ≡ mid.heard
-      → (ending : Ending) → EndsAt mode reached.tale.state.gpu (next_number rig.played) stop mid now ending
+      → (ending : Ending) → EndsAt (finale mode reached.tale.state.gpu (next_number rig.played)) stop mid now ending
       → EndsPlay mode script before (beside left now) rig ending
   stop_ends stop reached is_small same Done (is, writes) =
       let P : Stop → Type 0 = λ stop. (reached : Awaits mode script before (beside left mid) [] since rig p (Err stop))
-      → WritesEnd mode reached.tale.state.gpu (next_number rig.played) mid now
+      → WritesEnd (finale mode reached.tale.state.gpu (next_number rig.played)) mid now
       → EndsPlay mode script before (beside left now) rig Done in
       subst P (sym is) (λ reached writes. done_ends mode script before left mid now since rig p reached is_small same
       writes) reached writes
   stop_ends stop reached is_small same (WriteFailed number) (is, at, writes) =
       let P : Stop → Type 0 = λ stop. (reached : Awaits mode script before (beside left mid) [] since rig p (Err stop))
-      → WritesEndPart mode reached.tale.state.gpu (next_number rig.played) mid now
+      → WritesEndPart (finale mode reached.tale.state.gpu (next_number rig.played)) mid now
       → EndsPlay mode script before (beside left now) rig (WriteFailed number) in
       subst P (sym is) (λ reached writes. finals_end mode script before left mid now since rig p reached is_small same
       number at writes) reached writes
@@ -315,7 +315,7 @@ module _ (mode : Mode) (script : List ℕ → Script) (before : Streams) (left :
       }
 
   pub reading_ends : now.heard ≡ mid.heard → (ending : Ending)
-      → EndsReading mode reached.tale.state.gpu (next_number rig.played) stop mid now ending
+      → EndsReading (finale mode reached.tale.state.gpu (next_number rig.played)) stop mid now ending
       → EndsPlay mode script before (beside left now) rig ending
   unfolding all_written
   reading_ends same ending (inl ends) =

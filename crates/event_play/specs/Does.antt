@@ -6,7 +6,8 @@ use Rattle.gpu_core.specs.Kept.{kept_of}
 use Rattle.gpu_core.specs.Machine.{State}
 use Rattle.event_play.specs.Feeding.{StopsFeeding, drawing, due_lines}
 use Rattle.event_play.specs.Lines.{IsGathered, lines_cost}
-use Rattle.event_play.specs.RigState.{RigState, Stands, machine_of}
+use Rattle.event_play.specs.RigState.{Stands, machine_of}
+use Rattle.event_play.specs.Setting.{Setting}
 use Rattle.event_play.specs.Step.{Machine, done, work_cost, asked_words}
 use Rattle.event_play.specs.Streams.{Outlets, PutsLines}
 use Rattle.event_play.specs.Strokes.{Stroke, fed_strokes}
@@ -21,14 +22,6 @@ work_strokes s number asked = fed_strokes s.gpu number (asked_words s.ram (Ok as
 -- their lines, which are due in this event
 abbrev pub work_lines : Within → Machine → Work → Piece
 work_lines within s asked = due_lines within s.gpu (asked_words s.ram (Ok asked))
-
--- what an event is played with: the outlets, and the rig
-pub record Setting : Type 0 where
-  pub out : Outlets
-  pub rig : RigState
-
-abbrev pub setting : Outlets → RigState → Setting
-setting out rig = record { out = out; rig = rig }
 
 -- it was done whole in this event, by this machine
 pub record Does (within : Within) (s : Machine) (asked : Work) (before : Outlets) (now : Setting) : Type 0 where

@@ -1,21 +1,23 @@
 -- One event that is played, and what is due behind the last one.
-use Rattle.std.specs.Prelude.{◌≡◌, ◌≤◌, ◌⊎◌, ℕ, ◌+◌, List, Option, Result, Err, OnOk, IfErr, option_to_list, true, false}
+use Rattle.std.specs.Prelude.{◌≡◌, ◌≤◌, ◌⊎◌, Bool, ℕ, ◌+◌, List, Option, Result, Err, OnOk, IfErr, option_to_list}
+use Rattle.std.specs.Prelude.{true, false}
 use Rattle.gathered_out.specs.Puts.{BreaksPut, BreaksWriting, IsPut, IsWritten}
 use Rattle.dev_io.specs.Device.{Rose, appended, AppendsPart}
-use Rattle.gp0_packets.specs.declared.note.Note.{Note}
 use Rattle.gpu_capture.specs.declared.event.Event.{Event}
 use Rattle.gpu_capture.specs.declared.event.Stop.{Stop}
 use Rattle.gpu_capture.specs.declared.event.Stop.TheVariants.{End}
 use Rattle.gpu_core.specs.Machine.{State}
+use Rattle.gpu_taps.specs.Tally.{Reading}
 use Rattle.event_play.specs.Causes.{MayReadFault, MayWriteFault, IsEnding}
 use Rattle.event_play.specs.Feeding.{StopsFeeding, drawing, fed_lines, in_event}
 use Rattle.event_play.specs.Frames.{frames_behind}
 use Rattle.event_play.specs.Lines.{IsGathered, MayGather, WritesBehind, lines_for, lines_cost}
 use Rattle.event_play.specs.Out.{final_bytes, final_cost, lacks_picture}
 use Rattle.event_play.specs.Replay.{Tale, next_number}
-use Rattle.event_play.specs.RigState.{RigState, StandsFor}
-use Rattle.event_play.specs.Step.{Machine, event_step, event_words}
-use Rattle.event_play.specs.Stepping.{HasStepped}
+use Rattle.event_play.specs.RigState.{StandsFor}
+use Rattle.event_play.specs.Setting.{Setting, setting}
+use Rattle.event_play.specs.Step.{Machine, Stepped, event_step, event_words, showing}
+use Rattle.event_play.specs.Stepping.{HasStepped, numbered}
 use Rattle.event_play.specs.Streams.{Outlets}
 use Rattle.event_play.specs.Strokes.{event_strokes}
 use Rattle.event_play.specs.declared.ending.Ending.{Ending}
@@ -23,77 +25,92 @@ use Rattle.event_play.specs.declared.ending.Ending.TheVariants.{Done, Stopped, F
 use Rattle.event_play.specs.declared.ending.Mode.{Mode}
 use Rattle.event_play.specs.declared.fault.EventFault.{EventFault}
 
--- the lines of an event that leads to a machine, shows a word and gives notes, and what they cost
-abbrev pub event_lines : Mode → Tale → Event → Machine → Option ℕ → List Note → List ℕ
-event_lines mode t event machine shown notes = lines_for mode (option_to_list shown)
-    (frames_behind event (next_number t.played) machine.gpu.parts) notes (event_strokes t.state (next_number t.played) event)
+-- an event that comes behind a tale
+pub record Coming : Type 0 where
+  pub tale : Tale
+  pub event : Event
 
-abbrev pub event_lines_cost : Mode → Tale → Event → Machine → ℕ
-event_lines_cost mode t event machine =
-    lines_cost mode (frames_behind event (next_number t.played) machine.gpu.parts)
-    (event_strokes t.state (next_number t.played) event)
+abbrev pub coming : Tale → Event → Coming
+coming t event = record { tale = t; event = event }
+
+-- its number
+abbrev pub number_in : Coming → ℕ
+number_in comes = next_number comes.tale.played
+
+-- its lines, by what it leads to, and what they cost
+abbrev pub event_lines : Mode → Coming → Stepped → List ℕ
+event_lines mode comes after = lines_for mode (option_to_list after.shown)
+    (frames_behind comes.event (number_in comes) after.machine.gpu.parts) after.notes
+    (event_strokes comes.tale.state (number_in comes) comes.event)
+
+abbrev pub event_lines_cost : Mode → Coming → Machine → ℕ
+event_lines_cost mode comes machine =
+    lines_cost mode (frames_behind comes.event (number_in comes) machine.gpu.parts)
+    (event_strokes comes.tale.state (number_in comes) comes.event)
+
+-- what it was played with, by so many steps
+abbrev pub by_steps : (at : ℕ) → Setting → Setting
+by_steps at now = setting (record now.out { steps = at }) now.rig
 
 -- an event was played, and what is due for it was put and told: by so many steps, and those of writing it
-pub record PlaysEvent (mode : Mode) (t : Tale) (event : Event) (before now : Outlets) (rig : RigState) : Type 0 where
+pub record PlaysEvent (mode : Mode) (comes : Coming) (before : Outlets) (now : Setting) : Type 0 where
   pub shown : Option ℕ
   pub at : ℕ
-  pub step : HasStepped t.state (next_number t.played) event shown before (record now { steps = at }) rig
-  pub played : rig.played ≡ next_number t.played
-  pub put : IsPut (next_number t.played) (event_lines mode t event step.machine shown step.notes) before.held now.held
-      before.gathered now.gathered
-  pub free : MayGather mode now.gathered
-  pub spent : now.steps ≤ at + event_lines_cost mode t event step.machine
+  pub step : HasStepped comes.tale.state (numbered (number_in comes) comes.event) shown before (by_steps at now)
+  pub played : now.rig.played ≡ number_in comes
+  pub put : IsPut (number_in comes) (event_lines mode comes (showing step.machine shown step.notes)) before.held
+      now.out.held before.gathered now.out.gathered
+  pub free : MayGather mode now.out.gathered
+  pub spent : now.out.steps ≤ at + event_lines_cost mode comes step.machine
 
--- an event was played, but the line of the word that it shows, or the picture behind it or its sum, could not be written whole
-pub record ShowsPart (mode : Mode) (t : Tale) (event : Event) (before now : Outlets) (rig : RigState) : Type 0 where
+-- an event was played, but the line of the word that it shows, or the picture behind it or its sum, could not be
+-- written whole
+pub record ShowsPart (mode : Mode) (comes : Coming) (before : Outlets) (now : Setting) : Type 0 where
   pub mode_is : WritesBehind mode
   pub shown : Option ℕ
   pub at : ℕ
-  pub step : HasStepped t.state (next_number t.played) event shown before (record now { steps = at }) rig
-  pub played : rig.played ≡ next_number t.played
-  pub held : AppendsPart before.held now.held (event_lines mode t event step.machine shown step.notes)
-  pub spent : now.steps ≤ at + event_lines_cost mode t event step.machine
+  pub step : HasStepped comes.tale.state (numbered (number_in comes) comes.event) shown before (by_steps at now)
+  pub played : now.rig.played ≡ number_in comes
+  pub held : AppendsPart before.held now.out.held (event_lines mode comes (showing step.machine shown step.notes))
+  pub spent : now.out.steps ≤ at + event_lines_cost mode comes step.machine
 
--- the words of an event were fed up to one whose line could not be put; the event does not count, and all else of the rig
--- is as it was
-pub record FeedsPart (mode : Mode) (t : Tale) (event : Event) (before now : Outlets) (rig : RigState) (lacking : ℕ)
-    : Type 0 where
+-- the words of an event were fed up to one whose line could not be put; the event does not count, and all else of the
+-- rig is as it was
+pub record FeedsPart (mode : Mode) (comes : Coming) (before : Outlets) (now : Setting) (lacking : ℕ) : Type 0 where
   pub gathers : IsGathered mode
-  pub breaks : BreaksPut (next_number t.played)
-      (fed_lines mode t.state.gpu (next_number t.played) (event_words t.state event)) before.held now.held
-      before.gathered lacking
-  pub feeding : StopsFeeding (in_event (next_number t.played) mode) t.state.gpu (event_words t.state event) before
-      (drawing now rig.gpu)
-  pub ram : t.state.ram ≡ rig.ram
-  pub running : t.state.running ≡ rig.running
-  pub played : t.played ≡ rig.played
+  pub breaks : BreaksPut (number_in comes)
+      (fed_lines mode comes.tale.state.gpu (number_in comes) (event_words comes.tale.state comes.event)) before.held
+      now.out.held before.gathered lacking
+  pub feeding : StopsFeeding (in_event (number_in comes) mode) comes.tale.state.gpu
+      (event_words comes.tale.state comes.event) before (drawing now.out now.rig.gpu)
+  pub ram : comes.tale.state.ram ≡ now.rig.ram
+  pub running : comes.tale.state.running ≡ now.rig.running
+  pub played : comes.tale.played ≡ now.rig.played
 
 -- an event has a fault and changed nothing
-pub record FaultsEvent (t : Tale) (event : Event) (fault : EventFault) (before now : Outlets)
-    (was rig : RigState) : Type 0 where
-  pub is : event_step t.state (next_number t.played) event ≡ Err fault
-  pub stands : rig ≡ was
-  pub unchanged : now ≡ before
+pub record FaultsEvent (comes : Coming) (fault : EventFault) (before now : Setting) : Type 0 where
+  pub is : event_step comes.tale.state (number_in comes) comes.event ≡ Err fault
+  pub stands : now.rig ≡ before.rig
+  pub unchanged : now.out ≡ before.out
 
 -- how an event ended playing: at its number, but for lines that are gathered
-abbrev pub EndsEvent : Mode → Tale → Event → (before now : Outlets) → (was rig : RigState) → Ending → Type 0
-EndsEvent mode t event before now was rig (Faulted number fault) =
-    (number ≡ next_number t.played) × FaultsEvent t event fault before now was rig
-EndsEvent mode t event before now was rig (WriteFailed number) =
-    FeedsPart mode t event before now rig number
-    ⊎ ((number ≡ next_number t.played) × ShowsPart mode t event before now rig)
-EndsEvent mode t event before now was rig ending = ⊥
+abbrev pub EndsEvent : Mode → Coming → (before now : Setting) → Ending → Type 0
+EndsEvent mode comes before now (Faulted number fault) =
+    (number ≡ number_in comes) × FaultsEvent comes fault before now
+EndsEvent mode comes before now (WriteFailed number) =
+    FeedsPart mode comes before.out now number ⊎ ((number ≡ number_in comes) × ShowsPart mode comes before.out now)
+EndsEvent mode comes before now ending = ⊥
 
 -- what a call does that plays an event, for every tale for which the rig stands: Ok where playing goes on
-pub record PlaysOrEnds {Value : Type 0} (mode : Mode) (event : Event) (before now : Outlets) (was rig : RigState)
+pub record PlaysOrEnds {Value : Type 0} (mode : Mode) (event : Event) (before now : Setting)
     (result : Result Value Ending) : Type 0 where
-  pub ok : (t : Tale) → StandsFor was t → MayGather mode before.gathered
-      → OnOk result (PlaysEvent mode t event before now rig)
-  pub ends : (t : Tale) → StandsFor was t → MayGather mode before.gathered
-      → IfErr result (EndsEvent mode t event before now was rig)
+  pub ok : (t : Tale) → StandsFor before.rig t → MayGather mode before.out.gathered
+      → OnOk result (PlaysEvent mode (coming t event) before.out now)
+  pub ends : (t : Tale) → StandsFor before.rig t → MayGather mode before.out.gathered
+      → IfErr result (EndsEvent mode (coming t event) before now)
   pub known : IfErr result (λ ending. IsEnding ending × (MayReadFault ending → ⊥))
-  pub cause : IfErr result (λ ending. MayWriteFault ending → Rose before.faults now.faults)
-  pub faults : before.faults ≤ now.faults
+  pub cause : IfErr result (λ ending. MayWriteFault ending → Rose before.out.faults now.out.faults)
+  pub faults : before.out.faults ≤ now.out.faults
 
 -- ---- the end
 
@@ -101,32 +118,47 @@ abbrev pub IsNotEnd : Stop → Type 0
 IsNotEnd End = ⊥
 IsNotEnd stop = Unit {0}
 
--- what is due behind the last event was written
-pub record WritesEnd (mode : Mode) (s : State) (number : ℕ) (before now : Outlets) : Type 0 where
-  pub shows : lacks_picture mode s.parts.regs ≡ false
-  pub held : now.held ≡ appended before.held (final_bytes mode before.heard number s)
-  pub cost : now.steps ≤ before.steps + final_cost mode s
+-- what tells what is due behind the last event: the mode, the drawing processor, and the number of the next event
+pub record Finale : Type 0 where
+  pub mode : Mode
+  pub state : State
+  pub number : ℕ
+
+abbrev pub finale : Mode → State → (number : ℕ) → Finale
+finale mode s number = record { mode = mode; state = s; number = number }
+
+-- whether it lacks a picture; its bytes; and what they cost
+abbrev pub LacksPicture : Finale → (lacks : Bool) → Type 0
+LacksPicture due lacks = lacks_picture due.mode due.state.parts.regs ≡ lacks
+
+abbrev pub finale_bytes : Finale → List Reading → List ℕ
+finale_bytes due heard = final_bytes due.mode heard due.number due.state
+
+-- it was written
+pub record WritesEnd (due : Finale) (before now : Outlets) : Type 0 where
+  pub shows : LacksPicture due false
+  pub held : now.held ≡ appended before.held (finale_bytes due before.heard)
+  pub cost : now.steps ≤ before.steps + final_cost due.mode due.state
 
 -- a part of it was
-pub record WritesEndPart (mode : Mode) (s : State) (number : ℕ) (before now : Outlets) : Type 0 where
-  pub shows : lacks_picture mode s.parts.regs ≡ false
-  pub held : AppendsPart before.held now.held (final_bytes mode before.heard number s)
-  pub cost : now.steps ≤ before.steps + final_cost mode s
+pub record WritesEndPart (due : Finale) (before now : Outlets) : Type 0 where
+  pub shows : LacksPicture due false
+  pub held : AppendsPart before.held now.held (finale_bytes due before.heard)
+  pub cost : now.steps ≤ before.steps + final_cost due.mode due.state
 
 -- how a stop of the reader ends playing, at the number of the next event
-abbrev pub EndsAt : Mode → State → (number : ℕ) → Stop → (before now : Outlets) → Ending → Type 0
-EndsAt mode s number stop before now Done = (stop ≡ End) × WritesEnd mode s number before now
-EndsAt mode s number stop before now (WriteFailed at) =
-    (stop ≡ End) × (at ≡ number) × WritesEndPart mode s number before now
-EndsAt mode s number stop before now (NoPicture at) =
-    (stop ≡ End) × (at ≡ number) × (lacks_picture mode s.parts.regs ≡ true) × (now ≡ before)
-EndsAt mode s number stop before now (Stopped at told) = (at ≡ number) × (told ≡ stop) × IsNotEnd stop × (now ≡ before)
-EndsAt mode s number stop before now (Faulted at fault) = ⊥
+abbrev pub EndsAt : Finale → Stop → (before now : Outlets) → Ending → Type 0
+EndsAt due stop before now Done = (stop ≡ End) × WritesEnd due before now
+EndsAt due stop before now (WriteFailed at) = (stop ≡ End) × (at ≡ due.number) × WritesEndPart due before now
+EndsAt due stop before now (NoPicture at) =
+    (stop ≡ End) × (at ≡ due.number) × LacksPicture due true × (now ≡ before)
+EndsAt due stop before now (Stopped at told) = (at ≡ due.number) × (told ≡ stop) × IsNotEnd stop × (now ≡ before)
+EndsAt due stop before now (Faulted at fault) = ⊥
 
 -- the same, behind what is gathered
-abbrev pub EndsReading : Mode → State → (number : ℕ) → Stop → (before now : Outlets) → Ending → Type 0
-EndsReading mode s number stop before now ending =
+abbrev pub EndsReading : Finale → Stop → (before now : Outlets) → Ending → Type 0
+EndsReading due stop before now ending =
     ((mid : Outlets) × IsWritten before.held mid.held before.gathered × (mid.heard ≡ before.heard)
-    × (mid.steps ≡ before.steps) × EndsAt mode s number stop mid now ending)
+    × (mid.steps ≡ before.steps) × EndsAt due stop mid now ending)
     ⊎ ((lacking : ℕ) × (ending ≡ WriteFailed lacking) × BreaksWriting before.held now.held before.gathered lacking
     × (now.heard ≡ before.heard) × (now.steps ≡ before.steps))

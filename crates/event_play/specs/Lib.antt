@@ -19,6 +19,7 @@ pub mod Playing
 pub mod Ports
 pub mod Replay
 pub mod RigState
+pub mod Setting
 pub mod Shots
 pub mod Splits
 pub mod Step

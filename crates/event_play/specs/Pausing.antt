@@ -2,6 +2,7 @@
 use Rattle.std.specs.Prelude.{◌≡◌, ◌<◌, ◌⊎◌, ◌+◌, ℕ, List, [], Option}
 use Rattle.gathered_out.specs.Pieces.{Piece}
 use Rattle.gathered_out.specs.Puts.{BreaksWriting, IsWritten}
+use Rattle.event_play.specs.Streams.{SinkState}
 use Rattle.event_play.specs.declared.ending.Ending.{Ending}
 use Rattle.event_play.specs.declared.ending.Ending.TheVariants.{WriteFailed}
 
@@ -9,12 +10,12 @@ use Rattle.event_play.specs.declared.ending.Ending.TheVariants.{WriteFailed}
 abbrev pub most_behind : ℕ
 most_behind = 4112
 
--- Where the reader stands at this place and all was last written at another, gathering goes on for few bytes more, or all
--- is written here.
-abbrev pub Pauses : (place since : ℕ) → (old new : List Piece) → (before now : Option (List ℕ)) → (at : ℕ) → Type 0
-Pauses place since old new before now at =
-    ((at ≡ since) × (place < since + 4096) × (new ≡ old) × (now ≡ before))
-    ⊎ ((at ≡ place) × (new ≡ []) × IsWritten before now old)
+-- Where the reader stands at this place and all was last written at another, gathering goes on for few bytes more, or
+-- all is written here.
+abbrev pub Pauses : (place since : ℕ) → (before now : SinkState) → (at : ℕ) → Type 0
+Pauses place since before now at =
+    ((at ≡ since) × (place < since + 4096) × (now.gathered ≡ before.gathered) × (now.held ≡ before.held))
+    ⊎ ((at ≡ place) × (now.gathered ≡ []) × IsWritten before.held now.held before.gathered)
 
 -- what is gathered was written, and it ends so; or that failed
 abbrev pub WritesBefore : Ending → List Piece → (before now : Option (List ℕ)) → Ending → Type 0

@@ -53,6 +53,10 @@ pub record Stepped : Type 0 where
 abbrev pub quiet : Machine → Stepped
 quiet s = record { machine = s; shown = None; notes = [] }
 
+-- this word is shown, and these notes are told
+abbrev pub showing : Machine → (shown : Option ℕ) → List Note → Stepped
+showing machine shown notes = record { machine = machine; shown = shown; notes = notes }
+
 -- a work that is done in the event of this number
 abbrev pub done : Machine → (number : ℕ) → Work → Stepped
 done s number work.Nothing = quiet s

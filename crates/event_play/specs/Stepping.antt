@@ -2,17 +2,26 @@
 use Rattle.std.specs.Prelude.{◌≡◌, ◌≤◌, ℕ, ◌+◌, List, Option, Ok}
 use Rattle.gp0_packets.specs.declared.note.Note.{Note}
 use Rattle.gpu_capture.specs.declared.event.Event.{Event}
-use Rattle.event_play.specs.RigState.{RigState, Stands}
-use Rattle.event_play.specs.Step.{Machine, event_step, event_cost}
+use Rattle.event_play.specs.RigState.{Stands}
+use Rattle.event_play.specs.Setting.{Setting}
+use Rattle.event_play.specs.Step.{Machine, event_step, event_cost, showing}
 use Rattle.event_play.specs.Streams.{Outlets}
 use Rattle.event_play.specs.Told.{told_notes}
 
--- it showed this word, and the taps were told every note
-pub record HasStepped (s : Machine) (number : ℕ) (event : Event) (shown : Option ℕ) (before now : Outlets)
-    (rig : RigState) : Type 0 where
+-- an event, and its number
+pub record Numbered : Type 0 where
+  pub number : ℕ
+  pub event : Event
+
+abbrev pub numbered : (number : ℕ) → Event → Numbered
+numbered number event = record { number = number; event = event }
+
+-- a machine played it, it showed this word, and the taps were told every note
+pub record HasStepped (s : Machine) (given : Numbered) (shown : Option ℕ) (before : Outlets) (now : Setting)
+    : Type 0 where
   pub machine : Machine
   pub notes : List Note
-  pub is : event_step s number event ≡ Ok (record { machine = machine; shown = shown; notes = notes })
-  pub stands : Stands rig machine
-  pub heard : now.heard ≡ told_notes notes before.heard
-  pub cost : now.steps ≤ before.steps + event_cost s event
+  pub is : event_step s given.number given.event ≡ Ok (showing machine shown notes)
+  pub stands : Stands now.rig machine
+  pub heard : now.out.heard ≡ told_notes notes before.heard
+  pub cost : now.out.steps ≤ before.steps + event_cost s given.event

@@ -6,7 +6,8 @@ ghost use Rattle.event_play.specs.PlayedWords.{after_word, after_words};
 ghost use Rattle.event_play.specs.Replay.{from_state, next_number};
 ghost use Rattle.event_play.specs.RigState.{Stands};
 ghost use Rattle.event_play.specs.Step.{Machine};
-ghost use Rattle.event_play.specs.Stepping.{HasStepped};
+ghost use Rattle.event_play.specs.Setting.{setting};
+ghost use Rattle.event_play.specs.Stepping.{HasStepped, numbered};
 ghost use Rattle.event_play.specs.Streams.{without_sink};
 
 use crate::feed::feed_events;
@@ -46,9 +47,9 @@ impl Rig {
         steps: &mut Steps<L>,
     )
         ensures stepped { (s : Machine) → Stands self.old s →
-            HasStepped s (next_number self.old.played) (Event.Gp0 word) None
+            HasStepped s (numbered (next_number self.old.played) (Event.Gp0 word)) None
             (without_sink (map T.heard taps.old.items) steps.old)
-            (without_sink (map T.heard taps.new.items) steps.new) self.new }
+            (setting (without_sink (map T.heard taps.new.items) steps.new) self.new) }
         ensures played { self.new.played ≡ next_number self.old.played }
     {
         let number = self.next_number();

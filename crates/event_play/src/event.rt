@@ -1,6 +1,7 @@
 // Events of a capture are played one by one, with what is due for them.
 ghost use Rattle.std.specs.Prelude.{◌≡◌, map};
 ghost use Rattle.event_play.specs.Ends.{PlaysOrEnds};
+ghost use Rattle.event_play.specs.Setting.{setting};
 ghost use Rattle.event_play.specs.Streams.{gathering, outlets};
 
 use crate::ending::{Ending, Mode, Within};
@@ -28,9 +29,10 @@ impl Rig {
         steps: &mut Steps<L>,
     ) -> Result<(), Ending>
         ensures { PlaysOrEnds mode event.now
-            (gathering lines.old (outlets (K.held out.old) (K.faults out.old) (map T.heard taps.old.items) steps.old))
-            (gathering lines.new (outlets (K.held out.new) (K.faults out.new) (map T.heard taps.new.items) steps.new))
-            self.old self.new result }
+            (setting (gathering lines.old (outlets (K.held out.old) (K.faults out.old)
+            (map T.heard taps.old.items) steps.old)) self.old)
+            (setting (gathering lines.new (outlets (K.held out.new) (K.faults out.new)
+            (map T.heard taps.new.items) steps.new)) self.new) result }
     {
         let lines = &mut Lines {
             gathered: lines,
@@ -53,11 +55,10 @@ impl Rig {
         steps: &mut Steps<L>,
     ) -> Result<(), Ending>
         ensures plays { PlaysOrEnds mode (Event.Gp0 word)
-            (gathering lines.old.gathered.now (outlets (K.held lines.old.out.now) (K.faults lines.old.out.now)
-            (map T.heard taps.old.items) steps.old))
-            (gathering lines.new.gathered.now (outlets (K.held lines.new.out.now) (K.faults lines.new.out.now)
-            (map T.heard taps.new.items) steps.new))
-            self.old self.new result }
+            (setting (gathering lines.old.gathered.now (outlets (K.held lines.old.out.now) (K.faults lines.old.out.now)
+            (map T.heard taps.old.items) steps.old)) self.old)
+            (setting (gathering lines.new.gathered.now (outlets (K.held lines.new.out.now) (K.faults lines.new.out.now)
+            (map T.heard taps.new.items) steps.new)) self.new) result }
         ensures gathered { lines.new.gathered.ghost_name ≡ lines.old.gathered.ghost_name }
         ensures out { lines.new.out.ghost_name ≡ lines.old.out.ghost_name }
     {
@@ -82,11 +83,10 @@ impl Rig {
         steps: &mut Steps<L>,
     ) -> Result<(), Ending>
         ensures plays { PlaysOrEnds mode event.now
-            (gathering lines.old.gathered.now (outlets (K.held lines.old.out.now) (K.faults lines.old.out.now)
-            (map T.heard taps.old.items) steps.old))
-            (gathering lines.new.gathered.now (outlets (K.held lines.new.out.now) (K.faults lines.new.out.now)
-            (map T.heard taps.new.items) steps.new))
-            self.old self.new result }
+            (setting (gathering lines.old.gathered.now (outlets (K.held lines.old.out.now) (K.faults lines.old.out.now)
+            (map T.heard taps.old.items) steps.old)) self.old)
+            (setting (gathering lines.new.gathered.now (outlets (K.held lines.new.out.now) (K.faults lines.new.out.now)
+            (map T.heard taps.new.items) steps.new)) self.new) result }
         ensures gathered { lines.new.gathered.ghost_name ≡ lines.old.gathered.ghost_name }
         ensures out { lines.new.out.ghost_name ≡ lines.old.out.ghost_name }
     {

@@ -1,11 +1,12 @@
 // The machine that plays events.
 ghost use Rattle.std.specs.Prelude.{◌≡◌, None, map, IfOk, IfErr, OnOk, OnErr, Ok, Err};
 ghost use Rattle.list_dma.specs.Plans.{IsRun};
-ghost use Rattle.event_play.specs.Does.{Performs, PutsWork, setting};
+ghost use Rattle.event_play.specs.Does.{Performs, PutsWork};
 ghost use Rattle.event_play.specs.Replay.{next_number};
 ghost use Rattle.event_play.specs.RigState.{RigState, first_rig, Stands};
+ghost use Rattle.event_play.specs.Setting.{setting};
 ghost use Rattle.event_play.specs.Step.{Machine, event_step, tall_machine};
-ghost use Rattle.event_play.specs.Stepping.{HasStepped};
+ghost use Rattle.event_play.specs.Stepping.{HasStepped, numbered};
 ghost use Rattle.event_play.specs.Streams.{with_sink, without_sink};
 ghost use Rattle.event_play.specs.Work.{work_of, IsWork};
 
@@ -82,9 +83,9 @@ impl Rig {
         steps: &mut Steps<L>,
     ) -> Result<Option<u32>, EventFault>
         ensures stepped { (s : Machine) → Stands self.old s → IfOk result (λ shown.
-            HasStepped s (next_number self.old.played) event.now shown
+            HasStepped s (numbered (next_number self.old.played) event.now) shown
             (without_sink (map T.heard taps.old.items) steps.old)
-            (without_sink (map T.heard taps.new.items) steps.new) self.new) }
+            (setting (without_sink (map T.heard taps.new.items) steps.new) self.new)) }
         ensures played { OnOk result (self.new.played ≡ next_number self.old.played) }
 
         ensures fault { (s : Machine) → Stands self.old s →

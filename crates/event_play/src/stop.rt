@@ -5,7 +5,7 @@ ghost use Rattle.gpu_capture.specs.Reader.{IsReadFault};
 ghost use Rattle.gpu_core.specs.Kept.{kept_of};
 ghost use Rattle.gpu_core.specs.Machine.{State};
 ghost use Rattle.event_play.specs.Causes.{MayReadFault, MayWriteFault, IsEnding};
-ghost use Rattle.event_play.specs.Ends.{EndsAt, EndsReading};
+ghost use Rattle.event_play.specs.Ends.{EndsAt, EndsReading, finale};
 ghost use Rattle.event_play.specs.Replay.{next_number};
 ghost use Rattle.event_play.specs.Streams.{gathering, outlets};
 
@@ -31,7 +31,7 @@ impl Rig {
         steps: &mut Steps<L>,
     ) -> Ending
         ensures ends { (s : State) → kept_of s ≡ self.now.gpu →
-            EndsReading mode s (next_number self.now.played) stop
+            EndsReading (finale mode s (next_number self.now.played)) stop
             (gathering lines.old (outlets (K.held out.old) (K.faults out.old) (map T.heard taps.now.items) steps.old))
             (outlets (K.held out.new) (K.faults out.new) (map T.heard taps.now.items) steps.new) result }
         ensures known { IsEnding result }
@@ -56,7 +56,7 @@ impl Rig {
         steps: &mut Steps<L>,
     ) -> Ending
         ensures ends { (s : State) → kept_of s ≡ self.now.gpu →
-            EndsAt mode s (next_number self.now.played) stop
+            EndsAt (finale mode s (next_number self.now.played)) stop
             (outlets (K.held out.old) (K.faults out.old) (map T.heard taps.now.items) steps.old)
             (outlets (K.held out.new) (K.faults out.new) (map T.heard taps.now.items) steps.new) result }
         ensures known { IsEnding result }

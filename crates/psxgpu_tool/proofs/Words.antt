@@ -13,7 +13,7 @@ use Rattle.event_play.specs.Replay.{Tale, next_number}
 use Rattle.event_play.specs.RigState.{RigState, Stands}
 use Rattle.event_play.specs.Step.{Machine, Stepped, event_step, event_cost, event_box_cost}
 use Rattle.event_play.specs.Frames.{frames_behind}
-use Rattle.event_play.specs.Stepping.{HasStepped}
+use Rattle.event_play.specs.Stepping.{HasStepped, numbered}
 use Rattle.event_play.specs.Streams.{Outlets}
 use Rattle.event_play.specs.Strokes.{event_strokes}
 use Rattle.event_play.specs.Told.{told_notes}
@@ -22,6 +22,7 @@ use Rattle.psxgpu_tool.specs.Demo.{packet, number_before, first_packets}
 use Rattle.psxgpu_tool.specs.Words.{HavePlayed, whole_replay}
 use Rattle.psxgpu_tool.proofs.Generating.{lists_more}
 use Rattle.psxgpu_tool.proofs.Heights.{feed_height}
+use Rattle.event_play.specs.Setting.{setting}
 
 -- the tale with one event more
 abbrev tale_on : Tale → Event → Machine → Option ℕ → List Note → Tale
@@ -64,7 +65,7 @@ events_before words word more =
 module _ (first : Tale) (words : List ℕ) (word : ℕ) (start before now : Outlets) (was rig : RigState) where
   -- one word more was played
   stepped_on : (played : HavePlayed first words start before was) (shown : Option ℕ)
-      → HasStepped played.tale.state (next_number was.played) (Gp0 word) shown before now rig
+      → HasStepped played.tale.state (numbered (next_number was.played) (Gp0 word)) shown before (setting now rig)
       → rig.played ≡ next_number was.played
       → HavePlayed first (words ++ word ∷ []) start now rig
   stepped_on played shown step count =
@@ -92,8 +93,8 @@ module _ (first : Tale) (words : List ℕ) (word : ℕ) (start before now : Outl
   no_fault s number fault is = cc
 
   pub word_on : (r : Result (Option ℕ) EventFault) → HavePlayed first words start before was
-      → ((s : Machine) → Stands was s → IfOk r (λ shown. HasStepped s (next_number was.played)
-      (Gp0 word) shown before now rig))
+      → ((s : Machine) → Stands was s → IfOk r (λ shown.
+      HasStepped s (numbered (next_number was.played) (Gp0 word)) shown before (setting now rig)))
       → OnOk r (rig.played ≡ next_number was.played)
       → ((s : Machine) → Stands was s → IfErr r (λ fault. event_step s (next_number was.played) (Gp0 word) ≡ Err fault))
       → HavePlayed first (words ++ word ∷ []) start now rig
