@@ -86,7 +86,8 @@ pub plays_flat : (t : Tale) (rig mid now : RigState) (event : Event) (asked : Wo
     → PlaysFlat t event before behind now
 plays_flat t rig mid now event asked shown before behind ram stands same is step played after allows =
     let counted : mid.played ≡ t.played = ap (λ (r : RigState). r.played) same ∙ sym stands.played in
-    let stepped : HasStepped t.state (numbered (next_number t.played) event) shown before (setting behind now) = record {
+    let stepped : HasStepped t.state (numbered (next_number t.played) event) shown before (setting behind now) =
+    record {
       machine = step.machine;
       notes = step.notes;
       is = rw counted at step.is;

@@ -17,7 +17,8 @@ use Rattle.picture_out.specs.Dump.{dump, dump_cost}
 use Rattle.picture_out.specs.Picture.{picture, picture_cost}
 use Rattle.event_play.specs.AlikeStates.{StandAlike, TellAlike, PlayAlike, AlikeReplayAlike}
 use Rattle.event_play.specs.Fed.{fed, fed_notes, fed_cost, fed_box_cost}
-use Rattle.event_play.specs.Frames.{frames_behind, frame_bytes, frame_sum, frame_cost, vram_sum, bytes_at_end, cost_at_end}
+use Rattle.event_play.specs.Frames.{frames_behind, frame_bytes, frame_sum, frame_cost, vram_sum, bytes_at_end}
+use Rattle.event_play.specs.Frames.{cost_at_end}
 use Rattle.event_play.specs.Lines.{lines_for}
 use Rattle.event_play.specs.Out.{final_bytes, final_cost, finals_at, finals_cost_at, ending_under, tale_cost}
 use Rattle.event_play.specs.Out.{tale_box_cost}
@@ -385,4 +386,13 @@ played-alike t u c same =
 pub states-alike : AlikeReplayAlike
 states-alike a b played c same =
     played-alike (from_state a played) (from_state b played) c
-    (record { state = same; played = refl; shown = refl; frames = refl; notes = refl; strokes = refl; cost = refl; box_cost = refl })
+    (record {
+      state = same;
+      played = refl;
+      shown = refl;
+      frames = refl;
+      notes = refl;
+      strokes = refl;
+      cost = refl;
+      box_cost = refl;
+    })

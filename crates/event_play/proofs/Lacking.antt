@@ -16,6 +16,7 @@ use Rattle.event_play.specs.Streams.{Streams}
 use Rattle.event_play.specs.declared.ending.Ending.TheVariants.{Faulted}
 use Rattle.event_play.specs.declared.ending.Mode.{Mode}
 use Rattle.event_play.proofs.Grows.{out_grows}
+use Rattle.event_play.specs.Course.{course, tales}
 
 -- these lines are due at the event of this number, one of these, behind those that were due before; the bytes that were
 -- taken up to it begin with those that were when all was last written
@@ -146,7 +147,7 @@ module _ (mode : Mode) (script : List ℕ → Script) (before now : Streams) (fi
   pub lacks_lines : IsGathered mode → ((rest : List ℕ) → (script (taken ++ rest)).first ≡ first)
       → SaysFirst (reads script) version taken read → LeadsTo first read last
       → length taken ≤ length flushed + most_behind
-      → LacksBytes mode script breaks.is.tale last taken number before now
+      → LacksBytes (course mode script taken) (tales breaks.is.tale last) number before now
   lacks_lines gathers begins says leads few =
       let is = breaks.is in
       let same : is.first ≡ first = sym (is.begins []) ∙ begins [] in

@@ -177,8 +177,8 @@ module _ (mode : Mode) (was mid rig : RigState) (t : Tale) (counted : ℕ) (even
     step = by_tale did.at did.step;
     played = number;
     put = put_at counted (next_number t.played) _ _ before.held held before.gathered now.gathered number lines_are
-        (put_both counted (lines_while mode did.step.notes strokes) (lines_behind mode words frames) before.held now.held
-        held before.gathered now.gathered now.gathered words_put
+        (put_both counted (lines_while mode did.step.notes strokes) (lines_behind mode words frames) before.held
+        now.held held before.gathered now.gathered now.gathered words_put
         (put_behind mode counted words frames now.held held now.gathered free_behind wrote));
     free = free_behind;
     spent = all_spent spent;
@@ -210,8 +210,8 @@ module _ (mode : Mode) (was mid rig : RigState) (t : Tale) (counted : ℕ) (even
 pub feeds_part : (mode : Mode) (was rig : RigState) (t : Tale) (counted : ℕ) (event : Event) (asked : Work)
     (before now : Outlets) (lacking : ℕ) → Ok asked ≡ work_of was.ram was.running event → StandsFor was t
     → counted ≡ next_number t.played → IsGathered mode
-    → BreaksPut counted (work_lines (in_event counted mode) (machine_of was t.state.gpu) asked).bytes before.held now.held
-    before.gathered lacking
+    → BreaksPut counted (work_lines (in_event counted mode) (machine_of was t.state.gpu) asked).bytes before.held
+    now.held before.gathered lacking
     → Stops (in_event counted mode) (machine_of was t.state.gpu) asked before (setting now rig)
     → rig.played ≡ was.played
     → FeedsPart mode (coming t event) before (setting now rig) lacking
@@ -219,7 +219,8 @@ feeds_part mode was rig t counted event asked before now lacking is stands numbe
     let asked_are : asked_words was.ram (Ok asked) ≡ event_words t.state event =
     rw (stands.state.ram, stands.state.running, ← is) refl in
     let now_at = drawing now rig.gpu in
-    let P : ℕ → Type 0 = λ n. StopsFeeding (in_event n mode) t.state.gpu (asked_words was.ram (Ok asked)) before now_at in
+    let P : ℕ → Type 0 = λ n. StopsFeeding (in_event n mode) t.state.gpu (asked_words was.ram (Ok asked)) before
+    now_at in
     let Q : List ℕ → Type 0 = λ words. StopsFeeding (in_event (next_number t.played) mode) t.state.gpu words before
     now_at in
     record {

@@ -46,6 +46,7 @@ use Rattle.event_play.proofs.Parts.{event_feeds, no_frames, part_cost}
 use Rattle.event_play.proofs.Putting.{never_both}
 use Rattle.event_play.specs.Setting.{setting}
 use Rattle.event_play.specs.Step.{showing}
+use Rattle.event_play.specs.Course.{at_end, course, tales}
 
 -- ---- one event more
 
@@ -190,11 +191,12 @@ module _ (mode : Mode) (script : List ℕ → Script) (before : Streams) (left :
   module _ (is_small : AreSmall (plays script)) where
     -- an ending, by what it says, where the steps are those of a tale from which the replay goes on; what is gathered
     -- may have been written since
-    ends_at : (t last : Tale) (ending : Ending) (held : Option (List ℕ)) → SaysEnding mode script t last reached.taken
+    ends_at : (t last : Tale) (ending : Ending) (held : Option (List ℕ))
+        → SaysEnding (course mode script reached.taken) (tales t last)
         before (streams left held now.heard now.steps) ending → IsLast t last ending
         → StandsFor rig last → now.heard ≡ told_notes last.notes before.heard
         → ((rest : List ℕ) → now.steps ≤ before.steps + out_cost mode (plays script (reached.taken ++ rest)))
-        → EndsPlay mode script before (streams left held now.heard now.steps) rig ending
+        → EndsPlay mode script before (at_end (streams left held now.heard now.steps) rig) ending
     ends_at t last ending held says is_last stands heard cost = record {
       taken = reached.taken;
       bytes = reached.bytes;
@@ -217,7 +219,7 @@ module _ (mode : Mode) (script : List ℕ → Script) (before : Streams) (left :
         → LeadsTo reached.says.read.first (reached.events ++ event ∷ []) last
         → StandsFor rig last → now.heard ≡ told_notes last.notes before.heard
         → ((rest : List ℕ) → now.steps ≤ before.steps + out_cost mode (plays script (reached.taken ++ rest)))
-        → EndsPlay mode script before (streams left held now.heard now.steps) rig (WriteFailed number)
+        → EndsPlay mode script before (at_end (streams left held now.heard now.steps) rig) (WriteFailed number)
     lines_lack number last held gathers breaks leads stands heard cost =
         let read = reached.says.read in
         let few = reached.says.few gathers in
@@ -234,7 +236,7 @@ module _ (mode : Mode) (script : List ℕ → Script) (before : Streams) (left :
         → number ≡ next_number reached.tale.played
         → FaultsEvent (coming reached.tale event) fault (setting mid was) (setting now rig)
         → WritesBefore (Faulted number fault) now.gathered now.held held result
-        → EndsPlay mode script before (streams left held now.heard now.steps) rig result
+        → EndsPlay mode script before (at_end (streams left held now.heard now.steps) rig) result
     fault_ends number fault held result at faults writes =
         let t = reached.tale in
         let says = reached.says.says in
@@ -271,7 +273,7 @@ module _ (mode : Mode) (script : List ℕ → Script) (before : Streams) (left :
 
     shows_ends : (number : ℕ) → number ≡ next_number reached.tale.played
         → ShowsPart mode (coming reached.tale event) mid (setting now rig)
-        → EndsPlay mode script before (beside left now) rig (WriteFailed number)
+        → EndsPlay mode script before (at_end (beside left now) rig) (WriteFailed number)
     shows_ends number at parts =
         let t = reached.tale in
         let stood = held_all mode script reached.events reached.flushed reached.taken before.held (lines_of mode t)
@@ -310,7 +312,7 @@ module _ (mode : Mode) (script : List ℕ → Script) (before : Streams) (left :
         reached.cost parts.step.cost parts.spent))
 
     feeds_ends : (number : ℕ) → FeedsPart mode (coming reached.tale event) mid (setting now rig) number
-        → EndsPlay mode script before (beside left now) rig (WriteFailed number)
+        → EndsPlay mode script before (at_end (beside left now) rig) (WriteFailed number)
     feeds_ends number parts =
         let t = reached.tale in
         let stop = parts.feeding in
@@ -345,8 +347,8 @@ module _ (mode : Mode) (script : List ℕ → Script) (before : Streams) (left :
           played = parts.played;
         })
         (heard_on before.heard mid.heard now.heard t.notes (fed_notes t.state.gpu n done) reached.heard stop.heard)
-        (λ rest. cost_within mode next (plays script (reached.taken ++ rest)) (capture_from p rest) before.steps now.steps
-        (says rest)
+        (λ rest. cost_within mode next (plays script (reached.taken ++ rest)) (capture_from p rest) before.steps
+        now.steps (says rest)
         (cost_on mode before.steps mid.steps (mid.steps + event_cost t.state event) now.steps t event feeds.machine None
         (fed_notes t.state.gpu n words) reached.cost (omega arith)
         (rw (quiet, stop.is)
@@ -356,7 +358,7 @@ module _ (mode : Mode) (script : List ℕ → Script) (before : Streams) (left :
     pub event_ends : (ending : Ending) (held : Option (List ℕ)) (result : Ending)
         → EndsEvent mode (coming reached.tale event) (setting mid was) (setting now rig) ending
         → EndsBehind ending now.gathered now.held held result
-        → EndsPlay mode script before (streams left held now.heard now.steps) rig result
+        → EndsPlay mode script before (at_end (streams left held now.heard now.steps) rig) result
     event_ends (Faulted number fault) held result ends behind = fault_ends number fault held result ends.0 ends.1 behind
     event_ends (WriteFailed number) held result (inl parts) behind = rw (behind.0, behind.1) (feeds_ends number parts)
     event_ends (WriteFailed number) held result (inr (at, parts)) behind =

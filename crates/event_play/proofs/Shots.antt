@@ -82,7 +82,8 @@ module _ (at : Moment) (s : Machine) (played : ℕ) where
       ≡ lines_of (Frames at) (alone first before).tale ++ film at s played before events
   lines_film [] before none = rw (append-nil before, append-nil (lines_of (Frames at) (alone first before).tale)) refl
   lines_film (event ∷ events) before none =
-      let apart : (before ++ event ∷ []) ++ events ≡ before ++ event ∷ events = append_assoc before (event ∷ []) events in
+      let apart : (before ++ event ∷ []) ++ events ≡ before ++ event ∷ events =
+      append_assoc before (event ∷ []) events in
       let P : List Event → Type 0 = λ all. AreFaultless first all in
       let again = subst P (sym apart) none in
       let one = lines_on before event (first_faultless (before ++ event ∷ []) events first End [] again) in

@@ -120,9 +120,11 @@ pub out_past : (mode : Mode) (heard : List Reading) (past : Tale) (r : Played)
     → out_bytes mode heard (with_past past r) ≡ lines_of mode past ++ out_bytes mode (told_notes past.notes heard) r
 out_past mode heard past r =
     ap (λ told. lines_of mode (behind_past past r.tale)
-    ++ finals_at (ending_under mode r) mode told (next_number r.tale.played) r.tale.state.gpu) (told-append past.notes r.tale.notes heard)
+    ++ finals_at (ending_under mode r) mode told (next_number r.tale.played) r.tale.state.gpu)
+    (told-append past.notes r.tale.notes heard)
     ∙ ap (λ lines. lines ++ finals_at (ending_under mode r) mode
-    (told_notes r.tale.notes (told_notes past.notes heard)) (next_number r.tale.played) r.tale.state.gpu) (lines_past mode past r.tale)
+    (told_notes r.tale.notes (told_notes past.notes heard)) (next_number r.tale.played) r.tale.state.gpu)
+    (lines_past mode past r.tale)
     ∙ append_assoc (lines_of mode past) (lines_of mode r.tale) _
 
 pub replays_split : SplitLaw

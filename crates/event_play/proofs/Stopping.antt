@@ -31,6 +31,7 @@ use Rattle.event_play.proofs.Following.{ReadsAll, leads_all, reads_all}
 use Rattle.event_play.proofs.Grows.{cost_within}
 use Rattle.event_play.proofs.Lacking.{WasDue, lacks_lines}
 use Rattle.event_play.proofs.Reaching.{beside, gathers_of, held_all, spent_on}
+use Rattle.event_play.specs.Course.{at_end, course, tales}
 
 -- ---- a pause
 
@@ -39,7 +40,7 @@ pub pause_ends : (mode : Mode) (script : List ℕ → Script) (before now : Stre
     (rig : RigState) (p : Progress) (held : Option (List ℕ)) (lacking : ℕ)
     → Reaches mode script before now gathered rig (GoesOn mode script since p) → AreSmall (plays script)
     → BreaksWriting now.held held gathered lacking
-    → EndsPlay mode script before (record now { held = held }) rig (WriteFailed lacking)
+    → EndsPlay mode script before (at_end (record now { held = held }) rig) (WriteFailed lacking)
 pause_ends mode script before now gathered since rig p held lacking reached is_small breaks =
     let t = reached.tale in
     let read = reached.says.read in
@@ -87,7 +88,8 @@ lacking_ends mode t lacks = rw lacks refl
 
 module _ (mode : Mode) (script : List ℕ → Script) (before : Streams) (left : Option (List ℕ)) (mid now : Outlets)
     (since : ℕ) (rig : RigState) (p : Progress) (stop : Stop)
-    (reached : Awaits mode script before (beside left mid) [] since rig p (Err stop)) (is_small : AreSmall (plays script))
+    (reached : Awaits mode script before (beside left mid) [] since rig p (Err stop))
+    (is_small : AreSmall (plays script))
     (same : now.heard ≡ mid.heard) where
   -- all that was due so far was written
   pub stood : mid.held ≡ appended before.held (lines_of mode reached.tale)
@@ -95,11 +97,11 @@ module _ (mode : Mode) (script : List ℕ → Script) (before : Streams) (left :
       mid.held [] refl reached.gathers
 
   -- an ending behind the last event, by what it says and what was spent on the output
-  ends_behind : (ending : Ending) → SaysEnding mode script reached.tale reached.tale reached.taken before
-      (beside left now) ending
+  ends_behind : (ending : Ending)
+      → SaysEnding (course mode script reached.taken) (tales reached.tale reached.tale) before (beside left now) ending
       → IsLast reached.tale reached.tale ending
       → ((rest : List ℕ) → now.steps ≤ before.steps + out_cost mode (plays script (reached.taken ++ rest)))
-      → EndsPlay mode script before (beside left now) rig ending
+      → EndsPlay mode script before (at_end (beside left now) rig) ending
   ends_behind ending says is_last cost = record {
     taken = reached.taken;
     bytes = reached.bytes;
@@ -123,7 +125,8 @@ module _ (mode : Mode) (script : List ℕ → Script) (before : Streams) (left :
 -- the end of the capture
 module _ (mode : Mode) (script : List ℕ → Script) (before : Streams) (left : Option (List ℕ)) (mid now : Outlets)
     (since : ℕ) (rig : RigState) (p : Progress)
-    (reached : Awaits mode script before (beside left mid) [] since rig p (Err End)) (is_small : AreSmall (plays script))
+    (reached : Awaits mode script before (beside left mid) [] since rig p (Err End))
+    (is_small : AreSmall (plays script))
     (same : now.heard ≡ mid.heard) where
   end_costs : lacks_picture mode reached.tale.state.gpu.parts.regs ≡ false
       → now.steps ≤ mid.steps + final_cost mode reached.tale.state.gpu
@@ -134,7 +137,7 @@ module _ (mode : Mode) (script : List ℕ → Script) (before : Streams) (left :
       (final_cost mode reached.tale.state.gpu) reached.cost spent)
 
   done_ends : WritesEnd (finale mode reached.tale.state.gpu (next_number rig.played)) mid now
-      → EndsPlay mode script before (beside left now) rig Done
+      → EndsPlay mode script before (at_end (beside left now) rig) Done
   done_ends wrote =
       let t = reached.tale in
       let Q : ℕ → Type 0 = λ number. WritesEnd (finale mode t.state.gpu number) mid now in
@@ -144,7 +147,8 @@ module _ (mode : Mode) (script : List ℕ → Script) (before : Streams) (left :
       ends_behind mode script before left mid now since rig p End reached is_small same Done (
         reached.says.says,
         shown_ends mode t writes.shows,
-        writes.held ∙ ap (λ xs. appended xs due) (stood mode script before left mid now since rig p End reached is_small same)
+        writes.held
+            ∙ ap (λ xs. appended xs due) (stood mode script before left mid now since rig p End reached is_small same)
             ∙ appended-appended before.held (lines_of mode t) due
             ∙ ap (λ heard. appended before.held
             (lines_of mode t ++ final_bytes mode heard (next_number t.played) t.state.gpu)) heard,
@@ -153,7 +157,7 @@ module _ (mode : Mode) (script : List ℕ → Script) (before : Streams) (left :
 
   finals_end : (number : ℕ) → number ≡ next_number rig.played
       → WritesEndPart (finale mode reached.tale.state.gpu (next_number rig.played)) mid now
-      → EndsPlay mode script before (beside left now) rig (WriteFailed number)
+      → EndsPlay mode script before (at_end (beside left now) rig) (WriteFailed number)
   finals_end number at wrote =
       let t = reached.tale in
       let Q : ℕ → Type 0 = λ number. WritesEndPart (finale mode t.state.gpu number) mid now in
@@ -183,7 +187,7 @@ module _ (mode : Mode) (script : List ℕ → Script) (before : Streams) (left :
 
   lacks_end : (number : ℕ) → number ≡ next_number rig.played
       → lacks_picture mode reached.tale.state.gpu.parts.regs ≡ true → now ≡ mid
-      → EndsPlay mode script before (beside left now) rig (NoPicture number)
+      → EndsPlay mode script before (at_end (beside left now) rig) (NoPicture number)
   lacks_end number at lacks unchanged =
       let t = reached.tale in
       let held : now.held ≡ mid.held = ap (λ (at : Outlets). at.held) unchanged in
@@ -199,7 +203,7 @@ module _ (mode : Mode) (script : List ℕ → Script) (before : Streams) (left :
     (since : ℕ) (rig : RigState) (p : Progress) where
   stopped_says : (stop : Stop) (t : Tale) (taken : List ℕ) → SaysNext script p left (Err stop) t taken → IsNotEnd stop
       → now.held ≡ appended before.held (lines_of mode t)
-      → SaysEnding mode script t t taken before (beside left now) (Stopped (next_number t.played) stop)
+      → SaysEnding (course mode script taken) (tales t t) before (beside left now) (Stopped (next_number t.played) stop)
   stopped_says End t taken says not held = absurd not
   stopped_says (ReadFault byte) t taken says not held = (says, held)
   stopped_says (Truncated byte) t taken says not held = (says.0, held, says.1)
@@ -210,28 +214,28 @@ module _ (mode : Mode) (script : List ℕ → Script) (before : Streams) (left :
   stop_ends : (stop : Stop) (reached : Awaits mode script before (beside left mid) [] since rig p (Err stop))
       → AreSmall (plays script) → now.heard ≡ mid.heard
       → (ending : Ending) → EndsAt (finale mode reached.tale.state.gpu (next_number rig.played)) stop mid now ending
-      → EndsPlay mode script before (beside left now) rig ending
+      → EndsPlay mode script before (at_end (beside left now) rig) ending
   stop_ends stop reached is_small same Done (is, writes) =
       let P : Stop → Type 0 = λ stop. (reached : Awaits mode script before (beside left mid) [] since rig p (Err stop))
       → WritesEnd (finale mode reached.tale.state.gpu (next_number rig.played)) mid now
-      → EndsPlay mode script before (beside left now) rig Done in
+      → EndsPlay mode script before (at_end (beside left now) rig) Done in
       subst P (sym is) (λ reached writes. done_ends mode script before left mid now since rig p reached is_small same
       writes) reached writes
   stop_ends stop reached is_small same (WriteFailed number) (is, at, writes) =
       let P : Stop → Type 0 = λ stop. (reached : Awaits mode script before (beside left mid) [] since rig p (Err stop))
       → WritesEndPart (finale mode reached.tale.state.gpu (next_number rig.played)) mid now
-      → EndsPlay mode script before (beside left now) rig (WriteFailed number) in
+      → EndsPlay mode script before (at_end (beside left now) rig) (WriteFailed number) in
       subst P (sym is) (λ reached writes. finals_end mode script before left mid now since rig p reached is_small same
       number at writes) reached writes
   stop_ends stop reached is_small same (NoPicture number) (is, at, lacks, unchanged) =
       let P : Stop → Type 0 = λ stop. (reached : Awaits mode script before (beside left mid) [] since rig p (Err stop))
       → lacks_picture mode reached.tale.state.gpu.parts.regs ≡ true
-      → EndsPlay mode script before (beside left now) rig (NoPicture number) in
+      → EndsPlay mode script before (at_end (beside left now) rig) (NoPicture number) in
       subst P (sym is) (λ reached lacks. lacks_end mode script before left mid now since rig p reached is_small same
       number at lacks unchanged) reached lacks
   stop_ends stop reached is_small same (Stopped number told) (at, is, not, unchanged) =
       let t = reached.tale in
-      let Q : Ending → Type 0 = λ ending. EndsPlay mode script before (beside left now) rig ending in
+      let Q : Ending → Type 0 = λ ending. EndsPlay mode script before (at_end (beside left now) rig) ending in
       let e : Stopped (next_number t.played) stop ≡ Stopped number told =
       ap (λ n. Stopped n stop) (sym (at ∙ number_of rig t reached.stands)) ∙ ap (Stopped number) (sym is) in
       let held : now.held ≡ mid.held = ap (λ (at : Outlets). at.held) unchanged in
@@ -285,7 +289,7 @@ module _ (mode : Mode) (script : List ℕ → Script) (before : Streams) (left :
   broken_ends : (lacking : ℕ) → BreaksWriting mid.held now.held mid.gathered lacking → now.heard ≡ mid.heard
       → now.steps ≡ mid.steps
       → ReadsAll script reached.tale reached.taken reached.events
-      → EndsPlay mode script before (beside left now) rig (WriteFailed lacking)
+      → EndsPlay mode script before (at_end (beside left now) rig) (WriteFailed lacking)
   broken_ends lacking breaks heard steps all =
       let t = reached.tale in
       let is = gathers_of mode mid.held now.held mid.gathered lacking reached.free breaks in
@@ -316,7 +320,7 @@ module _ (mode : Mode) (script : List ℕ → Script) (before : Streams) (left :
 
   pub reading_ends : now.heard ≡ mid.heard → (ending : Ending)
       → EndsReading (finale mode reached.tale.state.gpu (next_number rig.played)) stop mid now ending
-      → EndsPlay mode script before (beside left now) rig ending
+      → EndsPlay mode script before (at_end (beside left now) rig) ending
   unfolding all_written
   reading_ends same ending (inl ends) =
       let written = all_written mode script before left mid ends.0 since rig p stop reached ends.1 ends.2 ends.3 in

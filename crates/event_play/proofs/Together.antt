@@ -18,6 +18,7 @@ use Rattle.event_play.proofs.Awaiting.{Answers, Awaits, GoesOn, Reaches, few_mor
 use Rattle.event_play.proofs.BoxCosts.{AreSmall}
 use Rattle.event_play.proofs.InARow.{lines_out, told_before, words_play}
 use Rattle.event_play.proofs.Stopping.{pause_ends, reading_ends}
+use Rattle.event_play.specs.Course.{at_end}
 
 module _ (mode : Mode) (script : List ℕ → Script) (before : Streams) (left after held : Option (List ℕ))
     (heard heard_now : List Reading) (steps steps_now : ℕ) (gathered : List Piece) (since : ℕ) (was rig : RigState)
@@ -77,7 +78,7 @@ module _ (mode : Mode) (script : List ℕ → Script) (before : Streams) (left a
       (read : Result Got Stop) → PutsWords {Value = Value} now new (Err lacking)
       → OnOk read (TakesWords p q left after words)
       → IfErr read (λ stop. StopsBehind p q left after words stop) → AreSmall (plays script)
-      → EndsPlay mode script before (streams after now heard_now steps_now) rig (WriteFailed lacking)
+      → EndsPlay mode script before (at_end (streams after now heard_now steps_now) rig) (WriteFailed lacking)
   words_fail now new lacking (Ok v) puts takes behind is_small =
       pause_ends mode script before (streams after held heard_now steps_now) (gathered ++ pieces) since rig q now
       lacking

@@ -52,8 +52,8 @@ abbrev pub due_lines : Within → State → List ℕ → Piece
 due_lines within s words = piece within.number (fed_lines within.mode s within.number words)
 
 -- What a call does that feeds words, for every state of which the drawing processor keeps what it does: Ok where all
--- were fed and every line that is due for them was put, and else a line could not be put. There are lines in modes alone
--- whose lines are gathered.
+-- were fed and every line that is due for them was put, and else a line could not be put. There are lines in modes
+-- alone whose lines are gathered.
 pub record FeedsWords {Value : Type 0} (within : Within) (words : List ℕ) (before now : Drawing)
     (result : Result Value ℕ) : Type 0 where
   pub ok : (s : State) → kept_of s ≡ before.gpu → OnOk result (Feeds within s words before.out now)

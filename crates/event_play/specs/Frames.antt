@@ -18,7 +18,8 @@ abbrev pub is_moment : Moment → (word : ℕ) → Bool
 is_moment Flip word = opcode_of word == 5
 is_moment Mark word = opcode_of word == 0x3f
 
--- what there is to see behind a word of GP1: the number of its event, and the drawing processor's parts, as they are then
+-- what there is to see behind a word of GP1: the number of its event, and the drawing processor's parts, as they are
+-- then
 pub record Frame : Type 0 where
   pub word : ℕ
   pub number : ℕ

@@ -3,6 +3,7 @@ pub mod AlikeStates
 pub mod Block
 pub mod Causes
 pub mod Costs
+pub mod Course
 pub mod Cursor
 pub mod Does
 pub mod Ends

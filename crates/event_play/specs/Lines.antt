@@ -9,8 +9,8 @@ use Rattle.event_play.specs.declared.ending.Mode.{Mode}
 use Rattle.event_play.specs.declared.ending.Mode.TheVariants.{Vram, Shot, Report, Frames, Sums, Pixel}
 use Rattle.event_play.specs.declared.ending.Mode.TheVariants.{List as Listing, Play as Words}
 
--- the line of each shown word, or the picture of each frame at the moments asked for or the line of its sum, or the line
--- of each note but those of pixels, or the line of each change of a cell
+-- the line of each shown word, or the picture of each frame at the moments asked for or the line of its sum, or the
+-- line of each note but those of pixels, or the line of each change of a cell
 abbrev pub lines_for : Mode → (shown : List ℕ) → (frames : List Frame) → (notes : List Note)
     → (strokes : List Stroke) → List ℕ
 lines_for Words shown frames notes strokes = flat_map word_line shown

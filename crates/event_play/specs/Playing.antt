@@ -8,12 +8,13 @@ use Rattle.gpu_capture.specs.declared.event.Event.{Event}
 use Rattle.gpu_capture.specs.declared.event.Stop.{Stop}
 use Rattle.gpu_capture.specs.declared.event.Stop.TheVariants.{Truncated, ReadFault}
 use Rattle.gpu_taps.specs.Tally.{Reading}
+use Rattle.event_play.specs.Course.{Among, AtEnd, Course, Due, Tales, among, behind_tale, course, tales}
 use Rattle.event_play.specs.Lines.{IsGathered}
 use Rattle.event_play.specs.Out.{lines_of, final_bytes, ending_under, out_bytes, out_cost, out_box_cost}
 use Rattle.event_play.specs.Pausing.{most_behind}
 use Rattle.event_play.specs.Replay.{Tale, Played, Script, after_event, part_fed, played_events, next_number}
 use Rattle.event_play.specs.Replay.{played_script}
-use Rattle.event_play.specs.RigState.{RigState, StandsFor}
+use Rattle.event_play.specs.RigState.{StandsFor}
 use Rattle.event_play.specs.Step.{event_words}
 use Rattle.event_play.specs.Streams.{Streams}
 use Rattle.event_play.specs.Told.{told_notes}
@@ -44,6 +45,10 @@ AreAllNeeded by_bytes taken =
 abbrev pub whole : Tale → List ℕ → Played
 whole t rest = record { tale = t; ending = Done; rest = rest }
 
+-- a replay that stops
+abbrev pub stops : Tale → (number : ℕ) → Stop → (rest : List ℕ) → Played
+stops t number stop rest = record { tale = t; ending = Stopped number stop; rest = rest }
+
 -- ---- what could not be written
 
 -- what was due at an event: the line of the word that it shows, or the picture behind it or its sum
@@ -70,13 +75,12 @@ pub record IsReadTo (script : List ℕ → Script) (t : Tale) (taken : List ℕ)
   pub follows : Follows first before t
 
 -- the last event read is this one, and these lines are due at it: those that the last tale has more
-pub record DueAtEvent (mode : Mode) (script : List ℕ → Script) (t start last : Tale) (taken due : List ℕ)
-    : Type 0 where
+pub record DueAtEvent (on : Course) (told : Tales) (due : Due) : Type 0 where
   pub before : List Event
   pub event : Event
-  pub is_read : IsReadTo script t taken before event
-  pub inside : DueIn mode t start last event
-  pub lines : lines_of mode last ≡ lines_of mode start ++ due
+  pub is_read : IsReadTo on.script told.tale on.taken before event
+  pub inside : DueIn on.mode told.tale due.start told.last event
+  pub lines : lines_of on.mode told.last ≡ lines_of on.mode due.start ++ due.bytes
 
 -- where playing stands behind a tale: there, or behind the first words of one event more, or none of its words
 abbrev pub IsUpTo : Tale → List Event → Tale → Type 0
@@ -97,81 +101,77 @@ pub record LeadsTo (first : Tale) (events : List Event) (last : Tale) : Type 0 w
 -- How far a capture was read while lines were gathered: the bytes taken say these events, this one and those behind it,
 -- whatever bytes follow. Those before it lead to the tale, and all of them to the last one. Few bytes were taken behind
 -- those that this event needs.
-pub record IsReadPast (script : List ℕ → Script) (t last : Tale) (taken : List ℕ) (before : List Event) (event : Event)
-    (behind : List Event) : Type 0 where
+pub record IsReadPast (script : List ℕ → Script) (told : Tales) (taken : List ℕ) (read : Among) : Type 0 where
   pub first : Tale
   pub version : ℕ
   pub begins : (rest : List ℕ) → (script (taken ++ rest)).first ≡ first
-  pub says : SaysFirst (reads script) version taken (before ++ event ∷ behind)
-  pub follows : Follows first before t
-  pub leads : LeadsTo first (before ++ event ∷ behind) last
-  pub few : AreFewBehind (reads script) (before ++ event ∷ []) taken most_behind
+  pub says : SaysFirst (reads script) version taken (read.before ++ read.event ∷ read.behind)
+  pub follows : Follows first read.before told.tale
+  pub leads : LeadsTo first (read.before ++ read.event ∷ read.behind) told.last
+  pub few : AreFewBehind (reads script) (read.before ++ read.event ∷ []) taken most_behind
 
 -- the lines of the items of this event are due, all of them, which were gathered with those of others
-pub record DueWhileGathered (mode : Mode) (script : List ℕ → Script) (t start last : Tale) (taken due : List ℕ)
-    : Type 0 where
-  pub gathers : IsGathered mode
+pub record DueWhileGathered (on : Course) (told : Tales) (due : Due) : Type 0 where
+  pub gathers : IsGathered on.mode
   pub before : List Event
   pub event : Event
   pub behind : List Event
-  pub is_read : IsReadPast script t last taken before event behind
+  pub is_read : IsReadPast on.script told on.taken (among before event behind)
   pub next : Tale
-  pub next_is : after_event t event ≡ Ok next
-  pub start_is : start ≡ t
-  pub lines : lines_of mode next ≡ lines_of mode start ++ due
+  pub next_is : after_event told.tale event ≡ Ok next
+  pub start_is : due.start ≡ told.tale
+  pub lines : lines_of on.mode next ≡ lines_of on.mode due.start ++ due.bytes
 
 -- every event was played, and these bytes are due behind the last one: all that is written after the end
-pub record DueAtEnd (mode : Mode) (heard : List Reading) (script : List ℕ → Script) (t start last : Tale)
-    (taken due : List ℕ) : Type 0 where
-  pub comes : (rest : List ℕ) → plays script (taken ++ rest) ≡ whole t rest
-  pub ends : ending_under mode (whole t []) ≡ Done
-  pub start_is : start ≡ t
-  pub last_is : last ≡ t
-  pub bytes : due ≡ final_bytes mode (told_notes t.notes heard) (next_number t.played) t.state.gpu
+pub record DueAtEnd (heard : List Reading) (on : Course) (told : Tales) (due : Due) : Type 0 where
+  pub comes : (rest : List ℕ) → plays on.script (on.taken ++ rest) ≡ whole told.tale rest
+  pub ends : ending_under on.mode (whole told.tale []) ≡ Done
+  pub start_is : due.start ≡ told.tale
+  pub last_is : told.last ≡ told.tale
+  pub bytes : due.bytes
+      ≡ final_bytes on.mode (told_notes told.tale.notes heard) (next_number told.tale.played) told.tale.state.gpu
 
 -- What has been written begins all that there is to write. Of what is due at this number, and was to be written next,
 -- at least one byte is lacking: all that was due before stands, and nothing that is due later.
-pub record LacksBytes (mode : Mode) (script : List ℕ → Script) (t last : Tale) (taken : List ℕ) (number : ℕ)
-    (before now : Streams) : Type 0 where
-  pub number_is : number ≡ next_number t.played
+pub record LacksBytes (on : Course) (told : Tales) (number : ℕ) (before now : Streams) : Type 0 where
+  pub number_is : number ≡ next_number told.tale.played
   pub start : Tale
   pub due : List ℕ
-  pub place : DueAtEvent mode script t start last taken due
-      ⊎ (DueWhileGathered mode script t start last taken due
-      ⊎ DueAtEnd mode before.heard script t start last taken due)
-  pub held : AppendsPart (appended before.held (lines_of mode start)) now.held due
+  pub place : DueAtEvent on told (behind_tale start due)
+      ⊎ (DueWhileGathered on told (behind_tale start due)
+      ⊎ DueAtEnd before.heard on told (behind_tale start due))
+  pub held : AppendsPart (appended before.held (lines_of on.mode start)) now.held due
   pub prefix : (rest : List ℕ) → (more : List ℕ)
-      × (out_bytes mode before.heard (plays script (taken ++ rest)) ≡ lines_of mode start ++ (due ++ more))
+      × (out_bytes on.mode before.heard (plays on.script (on.taken ++ rest)) ≡ lines_of on.mode start ++ (due ++ more))
 
 -- ---- the endings
 
 -- what playing the bytes taken says where it ends
-abbrev pub SaysEnding : Mode → (List ℕ → Script) → (t last : Tale) → (taken : List ℕ) → (before now : Streams)
-    → Ending → Type 0
-SaysEnding mode script t last taken before now Done =
-    ((rest : List ℕ) → plays script (taken ++ rest) ≡ whole t rest)
-    × (ending_under mode (whole t []) ≡ Done)
-    × (now.held ≡ appended before.held (lines_of mode t
-    ++ final_bytes mode (told_notes t.notes before.heard) (next_number t.played) t.state.gpu))
-SaysEnding mode script t last taken before now (NoPicture number) =
-    ((rest : List ℕ) → plays script (taken ++ rest) ≡ whole t rest)
-    × (ending_under mode (whole t []) ≡ NoPicture number)
-    × (now.held ≡ appended before.held (lines_of mode t))
-SaysEnding mode script t last taken before now (Stopped number (ReadFault byte)) =
-    (plays script taken ≡ record { tale = t; ending = Stopped number (Truncated byte); rest = [] })
-    × (now.held ≡ appended before.held (lines_of mode t))
-SaysEnding mode script t last taken before now (Stopped number (Truncated byte)) =
-    (plays script taken ≡ record { tale = t; ending = Stopped number (Truncated byte); rest = [] })
-    × (now.held ≡ appended before.held (lines_of mode t)) × IsAtEnd now.left
-SaysEnding mode script t last taken before now (Stopped number stop) =
-    ((rest : List ℕ) → plays script (taken ++ rest) ≡ record { tale = t; ending = Stopped number stop; rest = rest })
-    × (now.held ≡ appended before.held (lines_of mode t))
-SaysEnding mode script t last taken before now (Faulted number fault) =
-    ((rest : List ℕ)
-    → ((plays script (taken ++ rest)).tale ≡ t) × ((plays script (taken ++ rest)).ending ≡ Faulted number fault))
-    × (now.held ≡ appended before.held (lines_of mode t))
-SaysEnding mode script t last taken before now (WriteFailed number) =
-    LacksBytes mode script t last taken number before now
+abbrev pub SaysEnding : Course → Tales → (before now : Streams) → Ending → Type 0
+SaysEnding on told before now Done =
+    ((rest : List ℕ) → plays on.script (on.taken ++ rest) ≡ whole told.tale rest)
+    × (ending_under on.mode (whole told.tale []) ≡ Done)
+    × (now.held ≡ appended before.held (lines_of on.mode told.tale
+    ++ final_bytes on.mode (told_notes told.tale.notes before.heard) (next_number told.tale.played)
+    told.tale.state.gpu))
+SaysEnding on told before now (NoPicture number) =
+    ((rest : List ℕ) → plays on.script (on.taken ++ rest) ≡ whole told.tale rest)
+    × (ending_under on.mode (whole told.tale []) ≡ NoPicture number)
+    × (now.held ≡ appended before.held (lines_of on.mode told.tale))
+SaysEnding on told before now (Stopped number (ReadFault byte)) =
+    (plays on.script on.taken ≡ stops told.tale number (Truncated byte) [])
+    × (now.held ≡ appended before.held (lines_of on.mode told.tale))
+SaysEnding on told before now (Stopped number (Truncated byte)) =
+    (plays on.script on.taken ≡ stops told.tale number (Truncated byte) [])
+    × (now.held ≡ appended before.held (lines_of on.mode told.tale)) × IsAtEnd now.left
+SaysEnding on told before now (Stopped number stop) =
+    ((rest : List ℕ) → plays on.script (on.taken ++ rest) ≡ stops told.tale number stop rest)
+    × (now.held ≡ appended before.held (lines_of on.mode told.tale))
+SaysEnding on told before now (Faulted number fault) =
+    ((rest : List ℕ) → ((plays on.script (on.taken ++ rest)).tale ≡ told.tale)
+    × ((plays on.script (on.taken ++ rest)).ending ≡ Faulted number fault))
+    × (now.held ≡ appended before.held (lines_of on.mode told.tale))
+SaysEnding on told before now (WriteFailed number) = LacksBytes on told number before now
 
 -- the rig stands for the last tale, which is the tale unless an output could not be written
 abbrev pub IsLast : Tale → Tale → Ending → Type 0
@@ -181,16 +181,17 @@ IsLast t last ending = last ≡ t
 -- How playing ends, by what bytes give to play: the bytes taken, none of them needless; the tale that they tell, up to
 -- the ending; what was written of it; the rig and the taps, as they are after the last tale; and the most store steps,
 -- by both counts.
-pub record EndsPlay (mode : Mode) (script : List ℕ → Script) (before now : Streams) (rig : RigState)
-    (ending : Ending) : Type 0 where
+pub record EndsPlay (mode : Mode) (script : List ℕ → Script) (before : Streams) (now : AtEnd) (ending : Ending)
+    : Type 0 where
   pub taken : List ℕ
-  pub bytes : before.left ≡ prepended taken now.left
+  pub bytes : before.left ≡ prepended taken now.streams.left
   pub needed : AreAllNeeded (plays script) taken
   pub tale : Tale
   pub last : Tale
-  pub says : SaysEnding mode script tale last taken before now ending
+  pub says : SaysEnding (course mode script taken) (tales tale last) before now.streams ending
   pub is_last : IsLast tale last ending
-  pub stands : StandsFor rig last
-  pub heard : now.heard ≡ told_notes last.notes before.heard
-  pub cost : (rest : List ℕ) → now.steps ≤ before.steps + out_cost mode (plays script (taken ++ rest))
-  pub box_cost : (rest : List ℕ) → now.steps ≤ before.steps + out_box_cost mode (plays script (taken ++ rest))
+  pub stands : StandsFor now.rig last
+  pub heard : now.streams.heard ≡ told_notes last.notes before.heard
+  pub cost : (rest : List ℕ) → now.streams.steps ≤ before.steps + out_cost mode (plays script (taken ++ rest))
+  pub box_cost : (rest : List ℕ)
+      → now.streams.steps ≤ before.steps + out_box_cost mode (plays script (taken ++ rest))

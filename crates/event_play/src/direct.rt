@@ -38,8 +38,8 @@ impl Rig {
         self.gpu.gp0(number, word, taps, steps)
     }
 
-    /// Plays the event of a word that is written to GP0. It asks for no judgement, and touches nothing of the rig but the
-    /// drawing processor.
+    /// Plays the event of a word that is written to GP0. It asks for no judgement, and touches nothing of the rig but
+    /// the drawing processor.
     pub(crate) fn event_word<T: Listener, L: Ledger>(
         &mut self,
         word: u32,

@@ -17,8 +17,8 @@ use std::sync::ledger::Ledger;
 use vram_store::Steps;
 
 /// Feeds words in the event of this number, and puts their lines as they come, if the mode asks for them. Where that
-/// fails, the words behind the item whose line it was are not fed, and the answer is the number of the first event whose
-/// lines lack a byte.
+/// fails, the words behind the item whose line it was are not fed, and the answer is the number of the first event
+/// whose lines lack a byte.
 pub(crate) fn feed<O: Outlet, T: Listener, L: Ledger>(
     gpu: &mut Gpu,
     within: Within,
@@ -42,8 +42,8 @@ pub(crate) fn feed<O: Outlet, T: Listener, L: Ledger>(
     Ok(())
 }
 
-/// Feeds a word in the event of this number, and puts the line of its note, or of what it changes of a cell, if the mode
-/// asks for it. Where that fails, the word has been fed all the same.
+/// Feeds a word in the event of this number, and puts the line of its note, or of what it changes of a cell, if the
+/// mode asks for it. Where that fails, the word has been fed all the same.
 pub(crate) fn feed_word<O: Outlet, T: Listener, L: Ledger>(
     gpu: &mut Gpu,
     within: Within,

@@ -22,8 +22,8 @@ use vram_store::Steps;
 
 impl Rig {
     /// Plays words that are written to GP0, an event each, and puts the lines of their notes if the mode lists them.
-    /// Where that fails, all of them are played all the same, and the answer is the number of the first event whose lines
-    /// lack a byte.
+    /// Where that fails, all of them are played all the same, and the answer is the number of the first event whose
+    /// lines lack a byte.
     pub(crate) fn play_words<K: Sink, T: Listener, L: Ledger>(
         &mut self,
         words: &[u32],

@@ -4,6 +4,7 @@ ghost use Rattle.dev_io.specs.Device.{Rose};
 ghost use Rattle.gpu_capture.specs.Reader.{IsReadFault, work_left};
 ghost use Rattle.gpu_capture.specs.Words.{TakesWords, StopsBehind};
 ghost use Rattle.event_play.specs.Causes.{MayReadFault, MayWriteFault, IsEnding};
+ghost use Rattle.event_play.specs.Course.{at_end};
 ghost use Rattle.event_play.specs.Lines.{IsGathered};
 ghost use Rattle.event_play.specs.PlayedWords.{AreUnwatched};
 ghost use Rattle.event_play.specs.Playing.{EndsPlay};
@@ -29,10 +30,10 @@ impl Rig {
     /// Plays a capture to its End, and writes what the mode asks for. It goes on from what the rig has played, and its
     /// taps are told every note. A capture of version 3 is played in the tall profile.
     ///
-    /// Lines of items are gathered, up to 4,096 bytes, and written together: where there is no room for one more, before
-    /// a read that may have to wait, and before every ending. So a write that fails may show at a later event, and is
-    /// still that of the event whose lines lack a byte. At most 4,112 bytes of the capture are taken behind that event.
-    /// All else is written where it is due.
+    /// Lines of items are gathered, up to 4,096 bytes, and written together: where there is no room for one more,
+    /// before a read that may have to wait, and before every ending. So a write that fails may show at a later event,
+    /// and is still that of the event whose lines lack a byte. At most 4,112 bytes of the capture are taken behind that
+    /// event. All else is written where it is due.
     ///
     /// Done comes only where the capture is whole and all was written. After every ending but `WriteFailed` the rig is
     /// the state after the events played. Where the line of an item could not be put, the words of its event behind it
@@ -48,7 +49,8 @@ impl Rig {
         // For every state for which the rig stood, this is how playing the capture from it ends.
         ensures ends { (s : Machine) → Stands self.old s → EndsPlay mode (script_of (from_state s self.old.played))
             (streams (S.left source.old) (K.held out.old) (map T.heard taps.old.items) steps.old)
-            (streams (S.left source.new) (K.held out.new) (map T.heard taps.new.items) steps.new) self.new result }
+            (at_end (streams (S.left source.new) (K.held out.new) (map T.heard taps.new.items) steps.new) self.new)
+            result }
         ensures known { IsEnding result }
         ensures read_cause { MayReadFault result → Rose (S.faults source.old) (S.faults source.new) }
         ensures write_cause { MayWriteFault result → Rose (K.faults out.old) (K.faults out.new) }
@@ -75,7 +77,8 @@ impl Rig {
         ensures ends { (s : Machine) → Stands self.old s
             → EndsPlay mode (script_behind (from_state s self.old.played) reader.old.progress)
             (streams (S.left source.old) (K.held out.old) (map T.heard taps.old.items) steps.old)
-            (streams (S.left source.new) (K.held out.new) (map T.heard taps.new.items) steps.new) self.new result }
+            (at_end (streams (S.left source.new) (K.held out.new) (map T.heard taps.new.items) steps.new) self.new)
+            result }
         ensures known { IsEnding result }
         ensures read_cause { MayReadFault result → Rose (S.faults source.old) (S.faults source.new) }
         ensures write_cause { MayWriteFault result → Rose (K.faults out.old) (K.faults out.new) }
@@ -134,8 +137,8 @@ impl Rig {
     }
 }
 
-// Takes the words that come next at once, unless the mode looks at a cell: where their lines are gathered, those that are
-// at hand.
+// Takes the words that come next at once, unless the mode looks at a cell: where their lines are gathered, those that
+// are at hand.
 fn read_words<S: Source>(
     reader: &mut EventReader,
     source: &mut S,

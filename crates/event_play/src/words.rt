@@ -12,8 +12,8 @@ use list_dma::{WALK_LIMIT, node_at};
 use ot_clear_dma::Ram;
 use std::marker::Model;
 
-/// The words that a work feeds, one after another: a word of the processor, a block, a node or a list. They are read when
-/// they are taken, so main memory is lent to the cursor. Contracts see the list of the words that are left.
+/// The words that a work feeds, one after another: a word of the processor, a block, a node or a list. They are read
+/// when they are taken, so main memory is lent to the cursor. Contracts see the list of the words that are left.
 #[derive(Drop)]
 pub struct WordCursor<'a> {
     ram: &'a Ram,

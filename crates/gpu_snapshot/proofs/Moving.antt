@@ -19,6 +19,7 @@ use Rattle.event_play.specs.Streams.{Streams, streams}
 use Rattle.event_play.specs.declared.ending.Ending.{Ending}
 use Rattle.event_play.specs.declared.ending.Ending.TheVariants.{Done, Stopped, Faulted, NoPicture, WriteFailed}
 use Rattle.event_play.specs.declared.ending.Mode.{Mode}
+use Rattle.event_play.specs.Course.{among, at_end, behind_tale, course, tales}
 
 abbrev captured_of : Script → Captured
 captured_of script = script.captured
@@ -37,7 +38,7 @@ StopsShort script front =
 -- an ending of playing, in which these bytes were taken first
 pub record EndsBehind (mode : Mode) (script : List ℕ → Script) (front : List ℕ) (before now : Streams)
     (rig : RigState) (ending : Ending) : Type 0 where
-  pub plays : EndsPlay mode script before now rig ending
+  pub plays : EndsPlay mode script before (at_end now rig) ending
   pub more : List ℕ
   pub taken_is : plays.taken ≡ front ++ more
 
@@ -103,8 +104,8 @@ module _ (mode : Mode) (script inner : List ℕ → Script) (front : List ℕ)
   }
 
   event_moved : (t start last : Tale) (taken due : List ℕ) → StopsShort script front
-      → DueAtEvent mode inner t start last taken due
-      → DueAtEvent mode script t start last (front ++ taken) due
+      → DueAtEvent (course mode inner taken) (tales t last) (behind_tale start due)
+      → DueAtEvent (course mode script (front ++ taken)) (tales t last) (behind_tale start due)
   event_moved t start last taken due first was = record {
     before = was.before;
     event = was.event;
@@ -114,8 +115,8 @@ module _ (mode : Mode) (script inner : List ℕ → Script) (front : List ℕ)
   }
 
   past_moved : (t last : Tale) (taken : List ℕ) (before : List Event) (event : Event) (behind : List Event)
-      → StopsShort script front → IsReadPast inner t last taken before event behind
-      → IsReadPast script t last (front ++ taken) before event behind
+      → StopsShort script front → IsReadPast inner (tales t last) taken (among before event behind)
+      → IsReadPast script (tales t last) (front ++ taken) (among before event behind)
   past_moved t last taken before event behind first was = record {
     first = was.first;
     version = was.version;
@@ -133,8 +134,8 @@ module _ (mode : Mode) (script inner : List ℕ → Script) (front : List ℕ)
   }
 
   gathered_moved : (t start last : Tale) (taken due : List ℕ) → StopsShort script front
-      → DueWhileGathered mode inner t start last taken due
-      → DueWhileGathered mode script t start last (front ++ taken) due
+      → DueWhileGathered (course mode inner taken) (tales t last) (behind_tale start due)
+      → DueWhileGathered (course mode script (front ++ taken)) (tales t last) (behind_tale start due)
   gathered_moved t start last taken due first was = record {
     gathers = was.gathers;
     before = was.before;
@@ -147,8 +148,9 @@ module _ (mode : Mode) (script inner : List ℕ → Script) (front : List ℕ)
     lines = was.lines;
   }
 
-  end_moved : (t start last : Tale) (taken due : List ℕ) → DueAtEnd mode heard inner t start last taken due
-      → DueAtEnd mode heard script t start last (front ++ taken) due
+  end_moved : (t start last : Tale) (taken due : List ℕ)
+      → DueAtEnd heard (course mode inner taken) (tales t last) (behind_tale start due)
+      → DueAtEnd heard (course mode script (front ++ taken)) (tales t last) (behind_tale start due)
   end_moved t start last taken due was = record {
     comes = λ rest. move taken rest ∙ was.comes rest;
     ends = was.ends;
@@ -158,8 +160,8 @@ module _ (mode : Mode) (script inner : List ℕ → Script) (front : List ℕ)
   }
 
   lacks_moved : (t last : Tale) (taken : List ℕ) (number : ℕ) → StopsShort script front
-      → LacksBytes mode inner t last taken number old now
-      → LacksBytes mode script t last (front ++ taken) number new now
+      → LacksBytes (course mode inner taken) (tales t last) number old now
+      → LacksBytes (course mode script (front ++ taken)) (tales t last) number new now
   lacks_moved t last taken number first was = record {
     number_is = was.number_is;
     start = was.start;
@@ -176,8 +178,8 @@ module _ (mode : Mode) (script inner : List ℕ → Script) (front : List ℕ)
   }
 
   says_moved : (t last : Tale) (taken : List ℕ) (ending : Ending) → StopsShort script front
-      → SaysEnding mode inner t last taken old now ending
-      → SaysEnding mode script t last (front ++ taken) new now ending
+      → SaysEnding (course mode inner taken) (tales t last) old now ending
+      → SaysEnding (course mode script (front ++ taken)) (tales t last) new now ending
   says_moved t last taken Done first says = (λ rest. move taken rest ∙ says.0 rest, says.1, says.2)
   says_moved t last taken (NoPicture number) first says = (λ rest. move taken rest ∙ says.0 rest, says.1, says.2)
   says_moved t last taken (Stopped number (ReadFault byte)) first says =
@@ -212,7 +214,8 @@ module _ (mode : Mode) (script inner : List ℕ → Script) (front : List ℕ)
       ]
 
   abbrev moved : (rig : RigState) (ending : Ending) → left ≡ prepended front mid → StopsShort script front
-      → steps_mid ≤ steps → EndsPlay mode inner old now rig ending → EndsPlay mode script new now rig ending
+      → steps_mid ≤ steps → EndsPlay mode inner old (at_end now rig) ending
+      → EndsPlay mode script new (at_end now rig) ending
   moved rig ending bytes needed few ends = record {
     taken = front ++ ends.taken;
     bytes = taken_on left mid now.left front ends.taken bytes ends.bytes;
@@ -228,7 +231,7 @@ module _ (mode : Mode) (script inner : List ℕ → Script) (front : List ℕ)
   }
 
   pub ends_moved : (rig : RigState) (ending : Ending) → left ≡ prepended front mid → StopsShort script front
-      → steps_mid ≤ steps → EndsPlay mode inner old now rig ending
+      → steps_mid ≤ steps → EndsPlay mode inner old (at_end now rig) ending
       → EndsBehind mode script front new now rig ending
   ends_moved rig ending bytes needed few ends =
       record { plays = moved rig ending bytes needed few ends; more = ends.taken; taken_is = refl }

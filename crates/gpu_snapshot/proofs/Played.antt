@@ -43,6 +43,7 @@ use Rattle.gpu_snapshot.specs.declared.head.FileHead.TheVariants as head
 use Rattle.gpu_snapshot.proofs.Heads.{capture_is}
 use Rattle.gpu_snapshot.proofs.Moving.{SaysNothing, StopsShort, ends_moved}
 use Rattle.gpu_snapshot.proofs.Profiles.{tall_twice}
+use Rattle.event_play.specs.Course.{at_end, course, tales}
 
 -- ---- by what is opened
 
@@ -143,18 +144,18 @@ pub plays_capture : (mode : Mode) (s : Machine) (left mid held : Option (List �
     → OpensCapture (intake left steps) (intake mid steps_mid) opened_rig reader → Stands first_rig s
     → ((t : Machine) → Stands opened_rig t
     → EndsPlay mode (script_behind (from_state t opened_rig.played) reader.progress)
-    (streams mid held heard steps_mid) now rig ending)
+    (streams mid held heard steps_mid) (at_end now rig) ending)
     → PlaysAny mode (from_state s 0) (streams left held heard steps) now ending
 plays_capture mode s left mid held heard steps steps_mid now opened_rig rig reader ending opens stands plays =
     let first = from_state s 0 in
     let m : Machine = (raised first opens.version).state in
     let for_all = opens.stands first (record { state = stands; played = refl }) in
     let ByPlayed : ℕ → Type 0 = λ p. EndsPlay mode (script_behind (from_state m p) reader.progress)
-    (streams mid held heard steps_mid) now rig ending in
+    (streams mid held heard steps_mid) (at_end now rig) ending in
     let ByReader : Progress → Type 0 = λ p. EndsPlay mode (script_behind (from_state m 0) p)
-    (streams mid held heard steps_mid) now rig ending in
+    (streams mid held heard steps_mid) (at_end now rig) ending in
     let ends : EndsPlay mode (script_behind (from_state m 0) (tag_due opens.version 8))
-    (streams mid held heard steps_mid) now rig ending =
+    (streams mid held heard steps_mid) (at_end now rig) ending =
     subst ByReader (ap (λ (r : ReaderState). r.progress) opens.reader_is)
     (subst ByPlayed opens.played (plays m for_all.state)) in
     let moved = ends_moved mode (script_file first)
@@ -179,7 +180,7 @@ pub plays_state : (mode : Mode) (s : Machine) (left mid held : Option (List ℕ)
     → OpensState (intake left steps) (intake mid steps_mid) opened_rig reader
     → ((t : Machine) → Stands opened_rig t
     → EndsPlay mode (script_behind (from_state t opened_rig.played) reader.progress)
-    (streams mid held heard steps_mid) now rig ending)
+    (streams mid held heard steps_mid) (at_end now rig) ending)
     → PlaysAny mode (from_state s 0) (streams left held heard steps) now ending
 plays_state mode s left mid held heard steps steps_mid now opened_rig rig reader ending opens plays =
     let first = from_state s 0 in
@@ -187,11 +188,11 @@ plays_state mode s left mid held heard steps steps_mid now opened_rig rig reader
     let o = opens.snapshot.outline in
     let tag : Progress = tag_due (version_behind o.regs.height) opens.place in
     let ByPlayed : ℕ → Type 0 = λ p. EndsPlay mode (script_behind (from_state m p) reader.progress)
-    (streams mid held heard steps_mid) now rig ending in
+    (streams mid held heard steps_mid) (at_end now rig) ending in
     let ByReader : Progress → Type 0 = λ p. EndsPlay mode (script_behind (from_state m o.played) p)
-    (streams mid held heard steps_mid) now rig ending in
+    (streams mid held heard steps_mid) (at_end now rig) ending in
     let ends : EndsPlay mode (script_behind (from_state m o.played) tag)
-    (streams mid held heard steps_mid) now rig ending =
+    (streams mid held heard steps_mid) (at_end now rig) ending =
     subst ByReader (ap (λ (r : ReaderState). r.progress) opens.reader_is)
     (subst ByPlayed (ap (λ (r : RigState). r.played) opens.rig_is) (plays m opens.stands)) in
     let moved = ends_moved mode (script_file first) (script_behind (from_state m o.played) tag) opens.taken
@@ -229,7 +230,7 @@ module _ (mode : Mode) (s : Machine) (left mid held : Option (List ℕ)) (heard 
   now = streams mid held heard steps_mid
 
   unplayed_ends : (stop : Stop) (refuses : Refuses (intake left steps) (intake mid steps_mid) (fault.Stop stop))
-      → SaysEnding mode (script_file start) start start refuses.taken before now (Stopped 1 stop)
+      → SaysEnding (course mode (script_file start) refuses.taken) (tales start start) before now (Stopped 1 stop)
       → IsGood (Stopped 1 stop) refuses.taken → PlaysAny mode start before now (Stopped 1 stop)
   unplayed_ends stop refuses says good = record {
     rig = first_rig;

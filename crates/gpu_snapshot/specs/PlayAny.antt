@@ -23,6 +23,7 @@ use Rattle.gpu_snapshot.specs.Opening.{AreNeeded, opening_cost}
 use Rattle.gpu_snapshot.specs.Restored.{machine_in, version_behind}
 use Rattle.gpu_snapshot.specs.declared.ending.AnyEnding.{AnyEnding}
 use Rattle.gpu_snapshot.specs.declared.ending.AnyEnding.TheVariants as any
+use Rattle.event_play.specs.Course.{at_end}
 
 -- the tale of a state: nothing was played from it yet, and it says how many events were played before
 abbrev pub restored_tale : Snapshot → Tale
@@ -105,7 +106,7 @@ spent before more = record before { steps = before.steps + more }
 pub record PlaysAny (mode : Mode) (first : Tale) (before now : Streams) (ending : Ending) : Type 0 where
   pub rig : RigState
   pub opening : ℕ
-  pub plays : EndsPlay mode (script_file first) (spent before opening) now rig ending
+  pub plays : EndsPlay mode (script_file first) (spent before opening) (at_end now rig) ending
   pub good : IsGood ending plays.taken
   pub cost : (rest : List ℕ) → opening ≤ opening_cost (plays.taken ++ rest)
 

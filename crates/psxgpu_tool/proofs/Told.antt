@@ -26,6 +26,7 @@ use Rattle.psxgpu_tool.specs.First.{file_ending, file_script, first, play_file, 
 use Rattle.psxgpu_tool.specs.Line.{status_of, ending_line, ending_text, any_status, any_text}
 use Rattle.psxgpu_tool.specs.Outside.{Outside, Says}
 use Rattle.psxgpu_tool.specs.PlayRun.{WholeRun, RefusedRun, StarvedRun, BlockedRun}
+use Rattle.event_play.specs.Course.{at_end}
 
 -- ---- endings
 
@@ -189,7 +190,7 @@ pub record EndsFile (mode : Mode) (bytes : List ℕ) (ending : Ending) (taken re
 module _ (mode : Mode) (heard heard_now : List Reading) (before now : Outside) (opening : ℕ) (rig : RigState)
     (bytes : List ℕ) (told : before.source.left ≡ Some bytes) where
   abbrev Ends : Ending → Type 0
-  Ends ending = EndsPlay mode file_script (spent (seen heard before) opening) (seen heard_now now) rig ending
+  Ends ending = EndsPlay mode file_script (spent (seen heard before) opening) (at_end (seen heard_now now) rig) ending
 
   taken_of : (ending : Ending) (ends : Ends ending) → IsCut bytes ends.taken now.source.left
   taken_of ending ends = cut bytes ends.taken now.source.left (sym told ∙ ends.bytes)

@@ -15,6 +15,7 @@ use Rattle.gpu_snapshot.specs.Opening.{opening_cost}
 use Rattle.gpu_snapshot.specs.declared.ending.AnyEnding.TheVariants.{Played}
 use Rattle.psxgpu_tool.specs.Line.{ending_line, any_status, any_text}
 use Rattle.psxgpu_tool.specs.Outside.{Outside, Says, HasFailed, HasFailedToRead}
+use Rattle.event_play.specs.Course.{course, tales}
 
 -- status 0: the capture is whole, or the records behind the state of the snapshot are; for a picture there is one;
 -- those bytes are left that stand behind the End, and all that there is to write was written
@@ -67,8 +68,8 @@ Starved mode heard before now =
     (λ bytes. StarvedRun mode heard bytes before now)
 
 -- status 4: out failed. What was written begins all that there is to write, and lacks a byte that is due at the event
--- on the line. None of the bytes taken is one too many for that event, or for the End behind which it was due; but where
--- lines are gathered, few bytes may have been taken behind it.
+-- on the line. None of the bytes taken is one too many for that event, or for the End behind which it was due; but
+-- where lines are gathered, few bytes may have been taken behind it.
 pub record BlockedRun (mode : Mode) (heard : List Reading) (bytes : List ℕ) (before now : Outside) : Type 0 where
   pub taken : List ℕ
   pub rest : List ℕ
@@ -77,7 +78,7 @@ pub record BlockedRun (mode : Mode) (heard : List Reading) (bytes : List ℕ) (b
   pub event : ℕ
   pub tale : Tale
   pub last : Tale
-  pub lacks : LacksBytes mode file_script tale last taken event (seen heard before) (seen heard now)
+  pub lacks : LacksBytes (course mode file_script taken) (tales tale last) event (seen heard before) (seen heard now)
   pub says : Says before.err now.err (ending_line (WriteFailed event))
 
 abbrev pub Blocked : Mode → List Reading → (before now : Outside) → Type 0

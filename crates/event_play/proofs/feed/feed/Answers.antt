@@ -15,7 +15,8 @@ words-preserved g c =
     let at = c.words.invariant in
     record {
       done = at.done ++ c.in-Some.word ∷ [];
-      are = at.are ∙ ap (λ words. at.done ++ words) c.in-Some.ensures ∙ sym (append_assoc at.done (c.in-Some.word ∷ []) _);
+      are = at.are ∙ ap (λ words. at.done ++ words) c.in-Some.ensures
+          ∙ sym (append_assoc at.done (c.in-Some.word ∷ []) _);
       fed = fed_on _ _ _ _ _ _ _ _ _ _ at.fed _ c.in-Ok.ensures.feeds;
       same = g.met.O.Outlet.same_on _ _ _ at.same c.in-Ok.ensures.same;
     }

@@ -23,10 +23,11 @@ returns-clause-stepped g c =
     let fed = c.gp0.ensures in
     let before = without_sink (map g.T.Listener.heard c.args.taps.now.items) c.args.steps.now in
     let after = without_sink (map g.T.Listener.heard c.gp0.new.taps.items) c.gp0.new.steps in
-    let did = has_done Vram was now now number number (Gp0 c.args.word) (Feed (One c.args.word) was.running) None before after
-    refl refl
+    let did = has_done Vram was now now number number (Gp0 c.args.word) (Feed (One c.args.word) was.running) None before
+    after refl refl
     (λ s e. word_done Vram was number c.args.word before after _ s
-    (word_feeds Vram s number c.args.word c.gp0.result before after _ (fed.feed s e) (fed.note s e) fed.taps (fed.cost s e))) in
+    (word_feeds Vram s number c.args.word c.gp0.result before after _ (fed.feed s e) (fed.note s e) fed.taps
+    (fed.cost s e))) in
     rw (← c.next_number-number.ensures, ← c.self.view_is) (λ s stands.
     let step = only_stepped _ _ _ _ _ _ _ (did s stands) in
     record {

@@ -48,7 +48,8 @@ returns-in-Err-perform-clause-plays g c =
           let inside : StandsFor was t = subst Q (sym c.self.view_is) stands in
           inl (feeds_part _ was _ t c.next_number-number.result _ _ _ _ _ c.in-Ok.ensures.value inside number
           c.in-Err-perform.ensures.performs.gathers (c.in-Err-perform.ensures.puts t.state.gpu inside.state.gpu).failed
-          (c.in-Err-perform.ensures.performs.failed t.state.gpu inside.state.gpu) c.in-Err-perform.ensures.performs.played);
+          (c.in-Err-perform.ensures.performs.failed t.state.gpu inside.state.gpu)
+          c.in-Err-perform.ensures.performs.played);
       known = (tt, λ x. x);
       cause = λ x. c.in-Err-perform.ensures.performs.cause;
       faults = c.in-Err-perform.ensures.performs.faults;
