@@ -6,6 +6,7 @@ ghost use Rattle.event_play.specs.Streams.{gathering, outlets};
 
 use crate::ending::{Ending, Mode, Within};
 use crate::feed::feed_word;
+use crate::film::Played;
 use crate::finals::write_behind;
 use crate::outlet::Lines;
 use crate::rig::Rig;
@@ -105,8 +106,12 @@ impl Rig {
             Err(event) => Err(Ending::WriteFailed { event }),
             Ok(shown) => {
                 self.played = number;
-                let Ok(()) = write_behind(&self.gpu, event, number, shown, lines.out, mode, steps)
-                else {
+                let played = Played {
+                    event: *event,
+                    number,
+                    shown,
+                };
+                let Ok(()) = write_behind(&self.gpu, played, lines.out, mode, steps) else {
                     return Err(Ending::WriteFailed { event: number });
                 };
                 Ok(())

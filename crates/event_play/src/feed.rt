@@ -63,7 +63,7 @@ pub(crate) fn feed_word<O: Outlet, T: Listener, L: Ledger>(
             let note = gpu.gp0(number, word, taps, steps);
             put_listed(number, &note, lines)
         }
-        Mode::Pixel { cell } => feed_watched(gpu, Watch { number, cell }, word, lines, taps, steps),
+        Mode::Pixel { cell } => feed_watched(gpu, Watch { number, word, cell }, lines, taps, steps),
         _ => {
             let _ = gpu.gp0(number, word, taps, steps);
             Ok(())
@@ -71,29 +71,29 @@ pub(crate) fn feed_word<O: Outlet, T: Listener, L: Ledger>(
     }
 }
 
-// A cell that is looked at in the event of this number.
+// A word that is fed in the event of this number, while a cell is looked at.
 #[derive(Clone, Copy)]
 struct Watch {
     number: u64,
+    word: u32,
     cell: Cell,
 }
 
-// The same where a cell is looked at.
+// Feeds a word while a cell is looked at.
 fn feed_watched<O: Outlet, T: Listener, L: Ledger>(
     gpu: &mut Gpu,
     watch: Watch,
-    word: u32,
     lines: &mut O,
     taps: &mut Vec<T>,
     steps: &mut Steps<L>,
 ) -> Result<(), u64>
-    ensures feeds { FeedsWords (in_event watch.number (Mode.Pixel watch.cell)) (word ∷ [])
+    ensures feeds { FeedsWords (in_event watch.number (Mode.Pixel watch.cell)) (watch.word ∷ [])
         (drawing (with_sink (O.state lines.old) (map T.heard taps.old.items) steps.old) gpu.old)
         (drawing (with_sink (O.state lines.new) (map T.heard taps.new.items) steps.new) gpu.new) result }
     ensures same { O.same lines.old lines.new }
 {
     let before = seen_cell(gpu, watch.cell, steps);
-    let note = gpu.gp0(watch.number, word, taps, steps);
+    let note = gpu.gp0(watch.number, watch.word, taps, steps);
     let after = seen_cell(gpu, watch.cell, steps);
     put_changed(watch.number, &note, before, after, lines)
 }

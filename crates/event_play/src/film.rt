@@ -15,21 +15,27 @@ use px_num::bits;
 use std::sync::ledger::Ledger;
 use vram_store::Steps;
 
+/// An event that was played: its number, and the word that it shows.
+#[derive(Clone, Copy)]
+pub(crate) struct Played {
+    pub(crate) event: Event,
+    pub(crate) number: u64,
+    pub(crate) shown: Option<u32>,
+}
+
 /// Writes the picture behind an event, if it is one of the moments asked for and a picture is shown.
 pub(crate) fn write_frames<K: Sink, L: Ledger>(
     gpu: &Gpu,
-    event: &Event,
-    number: u64,
+    played: Played,
     at: Moment,
     out: &mut K,
     steps: &mut Steps<L>,
 ) -> Result<(), Failed>
     ensures writes { Writes K.held K.faults out.old out.new
-        (flat_map (picture_at at) (frames_behind event.now number gpu.now.parts)) result }
-    ensures cost { steps.new ≤ steps.old + frames_cost at (frames_behind event.now number gpu.now.parts) }
+        (flat_map (picture_at at) (frames_behind played.event played.number gpu.now.parts)) result }
+    ensures cost { steps.new ≤ steps.old + frames_cost at (frames_behind played.event played.number gpu.now.parts) }
 {
-    let _ = number;
-    match *event {
+    match played.event {
         Event::Gp1 { word } if is_moment(at, word) => write_frame(gpu, out, steps),
         _ => Ok(()),
     }
@@ -38,18 +44,17 @@ pub(crate) fn write_frames<K: Sink, L: Ledger>(
 /// The same for the line of the picture's sum.
 pub(crate) fn write_sums<K: Sink, L: Ledger>(
     gpu: &Gpu,
-    event: &Event,
-    number: u64,
+    played: Played,
     at: Moment,
     out: &mut K,
     steps: &mut Steps<L>,
 ) -> Result<(), Failed>
     ensures writes { Writes K.held K.faults out.old out.new
-        (flat_map (sum_at at) (frames_behind event.now number gpu.now.parts)) result }
-    ensures cost { steps.new ≤ steps.old + frames_cost at (frames_behind event.now number gpu.now.parts) }
+        (flat_map (sum_at at) (frames_behind played.event played.number gpu.now.parts)) result }
+    ensures cost { steps.new ≤ steps.old + frames_cost at (frames_behind played.event played.number gpu.now.parts) }
 {
-    match *event {
-        Event::Gp1 { word } if is_moment(at, word) => write_sum(gpu, number, out, steps),
+    match played.event {
+        Event::Gp1 { word } if is_moment(at, word) => write_sum(gpu, played.number, out, steps),
         _ => Ok(()),
     }
 }
@@ -146,7 +151,7 @@ fn write_frame<K: Sink, L: Ledger>(
 }
 
 // Writes the line of its sum.
-#[tactic(auto, unfolding(crate::specs::Frames::frame_bytes, crate::specs::Frames::frame_sum, crate::specs::Frames::frame_cost))]
+#[tactic(auto, unfolding(crate::specs::Frames::frame_sum, crate::specs::Frames::frame_cost))]
 fn write_sum<K: Sink, L: Ledger>(
     gpu: &Gpu,
     number: u64,

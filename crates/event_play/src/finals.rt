@@ -9,10 +9,9 @@ ghost use Rattle.event_play.specs.Frames.{frames_behind};
 ghost use Rattle.event_play.specs.Lines.{lines_behind, lines_cost, WritesBehind};
 ghost use Rattle.event_play.specs.Out.{final_bytes, final_cost, lacks_picture};
 
-use crate::ending::Mode;
-use crate::film::{write_frames, write_last_frame, write_last_sums, write_sums};
+use crate::ending::{Mode, Within};
+use crate::film::{Played, write_frames, write_last_frame, write_last_sums, write_sums};
 use dev_io::{Failed, Sink};
-use gpu_capture::Event;
 use gpu_core::Gpu;
 use gpu_taps::Listener;
 use packet_text::{write_status, write_tap, write_word};
@@ -20,26 +19,26 @@ use picture_out::{shape, write_ppm, write_vram};
 use std::sync::ledger::Ledger;
 use vram_store::Steps;
 
-/// Writes what is due behind the event of this number by the mode: the line of the word that it shows, or the picture
-/// or the line of its sum, where the event is one of the moments asked for.
+/// Writes what is due behind an event by the mode: the line of the word that it shows, or the picture or the line of
+/// its sum, where the event is one of the moments asked for.
 pub(crate) fn write_behind<K: Sink, L: Ledger>(
     gpu: &Gpu,
-    event: &Event,
-    number: u64,
-    shown: Option<u32>,
+    played: Played,
     out: &mut K,
     mode: Mode,
     steps: &mut Steps<L>,
 ) -> Result<(), Failed>
     ensures writes { Writes K.held K.faults out.old out.new
-        (lines_behind mode (option_to_list shown) (frames_behind event.now number gpu.now.parts)) result }
+        (lines_behind mode (option_to_list played.shown)
+        (frames_behind played.event played.number gpu.now.parts)) result }
     ensures mode { OnErr result (WritesBehind mode) }
-    ensures cost { steps.new ≤ steps.old + lines_cost mode (frames_behind event.now number gpu.now.parts) [] }
+    ensures cost { steps.new ≤ steps.old
+        + lines_cost mode (frames_behind played.event played.number gpu.now.parts) [] }
 {
     match mode {
-        Mode::Play => write_shown(shown, out),
-        Mode::Frames { at } => write_frames(gpu, event, number, at, out, steps),
-        Mode::Sums { at } => write_sums(gpu, event, number, at, out, steps),
+        Mode::Play => write_shown(played.shown, out),
+        Mode::Frames { at } => write_frames(gpu, played, at, out, steps),
+        Mode::Sums { at } => write_sums(gpu, played, at, out, steps),
         _ => Ok(()),
     }
 }
@@ -64,29 +63,29 @@ pub(crate) fn lacks_picture(gpu: &Gpu, mode: Mode) -> bool
     }
 }
 
-/// Writes what is due behind the last event, at the number of the next one.
+/// Writes what is due behind the last event, at the number of the next one, by the mode.
 #[tactic(auto, unfolding(crate::specs::Out::final_bytes, crate::specs::Out::final_cost))]
 pub(crate) fn write_finals<K: Sink, T: Listener, L: Ledger>(
     gpu: &Gpu,
-    number: u64,
+    within: Within,
     out: &mut K,
-    mode: Mode,
     taps: &Vec<T>,
     steps: &mut Steps<L>,
 ) -> Result<(), Failed>
-    requires { lacks_picture mode gpu.now.parts.regs ≡ false }
+    requires { lacks_picture within.mode gpu.now.parts.regs ≡ false }
     ensures writes { (s : State) → kept_of s ≡ gpu.now →
-        Writes K.held K.faults out.old out.new (final_bytes mode (map T.heard taps.now.items) number s) result }
+        Writes K.held K.faults out.old out.new
+        (final_bytes within.mode (map T.heard taps.now.items) within.number s) result }
     ensures cause { OnErr result (Rose (K.faults out.old) (K.faults out.new)) }
     ensures faults { K.faults out.old ≤ K.faults out.new }
-    ensures cost { (s : State) → kept_of s ≡ gpu.now → steps.new ≤ steps.old + final_cost mode s }
+    ensures cost { (s : State) → kept_of s ≡ gpu.now → steps.new ≤ steps.old + final_cost within.mode s }
 {
-    match mode {
+    match within.mode {
         Mode::Play => write_status(out, gpu.status()),
         Mode::Vram => write_vram(gpu.vram(), out, steps),
         Mode::Shot => write_ppm(gpu.vram(), gpu.regs(), out, steps),
         Mode::Frames { at } => write_last_frame(gpu, at, out, steps),
-        Mode::Sums { at } => write_last_sums(gpu, number, at, out, steps),
+        Mode::Sums { at } => write_last_sums(gpu, within.number, at, out, steps),
         Mode::List => Ok(()),
         Mode::Pixel { .. } => Ok(()),
         Mode::Report => write_report(out, taps),

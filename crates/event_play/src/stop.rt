@@ -9,7 +9,7 @@ ghost use Rattle.event_play.specs.Ends.{EndsAt, EndsReading, finale};
 ghost use Rattle.event_play.specs.Replay.{next_number};
 ghost use Rattle.event_play.specs.Streams.{gathering, outlets};
 
-use crate::ending::{Ending, Mode};
+use crate::ending::{Ending, Mode, Within};
 use crate::finals::{lacks_picture, write_finals};
 use crate::rig::Rig;
 use dev_io::Sink;
@@ -40,42 +40,45 @@ impl Rig {
         ensures faults { K.faults out.old ≤ K.faults out.new }
     {
         match lines.write(out) {
-            Ok(()) => self.finish(stop, out, mode, taps, steps),
+            Ok(()) => match stop {
+                Stop::End => self.finish(out, mode, taps, steps),
+                _ => Ending::Stopped {
+                    event: self.next_number(),
+                    stop,
+                },
+            },
             Err(event) => Ending::WriteFailed { event },
         }
     }
 
-    // Ends playing at a stop of the reader where nothing is gathered: at End, what is due behind the last event is
-    // written.
+    // Ends playing at the End where nothing is gathered: what is due behind the last event is written.
     fn finish<K: Sink, T: Listener, L: Ledger>(
         &self,
-        stop: Stop,
         out: &mut K,
         mode: Mode,
         taps: &Vec<T>,
         steps: &mut Steps<L>,
     ) -> Ending
         ensures ends { (s : State) → kept_of s ≡ self.now.gpu →
-            EndsAt (finale mode s (next_number self.now.played)) stop
+            EndsAt (finale mode s (next_number self.now.played)) Stop.End
             (outlets (K.held out.old) (K.faults out.old) (map T.heard taps.now.items) steps.old)
             (outlets (K.held out.new) (K.faults out.new) (map T.heard taps.now.items) steps.new) result }
         ensures known { IsEnding result }
-        ensures stopped { MayReadFault result → IsReadFault stop }
+        ensures unread { MayReadFault result → ⊥ }
         ensures cause { MayWriteFault result → Rose (K.faults out.old) (K.faults out.new) }
         ensures faults { K.faults out.old ≤ K.faults out.new }
     {
         let event = self.next_number();
-        match stop {
-            Stop::End => {
-                if lacks_picture(&self.gpu, mode) {
-                    return Ending::NoPicture { event };
-                }
-                match write_finals(&self.gpu, event, out, mode, taps, steps) {
-                    Ok(()) => Ending::Done,
-                    Err(_) => Ending::WriteFailed { event },
-                }
-            }
-            _ => Ending::Stopped { event, stop },
+        if lacks_picture(&self.gpu, mode) {
+            return Ending::NoPicture { event };
+        }
+        let within = Within {
+            number: event,
+            mode,
+        };
+        match write_finals(&self.gpu, within, out, taps, steps) {
+            Ok(()) => Ending::Done,
+            Err(_) => Ending::WriteFailed { event },
         }
     }
 }

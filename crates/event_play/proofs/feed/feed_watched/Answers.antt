@@ -10,19 +10,19 @@ returns-clause-feeds g c =
     record {
       ok = λ s e.
           on_ok_weaker c.put_changed.result
-          (λ put. watched_feeds c.args.watch.cell s c.args.watch.number c.args.word c.gp0-note.result _ _ _
+          (λ put. watched_feeds c.args.watch.cell s c.args.watch.number c.args.watch.word c.gp0-note.result _ _ _
           (fed.feed s e) (fed.note s e) fed.taps
           (omega (arith, fed.cost s e, c.seen_cell-before.ensures.cost, c.seen_cell-after.ensures.cost)))
           c.put_changed.ensures.puts.ok;
       failed = λ s e.
           on_err_weaker c.put_changed.result
-          (λ part. watched_stops c.args.watch.cell s c.args.watch.number c.args.word c.gp0-note.result _ _ _
+          (λ part. watched_stops c.args.watch.cell s c.args.watch.number c.args.watch.word c.gp0-note.result _ _ _
           (fed.feed s e) (fed.note s e) fed.taps
           (omega (arith, fed.cost s e, c.seen_cell-before.ensures.cost, c.seen_cell-after.ensures.cost)))
           c.put_changed.ensures.puts.cause;
       puts = λ s e.
           puts_same _ _ _ _ _ c.put_changed.result
-          (watched_lines c.args.watch.cell s c.args.watch.number c.args.word c.gp0-note.result _ _ _ _ e
+          (watched_lines c.args.watch.cell s c.args.watch.number c.args.watch.word c.gp0-note.result _ _ _ _ e
           (fed.feed s e) (fed.note s e) c.seen_cell-before.ensures.value c.seen_cell-after.ensures.value)
           (lines_put _ _ _ _ _ _ _ _ c.put_changed.result c.put_changed.ensures.puts);
       kept = inl tt;
