@@ -192,8 +192,6 @@ fn store_first(cells: &mut [u16], start: usize, n: u8, lanes: u16x16, mask: u16)
     }
 }
 
-// The cells at the end of memory, where there are no sixteen. It is rare, and so compiled apart.
-#[inline(never)]
 fn load_lanes(cells: &[u16]) -> [u16; 16]
     requires { length cells.now ≤ 16 }
     ensures { IsLoaded cells.now 0 (length cells.now) result }
@@ -203,8 +201,6 @@ fn load_lanes(cells: &[u16]) -> [u16; 16]
     lanes
 }
 
-// The same cell by cell.
-#[inline(never)]
 fn store_lanes(cells: &mut [u16], start: usize, n: usize, lanes: &[u16; 16], mask: u16)
     requires lanes { n ≤ 16 }
     requires in_cells { start + n ≤ length cells.old }
