@@ -61,5 +61,5 @@ pub fn gather_entries<G: Gather, L: Ledger>(
 {
     let _height = vram.height();
     let columns = entry_columns(clut, indexes);
-    G::gather(vram, columns, splat(clut_row(clut)), k, steps)
+    G::gather_in_row(vram, columns, clut_row(clut), k, steps)
 }

@@ -22,6 +22,22 @@ pub trait Gather {
         ensures long { length result ≡ 16 }
         ensures value { (j : ℕ) → j < k → slice_index result j ≡ at vram.now (slice_index xs j) (slice_index ys j) }
         ensures cost { steps.new ≤ steps.old + k };
+
+    /// The same of cells that stand in one row.
+    fn gather_in_row<L: Ledger>(
+        vram: &Vram,
+        xs: u16x16,
+        y: u16,
+        k: u8,
+        steps: &mut Steps<L>,
+    ) -> u16x16
+        requires few { (1 ≤ k) × (k ≤ 16) }
+        requires long { length xs ≡ 16 }
+        requires in_row { EachLane (λ i. slice_index xs i < 1024) }
+        requires in_height { y < height_of vram.now }
+        ensures long { length result ≡ 16 }
+        ensures value { (j : ℕ) → j < k → slice_index result j ≡ at vram.now (slice_index xs j) y }
+        ensures cost { steps.new ≤ steps.old + k };
 }
 
 /// One after another.
@@ -49,6 +65,17 @@ impl Gather for OneByOne {
     ) -> u16x16 {
         vram.gather(xs, ys, k, k, steps)
     }
+
+    #[inline(always)]
+    fn gather_in_row<L: Ledger>(
+        vram: &Vram,
+        xs: u16x16,
+        y: u16,
+        k: u8,
+        steps: &mut Steps<L>,
+    ) -> u16x16 {
+        vram.gather_in_row(xs, y, k, k, steps)
+    }
 }
 
 impl Gather for HalfAtOnce {
@@ -67,6 +94,17 @@ impl Gather for HalfAtOnce {
     ) -> u16x16 {
         vram.gather(xs, ys, k, k.max(HALF), steps)
     }
+
+    #[inline(always)]
+    fn gather_in_row<L: Ledger>(
+        vram: &Vram,
+        xs: u16x16,
+        y: u16,
+        k: u8,
+        steps: &mut Steps<L>,
+    ) -> u16x16 {
+        vram.gather_in_row(xs, y, k, k.max(HALF), steps)
+    }
 }
 
 impl Gather for AllAtOnce {
@@ -84,5 +122,16 @@ impl Gather for AllAtOnce {
         steps: &mut Steps<L>,
     ) -> u16x16 {
         vram.gather(xs, ys, k, 16, steps)
+    }
+
+    #[inline(always)]
+    fn gather_in_row<L: Ledger>(
+        vram: &Vram,
+        xs: u16x16,
+        y: u16,
+        k: u8,
+        steps: &mut Steps<L>,
+    ) -> u16x16 {
+        vram.gather_in_row(xs, y, k, 16, steps)
     }
 }

@@ -74,6 +74,17 @@ fn cells_at(cells: &[u16], numbers: u32x16, n: u8) -> u16x16
     u16x16::from_array(lanes)
 }
 
+// The cells of a row.
+#[inline(always)]
+fn row_of(cells: &[u16], y: u16) -> &[u16]
+    requires { 1024 * y + 1024 ≤ length cells.now }
+    ensures long { length result.now ≡ 1024 }
+    ensures value { (i : ℕ) → i < 1024 → slice_index result.now i ≡ slice_index cells.now (1024 * y + i) }
+{
+    let start = 1024 * y as usize;
+    &cells[start..start + 1024]
+}
+
 impl Vram {
     /// The first `n` lanes are the cells at these columns and rows, and the others mean nothing. A step for each of the
     /// first `n`.
@@ -100,5 +111,28 @@ impl Vram {
     {
         steps.add(n);
         cells_at(&self.cells, numbers_of(xs, ys), read)
+    }
+    /// The same of cells that stand in one row. No number is reckoned but that of the row.
+    #[inline(always)]
+    pub fn gather_in_row<L: Ledger>(
+        &self,
+        xs: u16x16,
+        y: u16,
+        n: u8,
+        read: u8,
+        steps: &mut Steps<L>,
+    ) -> u16x16
+        requires some { 1 ≤ n }
+        requires few { (n ≤ read) × (read ≤ 16) }
+        requires long { length xs ≡ 16 }
+        requires in_row { EachLane (λ i. slice_index xs i < 1024) }
+        requires in_height { y < height_of self.now }
+        ensures long { length result ≡ 16 }
+        ensures cells { (j : ℕ) → j < n → slice_index result j ≡ at self.now (slice_index xs j) y }
+        ensures cost { steps.new ≡ steps.old + n }
+    {
+        steps.add(n);
+        let _height = self.height();
+        cells_at(row_of(&self.cells, y), widened(xs), read)
     }
 }
