@@ -10,12 +10,16 @@ use Rattle.psxgpu_c.specs.Codes.{code_for}
 use Rattle.psxgpu_c.specs.declared.refusal.Refusal.{Refusal}
 use Rattle.psxgpu_c.specs.declared.refusal.Refusal.TheVariants as refusal
 
--- A call changes the machine in a handle and answers a code, as this relation says. Where there is none it is refused,
--- and there is none still.
+-- This is said of the machine in a handle, before a call and behind it. Where there is none there is none still, and
+-- this is so.
+abbrev pub WhereHeld : (before now : Option RigState) → (RigState → RigState → Type 0) → (Closed : Type 0) → Type 0
+WhereHeld (Some was) (Some rig) Does Closed = Does was rig
+WhereHeld (Some was) None Does Closed = ⊥
+WhereHeld None now Does Closed = (now ≡ None) × Closed
+
+-- A call changes the machine in a handle and answers a code, as this relation says. Where there is none it is refused.
 abbrev pub Changes : (before now : Option RigState) → (code : ℕ) → (RigState → RigState → (code : ℕ) → Type 0) → Type 0
-Changes (Some was) (Some rig) code Does = Does was rig code
-Changes (Some was) None code Does = ⊥
-Changes None now code Does = (now ≡ None) × (code ≡ code_for refusal.Closed)
+Changes before now code Does = WhereHeld before now (λ was rig. Does was rig code) (code ≡ code_for refusal.Closed)
 
 -- ---- words of GP0
 
@@ -41,9 +45,7 @@ HasPlayed was rig event Says =
 
 -- the same of a handle
 abbrev pub Plays : (before now : Option RigState) → Event → (Says : Result (Option ℕ) Refusal → Type 0) → Type 0
-Plays (Some was) (Some rig) event Says = HasPlayed was rig event Says
-Plays (Some was) None event Says = ⊥
-Plays None now event Says = (now ≡ None) × Says (Err refusal.Closed)
+Plays before now event Says = WhereHeld before now (λ was rig. HasPlayed was rig event Says) (Says (Err refusal.Closed))
 
 -- the word that is shown, if one is, and else the word that was there
 abbrev pub word_shown : (before : ℕ) → Result (Option ℕ) Refusal → ℕ

@@ -2,7 +2,7 @@
 use Rattle.std.specs.Prelude.{◌≡◌, ◌+◌, ◌*◌, ◌%◌, ◌^◌, ◌==◌, ◌&&◌, ℕ, zero, suc, Bool, true, false, List, Option}
 use Rattle.std.specs.Prelude.{Some, None}
 use Rattle.std.specs.Prelude.{Result, Err, if◌then◌else◌, length, nat_lt, slice_index}
-use Rattle.gpu_capture.specs.declared.event.Event.TheVariants.{Dma}
+use Rattle.gpu_capture.specs.declared.event.Event.{Event}
 use Rattle.ot_clear_dma.specs.Ram.{set}
 use Rattle.event_play.specs.PlayedWords.{number_behind}
 use Rattle.event_play.specs.RigState.{RigState}
@@ -22,16 +22,21 @@ abbrev pub put_first : List ℕ → (address : ℕ) → List ℕ → (n : ℕ) �
 put_first ram address words zero = ram
 put_first ram address words (suc n) = set (put_first ram address words n) (address + 4 * n) (slice_index words n)
 
--- all were put there, an event each; or main memory has no words there, and nothing changed
-abbrev pub FillsWhere : (inside : Bool) → (address : ℕ) → List ℕ → (was rig : RigState) → (code : ℕ) → Type 0
-FillsWhere true address words was rig code = (code ≡ 0) × (rig ≡ record was {
+-- all are put there, an event each
+abbrev pub filled : (address : ℕ) → List ℕ → RigState → RigState
+filled address words was = record was {
   ram = put_first was.ram address words (length words);
   played = number_behind was.played (length words);
-})
-FillsWhere false address words was rig code = (code ≡ code_for refusal.BadAddress) × (rig ≡ was)
+}
+
+-- what was due became of it; or main memory has no words there, and nothing changed
+abbrev pub FillsWhere : (inside : Bool) → (due was rig : RigState) → (code : ℕ) → Type 0
+FillsWhere true due was rig code = (code ≡ 0) × (rig ≡ due)
+FillsWhere false due was rig code = (code ≡ code_for refusal.BadAddress) × (rig ≡ was)
 
 abbrev pub Fills : (address : ℕ) → List ℕ → (was rig : RigState) → (code : ℕ) → Type 0
-Fills address words was rig code = FillsWhere (lie_in_memory address (length words)) address words was rig code
+Fills address words was rig code =
+    FillsWhere (lie_in_memory address (length words)) (filled address words was) was rig code
 
 -- ---- channels
 
@@ -44,8 +49,8 @@ Refuses (Some was) now why Says = (now ≡ Some was) × Says (Err why)
 abbrev pub channel_named : ℕ → Option ℕ
 channel_named number = if number == 2 then Some 2 else (if number == 6 then Some 6 else None)
 
--- the event was played on the channel, if there is one
-abbrev pub Starts : (channel : Option ℕ) → (madr bcr chcr : ℕ) → (before now : Option RigState)
+-- the start of the channel was played, if there is one
+abbrev pub Starts : (channel : Option ℕ) → (start : ℕ → Event) → (before now : Option RigState)
     → (Result (Option ℕ) Refusal → Type 0) → Type 0
-Starts (Some channel) madr bcr chcr before now Says = Plays before now (Dma channel madr bcr chcr) Says
-Starts None madr bcr chcr before now Says = Refuses before now refusal.BadChannel Says
+Starts (Some channel) start before now Says = Plays before now (start channel) Says
+Starts None start before now Says = Refuses before now refusal.BadChannel Says

@@ -8,6 +8,7 @@ use Rattle.event_play.specs.Step.{Machine}
 use Rattle.gp0_packets.specs.declared.note.Note.{Note}
 use Rattle.gpu_core.specs.Machine.{gp0_note}
 use Rattle.px_num.specs.declared.shape.Box2.{Box2}
+use Rattle.psxgpu_c.specs.Calls.{WhereHeld}
 use Rattle.psxgpu_c.specs.Shown.{StandsInFront}
 use Rattle.psxgpu_c.specs.declared.note.ItemNote.{ItemNote}
 use Rattle.psxgpu_c.specs.declared.refusal.Refusal.{Refusal}
@@ -62,10 +63,16 @@ TakesNoted words was rig before now (Err refusal.NoRoom) =
     (length before < length words) × (rig ≡ was) × (now ≡ before)
 TakesNoted words was rig before now (Err other) = ⊥
 
+-- what a handle holds, and the caller's notes
+pub record Noting : Type 0 where
+  pub held : Option RigState
+  pub notes : List ItemNote
+
+abbrev pub noting : Option RigState → List ItemNote → Noting
+noting held notes = record { held = held; notes = notes }
+
 -- the same of a handle
-abbrev pub TakesHeld : (words : List ℕ) → (was held : Option RigState) → (before now : List ItemNote)
-    → Result ℕ Refusal → Type 0
-TakesHeld words (Some was) (Some rig) before now answer = TakesNoted words was rig before now answer
-TakesHeld words (Some was) None before now answer = ⊥
-TakesHeld words None held before now answer =
-    (held ≡ None) × (answer ≡ Err refusal.Closed) × (now ≡ before)
+abbrev pub TakesHeld : (words : List ℕ) → (before now : Noting) → Result ℕ Refusal → Type 0
+TakesHeld words before now answer = WhereHeld before.held now.held
+    (λ was rig. TakesNoted words was rig before.notes now.notes answer)
+    ((answer ≡ Err refusal.Closed) × (now.notes ≡ before.notes))

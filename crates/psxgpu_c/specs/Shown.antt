@@ -1,6 +1,6 @@
 -- What the calls of C show of a machine, in a room that the caller lends.
-use Rattle.std.specs.Prelude.{◌≡◌, ◌≤◌, ◌<◌, ◌*◌, ◌++◌, ◌∷◌, ◌&&◌, ℕ, zero, suc, Bool, true, false, List, [], Option}
-use Rattle.std.specs.Prelude.{Some, None, Result, Ok, Err, take, drop, length, nat_lt}
+use Rattle.std.specs.Prelude.{◌≡◌, ◌≤◌, ◌<◌, ◌*◌, ◌++◌, ◌∷◌, ◌&&◌, ℕ, zero, suc, Bool, List, [], Option}
+use Rattle.std.specs.Prelude.{Some, None, Result, Ok, Err, if◌then◌else◌, take, drop, length, nat_lt}
 use Rattle.gp1_status.specs.Registers.{Registers}
 use Rattle.gp1_status.specs.Shape.{shape_of}
 use Rattle.picture_out.specs.Picture.{display_of, picture, pixel_count, pixels_from}
@@ -97,12 +97,16 @@ SeesShape (Some rig) before now code = ShowsShape (shape_of rig.gpu.parts.regs) 
 abbrev pub has_cell : RigState → (x y : ℕ) → Bool
 has_cell rig x y = nat_lt x 1024 && nat_lt y rig.gpu.parts.regs.height
 
--- its value was put where the caller wants it, if there is one
-abbrev pub ShowsCell : (found : Bool) → (value before now code : ℕ) → Type 0
-ShowsCell true value before now code = (code ≡ 0) × (now ≡ value)
-ShowsCell false value before now code = (code ≡ code_for refusal.NoCell) × (now ≡ before)
+-- its value, if there is one
+abbrev pub cell_due : (x y : ℕ) → RigState → Option ℕ
+cell_due x y rig = if has_cell rig x y then Some (at rig.gpu.parts.m x y) else None
+
+-- the value that is due was put where the caller wants it
+abbrev pub ShowsCell : Option ℕ → (before now code : ℕ) → Type 0
+ShowsCell (Some due) before now code = (code ≡ 0) × (now ≡ due)
+ShowsCell None before now code = (code ≡ code_for refusal.NoCell) × (now ≡ before)
 
 -- the same of a handle
-abbrev pub SeesCell : Option RigState → (x y before now code : ℕ) → Type 0
-SeesCell None x y before now code = (code ≡ code_for refusal.Closed) × (now ≡ before)
-SeesCell (Some rig) x y before now code = ShowsCell (has_cell rig x y) (at rig.gpu.parts.m x y) before now code
+abbrev pub SeesCell : Option RigState → (RigState → Option ℕ) → (before now code : ℕ) → Type 0
+SeesCell None due before now code = (code ≡ code_for refusal.Closed) × (now ≡ before)
+SeesCell (Some rig) due before now code = ShowsCell (due rig) before now code

@@ -2,7 +2,7 @@
 ghost use Rattle.std.specs.Prelude.{◌≡◌, ◌<◌, ◌^◌, IsTrue, Some};
 ghost use Rattle.gp1_status.specs.Words.{words_of};
 ghost use Rattle.picture_out.specs.Dump.{dump};
-ghost use Rattle.psxgpu_c.specs.Shown.{Answers, SeesCell, Tells, Views, has_cell};
+ghost use Rattle.psxgpu_c.specs.Shown.{Answers, SeesCell, Tells, Views, cell_due, has_cell};
 
 use crate::ended::code_for;
 use crate::front::{code_of, put_words, tell};
@@ -50,7 +50,7 @@ pub extern "C" fn psxgpu_cell(
     y: u32,
     cell: &mut u16,
 ) -> u32
-    ensures cell { SeesCell gpu.old.held.value x y cell.old cell.new result }
+    ensures cell { SeesCell gpu.old.held.value (cell_due x y) cell.old cell.new result }
     ensures same { gpu.new.held.value ≡ gpu.old.held.value }
 {
     match gpu.take(alloc) {
@@ -64,7 +64,7 @@ pub extern "C" fn psxgpu_cell(
 }
 
 fn see_cell(rig: &Rig, x: u32, y: u32, cell: &mut u16) -> u32
-    ensures { SeesCell (Some rig.now) x y cell.old cell.new result }
+    ensures { SeesCell (Some rig.now) (cell_due x y) cell.old cell.new result }
 {
     if has_cell(rig, x, y) {
         *cell = cell_of(rig, x as u16, y as u16);

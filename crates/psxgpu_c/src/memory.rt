@@ -1,5 +1,6 @@
 // Main memory and DMA.
 ghost use Rattle.std.specs.Prelude.{◌≡◌, Err};
+ghost use Rattle.gpu_capture.specs.declared.event.Event.TheVariants.{Dma};
 ghost use Rattle.psxgpu_c.specs.Calls.{Changes, Plays};
 ghost use Rattle.psxgpu_c.specs.Codes.{code_of, told_of};
 ghost use Rattle.psxgpu_c.specs.Memory.{Fills, Refuses, Starts, channel_named};
@@ -38,7 +39,7 @@ pub extern "C" fn psxgpu_dma(
     chcr: u32,
     ended: &mut Ended,
 ) -> u32
-    ensures told { Starts (channel_named channel) madr bcr chcr gpu.old.held.value gpu.new.held.value
+    ensures told { Starts (channel_named channel) (λ c. Dma c madr bcr chcr) gpu.old.held.value gpu.new.held.value
         (λ answer. ended.new ≡ told_of answer) }
     ensures code { result ≡ ended.new.code }
 {
@@ -66,7 +67,8 @@ fn start(
     bcr: u32,
     chcr: u32,
 ) -> Result<Option<u32>, Refusal>
-    ensures { Starts channel madr bcr chcr gpu.old.held.value gpu.new.held.value (λ answer. answer ≡ result) }
+    ensures { Starts channel (λ c. Dma c madr bcr chcr) gpu.old.held.value gpu.new.held.value
+        (λ answer. answer ≡ result) }
 {
     match channel {
         Some(channel) => {

@@ -4,7 +4,7 @@ ghost use Rattle.event_play.specs.Replay.{from_state};
 ghost use Rattle.event_play.specs.RigState.{Stands};
 ghost use Rattle.event_play.specs.Step.{Machine};
 ghost use Rattle.gp0_words.specs.Next.{IsPending, wanted};
-ghost use Rattle.psxgpu_c.specs.Notes.{HasNoted, TakesHeld, TakesNoted};
+ghost use Rattle.psxgpu_c.specs.Notes.{HasNoted, TakesHeld, TakesNoted, noting};
 ghost use Rattle.psxgpu_c.specs.Shown.{Tells};
 
 use crate::front::tell;
@@ -30,7 +30,7 @@ pub extern "C" fn psxgpu_gp0_notes(
     notes: &mut [ItemNote],
     written: &mut usize,
 ) -> u32
-    ensures { Tells (TakesHeld words.now gpu.old.held.value gpu.new.held.value notes.old notes.new)
+    ensures { Tells (TakesHeld words.now (noting gpu.old.held.value notes.old) (noting gpu.new.held.value notes.new))
         result written.new }
 {
     tell(noted_of(alloc, gpu, words, notes), written)
@@ -42,7 +42,7 @@ fn noted_of(
     words: &[u32],
     notes: &mut [ItemNote],
 ) -> Result<usize, Refusal>
-    ensures { TakesHeld words.now gpu.old.held.value gpu.new.held.value notes.old notes.new result }
+    ensures { TakesHeld words.now (noting gpu.old.held.value notes.old) (noting gpu.new.held.value notes.new) result }
 {
     match gpu.take(alloc) {
         Some(mut rig) => {
