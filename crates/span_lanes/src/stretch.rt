@@ -1,5 +1,5 @@
-// Texels that stand side by side in a row of video memory.
-ghost use Rattle.std.specs.Prelude.{◌≡◌, ◌≤◌, ◌<◌, ◌+◌, ◌*◌, ◌/◌, IfSome, IsTrue};
+// Where texels stand side by side in a row of video memory.
+ghost use Rattle.std.specs.Prelude.{◌≡◌, ◌≤◌, ◌<◌, ◌+◌, ◌/◌, IfSome, IsTrue};
 ghost use Rattle.texture_page.specs.Page.{windowed};
 ghost use Rattle.span_lanes.specs.declared.span.Paint.TheVariants.{TexturedRow};
 ghost use Rattle.texel_lanes.specs.Texture.{IsTexture};
@@ -9,20 +9,11 @@ ghost use Rattle.span_lanes.specs.Sheet.{IsSheetOf};
 ghost use Rattle.span_lanes.specs.Stretch.{IsRising, IsStretch};
 ghost use Rattle.span_lanes.specs.BlockPen.{IsBeside};
 
-use crate::part::Part;
 use crate::row::TexelRow;
-use crate::sampler::{Indexed, Sampler};
 use crate::sheet::Sheet;
 use crate::slopes::value_of;
 use crate::{Span, Texture};
-use std::simd::prelude::*;
-use std::sync::ledger::Ledger;
-use texel_lanes::{
-    OneByOne, entries_at, gather_entries, sixteen_entries, sixteen_indexes, sixteen_octets,
-    table_of,
-};
 use texture_page::texel_cell;
-use vram_store::{Steps, Vram};
 
 // The column of the first texel in its page, and the row of video memory that they stand in.
 #[derive(Clone, Copy)]
@@ -111,104 +102,4 @@ pub(crate) fn place_row(span: &Span, sheet: &Sheet) -> Stretch
     let u = value_of(&sheet.slopes.u, span.x, span.y);
     let v = value_of(&sheet.slopes.v, span.x, span.y);
     stretch_at(&sheet.texture, u, v)
-}
-
-// Texels of four bits that stand side by side.
-#[derive(Clone, Copy)]
-pub(crate) struct Fours {
-    pub(crate) stretch: Stretch,
-}
-
-impl Sampler for Fours {
-    ghost use Rattle.std.specs.Prelude.{◌≡◌};
-    ghost use Rattle.span_lanes.specs.Stretch.{IsStretch};
-
-    ghost finds = { λ c s t. IsStretch s t c.stretch × (t.page.depth ≡ 0) };
-
-    #[inline(always)]
-    fn read_texels<L: Ledger>(
-        &self,
-        vram: &Vram,
-        _span: &Span,
-        texture: &Texture,
-        part: Part,
-        steps: &mut Steps<L>,
-    ) -> u16x16 {
-        let Stretch { u, y } = self.stretch;
-        let index = sixteen_indexes(vram, texture.page.x, u + part.first, y, steps);
-        let entries = sixteen_entries(vram, texture.clut, steps);
-        entries_at(&table_of(entries), index)
-    }
-}
-
-// Texels of eight bits that stand side by side.
-#[derive(Clone, Copy)]
-pub(crate) struct Eights {
-    pub(crate) stretch: Stretch,
-}
-
-impl Sampler for Eights {
-    ghost use Rattle.std.specs.Prelude.{◌≡◌};
-    ghost use Rattle.span_lanes.specs.Stretch.{IsStretch};
-
-    ghost finds = { λ c s t. IsStretch s t c.stretch × (t.page.depth ≡ 1) };
-
-    #[inline(always)]
-    fn read_texels<L: Ledger>(
-        &self,
-        vram: &Vram,
-        _span: &Span,
-        texture: &Texture,
-        part: Part,
-        steps: &mut Steps<L>,
-    ) -> u16x16 {
-        let Stretch { u, y } = self.stretch;
-        let index = sixteen_octets(vram, texture.page.x, u + part.first, y, steps);
-        gather_entries::<OneByOne, L>(vram, texture.clut, index, part.k, steps)
-    }
-}
-
-// Texels of fifteen bits that stand side by side.
-#[derive(Clone, Copy)]
-pub(crate) struct Wholes {
-    pub(crate) stretch: Stretch,
-}
-
-impl Sampler for Wholes {
-    ghost use Rattle.std.specs.Prelude.{◌≤◌};
-    ghost use Rattle.span_lanes.specs.Stretch.{IsStretch};
-
-    ghost finds = { λ c s t. IsStretch s t c.stretch × (2 ≤ t.page.depth) };
-
-    #[inline(always)]
-    fn read_texels<L: Ledger>(
-        &self,
-        vram: &Vram,
-        _span: &Span,
-        texture: &Texture,
-        part: Part,
-        steps: &mut Steps<L>,
-    ) -> u16x16 {
-        let Stretch { u, y } = self.stretch;
-        vram.load16(texture.page.x + u + part.first, y, part.k, steps)
-    }
-}
-
-impl Indexed for Stretch {
-    ghost use Rattle.span_lanes.specs.Stretch.{IsStretch};
-
-    ghost finds = { λ stretch s t. IsStretch s t stretch };
-
-    #[inline(always)]
-    fn read_indexes<L: Ledger>(
-        &self,
-        vram: &Vram,
-        _span: &Span,
-        texture: &Texture,
-        part: Part,
-        steps: &mut Steps<L>,
-    ) -> u8x16 {
-        let u = self.u + part.first;
-        sixteen_indexes(vram, texture.page.x, u, self.y, steps)
-    }
 }

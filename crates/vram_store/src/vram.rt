@@ -1,13 +1,14 @@
-// The cells, and four of the five accesses that count.
+// The cells, and four of the six accesses that count.
 ghost use Rattle.std.specs.Prelude.{◌≡◌, ◌≤◌, ◌<◌, ◌+◌, ◌*◌, ◌++◌, ◌-◌, ℕ, List, length, vec_len, vec_capacity, IfOk};
 ghost use Rattle.px_num.specs.Height.{IsHeight, tall_height};
 ghost use Rattle.px_num.specs.Zeros.{zeros};
 ghost use Rattle.vram_store.specs.Vram.{at, height_of, set, blank, tall, IsLoaded, IsStored};
 
+use crate::firsts::{load_lanes, store_first, store_lanes};
 use crate::steps::Steps;
-use crate::whole::{load_whole, masked_lanes, store_half, store_whole};
+use crate::whole::load_whole;
 use px_num::OutOfMemory;
-use px_num::halves::{HALF, first_lanes, wanted_lanes};
+use px_num::halves::{first_lanes, wanted_lanes};
 use px_num::lanes::splat;
 use std::alloc::{AllocError, Global};
 use std::marker::Model;
@@ -167,48 +168,6 @@ impl Vram {
             store_first(&mut self.cells, start, n, kept, mask);
         } else {
             store_lanes(&mut self.cells, start, n as usize, &kept.to_array(), mask);
-        }
-    }
-}
-
-// Puts sixteen cells, of which those change that are among the first n and whose bit of the mask is 1.
-#[inline(always)]
-fn store_first(cells: &mut [u16], start: usize, n: u8, lanes: u16x16, mask: u16)
-    requires few { n ≤ 16 }
-    requires long { length lanes ≡ 16 }
-    requires in_cells { start + 16 ≤ length cells.old }
-    ensures { IsStored cells.old start n lanes mask cells.new }
-{
-    if n == 16 && mask == 0xffff {
-        store_whole(cells, start, lanes);
-    } else {
-        let old = load_whole(cells, start);
-        let new = first_lanes(n, masked_lanes(mask, lanes, old), old);
-        if n <= HALF {
-            store_half(cells, start, new);
-        } else {
-            store_whole(cells, start, new);
-        }
-    }
-}
-
-fn load_lanes(cells: &[u16]) -> [u16; 16]
-    requires { length cells.now ≤ 16 }
-    ensures { IsLoaded cells.now 0 (length cells.now) result }
-{
-    let mut lanes = [0; 16];
-    lanes[..cells.len()].copy_from_slice(cells);
-    lanes
-}
-
-fn store_lanes(cells: &mut [u16], start: usize, n: usize, lanes: &[u16; 16], mask: u16)
-    requires lanes { n ≤ 16 }
-    requires in_cells { start + n ≤ length cells.old }
-    ensures { IsStored cells.old start n lanes.now mask cells.new }
-{
-    for j in 0..n {
-        if (mask >> j) % 2 == 1 {
-            cells[start + j] = lanes[j];
         }
     }
 }

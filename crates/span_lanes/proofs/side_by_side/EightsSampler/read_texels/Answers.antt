@@ -1,6 +1,6 @@
 use Rattle.std.proofs.Common.{◌≡◌, ◌<◌, ◌+◌, arith}
 use Rattle.span_lanes.proofs.StretchLemmas.{eight_texel}
-use Rattle.span_lanes.proofs.stretch.EightsSampler.read_texels.Goals as goal
+use Rattle.span_lanes.proofs.side_by_side.EightsSampler.read_texels.Goals as goal
 
 pub sixteen_octets-index-requires-clause-in_row : goal.sixteen_octets-index-requires-clause-in_row
 sixteen_octets-index-requires-clause-in_row g c =

@@ -1,6 +1,6 @@
 use Rattle.std.proofs.Common.{◌≡◌, ◌<◌, ◌+◌, ◌∙◌, arith}
 use Rattle.span_lanes.proofs.StretchLemmas.{four_texel}
-use Rattle.span_lanes.proofs.stretch.FoursSampler.read_texels.Goals as goal
+use Rattle.span_lanes.proofs.side_by_side.FoursSampler.read_texels.Goals as goal
 
 pub sixteen_indexes-index-requires-clause-in_row : goal.sixteen_indexes-index-requires-clause-in_row
 sixteen_indexes-index-requires-clause-in_row g c =

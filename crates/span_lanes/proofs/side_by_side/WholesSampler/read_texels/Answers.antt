@@ -1,6 +1,6 @@
 use Rattle.std.proofs.Common.{◌≡◌, ℕ, ◌+◌, ◌*◌, get_or, ◌∙◌, ap, arith}
 use Rattle.span_lanes.proofs.StretchLemmas.{whole_texel}
-use Rattle.span_lanes.proofs.stretch.WholesSampler.read_texels.Goals as goal
+use Rattle.span_lanes.proofs.side_by_side.WholesSampler.read_texels.Goals as goal
 
 pub returns-clause-texels : goal.returns-clause-texels
 returns-clause-texels g c = record {

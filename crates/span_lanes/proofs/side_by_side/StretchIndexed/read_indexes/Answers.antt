@@ -2,7 +2,7 @@ use Rattle.std.proofs.Common.{ℕ, ◌≡◌, ◌<◌, ◌+◌, ap, arith}
 use Rattle.texture_page.specs.Page.{clut_place}
 use Rattle.texel_lanes.specs.Texture.{at_cell}
 use Rattle.span_lanes.proofs.StretchLemmas.{four_texel}
-use Rattle.span_lanes.proofs.stretch.StretchIndexed.read_indexes.Goals as goal
+use Rattle.span_lanes.proofs.side_by_side.StretchIndexed.read_indexes.Goals as goal
 
 pub sixteen_indexes-requires : goal.sixteen_indexes-requires
 sixteen_indexes-requires g c =
