@@ -1,13 +1,11 @@
 // Triangles with a texture in the block of their box.
 ghost use Rattle.std.specs.Prelude.{IfSome};
 ghost use Rattle.vram_store.specs.Vram.{height_of};
-ghost use Rattle.edge_walk.specs.Extent.{bounding_box};
-ghost use Rattle.span_lanes.specs.Frame.{IsBlock};
 ghost use Rattle.span_lanes.specs.Shade.{texture_of};
+ghost use Rattle.span_lanes.specs.declared.block_pen.Way.TheVariants.{Beside, Mixed, Scaled, Strip};
 ghost use Rattle.texel_lanes.specs.Texture.{IsTexture};
-ghost use Rattle.prim_draw.specs.Blocks.{IsBlocked};
-ghost use Rattle.prim_draw.specs.Boxes.{IsOnScreen, LiesIn, block_of};
-ghost use Rattle.prim_draw.specs.Triangles.{FitsTriangle, IsCoat};
+ghost use Rattle.prim_draw.specs.Blocks.{CanDrawBlocked, CanDrawRows, DrawsBlocked, IsBlocked};
+ghost use Rattle.prim_draw.specs.Boxes.{IsOnScreen, block_of};
 ghost use Rattle.prim_draw.specs.Walks.{DrawsRows};
 
 use crate::boxes::block_of;
@@ -17,7 +15,7 @@ use crate::triangles::Run;
 use edge_walk::Tri;
 use px_num::Box2;
 use span_lanes::{
-    BesidePen, Block, BlockPen, MixedPen, Paint, Pen, ScaledPen, StripPen, Texture, Way, way_in,
+    BesidePen, BlockPen, Brush, MixedPen, Paint, Pen, ScaledPen, StripPen, Texture, Way, way_in,
 };
 use std::sync::ledger::Ledger;
 use vram_store::{Steps, Vram};
@@ -52,29 +50,118 @@ impl<P: BlockPen> RowPen for InBlock<P> {
     }
 }
 
-// A triangle and its texture, and the way in which its rows are drawn.
+// The rows of a triangle in a box, what they are drawn with, and the way in which they are drawn in the box's block.
 #[derive(Clone, Copy)]
 struct Blocked<'a> {
     tri: &'a Tri,
+    clip: &'a Box2,
+    // The triangle that the texture is laid over.
+    own: &'a Tri,
     texture: &'a Texture,
+    brush: &'a Brush,
     way: Way,
 }
 
-impl Coat {
-    // What is drawn in a block that is known to lie apart, if it is.
+// Each way has a function of its own, so that room is made for its pen alone.
+impl Blocked<'_> {
     #[inline(always)]
-    fn blocked<'a>(&'a self, block: &Block) -> Option<Blocked<'a>>
-        requires block { IsBlock 1024 block.now }
-        requires texture { IfSome (texture_of self.now.paint) IsTexture }
-        ensures { IfSome result (IsBlocked self.now block.now) }
+    fn strips<L: Ledger>(&self, color: u32, vram: &mut Vram, steps: &mut Steps<L>)
+        requires { CanDrawBlocked (height_of vram.old) self.now (Strip color) }
+        ensures { DrawsBlocked self.now
+            (record { m = vram.old; steps = steps.old }) (record { m = vram.new; steps = steps.new }) }
     {
-        let Paint::TexturedTri { tri, texture } = &self.paint else {
+        let block = block_of(self.clip);
+        let mut pen = InBlock {
+            pen: StripPen::new(self.own, self.texture, self.brush, &block, color),
+        };
+        draw_rows(vram, &mut pen, self.tri, self.clip, steps);
+    }
+
+    #[inline(always)]
+    fn beside<L: Ledger>(&self, vram: &mut Vram, steps: &mut Steps<L>)
+        requires { CanDrawBlocked (height_of vram.old) self.now Beside }
+        ensures { DrawsBlocked self.now
+            (record { m = vram.old; steps = steps.old }) (record { m = vram.new; steps = steps.new }) }
+    {
+        let block = block_of(self.clip);
+        let mut pen = InBlock {
+            pen: BesidePen::new(self.own, self.texture, self.brush, &block),
+        };
+        draw_rows(vram, &mut pen, self.tri, self.clip, steps);
+    }
+
+    #[inline(always)]
+    fn scaled<L: Ledger>(&self, color: u32, vram: &mut Vram, steps: &mut Steps<L>)
+        requires { CanDrawBlocked (height_of vram.old) self.now (Scaled color) }
+        ensures { DrawsBlocked self.now
+            (record { m = vram.old; steps = steps.old }) (record { m = vram.new; steps = steps.new }) }
+    {
+        let block = block_of(self.clip);
+        let mut pen = InBlock {
+            pen: ScaledPen::new(self.own, self.texture, self.brush, &block, color),
+        };
+        draw_rows(vram, &mut pen, self.tri, self.clip, steps);
+    }
+
+    #[inline(always)]
+    fn mixed<L: Ledger>(&self, vram: &mut Vram, steps: &mut Steps<L>)
+        requires { CanDrawBlocked (height_of vram.old) self.now Mixed }
+        ensures { DrawsBlocked self.now
+            (record { m = vram.old; steps = steps.old }) (record { m = vram.new; steps = steps.new }) }
+    {
+        let block = block_of(self.clip);
+        let mut pen = InBlock {
+            pen: MixedPen::new(self.own, self.texture, self.brush, &block),
+        };
+        draw_rows(vram, &mut pen, self.tri, self.clip, steps);
+    }
+
+    #[inline(always)]
+    fn draw<L: Ledger>(&self, vram: &mut Vram, steps: &mut Steps<L>)
+        requires { CanDrawBlocked (height_of vram.old) self.now self.now.way }
+        ensures { DrawsBlocked self.now
+            (record { m = vram.old; steps = steps.old }) (record { m = vram.new; steps = steps.new }) }
+    {
+        match self.way {
+            Way::Strip { color } => self.strips(color, vram, steps),
+            Way::Beside => self.beside(vram, steps),
+            Way::Scaled { color } => self.scaled(color, vram, steps),
+            Way::Mixed => self.mixed(vram, steps),
+        }
+    }
+}
+
+impl Coat {
+    // How the rows of a triangle in a box are drawn, if they are in a block that is known to lie apart.
+    #[inline(always)]
+    fn blocked<'a>(&'a self, tri: &'a Tri, clip: &'a Box2) -> Option<Blocked<'a>>
+        requires small { IsOnScreen 1024 clip.now }
+        requires texture { IfSome (texture_of self.now.paint) IsTexture }
+        ensures { IfSome result (IsBlocked self.now tri.now clip.now) }
+    {
+        let Paint::TexturedTri { tri: own, texture } = &self.paint else {
             return None;
         };
-        match way_in(tri, texture, &self.brush, block) {
-            Some(way) => Some(Blocked { tri, texture, way }),
-            None => None,
-        }
+        let way = way_in(own, texture, &self.brush, &block_of(clip))?;
+        Some(Blocked {
+            tri,
+            clip,
+            own,
+            texture,
+            brush: &self.brush,
+            way,
+        })
+    }
+
+    // The rows of a triangle that has no texture, or no block that is known to lie apart.
+    #[inline(always)]
+    fn draw_open<L: Ledger>(&self, vram: &mut Vram, tri: &Tri, clip: &Box2, steps: &mut Steps<L>)
+        requires { CanDrawRows (height_of vram.old) self.now tri.now clip.now }
+        ensures { DrawsRows self.now tri.now (block_of clip.now) (block_of clip.now).h
+            (record { m = vram.old; steps = steps.old }) (record { m = vram.new; steps = steps.new }) }
+    {
+        let mut pen = Pen::new(&self.paint, &self.brush);
+        draw_rows(vram, &mut pen, tri, clip, steps);
     }
 
     /// Draws the cells of a box that are inside of a triangle.
@@ -86,46 +173,13 @@ impl Coat {
         clip: &Box2,
         steps: &mut Steps<L>,
     )
-        requires coat { IsCoat (height_of vram.old) self.now }
-        requires fits { FitsTriangle tri.now self.now.paint }
-        requires small { IsOnScreen 1024 clip.now }
-        requires clip { IsOnScreen (height_of vram.old) clip.now }
-        requires inside { LiesIn (bounding_box tri.now) clip.now }
+        requires { CanDrawRows (height_of vram.old) self.now tri.now clip.now }
         ensures { DrawsRows self.now tri.now (block_of clip.now) (block_of clip.now).h
             (record { m = vram.old; steps = steps.old }) (record { m = vram.new; steps = steps.new }) }
     {
-        let block = block_of(clip);
-        let brush = &self.brush;
-        let Some(found) = self.blocked(&block) else {
-            let mut pen = Pen::new(&self.paint, brush);
-            return draw_rows(vram, &mut pen, tri, clip, steps);
-        };
-        let (own, texture) = (found.tri, found.texture);
-        match found.way {
-            Way::Strip { color } => {
-                let mut pen = InBlock {
-                    pen: StripPen::new(own, texture, brush, &block, color),
-                };
-                draw_rows(vram, &mut pen, tri, clip, steps)
-            }
-            Way::Beside => {
-                let mut pen = InBlock {
-                    pen: BesidePen::new(own, texture, brush, &block),
-                };
-                draw_rows(vram, &mut pen, tri, clip, steps)
-            }
-            Way::Scaled { color } => {
-                let mut pen = InBlock {
-                    pen: ScaledPen::new(own, texture, brush, &block, color),
-                };
-                draw_rows(vram, &mut pen, tri, clip, steps)
-            }
-            Way::Mixed => {
-                let mut pen = InBlock {
-                    pen: MixedPen::new(own, texture, brush, &block),
-                };
-                draw_rows(vram, &mut pen, tri, clip, steps)
-            }
+        match self.blocked(tri, clip) {
+            Some(found) => found.draw(vram, steps),
+            None => self.draw_open(vram, tri, clip, steps),
         }
     }
 }
