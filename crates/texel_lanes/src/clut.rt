@@ -51,7 +51,7 @@ pub fn gather_entries<G: Gather, L: Ledger>(
     k: u8,
     steps: &mut Steps<L>,
 ) -> u16x16
-    requires few { (1 ≤ k) × (k ≤ 16) }
+    requires few { k ≤ 16 }
     requires long { length indexes ≡ 16 }
     requires low { EachLane (λ i. slice_index indexes i < 256) }
     ensures long { length result ≡ 16 }

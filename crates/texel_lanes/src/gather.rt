@@ -15,7 +15,7 @@ pub trait Gather {
 
     /// The first `k` lanes are the cells at these columns and rows, and the others mean nothing.
     fn gather<L: Ledger>(vram: &Vram, xs: u16x16, ys: u16x16, k: u8, steps: &mut Steps<L>) -> u16x16
-        requires few { (1 ≤ k) × (k ≤ 16) }
+        requires few { k ≤ 16 }
         requires long { (length xs ≡ 16) × (length ys ≡ 16) }
         requires in_row { EachLane (λ i. slice_index xs i < 1024) }
         requires in_height { EachLane (λ i. slice_index ys i < height_of vram.now) }
@@ -31,7 +31,7 @@ pub trait Gather {
         k: u8,
         steps: &mut Steps<L>,
     ) -> u16x16
-        requires few { (1 ≤ k) × (k ≤ 16) }
+        requires few { k ≤ 16 }
         requires long { length xs ≡ 16 }
         requires in_row { EachLane (λ i. slice_index xs i < 1024) }
         requires in_height { y < height_of vram.now }

@@ -100,7 +100,6 @@ impl Vram {
         read: u8,
         steps: &mut Steps<L>,
     ) -> u16x16
-        requires some { 1 ≤ n }
         requires few { (n ≤ read) × (read ≤ 16) }
         requires long { (length xs ≡ 16) × (length ys ≡ 16) }
         requires in_row { EachLane (λ i. slice_index xs i < 1024) }
@@ -112,6 +111,7 @@ impl Vram {
         steps.add(n);
         cells_at(&self.cells, numbers_of(xs, ys), read)
     }
+
     /// The same of cells that stand in one row. No number is reckoned but that of the row.
     #[inline(always)]
     pub fn gather_in_row<L: Ledger>(
@@ -122,7 +122,6 @@ impl Vram {
         read: u8,
         steps: &mut Steps<L>,
     ) -> u16x16
-        requires some { 1 ≤ n }
         requires few { (n ≤ read) × (read ≤ 16) }
         requires long { length xs ≡ 16 }
         requires in_row { EachLane (λ i. slice_index xs i < 1024) }
