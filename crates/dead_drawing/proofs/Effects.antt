@@ -1,6 +1,6 @@
 -- What packets do, in two states that agree but for some cells.
-use Rattle.std.proofs.Common.{◌≡◌, ◌*◌, ◌+◌, ◌%◌, ℕ, zero, suc, List, Option, None, Some, true, false, length, inl}
-use Rattle.std.proofs.Common.{inr, refl, sym, ap, ◌∙◌, subst}
+use Rattle.std.proofs.Common.{◌≡◌, ◌*◌, ◌+◌, ◌%◌, ℕ, zero, suc, List, [], ◌∷◌, Option, None, Some, true, false, length}
+use Rattle.std.proofs.Common.{inl, inr, refl, sym, ap, ◌∙◌, subst}
 use Rattle.std.proofs.lemmas.Grind.{same_number_lists}
 use Rattle.std.proofs.lemmas.List.{length-set}
 use Rattle.px_num.specs.Fold.{each_below}
@@ -19,8 +19,8 @@ use Rattle.vram_store.specs.Plot.{plot}
 use Rattle.vram_store.proofs.Drawn.{plot_is, length-put_at}
 use Rattle.vram_copy.specs.Copy.{copied_rectangle, copied_cell, copied_row}
 use Rattle.vram_copy.specs.Fill.{filled_rectangle, filled_row}
-use Rattle.vram_copy.specs.Rect.{right, down}
-use Rattle.vram_copy.specs.Words.{loaded_word, pixel_cell, pixels_next, half_of}
+use Rattle.vram_copy.specs.Rect.{Sides, Size, right, down}
+use Rattle.vram_copy.specs.Words.{loaded_word, pixel_cell, pixels_next, pixel_of}
 use Rattle.vram_copy.specs.declared.transfer.Transfer.{Transfer}
 use Rattle.dead_drawing.specs.Calm.{IsCalm}
 use Rattle.dead_drawing.specs.States.{PartsAlike}
@@ -65,8 +65,7 @@ effect_with : (among : ℕ → Type 0) (p : Parts) (now : List ℕ) (what : Pack
     → PartsAlike among (effect_of p what) (effect_of (record p { m = now }) what)
 unfolding effect_of
 effect_with among p now (packet.Fill color x y w h) calm a = record {
-  cells = keeps_all among p.m now (filled_rectangle p.m x y w h color) (filled_rectangle now x y w h color)
-      (λ k same. fill_same k x y w h color p.m now same) a;
+  cells = keeps_all among p.m now _ _ (λ k same. fill_same k _ _ color p.m now same) a;
   regs = refl;
   load = refl;
   store = refl;
@@ -119,11 +118,12 @@ covered_with : (among : ℕ → Type 0) (p : Parts) (now : List ℕ) (color x y 
 unfolding effect_of
 covered_with among p now color x y w h inside whole a = record {
   cells = record {
-    count = (keeps_all among p.m now (filled_rectangle p.m x y w h color) (filled_rectangle now x y w h color)
-        (λ k same. fill_same k x y w h color p.m now same) a).count;
+    count = (keeps_all among p.m now _ _
+        (λ k same. fill_same k (record { x = x; y = y }) (record { w = w; h = h }) color p.m now same) a).count;
     others = λ k. elim (a.others k) [
-      | inl in_it ↦ inr (fill_makes k x y w h color p.m now a.count whole (inside k in_it)).cell
-      | inr same ↦ inr (fill_same k x y w h color p.m now (record { count = a.count; cell = same })).cell
+      | inl in_it ↦ inr (fill_makes k _ _ color p.m now a.count whole (inside k in_it)).cell
+      | inr same ↦ inr (fill_same k (record { x = x; y = y }) (record { w = w; h = h }) color p.m now
+          (record { count = a.count; cell = same })).cell
     ];
   };
   regs = refl;
@@ -150,30 +150,30 @@ each_long step (suc n) m keeps = keeps n (each_below step n m) ∙ each_long ste
 plot_long : (m : List ℕ) (mask x y color : ℕ) → length (plot m mask x y color) ≡ length m
 plot_long m mask x y color = ap length (plot_is m mask x y color) ∙ length-put_at (1024 * y + x) _ m
 
-fill_long : (m : List ℕ) (x y w h color : ℕ) → length (filled_rectangle m x y w h color) ≡ length m
+fill_long : (m : List ℕ) (first : Cell) (size : Size) (color : ℕ)
+    → length (filled_rectangle m first size color) ≡ length m
 unfolding filled_rectangle
-fill_long m x y w h color =
-    each_long (λ j cells. filled_row cells x ((y + j) % height_of m) w color) h m
-    (λ j a. each_long (λ i cells. set cells ((x + i) % 1024) ((y + j) % height_of m) color) w a
-    (λ i b. length-set b (1024 * ((y + j) % height_of m) + (x + i) % 1024) color))
+fill_long m first size color =
+    each_long (λ j cells. filled_row cells (down (height_of m) first j) size.w color) size.h m
+    (λ j a. each_long (λ i cells. set cells (right first i).x (down (height_of m) first j).y color) size.w a
+    (λ i b. length-set b _ color))
 
-copy_long : (m : List ℕ) (mask : ℕ) (source target : Cell) (w h : ℕ)
-    → length (copied_rectangle m mask source target w h) ≡ length m
+copy_long : (m : List ℕ) (mask : ℕ) (sides : Sides) (size : Size) → length (copied_rectangle m mask sides size) ≡ length m
 unfolding copied_rectangle
-copy_long m mask source target w h =
-    each_long (λ j cells. copied_row cells mask (down (height_of m) source j) (down (height_of m) target j) w) h m
-    (λ j a. each_long
-    (λ i cells. copied_cell cells mask (right (down (height_of m) source j) i)
-    (right (down (height_of m) target j) i)) w a
-    (λ i b. plot_long b mask (right (down (height_of m) target j) i).x (right (down (height_of m) target j) i).y _))
+copy_long m mask sides size =
+    let from : ℕ → Cell = down (height_of m) sides.from in
+    let to : ℕ → Cell = down (height_of m) sides.to in
+    each_long (λ j cells. copied_row cells mask (from j) (to j) size.w) size.h m
+    (λ j a. each_long (λ i cells. copied_cell cells mask (right (from j) i) (right (to j) i)) size.w a
+    (λ i b. plot_long b mask (right (to j) i).x (right (to j) i).y _))
 
 load_long : (m : List ℕ) (mask : ℕ) (job : Transfer) (word : ℕ) → length (loaded_word m mask job word) ≡ length m
 unfolding loaded_word
 load_long m mask job word =
     each_long
-    (λ i cells. plot cells mask (pixel_cell (height_of m) job (job.at + i)).x
-    (pixel_cell (height_of m) job (job.at + i)).y (half_of word i)) (pixels_next job) m
-    (λ i a. plot_long a mask _ _ (half_of word i))
+    (λ i cells. let cell = pixel_cell (height_of m) job (job.at + i) in
+    plot cells mask cell.x cell.y (pixel_of (word ∷ []) i)) (pixels_next job) m
+    (λ i a. plot_long a mask _ _ (pixel_of (word ∷ []) i))
 
 pixels_long : (p : Parts) (job : Option Transfer) (word : ℕ) → length (with_pixels p job word).m ≡ length p.m
 pixels_long p None word = refl
@@ -181,8 +181,8 @@ pixels_long p (Some job) word = load_long p.m p.regs.mask job word
 
 pub effect_long : (p : Parts) (what : Packet) → length (effect_of p what).m ≡ length p.m
 unfolding effect_of
-effect_long p (packet.Fill color x y w h) = fill_long p.m x y w h color
-effect_long p (packet.Copy from to w h) = copy_long p.m p.regs.mask from to w h
+effect_long p (packet.Fill color x y w h) = fill_long p.m _ _ color
+effect_long p (packet.Copy from to w h) = copy_long p.m p.regs.mask _ _
 effect_long p (packet.Poly four a b c d shaded textured semi raw clut page) =
     (drawing_stays (with_page p.regs textured page)
     (packet.Poly four a b c d shaded textured semi raw clut page) p.m).count

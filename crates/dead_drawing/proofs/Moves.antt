@@ -1,15 +1,17 @@
 -- Fills and loads, in two states of video memory.
-use Rattle.std.proofs.Common.{◌≡◌, ◌<◌, ◌≤◌, ◌+◌, ◌-◌, ◌*◌, ◌/◌, ◌%◌, ◌||◌, eqb, ℕ, pos, List, None, Some, Bool, true}
-use Rattle.std.proofs.Common.{false, cond, length, get_or, slice_set, inl, inr, refl, sym, ap, ◌∙◌, subst, arith}
+use Rattle.std.proofs.Common.{◌≡◌, ◌<◌, ◌≤◌, ◌+◌, ◌-◌, ◌*◌, ◌/◌, ◌%◌, ◌||◌, eqb, ℕ, pos, List, [], ◌∷◌, None, Some, Bool}
+use Rattle.std.proofs.Common.{true, false, cond, length, get_or, slice_set, inl, inr, refl, sym, ap, ◌∙◌, subst, arith}
 use Rattle.std.proofs.lemmas.Bool.{cases_lt}
 use Rattle.std.proofs.lemmas.Bool.Decides.{nat_tests}
 use Rattle.std.proofs.lemmas.Int.{ints}
 use Rattle.std.proofs.lemmas.List.{get_or-set_same, get_or_past, length-set}
 use Rattle.std.proofs.Math.Nat.{mod-eq_of_lt}
+use Rattle.px_num.specs.declared.shape.Cell.{Cell}
 use Rattle.vram_store.specs.Vram.{height_of, set}
 use Rattle.vram_store.specs.Plot.{plot}
 use Rattle.vram_copy.specs.Fill.{filled_row, filled_rows, filled_rectangle}
-use Rattle.vram_copy.specs.Words.{pixel_cell, pixels_next, pixels_from, half_of, loaded_word}
+use Rattle.vram_copy.specs.Rect.{Size, right, down}
+use Rattle.vram_copy.specs.Words.{Load, loaded, loaded_word, pixel_cell, pixel_of, pixels_next}
 use Rattle.vram_copy.specs.declared.transfer.Transfer.{Transfer}
 use Rattle.prim_draw.specs.Apart.{IsIn, AgreeBut, SameAt}
 use Rattle.prim_draw.specs.Areas.{moved_box}
@@ -37,31 +39,31 @@ keeps_all among m now new new_now keeps a = record {
 
 -- ---- fills
 
-row_same : (k x y w color : ℕ) (m now : List ℕ) → SameAt k m now
-    → SameAt k (filled_row m x y w color) (filled_row now x y w color)
-row_same k x y w color m now same =
-    each_same (SameAt k) (λ i cells. set cells ((x + i) % 1024) y color) w m now same
-    (λ i a b h. set_same k (1024 * y + (x + i) % 1024) color a b h)
+row_same : (k : ℕ) (first : Cell) (w color : ℕ) (m now : List ℕ) → SameAt k m now
+    → SameAt k (filled_row m first w color) (filled_row now first w color)
+row_same k first w color m now same =
+    each_same (SameAt k) (λ i cells. set cells (right first i).x first.y color) w m now same
+    (λ i a b h. set_same k (1024 * first.y + (right first i).x) color a b h)
 
-rows_same : (height k x y w h color : ℕ) (m now : List ℕ) → SameAt k m now
-    → SameAt k (filled_rows height m x y w h color) (filled_rows height now x y w h color)
-rows_same height k x y w h color m now same =
-    each_same (SameAt k) (λ j cells. filled_row cells x ((y + j) % height) w color) h m now same
-    (λ j a b s. row_same k x ((y + j) % height) w color a b s)
+rows_same : (height k : ℕ) (first : Cell) (size : Size) (color : ℕ) (m now : List ℕ) → SameAt k m now
+    → SameAt k (filled_rows height m first size color) (filled_rows height now first size color)
+rows_same height k first size color m now same =
+    each_same (SameAt k) (λ j cells. filled_row cells (down height first j) size.w color) size.h m now same
+    (λ j a b s. row_same k (down height first j) size.w color a b s)
 
 -- the height that two states have
-at_height : (k x y w h color : ℕ) (m now : List ℕ) → length now ≡ length m
-    → SameAt k (filled_rows (height_of m) m x y w h color) (filled_rows (height_of m) now x y w h color)
-    → SameAt k (filled_rectangle m x y w h color) (filled_rectangle now x y w h color)
+at_height : (k : ℕ) (first : Cell) (size : Size) (color : ℕ) (m now : List ℕ) → length now ≡ length m
+    → SameAt k (filled_rows (height_of m) m first size color) (filled_rows (height_of m) now first size color)
+    → SameAt k (filled_rectangle m first size color) (filled_rectangle now first size color)
 unfolding filled_rectangle
-at_height k x y w h color m now count same =
-    subst (λ (height : ℕ). SameAt k (filled_rows (height_of m) m x y w h color)
-    (filled_rows height now x y w h color)) (ap (λ (n : ℕ). n / 1024) (sym count)) same
+at_height k first size color m now count same =
+    subst (λ (height : ℕ). SameAt k (filled_rows (height_of m) m first size color)
+    (filled_rows height now first size color)) (ap (λ (n : ℕ). n / 1024) (sym count)) same
 
-pub fill_same : (k x y w h color : ℕ) (m now : List ℕ) → SameAt k m now
-    → SameAt k (filled_rectangle m x y w h color) (filled_rectangle now x y w h color)
-fill_same k x y w h color m now same = at_height k x y w h color m now same.count
-    (rows_same (height_of m) k x y w h color m now same)
+pub fill_same : (k : ℕ) (first : Cell) (size : Size) (color : ℕ) (m now : List ℕ) → SameAt k m now
+    → SameAt k (filled_rectangle m first size color) (filled_rectangle now first size color)
+fill_same k first size color m now same = at_height k first size color m now same.count
+    (rows_same (height_of m) k first size color m now same)
 
 -- as many cells
 abbrev AsMany : List ℕ → List ℕ → Type 0
@@ -70,11 +72,11 @@ AsMany m now = length now ≡ length m
 set_many : (p color : ℕ) (m now : List ℕ) → AsMany m now → AsMany (slice_set m p color) (slice_set now p color)
 set_many p color m now e = length-set now p color ∙ e ∙ sym (length-set m p color)
 
-row_many : (x y w color : ℕ) (m now : List ℕ) → AsMany m now
-    → AsMany (filled_row m x y w color) (filled_row now x y w color)
-row_many x y w color m now e =
-    each_same AsMany (λ i cells. set cells ((x + i) % 1024) y color) w m now e
-    (λ i a b h. set_many (1024 * y + (x + i) % 1024) color a b h)
+row_many : (first : Cell) (w color : ℕ) (m now : List ℕ) → AsMany m now
+    → AsMany (filled_row m first w color) (filled_row now first w color)
+row_many first w color m now e =
+    each_same AsMany (λ i cells. set cells (right first i).x first.y color) w m now e
+    (λ i a b h. set_many (1024 * first.y + (right first i).x) color a b h)
 
 set_here : (k p color : ℕ) (m now : List ℕ) → p ≡ k → AsMany m now
     → SameAt k (slice_set m p color) (slice_set now p color)
@@ -89,23 +91,23 @@ set_here k p color m now here e = record {
 }
 
 -- column i of a row is this cell
-row_makes : (k x y w i color : ℕ) (m now : List ℕ) → i < w → 1024 * y + (x + i) % 1024 ≡ k → AsMany m now
-    → SameAt k (filled_row m x y w color) (filled_row now x y w color)
-row_makes k x y w i color m now lt here e =
-    each_makes AsMany (SameAt k) (λ i cells. set cells ((x + i) % 1024) y color) w i m now lt e
-    (λ i a b h. set_many (1024 * y + (x + i) % 1024) color a b h)
-    (λ a b h. set_here k (1024 * y + (x + i) % 1024) color a b here h)
-    (λ i a b h. set_same k (1024 * y + (x + i) % 1024) color a b h)
+row_makes : (k : ℕ) (first : Cell) (w i color : ℕ) (m now : List ℕ) → i < w → 1024 * first.y + (right first i).x ≡ k
+    → AsMany m now → SameAt k (filled_row m first w color) (filled_row now first w color)
+row_makes k first w i color m now lt here e =
+    each_makes AsMany (SameAt k) (λ i cells. set cells (right first i).x first.y color) w i m now lt e
+    (λ i a b h. set_many (1024 * first.y + (right first i).x) color a b h)
+    (λ a b h. set_here k (1024 * first.y + (right first i).x) color a b here h)
+    (λ i a b h. set_same k (1024 * first.y + (right first i).x) color a b h)
 
 -- a cell of the rectangle, by its column and row
-rows_make : (height k x y w h i j color : ℕ) (m now : List ℕ) → i < w → j < h
-    → 1024 * ((y + j) % height) + (x + i) % 1024 ≡ k → AsMany m now
-    → SameAt k (filled_rows height m x y w h color) (filled_rows height now x y w h color)
-rows_make height k x y w h i j color m now lt lu here e =
-    each_makes AsMany (SameAt k) (λ j cells. filled_row cells x ((y + j) % height) w color) h j m now lu e
-    (λ j a b s. row_many x ((y + j) % height) w color a b s)
-    (λ a b s. row_makes k x ((y + j) % height) w i color a b lt here s)
-    (λ j a b s. row_same k x ((y + j) % height) w color a b s)
+rows_make : (height k : ℕ) (first : Cell) (size : Size) (i j color : ℕ) (m now : List ℕ) → i < size.w → j < size.h
+    → 1024 * (down height first j).y + (right first i).x ≡ k → AsMany m now
+    → SameAt k (filled_rows height m first size color) (filled_rows height now first size color)
+rows_make height k first size i j color m now lt lu here e =
+    each_makes AsMany (SameAt k) (λ j cells. filled_row cells (down height first j) size.w color) size.h j m now lu e
+    (λ j a b s. row_many (down height first j) size.w color a b s)
+    (λ a b s. row_makes k (down height first j) size.w i color a b lt here s)
+    (λ j a b s. row_same k (down height first j) size.w color a b s)
 
 -- a cell in a rectangle whose corners aren't wrapped
 pub record IsWithin (x y w h k : ℕ) : Type 0 where
@@ -137,41 +139,42 @@ wrapped : (height row : ℕ) → row < height → row % height ≡ row
 wrapped height row lt = mod-eq_of_lt lt
 
 -- a fill leaves every cell of its area the same
-pub fill_makes : (k x y w h color : ℕ) (m now : List ℕ) → AsMany m now → length m % 1024 ≡ 0
-    → IsIn (moved_box x y w h) k → SameAt k (filled_rectangle m x y w h color) (filled_rectangle now x y w h color)
-fill_makes k x y w h color m now e whole within =
+pub fill_makes : (k : ℕ) (first : Cell) (size : Size) (color : ℕ) (m now : List ℕ) → AsMany m now
+    → length m % 1024 ≡ 0 → IsIn (moved_box first.x first.y size.w size.h) k
+    → SameAt k (filled_rectangle m first size color) (filled_rectangle now first size color)
+fill_makes k first size color m now e whole within =
     elim (cases_lt k (length m)) [
       | inl lt ↦
-          let u = within_of x y w h k within in
-          let column : (x + (k % 1024 - x)) % 1024 ≡ k % 1024 = omega (arith, u.left) in
+          let u = within_of first.x first.y size.w size.h k within in
+          let column : (first.x + (k % 1024 - first.x)) % 1024 ≡ k % 1024 = omega (arith, u.left) in
           let under : k / 1024 < length m / 1024 = omega (arith, whole, lt) in
-          let down : y + (k / 1024 - y) ≡ k / 1024 = omega (arith, u.top) in
-          let row : (y + (k / 1024 - y)) % (length m / 1024) ≡ k / 1024 = rw down
+          let below : first.y + (k / 1024 - first.y) ≡ k / 1024 = omega (arith, u.top) in
+          let row : (first.y + (k / 1024 - first.y)) % (length m / 1024) ≡ k / 1024 = rw below
           (wrapped (length m / 1024) (k / 1024) under) in
-          at_height k x y w h color m now e
-          (rows_make (height_of m) k x y w h (k % 1024 - x) (k / 1024 - y) color m now
+          at_height k first size color m now e
+          (rows_make (height_of m) k first size (k % 1024 - first.x) (k / 1024 - first.y) color m now
           (omega (arith, u.left, u.right)) (omega (arith, u.top, u.bottom))
           (rw (column, row) (omega arith)) e)
-      | inr past ↦ fill_same k x y w h color m now
+      | inr past ↦ fill_same k first size color m now
           (record { count = e; cell = get_or_past now k 0 (omega (arith, past, e)) ∙ sym (get_or_past m k 0 past) })
     ]
 
 -- ---- loads
 
-pixels_same : (height k mask word n : ℕ) (job : Transfer) (m now : List ℕ) → SameAt k m now
-    → SameAt k (pixels_from height m mask job word n) (pixels_from height now mask job word n)
-pixels_same height k mask word n job m now same =
+pixels_same : (height k mask n : ℕ) (load : Load) (m now : List ℕ) → SameAt k m now
+    → SameAt k (loaded height m mask load n) (loaded height now mask load n)
+pixels_same height k mask n load m now same =
     each_same (SameAt k)
-    (λ i cells. plot cells mask (pixel_cell height job (job.at + i)).x (pixel_cell height job (job.at + i)).y
-    (half_of word i)) n m now same
-    (λ i a b h. plot_same mask k (pixel_cell height job (job.at + i)).x (pixel_cell height job (job.at + i)).y
-    (half_of word i) a b h)
+    (λ i cells. let cell = pixel_cell height load.job (load.job.at + i) in
+    plot cells mask cell.x cell.y (pixel_of load.words i)) n m now same
+    (λ i a b h. plot_same mask k _ _ (pixel_of load.words i) a b h)
 
 pub load_same : (k mask word : ℕ) (job : Transfer) (m now : List ℕ) → SameAt k m now
     → SameAt k (loaded_word m mask job word) (loaded_word now mask job word)
 unfolding loaded_word
 load_same k mask word job m now same =
-    subst (λ (height : ℕ). SameAt k (pixels_from (height_of m) m mask job word (pixels_next job))
-    (pixels_from height now mask job word (pixels_next job)))
+    let one : Load = record { job = job; words = word ∷ [] } in
+    subst (λ (height : ℕ). SameAt k (loaded (height_of m) m mask one (pixels_next job))
+    (loaded height now mask one (pixels_next job)))
     (ap (λ (n : ℕ). n / 1024) (sym same.count))
-    (pixels_same (height_of m) k mask word (pixels_next job) job m now same)
+    (pixels_same (height_of m) k mask (pixels_next job) one m now same)

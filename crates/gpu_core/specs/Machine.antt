@@ -70,8 +70,10 @@ drawn p r what = record p { m = drawn_packet r what p.m; regs = r }
 
 -- what a packet does
 unfoldable pub effect_of : Parts → Packet → Parts
-effect_of p (packet.Fill color x y w h) = record p { m = filled_rectangle p.m x y w h color }
-effect_of p (packet.Copy from to w h) = record p { m = copied_rectangle p.m p.regs.mask from to w h }
+effect_of p (packet.Fill color x y w h) =
+    record p { m = filled_rectangle p.m (record { x = x; y = y }) (record { w = w; h = h }) color }
+effect_of p (packet.Copy from to w h) =
+    record p { m = copied_rectangle p.m p.regs.mask (record { from = from; to = to }) (record { w = w; h = h }) }
 effect_of p (packet.Load x y w h) = record p { load = opened x y w h }
 effect_of p (packet.Store x y w h) = record p { store = opened x y w h }
 effect_of p (packet.Pixels word) = with_pixels p p.load word

@@ -12,7 +12,7 @@ use Rattle.vram_store.specs.Chunk.{IsBlind, IsLane, HasLanes}
 use Rattle.vram_store.proofs.ChunkLaw.{chunk_law}
 use Rattle.vram_store.proofs.Drawn.{plot_is}
 use Rattle.vram_store.proofs.MaskLemmas.{kept_untested}
-use Rattle.vram_copy.specs.Rect.{beside, right}
+use Rattle.vram_copy.specs.Rect.{Sides, beside, right}
 use Rattle.vram_copy.specs.Copy.{copied_rectangle, copied_rows, copied_row, copied_run}
 
 pub plot_untested : (m : List ℕ) (mask x y color : ℕ) → is_testing mask ≡ false → plot m mask x y color
@@ -193,11 +193,11 @@ row_more m now new mask s t source target done n at_s at_t room_s room_t so_far 
     (rw (← ap (λ (cell : Cell). cell.x) at_t) room_t)
 
 -- all rows, at the height that video memory has
-pub copied_is_whole : (height : ℕ) (m new : List ℕ) (mask : ℕ) (source target : Cell) (w j h : ℕ)
-    → length m ≡ 1024 * height
-    → new ≡ copied_rows height m mask source target w j → j ≡ h → new ≡ copied_rectangle m mask source target w h
+pub copied_is_whole : (height : ℕ) (m new : List ℕ) (mask : ℕ) (sides : Sides) (w j h : ℕ) → length m ≡ 1024 * height
+    → new ≡ copied_rows height m mask sides (record { w = w; h = j }) → j ≡ h
+    → new ≡ copied_rectangle m mask sides (record { w = w; h = h })
 unfolding copied_rectangle
-copied_is_whole height m new mask source target w j h long so_far all =
+copied_is_whole height m new mask sides w j h long so_far all =
     let e : height ≡ length m / 1024 = omega arith in
-    so_far ∙ ap (λ rows. copied_rows rows m mask source target w j) e
-    ∙ ap (λ k. copied_rows (length m / 1024) m mask source target w k) all
+    so_far ∙ ap (λ rows. copied_rows rows m mask sides (record { w = w; h = j })) e
+    ∙ ap (λ k. copied_rows (length m / 1024) m mask sides (record { w = w; h = k })) all

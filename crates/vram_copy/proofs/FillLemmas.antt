@@ -3,6 +3,7 @@ use Rattle.std.proofs.Common.{◌≡◌, ◌+◌, ◌*◌, ◌/◌, ◌%◌, ℕ
 use Rattle.std.proofs.Common.{ap, sym, ◌∙◌}
 use Rattle.std.proofs.lemmas.Simd.{get_or-replicate}
 use Rattle.px_num.specs.Fold.{each_below}
+use Rattle.px_num.specs.declared.shape.Cell.{Cell}
 use Rattle.px_num.proofs.FoldLemmas.{each_below-add, each_below-same}
 use Rattle.vram_store.specs.Vram.{IsStored, set}
 use Rattle.vram_store.specs.Plot.{is_testing, is_forcing, written_over, draw_lane, drawn_lanes}
@@ -11,6 +12,8 @@ use Rattle.vram_store.proofs.ChunkLaw.{chunk_law}
 use Rattle.vram_store.proofs.MaskLemmas.{kept_untested, forced_off}
 use Rattle.vram_store.proofs.Ones.{ones}
 use Rattle.vram_copy.specs.Fill.{filled_row, filled_rows, filled_rectangle}
+use Rattle.vram_copy.specs.Rect.{right}
+use Rattle.vram_copy.proofs.CopyLemmas.{place}
 
 -- without the mask setting a halfword is written as it is
 set_over : (cell color : ℕ) → written_over 0 cell (Some color) ≡ Some color
@@ -43,24 +46,25 @@ stored_run old new start color stored =
     (λ i cells lt. draws_set color start i cells)
 
 -- sixteen cells more of a row
-pub row_chunk : (m old new : List ℕ) (x y k color : ℕ) → x % 16 ≡ 0
-    → old ≡ filled_row m x y (16 * k) color → new ≡ run_of old (1024 * y + (x + 16 * k) % 1024) color 16
-    → new ≡ filled_row m x y (16 * (k + 1)) color
-row_chunk m old new x y k color whole so_far ran =
+pub row_chunk : (m old new : List ℕ) (first : Cell) (k color : ℕ) → first.x % 16 ≡ 0
+    → old ≡ filled_row m first (16 * k) color → new ≡ run_of old (place (right first (16 * k))) color 16
+    → new ≡ filled_row m first (16 * (k + 1)) color
+row_chunk m old new first k color whole so_far ran =
     let e : 16 * (k + 1) ≡ 16 * k + 16 = omega arith in
-    rw e (ran ∙ ap (λ cells. run_of cells (1024 * y + (x + 16 * k) % 1024) color 16) so_far
-    ∙ sym (each_below-add (λ i cells. set cells ((x + i) % 1024) y color) (16 * k) 16 m
-    ∙ each_below-same (λ i cells. set cells ((x + (16 * k + i)) % 1024) y color)
-    (λ i cells. slice_set cells (1024 * y + (x + 16 * k) % 1024 + i) color)
-    16 (filled_row m x y (16 * k) color)
-    (λ i cells lt. let at : 1024 * y + (x + (16 * k + i)) % 1024 ≡ 1024 * y + (x + 16 * k) % 1024 + i = omega arith in
+    rw e (ran ∙ ap (λ cells. run_of cells (place (right first (16 * k))) color 16) so_far
+    ∙ sym (each_below-add (λ i cells. set cells (right first i).x first.y color) (16 * k) 16 m
+    ∙ each_below-same (λ i cells. set cells (right first (16 * k + i)).x first.y color)
+    (λ i cells. slice_set cells (place (right first (16 * k)) + i) color)
+    16 (filled_row m first (16 * k) color)
+    (λ i cells lt. let at : place (right first (16 * k + i)) ≡ place (right first (16 * k)) + i = omega arith in
     ap (λ n. slice_set cells n color) at)))
 
 -- all rows, at the height that video memory has
-pub filled_is_whole : (height : ℕ) (m new : List ℕ) (x y w j h color : ℕ) → length m ≡ 1024 * height
-    → new ≡ filled_rows height m x y w j color → j ≡ h → new ≡ filled_rectangle m x y w h color
+pub filled_is_whole : (height : ℕ) (m new : List ℕ) (first : Cell) (w j h color : ℕ) → length m ≡ 1024 * height
+    → new ≡ filled_rows height m first (record { w = w; h = j }) color → j ≡ h
+    → new ≡ filled_rectangle m first (record { w = w; h = h }) color
 unfolding filled_rectangle
-filled_is_whole height m new x y w j h color long so_far all =
+filled_is_whole height m new first w j h color long so_far all =
     let e : height ≡ length m / 1024 = omega arith in
-    so_far ∙ ap (λ rows. filled_rows rows m x y w j color) e
-    ∙ ap (λ k. filled_rows (length m / 1024) m x y w k color) all
+    so_far ∙ ap (λ rows. filled_rows rows m first (record { w = w; h = j }) color) e
+    ∙ ap (λ k. filled_rows (length m / 1024) m first (record { w = w; h = k }) color) all

@@ -4,7 +4,7 @@ use Rattle.std.proofs.lemmas.Nat.{div-mul-add, mod-mul-add}
 use Rattle.px_num.specs.declared.shape.Cell.{Cell}
 use Rattle.vram_store.specs.Vram.{height_of, at}
 use Rattle.vram_copy.specs.Places.{IsPlace}
-use Rattle.vram_copy.specs.declared.cursor.Place.{Place}
+use Rattle.vram_copy.specs.declared.place.Place.{Place}
 use Rattle.vram_copy.specs.declared.transfer.Transfer.{Transfer}
 use Rattle.vram_copy.specs.Words.{pixel_cell, stored_word}
 

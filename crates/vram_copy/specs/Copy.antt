@@ -5,7 +5,7 @@ use Rattle.px_num.specs.Fold.{each_below}
 use Rattle.px_num.specs.declared.shape.Cell.{Cell}
 use Rattle.vram_store.specs.Vram.{height_of, at}
 use Rattle.vram_store.specs.Plot.{plot}
-use Rattle.vram_copy.specs.Rect.{right, down}
+use Rattle.vram_copy.specs.Rect.{Sides, Size, right, down}
 
 -- the source cell is read, and plotted at the target cell
 abbrev pub copied_cell : List ℕ → ℕ → Cell → Cell → List ℕ
@@ -15,14 +15,14 @@ copied_cell m mask source target = plot m mask target.x target.y (at m source.x 
 abbrev pub copied_row : List ℕ → ℕ → Cell → Cell → ℕ → List ℕ
 copied_row m mask source target w = each_below (λ i cells. copied_cell cells mask (right source i) (right target i)) w m
 
--- h rows, one after another
-abbrev pub copied_rows : ℕ → List ℕ → ℕ → Cell → Cell → ℕ → ℕ → List ℕ
-copied_rows height m mask source target w h =
-    each_below (λ j cells. copied_row cells mask (down height source j) (down height target j) w) h m
+-- rows of a rectangle, one after another
+abbrev pub copied_rows : (height : ℕ) → List ℕ → ℕ → Sides → Size → List ℕ
+copied_rows height m mask sides size =
+    each_below (λ j cells. copied_row cells mask (down height sides.from j) (down height sides.to j) size.w) size.h m
 
 -- a rectangle is copied
-unfoldable pub copied_rectangle : List ℕ → ℕ → Cell → Cell → ℕ → ℕ → List ℕ
-copied_rectangle m mask source target w h = copied_rows (height_of m) m mask source target w h
+unfoldable pub copied_rectangle : List ℕ → ℕ → Sides → Size → List ℕ
+copied_rectangle m mask sides size = copied_rows (height_of m) m mask sides size
 
 -- n cells that leave no row, one after another
 abbrev pub copied_run : List ℕ → ℕ → Cell → Cell → ℕ → List ℕ

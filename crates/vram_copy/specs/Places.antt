@@ -1,6 +1,6 @@
 -- Where the pixels of a rectangle lie.
 use Rattle.std.specs.Prelude.{◌≡◌, ℕ, ◌+◌, ◌*◌, ◌<◌}
-use Rattle.vram_copy.specs.declared.cursor.Place.{Place}
+use Rattle.vram_copy.specs.declared.place.Place.{Place}
 
 -- pixel number i of rows of this width
 pub record IsPlace (width : ℕ) (place : Place) (i : ℕ) : Type 0 where

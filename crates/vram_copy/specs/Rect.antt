@@ -10,6 +10,16 @@ right cell i = record { x = (cell.x + i) % 1024; y = cell.y }
 abbrev pub down : ℕ → Cell → ℕ → Cell
 down height cell j = record { x = cell.x; y = (cell.y + j) % height }
 
+-- the first cells of both sides of a copy: the one that is read, and the one that is written
+pub record Sides : Type 0 where
+  pub from : Cell
+  pub to : Cell
+
+-- how many columns and rows a rectangle has
+pub record Size : Type 0 where
+  pub w : ℕ
+  pub h : ℕ
+
 -- n cells to the right of one, itself the first, that lie in one row of video memory of a height
 abbrev pub LieInRow : (height : ℕ) → Cell → (n : ℕ) → Type 0
 LieInRow height cell n = (cell.x + n ≤ 1024) × (cell.y < height)

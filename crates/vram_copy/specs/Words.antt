@@ -1,8 +1,7 @@
 -- Rectangles that are loaded or stored by words of two pixels (psx-spx, GP0(A0h) "Copy Rectangle (CPU to VRAM)"
 -- and GP0(C0h) "Copy Rectangle (VRAM to CPU)").
 use Rattle.std.specs.Prelude.{ℕ, List, [], ◌∷◌, Option, Some, None, ◌+◌, ◌-◌, ◌*◌, ◌/◌, ◌%◌, ◌^◌, nat_lt, if◌then◌else◌}
-use Rattle.std.specs.Prelude.{min}
-use Rattle.std.specs.Prelude.{slice_index}
+use Rattle.std.specs.Prelude.{min, slice_index}
 use Rattle.px_num.specs.Fold.{each_below}
 use Rattle.px_num.specs.declared.shape.Cell.{Cell}
 use Rattle.vram_store.specs.Vram.{height_of, at}
@@ -41,24 +40,30 @@ after_word job = if nat_lt (job.at + pixels_next job) (job.w * job.h) then Some 
 abbrev pub half_of : ℕ → ℕ → ℕ
 half_of word i = word / 2 ^ (16 * i) % 2 ^ 16
 
--- the first n pixels of a word are plotted, one after another
-abbrev pub pixels_from : ℕ → List ℕ → ℕ → Transfer → ℕ → ℕ → List ℕ
-pixels_from height m mask job word n =
+-- pixel number i of some words
+abbrev pub pixel_of : List ℕ → ℕ → ℕ
+pixel_of words i = half_of (slice_index words (i / 2)) (i % 2)
+
+-- a transfer with the next words that come to it
+pub record Load : Type 0 where
+  pub job : Transfer
+  pub words : List ℕ
+
+-- the first n pixels of the words are plotted, one after another
+abbrev pub loaded : (height : ℕ) → List ℕ → ℕ → Load → ℕ → List ℕ
+loaded height m mask load n =
     each_below
-    (λ i cells. let cell = pixel_cell height job (job.at + i) in plot cells mask cell.x cell.y (half_of word i)) n m
+    (λ i cells. let cell = pixel_cell height load.job (load.job.at + i) in
+    plot cells mask cell.x cell.y (pixel_of load.words i)) n m
 
 -- the pixels of a word are plotted; the spare half of an odd count is dropped
 unfoldable pub loaded_word : List ℕ → ℕ → Transfer → ℕ → List ℕ
-loaded_word m mask job word = pixels_from (height_of m) m mask job word (pixels_next job)
+loaded_word m mask job word = loaded (height_of m) m mask (record { job = job; words = word ∷ [] }) (pixels_next job)
 
 -- words are plotted one after another
 abbrev pub loaded_words : List ℕ → ℕ → Transfer → List ℕ → List ℕ
 loaded_words m mask job [] = m
 loaded_words m mask job (word ∷ words) = loaded_words (loaded_word m mask job word) mask (advanced job) words
-
--- pixel number i of some words
-abbrev pub pixel_of : List ℕ → ℕ → ℕ
-pixel_of words i = half_of (slice_index words (i / 2)) (i % 2)
 
 -- the next n pixels as a word, the first in the low half
 abbrev pub word_of : ℕ → List ℕ → Transfer → ℕ → ℕ

@@ -31,7 +31,8 @@ pub fn copy<L: Ledger>(
     h: u16,
     steps: &mut Steps<L>,
 )
-    ensures cells { vram.new ≡ copied_rectangle vram.old mask from to w h }
+    ensures cells { vram.new
+        ≡ copied_rectangle vram.old mask (record { from = from; to = to }) (record { w = w; h = h }) }
     ensures long { length vram.new ≡ length vram.old }
     ensures cost { steps.new ≤ steps.old + copy_cost (height_of vram.old) from to w h }
 {

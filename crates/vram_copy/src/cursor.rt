@@ -1,22 +1,14 @@
 // A transfer with the place of its next pixel.
 ghost use Rattle.std.specs.Prelude.{ℕ, ◌≡◌, ◌≤◌, ◌<◌, ◌+◌, ◌*◌, ◌/◌, ◌%◌, ◌^◌, length, min, nat_lt};
-ghost use Rattle.vram_copy.specs.Places.{IsPlace};
-ghost use Rattle.vram_copy.specs.Words.{advanced, advanced_by, pixel_cell, pixels_in, pixels_next, words_left};
+ghost use Rattle.vram_copy.specs.Words.{advanced, advanced_by, pixels_in, pixels_next, words_left};
 ghost use Rattle.vram_copy.specs.Words.{loaded_word, loaded_words, stored_word};
 
 use crate::loads::{Stretch, load_run};
+use crate::place::{Place, cell_at, place_behind};
 use crate::transfer::Transfer;
-use px_num::{Cell, wrap_at, wrap_x};
 use std::marker::Model;
 use std::sync::ledger::Ledger;
 use vram_store::{Steps, Vram};
-
-// Where a pixel lies in its rectangle.
-#[derive(Clone, Copy)]
-struct Place {
-    column: u16,
-    row: u16,
-}
 
 /// A transfer with the column and the row of its next pixel beside it, so that no pixel costs a division. Contracts see
 /// it as the transfer.
@@ -35,40 +27,6 @@ impl Model for Cursor {
     ghost view = { λ c. c.job };
 
     ghost invariant = { λ c. IsPlace c.job.w c.place c.job.at };
-}
-
-// The cell at a place.
-fn cell_at(job: &Transfer, place: Place, height: u16) -> Cell
-    requires rows { 1 ≤ height }
-    ensures value { (i : ℕ) → IsPlace job.now.w place i → result ≡ pixel_cell height job.now i }
-    ensures in_row { result.x < 1024 }
-    ensures in_height { result.y < height }
-{
-    Cell {
-        x: wrap_x(job.x as u32 + place.column as u32),
-        y: wrap_at(job.y as u32 + place.row as u32, height),
-    }
-}
-
-// The place n pixels on in its row, or at the start of the next one.
-fn place_behind(job: &Transfer, place: Place, n: u16) -> Place
-    requires column { place.column + n ≤ job.now.w }
-    requires more { place.row * job.now.w + place.column + n ≤ job.now.w * job.now.h }
-    requires some { 1 ≤ n }
-    ensures { (i : ℕ) → IsPlace job.now.w place i → IsPlace job.now.w result (i + n) }
-{
-    let width = job.w;
-    if place.column + n == width {
-        Place {
-            column: 0,
-            row: place.row + 1,
-        }
-    } else {
-        Place {
-            column: place.column + n,
-            row: place.row,
-        }
-    }
 }
 
 // How many pixels the next n words have.

@@ -26,7 +26,7 @@ pub fn fill<L: Ledger>(
 )
     requires column { x % 16 ≡ 0 }
     requires width { w % 16 ≡ 0 }
-    ensures cells { vram.new ≡ filled_rectangle vram.old x y w h color }
+    ensures cells { vram.new ≡ filled_rectangle vram.old (record { x = x; y = y }) (record { w = w; h = h }) color }
     ensures long { length vram.new ≡ length vram.old }
     ensures cost { steps.new ≡ steps.old + fill_cost w h }
 {
@@ -41,7 +41,7 @@ fn fill_row<L: Ledger>(vram: &mut Vram, first: Cell, w: u16, color: u16, steps: 
     requires column { first.x % 16 ≡ 0 }
     requires width { w % 16 ≡ 0 }
     requires in_height { first.y < height_of vram.old }
-    ensures cells { vram.new ≡ filled_row vram.old first.x first.y w color }
+    ensures cells { vram.new ≡ filled_row vram.old first w color }
     ensures long { length vram.new ≡ length vram.old }
     ensures cost { steps.new ≡ steps.old + w / 16 }
 {

@@ -14,6 +14,7 @@ mod cursor;
 mod fills;
 pub mod laws;
 mod loads;
+mod place;
 mod plots;
 mod transfer;
 

@@ -34,7 +34,7 @@ pub fn load_run<L: Ledger>(
 )
     requires target_in { LieInRow (height_of vram.old) stretch.to stretch.n }
     requires in_words { stretch.first + stretch.n ≤ 2 * length words.now }
-    ensures cells { vram.new ≡ loaded_run vram.old mask stretch.to words.now stretch.first stretch.n }
+    ensures cells { vram.new ≡ loaded_run vram.old mask words.now stretch }
     ensures long { length vram.new ≡ length vram.old }
     ensures cost { steps.new ≤ steps.old + 2 * stretch.n }
 {
@@ -58,7 +58,7 @@ fn load_each<L: Ledger>(
 )
     requires target_in { LieInRow (height_of vram.old) stretch.to stretch.n }
     requires in_words { stretch.first + stretch.n ≤ 2 * length words.now }
-    ensures cells { vram.new ≡ loaded_run vram.old mask stretch.to words.now stretch.first stretch.n }
+    ensures cells { vram.new ≡ loaded_run vram.old mask words.now stretch }
     ensures long { length vram.new ≡ length vram.old }
     ensures cost { steps.new ≤ steps.old + 2 * stretch.n }
 {
@@ -92,7 +92,7 @@ fn load_sixteen<L: Ledger>(
     requires target_in { LieInRow (height_of vram.old) to 16 }
     requires whole { first % 2 ≡ 0 }
     requires in_words { first + 16 ≤ 2 * length words.now }
-    ensures cells { vram.new ≡ loaded_run vram.old mask to words.now first 16 }
+    ensures cells { vram.new ≡ loaded_run vram.old mask words.now (record { to = to; first = first; n = 16 }) }
     ensures long { length vram.new ≡ length vram.old }
     ensures cost { steps.new ≤ steps.old + 2 }
 {

@@ -4,6 +4,6 @@ use Rattle.vram_copy.proofs.fills.fill.Goals as goal
 
 pub returns-clause-cells : goal.returns-clause-cells
 returns-clause-cells g c =
-    filled_is_whole c.height-height.result c.args.vram.now c.loop-j.vram c.args.x c.args.y c.args.w c.loop-j.j c.args.h
-    c.args.color
+    filled_is_whole c.height-height.result c.args.vram.now c.loop-j.vram (record { x = c.args.x; y = c.args.y })
+    c.args.w c.loop-j.j c.args.h c.args.color
     c.height-height.ensures.cells c.loop-j.invariant.cells (omega arith)

@@ -4,7 +4,7 @@ use Rattle.vram_copy.proofs.fills.fill_row.Goals as goal
 
 pub loop-k-preserved : goal.loop-k-preserved
 loop-k-preserved g c = record {
-  cells = row_chunk c.args.vram.now c.loop-k.vram c.store16.new.self c.args.first.x c.args.first.y c.loop-k.k
+  cells = row_chunk c.args.vram.now c.loop-k.vram c.store16.new.self c.args.first c.loop-k.k
       c.args.color c.requires.column c.loop-k.invariant.cells
       (rw (← c.wrap_x-column.ensures.value) (stored_run _ _ _ _ c.store16.ensures.cells));
   long = c.store16.ensures.long ∙ c.loop-k.invariant.long;

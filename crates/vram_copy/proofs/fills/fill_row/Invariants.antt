@@ -4,7 +4,7 @@ use Rattle.vram_copy.proofs.fills.fill_row.Given as goal
 
 abbrev pub invariant-loop-k : goal.invariant-loop-k
 invariant-loop-k g l = record {
-  cells : l.vram ≡ filled_row l.initial.vram l.first.x l.first.y (16 * l.k) l.color;
+  cells : l.vram ≡ filled_row l.initial.vram l.first (16 * l.k) l.color;
   long : length l.vram ≡ length l.initial.vram;
   cost : l.steps ≡ l.initial.steps + l.k;
 }
