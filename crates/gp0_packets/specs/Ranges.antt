@@ -16,11 +16,11 @@ pub record IsVertexInRange (vertex : Vertex) : Type 0 where
   pub place : IsPlace vertex.x vertex.y
   pub color_fits : vertex.color < 2 ^ 24
 
-pub record IsFillInRange (height color x y w h : ℕ) : Type 0 where
+pub record IsFillInRange (height color : ℕ) (first : Cell) (w h : ℕ) : Type 0 where
   pub color_fits : color < 2 ^ 15
-  pub x_fits : x < 1024
-  pub x_step : x % 16 ≡ 0
-  pub y_fits : y < height
+  pub x_fits : first.x < 1024
+  pub x_step : first.x % 16 ≡ 0
+  pub y_fits : first.y < height
   pub w_fits : w ≤ 1024
   pub w_step : w % 16 ≡ 0
   pub h_fits : h ≤ 511
@@ -63,7 +63,7 @@ pub record IsEnvInRange (index value : ℕ) : Type 0 where
 abbrev pub IsInRange : (height : ℕ) → Packet → Type 0
 IsInRange height packet.Nop = Unit {0}
 IsInRange height packet.Irq = Unit {0}
-IsInRange height (packet.Fill color x y w h) = IsFillInRange height color x y w h
+IsInRange height (packet.Fill color x y w h) = IsFillInRange height color (record { x = x; y = y }) w h
 IsInRange height (packet.Poly four a b c d shaded textured semi raw clut page) = IsPolyInRange a b c d
 IsInRange height (packet.Segment a b semi) = IsSegmentInRange a b
 IsInRange height (packet.Rect x y w h color textured semi raw u v clut) = IsRectInRange x y w h color

@@ -1,9 +1,9 @@
 -- Segments that are walked point by point: each value is stepped in parts of 1 (psx-spx, "GPU Render Line Commands";
 -- which points, is our own rule).
-use Rattle.std.specs.Prelude.{ℕ, ◌+◌, ◌*◌, ◌/◌, ◌%◌, ◌^◌, ◌≤◌, ◌<◌, ◌≡◌, max, unsigned_abs}
+use Rattle.std.specs.Prelude.{ℕ, ◌+◌, ◌*◌, ◌/◌, ◌%◌, ◌^◌, ◌≤◌, ◌<◌, ◌≡◌, unsigned_abs}
 use Rattle.std.specs.Prelude.{ℤ, pos, ◌+ℤ◌, ◌-ℤ◌, ◌*ℤ◌, ◌≤ℤ◌}
 use Rattle.std.specs.Int.Signed.{shr_z}
-use Rattle.line_walk.specs.Line.{Ends, IsNear, len_of, steps_of}
+use Rattle.line_walk.specs.Line.{Ends}
 use Rattle.line_walk.specs.declared.slope.Slope.{Slope}
 use Rattle.line_walk.specs.declared.tones.Tones.{Tones}
 
@@ -47,13 +47,3 @@ tint_of t =
     unsigned_abs (value_of t.red)
     + 2 ^ 8 * unsigned_abs (value_of t.green)
     + 2 ^ 16 * unsigned_abs (value_of t.blue)
-
--- slopes of both coordinates and of the colour at the point that comes next; a segment of one point is cut into one
--- step too
-pub record IsWalk (s : Ends) (steps at : ℕ) (x y : Slope) (tones : Tones) : Type 0 where
-  pub near : IsNear s.first s.second
-  pub count : steps ≡ steps_of s
-  pub within : at ≤ len_of s
-  pub across : IsSlope s.first.x s.second.x (max 1 steps) at x
-  pub down : IsSlope s.first.y s.second.y (max 1 steps) at y
-  pub shaded : AreTones s.first.color s.second.color (max 1 steps) at tones

@@ -19,14 +19,14 @@ pub struct Walk {
 }
 
 impl Model for Walk {
-    ghost use Rattle.line_walk.specs.Line.{ends};
-    ghost use Rattle.line_walk.specs.Walk.{Walking, IsWalk};
+    ghost use Rattle.line_walk.specs.View.{IsWalk, walking_of};
+    ghost use Rattle.line_walk.specs.Walk.{Walking};
 
     ghost Value = { Walking };
 
-    ghost view = { λ w. record { ends = ends w.a w.b; at = w.at } };
+    ghost view = { walking_of };
 
-    ghost invariant = { λ w. IsWalk (ends w.a w.b) w.steps w.at w.x w.y w.tones };
+    ghost invariant = { IsWalk };
 }
 
 impl Walk {
