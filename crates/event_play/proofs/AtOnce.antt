@@ -110,7 +110,8 @@ pub words_told : (t : Tale) (first before now : Outlets) (was gpu : Kept) (playe
     → played < 2 ^ 64
     → IsTold t first before was played
     → ((s : State) → kept_of s ≡ was
-    → TakesWords s (played + 1) words gpu before.heard now.heard before.steps now.steps)
+    → TakesWords s (played + 1) words (record { heard = before.heard; steps = before.steps })
+    (record { gpu = gpu; heard = now.heard; steps = now.steps }))
     → IsTold (after_words t words) first now gpu (number_behind played (length words))
 words_told t first before now was gpu played words lt told takes =
     let did = takes t.state.gpu told.state in

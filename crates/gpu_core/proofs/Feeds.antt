@@ -13,7 +13,7 @@ use Rattle.gpu_taps.specs.Bare.{bare_note, bare_notes, after_notes}
 use Rattle.gpu_taps.specs.Tally.{Reading, capped}
 use Rattle.gpu_taps.proofs.Bare.{bare_notes-push}
 use Rattle.gpu_core.specs.Cost.{gp0_cost}
-use Rattle.gpu_core.specs.Feeds.{feed_notes, SetsRegisters, TakesWords}
+use Rattle.gpu_core.specs.Feeds.{Behind, Hearing, SetsRegisters, TakesWords, feed_notes}
 use Rattle.gpu_core.specs.Kept.{Kept, kept_of}
 use Rattle.gpu_core.specs.Machine.{Parts, State, after_gp0, gp0_note, effect_of, told_option}
 use Rattle.gpu_core.proofs.Fed.{fed, register_packet, register_note}
@@ -43,13 +43,13 @@ told_one : (note : Option Note) (readings : List Reading) → told_option note r
 told_one None readings = map-same readings
 told_one (Some note) readings = refl
 
-pub one_taken : (s : State) (first word : ℕ) (now : Kept) (note : Option Note) (heard heard_now : List Reading)
-    (steps steps_now : ℕ)
-    → kept_of (after_gp0 s word) ≡ now → gp0_note s (capped first) word ≡ note → heard_now ≡ told_option note heard
-    → steps_now ≤ steps + gp0_cost s word → TakesWords s first (word ∷ []) now heard heard_now steps steps_now
-one_taken s first word now note heard heard_now steps steps_now feed noted told cost = record {
+pub one_taken : (s : State) (first word : ℕ) (note : Option Note) (before : Hearing) (now : Behind)
+    → kept_of (after_gp0 s word) ≡ now.gpu → gp0_note s (capped first) word ≡ note
+    → now.heard ≡ told_option note before.heard → now.steps ≤ before.steps + gp0_cost s word
+    → TakesWords s first (word ∷ []) before now
+one_taken s first word note before now feed noted told cost = record {
   feed = feed;
-  told = rw noted (told ∙ told_one note heard);
+  told = rw noted (told ∙ told_one note before.heard);
   cost = omega (arith, cost);
 }
 
@@ -82,11 +82,11 @@ set_more s first words i p q h lt before push class effect =
           ∙ sym (ap (bare_notes 7 first) all ∙ bare_notes-push 7 first some word);
     }
 
-pub set_taken : (s : State) (first : ℕ) (words : List ℕ) (now : Kept) (heard heard_now : List Reading) (steps : ℕ)
-    → SetsRegisters s first words now → heard_now ≡ map (after_notes (bare_notes 7 first words)) heard
-    → TakesWords s first words now heard heard_now steps steps
-set_taken s first words now heard heard_now steps set told = record {
+pub set_taken : (s : State) (first : ℕ) (words : List ℕ) (before : Hearing) (now : Behind)
+    → SetsRegisters s first words now.gpu → now.heard ≡ map (after_notes (bare_notes 7 first words)) before.heard
+    → now.steps ≡ before.steps → TakesWords s first words before now
+set_taken s first words before now set told same = record {
   feed = set.feed;
   told = rw set.notes told;
-  cost = omega arith;
+  cost = omega (arith, same);
 }

@@ -12,13 +12,13 @@ use Rattle.gp0_words.specs.declared.item.Item.TheVariants as item
 use Rattle.gp0_words.specs.declared.pending.Pending.{Pending}
 use Rattle.gp0_words.specs.declared.pending.Pending.TheVariants as pending
 use Rattle.gpu_taps.specs.Bare.{bare_note, bare_notes, after_notes}
-use Rattle.gpu_taps.specs.Tally.{Reading, capped}
+use Rattle.gpu_taps.specs.Tally.{capped}
 use Rattle.vram_copy.proofs.LoadLemmas.{one_more_word, pixels_more}
 use Rattle.vram_copy.specs.Words.{advanced, advanced_by, pixels_next, pixels_in, loaded_word, loaded_words}
 use Rattle.vram_copy.specs.declared.transfer.Transfer.{Transfer}
 use Rattle.gpu_core.specs.Cost.{gp0_cost, pixels_of}
 use Rattle.gpu_core.specs.Kept.{Kept, kept_of, IsLinked}
-use Rattle.gpu_core.specs.Feeds.{but_pixels, feed_notes, feeds_cost, TakesWords}
+use Rattle.gpu_core.specs.Feeds.{Behind, Hearing, TakesWords, but_pixels, feed_notes, feeds_cost}
 use Rattle.gpu_core.specs.Loading.{open_still, with_words, pixels_in_load}
 use Rattle.gpu_core.specs.Machine.{Parts, State, after_gp0, gp0_note, with_pixels}
 use Rattle.gpu_core.proofs.Fed.{fed, data_effect, data_cost, data_note}
@@ -114,44 +114,30 @@ pixels_unseen first (word ∷ words) = pixels_unseen (first + 1) words
 -- ---- a load that is open
 
 -- its words were taken at once, and each gives the note of pixels
-pub record LoadsWords (s : State) (played : ℕ) (words : List ℕ) (now : Kept) (heard heard_now : List Reading)
-    (steps steps_now : ℕ) : Type 0 where
-  pub takes : TakesWords s (played + 1) words now heard heard_now steps steps_now
-  pub notes : feed_notes s (played + 1) words ≡ bare_notes 9 (played + 1) words
-
-pub loads : (s : State) (p : Parts) (load : Option Transfer) (h new : Pending) (now : Parts) (played : ℕ)
-    (words : List ℕ)
-    (heard heard_now : List Reading) (steps steps_now : ℕ)
+pub loads : (s : State) (p : Parts) (load : Option Transfer) (h : Pending) (played : ℕ) (words : List ℕ)
+    (before : Hearing) (now : Behind)
     → kept_of s ≡ record { parts = p; pending = h } → p.load ≡ load → IsPending h → IsLinked h load → 0 < length words
-    → length words ≤ wanted h → new ≡ behind_pixels h (length words) → now ≡ with_words p load words
-    → heard_now ≡ map (after_notes (bare_notes 9 (played + 1) words)) heard
-    → steps_now ≤ steps + 2 * pixels_in_load load (length words)
-    → LoadsWords s played words (record { parts = now; pending = new }) heard heard_now steps steps_now
-loads s p load (pending.Pixels left) new now played words heard heard_now steps steps_now e open_load kept link some
-    few after parts told cost =
-    with_job load open_load link parts cost
-  where
-    with_job : (load : Option Transfer) → p.load ≡ load → IsLinked (pending.Pixels left) load
-        → now ≡ with_words p load words
-        → steps_now ≤ steps + 2 * pixels_in_load load (length words)
-        → LoadsWords s played words (record { parts = now; pending = new }) heard heard_now steps steps_now
-    with_job None open_load link parts cost = absurd link
-    with_job (Some job) open_load link parts cost =
-        let is = loaded words s p job left some e open_load kept link few in
-        record {
-          takes = record {
-            feed = rw (after, parts) is.feed;
-            told = rw (is.notes (played + 1)) told;
-            cost = let c = is.cost in omega (arith, c, cost);
-          };
-          notes = is.notes (played + 1);
-        }
-loads s p load pending.Idle new now played words heard heard_now steps steps_now e open_load kept link some few after
-    parts told cost =
+    → length words ≤ wanted h
+    → now.gpu ≡ record { parts = with_words p load words; pending = behind_pixels h (length words) }
+    → now.heard ≡ map (after_notes (bare_notes 9 (played + 1) words)) before.heard
+    → now.steps ≤ before.steps + 2 * pixels_in_load load (length words)
+    → TakesWords s (played + 1) words before now
+    × (feed_notes s (played + 1) words ≡ bare_notes 9 (played + 1) words)
+loads s p None (pending.Pixels left) played words before now e open_load kept link some few gpu told cost =
+    absurd link
+loads s p (Some job) (pending.Pixels left) played words before now e open_load kept link some few gpu told cost =
+    let is = loaded words s p job left some e open_load kept link few in (
+      record {
+        feed = rw gpu is.feed;
+        told = rw (is.notes (played + 1)) told;
+        cost = let c = is.cost in omega (arith, c, cost);
+      },
+      is.notes (played + 1),
+    )
+loads s p load pending.Idle played words before now e open_load kept link some few gpu told cost =
     absurd (omega (arith, some, few))
-loads s p load (pending.Packet held) new now played words heard heard_now steps steps_now e open_load kept link some
-    few after parts told cost =
+loads s p load (pending.Packet held) played words before now e open_load kept link some few gpu told cost =
     absurd (omega (arith, some, few))
-loads s p load (pending.Poly command color vertex half) new now played words heard heard_now steps steps_now e
-    open_load kept link some few after parts told cost =
+loads s p load (pending.Poly command color vertex half) played words before now e open_load kept link some few gpu
+    told cost =
     absurd (omega (arith, some, few))

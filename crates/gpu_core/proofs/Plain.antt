@@ -14,10 +14,10 @@ use Rattle.gp0_words.specs.declared.pending.Pending.{Pending}
 use Rattle.gp0_words.specs.declared.pending.Pending.TheVariants as pending
 use Rattle.gp0_words.proofs.Pushes.{pushed}
 use Rattle.gpu_taps.specs.Bare.{after_notes}
-use Rattle.gpu_taps.specs.Tally.{Reading, capped, reading_after}
+use Rattle.gpu_taps.specs.Tally.{capped, reading_after}
 use Rattle.gpu_core.specs.Area.{note_of}
 use Rattle.gpu_core.specs.Cost.{item_cost}
-use Rattle.gpu_core.specs.Feeds.{feed_notes, feeds_cost, TakesWords}
+use Rattle.gpu_core.specs.Feeds.{Behind, Hearing, TakesWords, feed_notes, feeds_cost}
 use Rattle.gpu_core.specs.Kept.{Kept, kept_of, IsLinked}
 use Rattle.gpu_core.specs.Machine.{Parts, State, after_gp0, effect_of, after_item}
 use Rattle.gpu_core.proofs.Fed.{fed}
@@ -111,33 +111,28 @@ taken (word ∷ next ∷ words) s p first held n some e kind len =
 -- ---- all its words at once
 
 -- they were taken at once, and give this note
-pub record TakesPacket (s : State) (played : ℕ) (words : List ℕ) (note : Note) (now : Kept)
-    (heard heard_now : List Reading) (steps steps_now : ℕ) : Type 0 where
-  pub takes : TakesWords s (played + 1) words now heard heard_now steps steps_now
-  pub notes : feed_notes s (played + 1) words ≡ note ∷ []
-
-pub plain_taken : (s : State) (p : Parts) (h : Pending) (now : Parts) (note : Note) (event played : ℕ) (words : List ℕ)
-    (heard heard_now : List Reading) (steps steps_now : ℕ)
+pub plain_taken : (s : State) (p : Parts) (h : Pending) (note : Note) (event played : ℕ) (words : List ℕ)
+    (before : Hearing) (now : Behind)
     → kept_of s ≡ record { parts = p; pending = h } → h ≡ pending.Idle → 0 < length words
     → kind_of (slice_index words 0) ≡ Plain (length words) → event ≡ capped (played + length words)
-    → note ≡ note_of p.regs event (item.Whole words) → now ≡ after_item p (Some (item.Whole words))
-    → heard_now ≡ map (reading_after note) heard → steps_now ≤ steps + item_cost p (Some (item.Whole words))
-    → TakesPacket s played words note (record { parts = now; pending = h }) heard heard_now steps steps_now
-plain_taken s p h now note event played words heard heard_now steps steps_now e idle some kind number noted effect told
-    cost =
+    → note ≡ note_of p.regs event (item.Whole words)
+    → now.gpu ≡ record { parts = after_item p (Some (item.Whole words)); pending = h }
+    → now.heard ≡ map (reading_after note) before.heard
+    → now.steps ≤ before.steps + item_cost p (Some (item.Whole words))
+    → TakesWords s (played + 1) words before now × (feed_notes s (played + 1) words ≡ note ∷ [])
+plain_taken s p h note event played words before now e idle some kind number noted effect told cost =
     let f : Pending → Kept = λ h. record { parts = p; pending = h } in
     let is = taken words s p (played + 1) [] (length words) some (e ∙ ap f idle) kind refl in
     let same : capped (played + 1 + (length words - 1)) ≡ event = omega (arith, some, number) in
     let last = ap (λ n. note_of p.regs n (item.Whole words)) same ∙ sym noted in
-    let notes = is.notes ∙ ap (λ n. n ∷ []) last in
-    record {
-      takes = record {
-        feed = is.feed ∙ rw (idle, effect) refl;
-        told = told ∙ ap (λ notes. map (after_notes notes) heard) (sym notes);
+    let notes = is.notes ∙ ap (λ n. n ∷ []) last in (
+      record {
+        feed = is.feed ∙ rw (effect, idle) refl;
+        told = told ∙ ap (λ notes. map (after_notes notes) before.heard) (sym notes);
         cost = let c = is.cost in omega (arith, c, cost);
-      };
-      notes = notes;
-    }
+      },
+      notes,
+    )
 
 pub plain_load : (height : ℕ) (words : List ℕ) (p : Parts) → 0 < length words → kind_of (slice_index words 0)
     ≡ Plain (length words)

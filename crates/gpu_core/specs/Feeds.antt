@@ -27,13 +27,23 @@ abbrev pub feeds_cost : State → List ℕ → ℕ
 feeds_cost s [] = 0
 feeds_cost s (word ∷ words) = gp0_cost s word + feeds_cost (after_gp0 s word) words
 
+-- what the listeners say, and the store steps
+pub record Hearing : Type 0 where
+  pub heard : List Reading
+  pub steps : ℕ
+
+-- with what the drawing processor keeps
+pub record Behind : Type 0 where
+  pub gpu : Kept
+  pub heard : List Reading
+  pub steps : ℕ
+
 -- Words that were taken at once did what they do one after another, but that each listener was told all their notes
 -- before the next one was.
-pub record TakesWords (s : State) (first : ℕ) (words : List ℕ) (now : Kept) (heard heard_now : List Reading)
-    (steps steps_now : ℕ) : Type 0 where
-  pub feed : kept_of (fold after_gp0 s words) ≡ now
-  pub told : heard_now ≡ map (after_notes (feed_notes s first words)) heard
-  pub cost : steps_now ≤ steps + feeds_cost s words
+pub record TakesWords (s : State) (first : ℕ) (words : List ℕ) (before : Hearing) (now : Behind) : Type 0 where
+  pub feed : kept_of (fold after_gp0 s words) ≡ now.gpu
+  pub told : now.heard ≡ map (after_notes (feed_notes s first words)) before.heard
+  pub cost : now.steps ≤ before.steps + feeds_cost s words
 
 -- words of registers were taken at once, and no listener was told yet
 pub record SetsRegisters (s : State) (first : ℕ) (words : List ℕ) (now : Kept) : Type 0 where

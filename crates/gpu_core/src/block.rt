@@ -32,8 +32,9 @@ impl Gpu {
         requires { 0 < length words.now }
         ensures some { 0 < result }
         ensures within { result ≤ length words.now }
-        ensures takes { (s : State) → kept_of s ≡ self.old → TakesWords s (played + 1) (take result words.now) self.new
-            (map T.heard taps.old.items) (map T.heard taps.new.items) steps.old steps.new }
+        ensures takes { (s : State) → kept_of s ≡ self.old → TakesWords s (played + 1) (take result words.now)
+            (record { heard = map T.heard taps.old.items; steps = steps.old })
+            (record { gpu = self.new; heard = map T.heard taps.new.items; steps = steps.new }) }
     {
         let wanted = (self.splitter.wanted() as usize).min(words.len());
         if wanted > 0 {
@@ -65,8 +66,9 @@ impl Gpu {
     )
         requires some { 0 < length words.now }
         requires wanted { length words.now ≤ wanted self.old.pending }
-        ensures { (s : State) → kept_of s ≡ self.old → TakesWords s (played + 1) words.now self.new
-            (map T.heard taps.old.items) (map T.heard taps.new.items) steps.old steps.new
+        ensures { (s : State) → kept_of s ≡ self.old → TakesWords s (played + 1) words.now
+            (record { heard = map T.heard taps.old.items; steps = steps.old })
+            (record { gpu = self.new; heard = map T.heard taps.new.items; steps = steps.new })
             × (feed_notes s (played + 1) words.now ≡ bare_notes 9 (played + 1) words.now) }
     {
         self.splitter.skip_pixels(words.len());
@@ -116,8 +118,9 @@ impl Gpu {
         requires idle { self.old.pending ≡ Idle }
         requires kind { kind_of (slice_index words.now 0) ≡ Plain (length words.now) }
         requires most { length words.now ≤ 12 }
-        ensures takes { (s : State) → kept_of s ≡ self.old → TakesWords s (played + 1) words.now self.new
-            (map T.heard taps.old.items) (map T.heard taps.new.items) steps.old steps.new
+        ensures takes { (s : State) → kept_of s ≡ self.old → TakesWords s (played + 1) words.now
+            (record { heard = map T.heard taps.old.items; steps = steps.old })
+            (record { gpu = self.new; heard = map T.heard taps.new.items; steps = steps.new })
             × (feed_notes s (played + 1) words.now ≡ result ∷ []) }
         ensures class { result.class ≤ 9 }
     {

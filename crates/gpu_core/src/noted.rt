@@ -37,8 +37,9 @@ impl Gpu {
         ensures gives { (s : State) → kept_of s ≡ self.old
             → GivesNote s (played + 1) (take result.count words.now) result.note }
         ensures takes { (s : State) → kept_of s ≡ self.old
-            → TakesWords s (played + 1) (take result.count words.now) self.new
-            (map T.heard taps.old.items) (map T.heard taps.new.items) steps.old steps.new }
+            → TakesWords s (played + 1) (take result.count words.now)
+            (record { heard = map T.heard taps.old.items; steps = steps.old })
+            (record { gpu = self.new; heard = map T.heard taps.new.items; steps = steps.new }) }
     {
         let count = (self.splitter.wanted() as usize).min(words.len());
         if count > 0 {

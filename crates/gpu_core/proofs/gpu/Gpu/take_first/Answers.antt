@@ -1,6 +1,6 @@
-use Rattle.std.proofs.Common.{◌≡◌, ◌+◌, ◌∷◌, [], ℕ, List, take, get_or, map, sym, ap, subst, ◌∙◌, arith}
+use Rattle.std.proofs.Common.{◌≡◌, ◌+◌, ◌∷◌, [], ℕ, List, take, get_or, map, refl, sym, ap, subst, ◌∙◌, arith}
 use Rattle.std.proofs.lemmas.List.{take_more}
-use Rattle.gpu_core.specs.Feeds.{SetsRegisters, TakesWords}
+use Rattle.gpu_core.specs.Feeds.{Behind, Hearing, SetsRegisters, TakesWords}
 use Rattle.gpu_core.specs.Kept.{kept_of}
 use Rattle.gpu_core.specs.Machine.{gp0_note}
 use Rattle.gpu_core.proofs.Feeds.{one_taken, set_taken}
@@ -8,10 +8,8 @@ use Rattle.gpu_core.proofs.gpu.Gpu.take_first.Goals as goal
 
 pub returns-then-set-gt0-clause-takes : goal.returns-then-set-gt0-clause-takes
 returns-then-set-gt0-clause-takes g c = λ s e.
-    set_taken s (c.args.played + 1) (take c.set_registers-set.result c.args.words.now) c.set_registers-set.new.self
-    (map g.T.Listener.heard c.args.taps.now.items) (map g.T.Listener.heard c.tell_all_bare.new.taps.items)
-    c.args.steps.now
-    (c.set_registers-set.ensures.sets s (c.args.played + 1) e) c.tell_all_bare.ensures.told
+    set_taken s (c.args.played + 1) (take c.set_registers-set.result c.args.words.now) _ _
+    (c.set_registers-set.ensures.sets s (c.args.played + 1) e) c.tell_all_bare.ensures.told refl
 
 pub returns-then-len-gt0-clause-takes : goal.returns-then-len-gt0-clause-takes
 returns-then-len-gt0-clause-takes g c = λ s e.
@@ -28,13 +26,16 @@ returns-clause-takes g c = λ s e.
     let kept : kept_of s
     ≡ c.set_registers-set.new.self = (subst P none (c.set_registers-set.ensures.sets s 0 e)).feed in
     let one : take 1 words ≡ word ∷ [] = take_more words 0 0 c.requires in
-    let heard = map g.T.Listener.heard c.args.taps.now.items in
-    let heard_now = map g.T.Listener.heard c.gp0.new.taps.items in
+    let before : Hearing = record {
+      heard = map g.T.Listener.heard c.args.taps.now.items;
+      steps = c.args.steps.now;
+    } in
+    let now : Behind = record {
+      gpu = c.gp0.new.self;
+      heard = map g.T.Listener.heard c.gp0.new.taps.items;
+      steps = c.gp0.new.steps;
+    } in
     let note = ap (λ n. gp0_note s n word) (sym c.saturating_add.ensures) ∙ c.gp0.ensures.note s kept in
-    let Q : List ℕ
-    → Type 0 = λ l. TakesWords s (c.args.played + 1) l c.gp0.new.self heard heard_now c.args.steps.now
-    c.gp0.new.steps in
-    subst Q (sym one)
-    (one_taken s (c.args.played + 1) word c.gp0.new.self c.gp0.result heard heard_now c.args.steps.now
-    c.gp0.new.steps
+    subst (λ (l : List ℕ). TakesWords s (c.args.played + 1) l before now) (sym one)
+    (one_taken s (c.args.played + 1) word c.gp0.result before now
     (c.gp0.ensures.feed s kept) note c.gp0.ensures.taps (c.gp0.ensures.cost s kept))

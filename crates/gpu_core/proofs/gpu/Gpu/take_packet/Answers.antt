@@ -35,9 +35,8 @@ returns-clause-takes g c = λ s e.
     ap (λ k. note k area) c.class_of_word.ensures.value
     ∙ ap (λ a. note (class_of head) a) c.carry_out_words-area.ensures.area in
     let idle : c.self.inside.splitter ≡ pending.Idle = ap (λ (k : Kept). k.pending) c.self.view_is ∙ c.requires.idle in
-    let is = plain_taken s p c.self.inside.splitter c.carry_out_words-area.new.self (note c.class_of_word.result area)
-    event c.args.played words _ _ _ _
+    let kept : Parts → Kept = λ p. record { parts = p; pending = c.self.inside.splitter } in
+    plain_taken s p c.self.inside.splitter (note c.class_of_word.result area) event c.args.played words _ _
     (e ∙ sym c.self.view_is) idle c.requires.some c.requires.kind c.saturating_add-event.ensures
-    noted c.carry_out_words-area.ensures.effect c.tell_all.ensures.told
-    c.carry_out_words-area.ensures.cost in
-    (is.takes, is.notes)
+    noted (ap kept c.carry_out_words-area.ensures.effect) c.tell_all.ensures.told
+    c.carry_out_words-area.ensures.cost
