@@ -10,6 +10,7 @@
 mod item;
 mod kind;
 pub mod laws;
+mod next_word;
 mod pending;
 mod resuming;
 mod size;

@@ -10,7 +10,8 @@ ghost use Rattle.gp0_words.specs.Skipped.{behind_pixels};
 ghost use Rattle.gp0_words.specs.declared.item.Item.TheVariants.{Whole, Pixels};
 
 use crate::item::Item;
-use crate::pending::{Pending, extend, pixels_after, pixels_behind, take, wanted};
+use crate::next_word::{extend, take};
+use crate::pending::{Pending, pixels_after, pixels_behind, wanted};
 use crate::resuming::may_be_pending;
 use std::marker::Model;
 

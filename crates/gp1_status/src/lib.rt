@@ -10,8 +10,11 @@ pub mod laws;
 mod regs;
 mod shape;
 mod status;
+mod values;
 mod words;
+mod writes;
 
 pub use drawing::{Flips, Offset};
-pub use regs::{Regs, clears};
+pub use regs::Regs;
 pub use words::allows;
+pub use writes::clears;

@@ -1,9 +1,65 @@
-// The bits that the words of registers may have.
-ghost use Rattle.std.specs.Prelude.{◌≡◌, true, false};
-ghost use Rattle.px_num.specs.Height.{IsHeight};
-ghost use Rattle.gp1_status.specs.Words.{is_allowed, AreAllowed};
+// The registers as words, and the bits that these may have.
+ghost use Rattle.std.specs.Prelude.{◌≡◌, MatchOption, IfSome, true, false};
+ghost use Rattle.px_num.specs.Height.{IsHeight, height_of_profile};
+ghost use Rattle.gp1_status.specs.Words.{is_allowed, AreAllowed, registers_in, words_of};
 
-use px_num::bits;
+use crate::regs::Regs;
+use px_num::{bit, bits, height_of_profile};
+
+impl Regs {
+    /// The registers as thirteen words: the values of E1h to E6h, the flags (bit 0 the interrupt bit, bit 1 whether the
+    /// display is off), the DMA direction, the start of the display, its two ranges, its mode, and the latch.
+    pub fn to_words(&self) -> [u32; 13]
+        ensures { result ≡ words_of self.now }
+    {
+        [
+            self.e1,
+            self.window,
+            self.top_left,
+            self.bottom_right,
+            self.offset,
+            self.mask as u32,
+            self.irq as u32 + self.display_off as u32 * 2,
+            self.direction as u32,
+            self.start,
+            self.hrange,
+            self.vrange,
+            self.mode as u32,
+            self.held,
+        ]
+    }
+
+    /// The registers of which these are the words, for video memory of 1024 rows where it is tall, else of 512. None
+    /// exactly where a word has a bit that it may not have.
+    pub fn from_words(words: &[u32; 13], tall: bool) -> Option<Regs>
+        ensures exact { MatchOption result (AreAllowed (height_of_profile tall) words.now → ⊥)
+            (λ regs. (regs ≡ registers_in (height_of_profile tall) words.now)
+            × AreAllowed (height_of_profile tall) words.now) }
+        ensures again { IfSome result (λ regs. words_of regs ≡ words.now) }
+    {
+        let height = height_of_profile(tall);
+        if !allows_all(height, words) {
+            return None;
+        }
+        Some(Regs {
+            e1: words[0],
+            window: words[1],
+            top_left: words[2],
+            bottom_right: words[3],
+            offset: words[4],
+            mask: words[5] as u8,
+            irq: bit(words[6], 0),
+            display_off: bit(words[6], 1),
+            direction: words[7] as u8,
+            start: words[8],
+            hrange: words[9],
+            vrange: words[10],
+            mode: words[11] as u8,
+            held: words[12],
+            height,
+        })
+    }
+}
 
 /// Whether a word has only bits that it may have at this place of the thirteen words of registers, with video memory of
 /// so many rows.

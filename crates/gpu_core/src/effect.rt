@@ -1,51 +1,21 @@
 // What a packet does.
-ghost use Rattle.std.specs.Prelude.{◌≡◌, ◌≤◌, ◌<◌, ◌+◌, Some, length, slice_index};
-ghost use Rattle.gp0_packets.specs.Corners.{Carries};
-ghost use Rattle.gp0_packets.specs.Drawn.{IsDrawn, IsOfClass};
-ghost use Rattle.gp0_packets.specs.Packets.{environment_of, packet_of};
+ghost use Rattle.std.specs.Prelude.{◌≡◌, ◌≤◌, ◌+◌, Some};
+ghost use Rattle.gp0_packets.specs.Packets.{environment_of};
 ghost use Rattle.gp0_packets.specs.Ranges.{IsInRange};
-ghost use Rattle.gp0_words.specs.Kinds.{first_len_of};
-ghost use Rattle.gp0_words.specs.declared.item.Item.TheVariants.{Whole};
 ghost use Rattle.prim_draw.specs.Areas.{area_of};
 ghost use Rattle.gpu_core.specs.Area.{note_of};
 ghost use Rattle.gpu_core.specs.Cost.{item_cost, packet_cost};
-ghost use Rattle.gpu_core.specs.Done.{IsDone};
-ghost use Rattle.gpu_core.specs.Machine.{effect_of, after_item, drawing_registers, with_page};
+ghost use Rattle.gpu_core.specs.Machine.{effect_of, after_item};
 
 use crate::parts::Parts;
 use crate::transfer::start;
-use gp0_packets::{
-    Carried, Note, Packet, carried_by, class_of, class_of_word, decode, decode_line,
-    decode_polygon, decode_rectangle, decode_whole, head_of,
-};
+use gp0_packets::{Note, Packet, class_of, decode, head_of};
 use gp0_words::Item;
-use gp1_status::Regs;
-use prim_draw::{area_of, draw};
+use prim_draw::area_of;
 use px_num::Box2;
 use std::sync::ledger::Ledger;
 use vram_copy::{copy, fill};
 use vram_store::Steps;
-
-/// Puts a textured polygon's own page attribute into the draw mode.
-fn put_page(regs: &mut Regs, textured: bool, page: u16)
-    ensures value { regs.new ≡ with_page regs.old textured page }
-    ensures height { regs.new.height ≡ regs.old.height }
-{
-    if textured {
-        regs.page(page);
-    }
-}
-
-/// Puts the page attribute of a textured polygon into the draw mode.
-fn put_own_page(regs: &mut Regs, packet: &Packet)
-    ensures value { regs.new ≡ drawing_registers regs.old packet.now }
-    ensures height { regs.new.height ≡ regs.old.height }
-{
-    match *packet {
-        Packet::Poly { textured, page, .. } => put_page(regs, textured, page),
-        _ => {}
-    }
-}
 
 impl Parts {
     /// Carries out an item that the event of this number completed, and answers its note, which is by the registers as
@@ -69,107 +39,6 @@ impl Parts {
             head: head_of(item),
             area,
         }
-    }
-
-    /// Carries out the packet of these words, as many as their first asks for, and answers its area. What is drawn is
-    /// read where it is drawn, so that it stays in registers.
-    #[inline(always)]
-    pub(crate) fn carry_out_words<L: Ledger>(
-        &mut self,
-        words: &[u32],
-        steps: &mut Steps<L>,
-    ) -> Option<Box2>
-        requires some { 0 < length words.now }
-        requires len { length words.now ≡ first_len_of (slice_index words.now 0) }
-        ensures { IsDone (packet_of self.old.regs.height (Whole words.now))
-            (record { parts = self.old; steps = steps.old }) (record { parts = self.new; steps = steps.new }) result }
-    {
-        match class_of_word(words[0]) {
-            1 => self.draw_polygon(words, steps),
-            2 => self.draw_line(words, steps),
-            3 => self.draw_rectangle(words, steps),
-            _ => self.carry_out_whole(words, steps),
-        }
-    }
-
-    // The same, whatever the packet is.
-    #[inline(never)]
-    fn carry_out_whole<L: Ledger>(&mut self, words: &[u32], steps: &mut Steps<L>) -> Option<Box2>
-        requires some { 0 < length words.now }
-        requires len { length words.now ≡ first_len_of (slice_index words.now 0) }
-        ensures { IsDone (packet_of self.old.regs.height (Whole words.now))
-            (record { parts = self.old; steps = steps.old }) (record { parts = self.new; steps = steps.new }) result }
-    {
-        let packet = decode_whole(words, self.regs.height());
-        self.carry_out(&packet, steps)
-    }
-
-    // Draws the line of these words.
-    #[inline(always)]
-    fn draw_line<L: Ledger>(&mut self, words: &[u32], steps: &mut Steps<L>) -> Option<Box2>
-        requires { IsOfClass 2 words.now }
-        ensures { IsDone (packet_of self.old.regs.height (Whole words.now))
-            (record { parts = self.old; steps = steps.old }) (record { parts = self.new; steps = steps.new }) result }
-    {
-        let packet = decode_line(words);
-        self.draw(&packet, steps)
-    }
-
-    // Draws the rectangle of these words.
-    #[inline(always)]
-    fn draw_rectangle<L: Ledger>(&mut self, words: &[u32], steps: &mut Steps<L>) -> Option<Box2>
-        requires { IsOfClass 3 words.now }
-        ensures { IsDone (packet_of self.old.regs.height (Whole words.now))
-            (record { parts = self.old; steps = steps.old }) (record { parts = self.new; steps = steps.new }) result }
-    {
-        let packet = decode_rectangle(words);
-        self.draw(&packet, steps)
-    }
-
-    // Draws the polygon of these words. It is compiled for each of what the vertices may carry.
-    #[inline(always)]
-    fn draw_polygon<L: Ledger>(&mut self, words: &[u32], steps: &mut Steps<L>) -> Option<Box2>
-        requires { IsOfClass 1 words.now }
-        ensures { IsDone (packet_of self.old.regs.height (Whole words.now))
-            (record { parts = self.old; steps = steps.old }) (record { parts = self.new; steps = steps.new }) result }
-    {
-        let Carried { shaded, textured } = carried_by(words[0]);
-        match (shaded, textured) {
-            (false, false) => self.draw_carried(words, false, false, steps),
-            (false, true) => self.draw_carried(words, false, true, steps),
-            (true, false) => self.draw_carried(words, true, false, steps),
-            (true, true) => self.draw_carried(words, true, true, steps),
-        }
-    }
-
-    // The same, where this is what they carry.
-    #[inline(always)]
-    fn draw_carried<L: Ledger>(
-        &mut self,
-        words: &[u32],
-        shaded: bool,
-        textured: bool,
-        steps: &mut Steps<L>,
-    ) -> Option<Box2>
-        requires words { IsOfClass 1 words.now }
-        requires carried { Carries (record { shaded = shaded; textured = textured }) (slice_index words.now 0) }
-        ensures { IsDone (packet_of self.old.regs.height (Whole words.now))
-            (record { parts = self.old; steps = steps.old }) (record { parts = self.new; steps = steps.new }) result }
-    {
-        let packet = decode_polygon(words, Carried { shaded, textured });
-        self.draw(&packet, steps)
-    }
-
-    // Draws a polygon, a line or a rectangle.
-    #[inline(always)]
-    fn draw<L: Ledger>(&mut self, packet: &Packet, steps: &mut Steps<L>) -> Option<Box2>
-        requires range { IsInRange self.old.regs.height packet.now }
-        requires drawn { IsDrawn packet.now }
-        ensures { IsDone packet.now (record { parts = self.old; steps = steps.old })
-            (record { parts = self.new; steps = steps.new }) result }
-    {
-        put_own_page(&mut self.regs, packet);
-        draw(&mut self.vram, &self.regs, packet, steps)
     }
 
     /// Carries out a packet, and answers its area, which is by the registers as they were before.

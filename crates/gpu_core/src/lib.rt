@@ -6,11 +6,13 @@
 #![tactic(auto)]
 
 mod block;
+mod drawn;
 mod effect;
 mod gpu;
 pub mod laws;
 mod noted;
 mod parts;
+mod state;
 mod transfer;
 
 pub use gpu::Gpu;

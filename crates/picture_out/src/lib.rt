@@ -1,6 +1,7 @@
 //! What video memory looks like from outside: the dump of all its cells, the shown picture, and the SHA-256 of each.
 #![tactic(auto)]
 
+mod colors;
 mod dump;
 mod picture;
 mod sums;
