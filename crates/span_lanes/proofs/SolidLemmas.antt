@@ -55,7 +55,7 @@ module _ (span : Span) (h : ℕ) (solid : IsSolid span h) (first start k : ℕ) 
   solid_blind = record { blind = λ j lt now agree. solid.same (first + j) m now }
 
   pub solid_lanes : (lanes : List ℕ) → k ≤ 16 → EachLane (λ i. get_or lanes i 0 ≡ h)
-      → HasLanes (later (shade span) first) span.brush.mask start k m lanes 65535
+      → HasLanes (later (shade span) first) span.brush.mask start m (record { n = k; lanes = lanes; bits = 65535 })
   solid_lanes lanes few same = record {
     lane = λ j lt. rw (solid.written (first + j) (get_or m (start + j) 0) m)
         (ones j (omega arith), same j (omega arith));

@@ -17,4 +17,5 @@ drawn_chunk s p m = drawn_lanes (later (shade s) p.first) s.brush.mask (chunk_pl
 -- lanes that hold what all these cells become, each by video memory as it is
 abbrev pub HasChunk : Span → Part → (m lanes : List ℕ) → Type 0
 HasChunk s p m lanes =
-    HasLanes (later (shade s) p.first) s.brush.mask (chunk_place s p.first) p.k m lanes 65535
+    HasLanes (later (shade s) p.first) s.brush.mask (chunk_place s p.first) m
+    (record { n = p.k; lanes = lanes; bits = 65535 })

@@ -6,7 +6,7 @@ use Rattle.px_num.specs.declared.shape.Cell.{Cell}
 use Rattle.px_num.proofs.FoldLemmas.{each_below-add, each_below-same}
 use Rattle.overlap_guard.specs.Hazard.{HasCopyHazard, has_copy_hazard}
 use Rattle.overlap_guard.proofs.TestLemmas.{copy_iff, same_bool, false_of}
-use Rattle.vram_store.specs.Vram.{IsStored, at, set, bit}
+use Rattle.vram_store.specs.Vram.{IsStored, Lanes, at, set, bit}
 use Rattle.vram_store.specs.Plot.{is_testing, is_forcing, is_kept, forced, plot, draw_at, draw_lane, drawn_lanes}
 use Rattle.vram_store.specs.Chunk.{IsBlind, IsLane, HasLanes}
 use Rattle.vram_store.proofs.ChunkLaw.{chunk_law}
@@ -88,25 +88,24 @@ lane_of true b h color cell e f = inl (λ one. absurd (omega (arith, e, one)))
 lane_of false b h color cell e f = (e, f)
 
 -- what one store writes for a run: each colour as it is written, and each bit as the cell is open
-pub record IsLaneRun (m : List ℕ) (mask : ℕ) (s t : Cell) (n : ℕ) (lanes : List ℕ) (bits : ℕ) : Type 0 where
-  pub colors : (j : ℕ) → j < n → get_or lanes j 0 ≡ forced mask (get_or m (place s + j) 0)
-  pub open_cells : (j : ℕ) → j < n → bit bits j ≡ cond (is_kept mask (get_or m (place t + j) 0)) 0 1
+pub record IsLaneRun (m : List ℕ) (mask : ℕ) (s t : Cell) (of : Lanes) : Type 0 where
+  pub colors : (j : ℕ) → j < of.n → get_or of.lanes j 0 ≡ forced mask (get_or m (place s + j) 0)
+  pub open_cells : (j : ℕ) → j < of.n → bit of.bits j ≡ cond (is_kept mask (get_or m (place t + j) 0)) 0 1
 
-lanes_of : (m : List ℕ) (mask : ℕ) (s t : Cell) (n : ℕ) (lanes : List ℕ) (bits : ℕ) → IsLaneRun m mask s t n lanes bits
-    → HasLanes (read_from s) mask (place t) n m lanes bits
-lanes_of m mask s t n lanes bits run = record {
-  lane = λ j lt. lane_of (is_kept mask (get_or m (place t + j) 0)) (bit bits j) (get_or lanes j 0)
+lanes_of : (m : List ℕ) (mask : ℕ) (s t : Cell) (of : Lanes) → IsLaneRun m mask s t of
+    → HasLanes (read_from s) mask (place t) m of
+lanes_of m mask s t of run = record {
+  lane = λ j lt. lane_of (is_kept mask (get_or m (place t + j) 0)) (bit of.bits j) (get_or of.lanes j 0)
       (forced mask (get_or m (place s + j) 0)) _ (run.open_cells j lt) (run.colors j lt);
 }
 
-pub run_at_once : (old new : List ℕ) (mask : ℕ) (s t : Cell) (n : ℕ) (lanes : List ℕ) (bits : ℕ)
-    → ¬ (HasCopyHazard s t n) → s.x + n ≤ 1024 → t.x + n ≤ 1024 → IsLaneRun old mask s t n lanes bits
-    → IsStored old (place t) n lanes bits new
-    → new ≡ copied_run old mask s t n
-run_at_once old new mask s t n lanes bits free room_s room_t run stored =
-    chunk_law (read_from s) mask (place t) n old lanes new bits (blind_of old s t n free room_s room_t)
-    (lanes_of old mask s t n lanes bits run) stored
-    ∙ sym (run_is old mask s t n)
+pub run_at_once : (old new : List ℕ) (mask : ℕ) (s t : Cell) (of : Lanes) → ¬ (HasCopyHazard s t of.n)
+    → s.x + of.n ≤ 1024 → t.x + of.n ≤ 1024 → IsLaneRun old mask s t of → IsStored old (place t) of new
+    → new ≡ copied_run old mask s t of.n
+run_at_once old new mask s t of free room_s room_t run stored =
+    chunk_law (read_from s) mask (place t) old new of (blind_of old s t of.n free room_s room_t)
+    (lanes_of old mask s t of run) stored
+    ∙ sym (run_is old mask s t of.n)
 
 pub free_of : (s t : Cell) (n : ℕ) → has_copy_hazard s t n ≡ false → ¬ (HasCopyHazard s t n)
 free_of s t n off hazard = let on = (copy_iff s t n).1 hazard in cc

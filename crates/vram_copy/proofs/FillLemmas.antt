@@ -5,7 +5,7 @@ use Rattle.std.proofs.lemmas.Simd.{get_or-replicate}
 use Rattle.px_num.specs.Fold.{each_below}
 use Rattle.px_num.specs.declared.shape.Cell.{Cell}
 use Rattle.px_num.proofs.FoldLemmas.{each_below-add, each_below-same}
-use Rattle.vram_store.specs.Vram.{IsStored, set}
+use Rattle.vram_store.specs.Vram.{IsStored, Lanes, set}
 use Rattle.vram_store.specs.Plot.{is_testing, is_forcing, written_over, draw_lane, drawn_lanes}
 use Rattle.vram_store.specs.Chunk.{IsLane}
 use Rattle.vram_store.proofs.ChunkLaw.{chunk_law}
@@ -31,11 +31,15 @@ draws_set color start j m = rw (set_over (get_or m (start + j) 0) color) refl
 abbrev pub run_of : List ℕ → ℕ → ℕ → ℕ → List ℕ
 run_of m start color n = each_below (λ i cells. slice_set cells (start + i) color) n m
 
-pub stored_run : (old new : List ℕ) (start color : ℕ) → IsStored old start 16 (replicate 16 color) 65535 new
+-- sixteen lanes of one colour, all to be written
+abbrev pub lanes_of : ℕ → Lanes
+lanes_of color = record { n = 16; lanes = replicate 16 color; bits = 65535 }
+
+pub stored_run : (old new : List ℕ) (start color : ℕ) → IsStored old start (lanes_of color) new
     → new ≡ run_of old start color 16
 unfolding drawn_lanes
 stored_run old new start color stored =
-    chunk_law (λ i cells. Some color) 0 start 16 old (replicate 16 color) new 65535
+    chunk_law (λ i cells. Some color) 0 start old new (lanes_of color)
     (record { blind = λ j lt now apart. refl })
     (record {
       lane = λ j lt. set_lane (get_or old (start + j) 0) color _ _ (ones j lt)

@@ -4,7 +4,7 @@ use Rattle.std.proofs.Common.{length, get_or, arith, refl, ap, sym, ◌∙◌}
 use Rattle.std.proofs.lemmas.Nat.{div-mul-add, mod-mul-add}
 use Rattle.px_num.specs.declared.shape.Cell.{Cell}
 use Rattle.px_num.proofs.FoldLemmas.{each_below-add, each_below-same}
-use Rattle.vram_store.specs.Vram.{IsStored, height_of, bit}
+use Rattle.vram_store.specs.Vram.{IsStored, Lanes, height_of, bit}
 use Rattle.vram_store.specs.Plot.{is_testing, is_forcing, is_kept, forced, plot, draw_at, draw_lane, drawn_lanes}
 use Rattle.vram_store.proofs.ChunkLaw.{chunk_law}
 use Rattle.vram_store.proofs.Drawn.{plot_is, length-put_at}
@@ -37,19 +37,18 @@ run_is m mask words s =
     ∙ ap (λ p. draw_at mask p (Some (pixel_of words (s.first + i))) cells) there)
 
 -- one store of pixels, each as it is written, with a bit for each cell that is open
-pub run_at_once : (old new : List ℕ) (mask : ℕ) (words : List ℕ) (s : Stretch) (lanes : List ℕ) (bits : ℕ)
-    → ((j : ℕ) → j < s.n → get_or lanes j 0 ≡ forced mask (pixel_of words (s.first + j)))
-    → ((j : ℕ) → j < s.n → bit bits j ≡ cond (is_kept mask (get_or old (place s.to + j) 0)) 0 1)
-    → IsStored old (place s.to) s.n lanes bits new → new ≡ loaded_run old mask words s
-run_at_once old new mask words s lanes bits colors open_cells stored =
-    chunk_law (given words s.first) mask (place s.to) s.n old lanes new bits
-    (record { blind = λ j lt now apart. refl })
+pub run_at_once : (old new : List ℕ) (mask : ℕ) (words : List ℕ) (to : Cell) (first : ℕ) (of : Lanes)
+    → ((j : ℕ) → j < of.n → get_or of.lanes j 0 ≡ forced mask (pixel_of words (first + j)))
+    → ((j : ℕ) → j < of.n → bit of.bits j ≡ cond (is_kept mask (get_or old (place to + j) 0)) 0 1)
+    → IsStored old (place to) of new → new ≡ loaded_run old mask words (record { to = to; first = first; n = of.n })
+run_at_once old new mask words to first of colors open_cells stored =
+    chunk_law (given words first) mask (place to) old new of (record { blind = λ j lt now apart. refl })
     (record {
-      lane = λ j lt. lane_of (is_kept mask (get_or old (place s.to + j) 0)) (bit bits j) (get_or lanes j 0)
-          (forced mask (pixel_of words (s.first + j))) _ (open_cells j lt) (colors j lt);
+      lane = λ j lt. lane_of (is_kept mask (get_or old (place to + j) 0)) (bit of.bits j) (get_or of.lanes j 0)
+          (forced mask (pixel_of words (first + j))) _ (open_cells j lt) (colors j lt);
     })
     stored
-    ∙ sym (run_is old mask words s)
+    ∙ sym (run_is old mask words (record { to = to; first = first; n = of.n }))
 
 pub load_alike : (m : List ℕ) (a b : ℕ) (words : List ℕ) (s : Stretch) → is_testing a ≡ is_testing b
     → is_forcing a ≡ is_forcing b → loaded_run m a words s ≡ loaded_run m b words s

@@ -21,7 +21,7 @@ half_lane lanes long j lt =
     ap (λ xs. get_or xs j 0) same ∙ get_or-chunk 0 8 lanes j 0 lt ∙ ap (λ n. get_or lanes n 0) (zero-add j)
 
 pub put_all : (old lanes new : List ℕ) (start : ℕ) → start + 16 ≤ length old → IsPut old start 16 lanes new
-    → IsStored old start 16 lanes 65535 new
+    → IsStored old start (record { n = 16; lanes = lanes; bits = 65535 }) new
 put_all old lanes new start room put = record {
   count = put.count;
   in_cells = room;
@@ -51,7 +51,7 @@ module _ (old lanes loaded chosen result new : List ℕ) (start n size mask : �
         | inr far ↦ put.others k (inr far)
       ]
 
-  pub put_some : IsStored old start n lanes mask new
+  pub put_some : IsStored old start (record { n = n; lanes = lanes; bits = mask }) new
   put_some = record {
     count = put.count;
     in_cells = omega arith;

@@ -39,13 +39,19 @@ pub record IsLoaded (m : List ℕ) (start n : ℕ) (lanes : List ℕ) : Type 0 w
 abbrev pub bit : ℕ → ℕ → ℕ
 bit number j = number / 2 ^ j % 2
 
--- of n cells from number start on those have become their lanes whose bit of the mask is 1, and all others stayed
-pub record IsStored (old : List ℕ) (start n : ℕ) (lanes : List ℕ) (mask : ℕ) (new : List ℕ) : Type 0 where
+-- the first n of some lanes, each with a bit that is 1 where it is to be written
+pub record Lanes : Type 0 where
+  pub n : ℕ
+  pub lanes : List ℕ
+  pub bits : ℕ
+
+-- of the cells from number start on those have become their lanes whose bit is 1, and all others stayed
+pub record IsStored (old : List ℕ) (start : ℕ) (of : Lanes) (new : List ℕ) : Type 0 where
   pub count : length new ≡ length old
-  pub in_cells : start + n ≤ length old
-  pub written : (j : ℕ) → j < n → bit mask j ≡ 1 → slice_index new (start + j) ≡ slice_index lanes j
-  pub masked : (j : ℕ) → j < n → bit mask j ≢ 1 → slice_index new (start + j) ≡ slice_index old (start + j)
-  pub others : (k : ℕ) → (k < start) ⊎ (start + n ≤ k) → slice_index new k ≡ slice_index old k
+  pub in_cells : start + of.n ≤ length old
+  pub written : (j : ℕ) → j < of.n → bit of.bits j ≡ 1 → slice_index new (start + j) ≡ slice_index of.lanes j
+  pub masked : (j : ℕ) → j < of.n → bit of.bits j ≢ 1 → slice_index new (start + j) ≡ slice_index old (start + j)
+  pub others : (k : ℕ) → (k < start) ⊎ (start + of.n ≤ k) → slice_index new k ≡ slice_index old k
 
 -- the n cells from number start on have become the first lanes, and all others stayed
 pub record IsPut (old : List ℕ) (start n : ℕ) (lanes new : List ℕ) : Type 0 where

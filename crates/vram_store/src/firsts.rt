@@ -12,7 +12,7 @@ pub(crate) fn store_first(cells: &mut [u16], start: usize, n: u8, lanes: u16x16,
     requires few { n ≤ 16 }
     requires long { length lanes ≡ 16 }
     requires in_cells { start + 16 ≤ length cells.old }
-    ensures { IsStored cells.old start n lanes mask cells.new }
+    ensures { IsStored cells.old start (record { n = n; lanes = lanes; bits = mask }) cells.new }
 {
     if n == 16 && mask == 0xffff {
         store_whole(cells, start, lanes);
@@ -41,7 +41,7 @@ pub(crate) fn load_lanes(cells: &[u16]) -> [u16; 16]
 pub(crate) fn store_lanes(cells: &mut [u16], start: usize, n: usize, lanes: &[u16; 16], mask: u16)
     requires lanes { n ≤ 16 }
     requires in_cells { start + n ≤ length cells.old }
-    ensures { IsStored cells.old start n lanes.now mask cells.new }
+    ensures { IsStored cells.old start (record { n = n; lanes = lanes.now; bits = mask }) cells.new }
 {
     for j in 0..n {
         if (mask >> j) % 2 == 1 {

@@ -157,7 +157,7 @@ impl Vram {
         requires lanes { n ≤ 16 }
         requires in_row { x + n ≤ 1024 }
         requires in_height { y < height_of self.old }
-        ensures cells { IsStored self.old (1024 * y + x) n lanes mask self.new }
+        ensures cells { IsStored self.old (1024 * y + x) (record { n = n; lanes = lanes; bits = mask }) self.new }
         ensures long { length self.new ≡ length self.old }
         ensures cost { steps.new ≡ steps.old + 1 }
     {

@@ -12,7 +12,7 @@ returns-clause-drawn g c =
     let solid = c.requires.serves.solid in
     let h = c.args.self.now.h in
     record {
-      cells = chunk_law _ _ _ _ _ _ _ _ (solid_blind span h solid part.first _ part.k c.args.vram.now)
+      cells = chunk_law _ _ _ _ _ _ (solid_blind span h solid part.first _ part.k c.args.vram.now)
           (solid_lanes span h solid part.first _ part.k c.args.vram.now _ c.requires.part.few c.splat.ensures.value)
           c.store16.ensures.cells;
       long = c.store16.ensures.long;
