@@ -105,7 +105,7 @@ SaysStop (Truncated byte) old version taken now =
     (capture_from old taken ≡ ended version (Truncated byte) []) × IsAtEnd now
 SaysStop stop old version taken now = (rest : List ℕ) → capture_from old (taken ++ rest) ≡ ended version stop rest
 
--- a reader stops where no event is left before the end of its bytes
+-- bytes were taken, none too many, and no event was given: they say where the reader stops
 pub record StopsAt (before now : Standing) (stop : Stop) : Type 0 where
   pub taken : List ℕ
   pub bytes : before.left ≡ prepended taken now.left
