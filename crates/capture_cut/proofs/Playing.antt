@@ -1,7 +1,7 @@
 -- The first events, one after another.
 use Rattle.std.proofs.Common.{◌≡◌, ◌≤◌, ◌<◌, ◌+◌, ◌^◌, ◌++◌, ℕ, List, [], ◌∷◌, Option, Result, Ok, Err}
 use Rattle.std.proofs.Common.{OnOk, IfOk, IfErr, length, length-append, refl, ap, sym, subst, ◌∙◌, append_assoc, arith}
-use Rattle.gpu_capture.specs.Reader.{Takes, StopsAt, IsStart}
+use Rattle.gpu_capture.specs.Reader.{Takes, StopsAt, IsStart, standing}
 use Rattle.gpu_capture.specs.declared.event.Event.{Event}
 use Rattle.gpu_capture.specs.declared.event.Stop.{Stop}
 use Rattle.gpu_capture.specs.declared.progress.Progress.{Progress}
@@ -93,8 +93,9 @@ pub record Awaits (n : ℕ) (start : Tale) (version : ℕ) (before now : Streams
 pub awaits_first : (s : Machine) (left left_now held : Option (List ℕ)) (heard : List Reading) (steps : ℕ)
     (rig : RigState) (first new : Progress) (version : ℕ) (next : Result Event Stop) → IsStart first
     → StandsFor rig (raised (from_state s 0) version) → version ≡ new.version
-    → IfOk next (λ event. Takes first new left left_now (event ∷ [])) → OnOk next (1 ≤ new.version)
-    → IfErr next (λ stop. StopsAt first new left left_now stop)
+    → IfOk next (λ event. Takes (standing first left) (standing new left_now) (event ∷ []))
+    → OnOk next (1 ≤ new.version)
+    → IfErr next (λ stop. StopsAt (standing first left) (standing new left_now) stop)
     → Awaits 0 (from_state s 0) version (streams left held heard steps) (streams left_now held heard steps) rig new next
 awaits_first s left left_now held heard steps rig first new version next is stands same takes known stops =
     let none : IsFirst (raised (from_state s 0) version) = raised_first (from_state s 0) version (from_first s 0) in
@@ -116,8 +117,8 @@ awaits_first s left left_now held heard steps rig first new version next is stan
 
 pub awaits_next : (n : ℕ) (start : Tale) (before now : Streams) (rig : RigState) (old new : Progress)
     (left : Option (List ℕ)) (next : Result Event Stop) → PlaysFirst (cut_at n start) before now rig old
-    → IfOk next (λ event. Takes old new now.left left (event ∷ [])) → OnOk next (1 ≤ new.version)
-    → IfErr next (λ stop. StopsAt old new now.left left stop)
+    → IfOk next (λ event. Takes (standing old now.left) (standing new left) (event ∷ [])) → OnOk next (1 ≤ new.version)
+    → IfErr next (λ stop. StopsAt (standing old now.left) (standing new left) stop)
     → Awaits n start old.version before (streams left now.held now.heard now.steps) rig new next
 awaits_next n start before now rig old new left next was takes known stops =
     let answer = answers old new now.left left next takes known stops in

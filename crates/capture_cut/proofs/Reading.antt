@@ -3,7 +3,7 @@ use Rattle.std.proofs.Common.{◌≡◌, ◌≤◌, ◌++◌, ℕ, List, [], ◌
 use Rattle.std.proofs.Common.{false, true, refl, sym, ◌∙◌}
 use Rattle.dev_io.specs.Device.{prepended}
 use Rattle.dev_io.proofs.Parts.{prepended-nil, taken_on}
-use Rattle.gpu_capture.specs.Reader.{Takes, StopsAt, IsStart, IsReadFault, capture_from}
+use Rattle.gpu_capture.specs.Reader.{Takes, StopsAt, IsStart, IsReadFault, capture_from, standing}
 use Rattle.gpu_capture.specs.declared.event.Event.{Event}
 use Rattle.gpu_capture.specs.declared.event.Stop.{Stop}
 use Rattle.gpu_capture.specs.declared.progress.Progress.{Progress}
@@ -23,7 +23,8 @@ read_none left p is = record {
 
 -- one event more
 pub read_on : (before mid now : Option (List ℕ)) (old new : Progress) (xs : List ℕ) (events : List Event)
-    (given : Event) → HasRead before mid old xs events → (takes : Takes old new mid now (given ∷ []))
+    (given : Event) → HasRead before mid old xs events
+    → (takes : Takes (standing old mid) (standing new now) (given ∷ []))
     → HasRead before now new (xs ++ takes.taken) (events ++ given ∷ [])
 read_on before mid now old new xs events given was takes = record {
   bytes = taken_on before mid now xs takes.taken was.bytes takes.bytes;
@@ -41,13 +42,13 @@ reads_to before now p events way has known same = record {
 
 -- the reader stopped
 pub stops_bytes : (before mid now : Option (List ℕ)) (old new : Progress) (xs : List ℕ) (events : List Event)
-    (stop : Stop) → HasRead before mid old xs events → (stops : StopsAt old new mid now stop)
+    (stop : Stop) → HasRead before mid old xs events → (stops : StopsAt (standing old mid) (standing new now) stop)
     → before ≡ prepended (xs ++ stops.taken) now
 stops_bytes before mid now old new xs events stop was stops =
     taken_on before mid now xs stops.taken was.bytes stops.bytes
 
 pub stops_behind : (before mid now : Option (List ℕ)) (old new : Progress) (xs : List ℕ) (stop : Stop) (way : Way)
-    → HasRead before mid old xs (events_of way) → (stops : StopsAt old new mid now stop)
+    → HasRead before mid old xs (events_of way) → (stops : StopsAt (standing old mid) (standing new now) stop)
     → way.version ≡ new.version → way.taken ≡ xs ++ stops.taken → StopsBehind way stop now
 stops_behind before mid now old new xs stop way was stops same taken = record {
   says = stop_says old (read_of way) xs stops.taken now stop taken was.says (rw same stops.says);

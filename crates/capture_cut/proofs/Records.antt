@@ -6,7 +6,7 @@ use Rattle.gathered_out.specs.Puts.{BreaksWriting}
 use Rattle.gathered_out.proofs.Gathers.{BreaksDue, Gathers, breaks_put, gathers_more, gathers_off, gathers_on}
 use Rattle.gathered_out.proofs.Gathers.{gathers_written}
 use Rattle.gpu_capture.specs.Capture.{capture, limit}
-use Rattle.gpu_capture.specs.Reader.{AreNeeded as ReaderNeeds, Takes, StopsAt, capture_from}
+use Rattle.gpu_capture.specs.Reader.{AreNeeded as ReaderNeeds, Takes, StopsAt, capture_from, standing}
 use Rattle.gpu_capture.proofs.Versions.{version_from}
 use Rattle.gpu_capture.specs.Written.{spelled, spelled_end, tag_of, Allows}
 use Rattle.gpu_capture.specs.declared.event.Event.{Event}
@@ -155,7 +155,8 @@ module _ (cut : CutAt) (before now : Streams) (rig : RigState) (old : Progress) 
         few_behind old (events_of far) far.taken further at.flushed since (inr at.on.known) at.on.reads.says at.since_is
         near needed
 
-    module _ (event : Event) (takes : Takes old new now.left left (event ∷ [])) (known : 1 ≤ new.version) where
+    module _ (event : Event) (takes : Takes (standing old now.left) (standing new left) (event ∷ []))
+        (known : 1 ≤ new.version) where
       abbrev taken : List ℕ
       taken = far.taken ++ takes.taken
 
@@ -269,7 +270,7 @@ module _ (cut : CutAt) (before now : Streams) (rig : RigState) (old : Progress) 
 
     -- ---- the reader stops
 
-    module _ (stop : Stop) (stops : StopsAt old new now.left left stop) where
+    module _ (stop : Stop) (stops : StopsAt (standing old now.left) (standing new left) stop) where
       abbrev bytes_taken : List ℕ
       bytes_taken = far.taken ++ stops.taken
 

@@ -7,7 +7,7 @@ use Rattle.gathered_out.specs.Pieces.{Piece}
 use Rattle.gathered_out.specs.Puts.{BreaksWriting}
 use Rattle.gathered_out.proofs.Gathers.{gathers_more, gathers_off}
 use Rattle.gpu_capture.specs.Capture.{capture, limit}
-use Rattle.gpu_capture.specs.Reader.{AreNeeded as ReaderNeeds, Takes, capture_from, work_left}
+use Rattle.gpu_capture.specs.Reader.{AreNeeded as ReaderNeeds, Takes, capture_from, work_left, standing}
 use Rattle.gpu_capture.specs.State.{ReaderState}
 use Rattle.gpu_capture.specs.Words.{StopsBehind, TakesWords, word_events}
 use Rattle.gpu_capture.specs.Written.{AllowsAll}
@@ -44,8 +44,9 @@ use Rattle.capture_flat.proofs.Stopping.{reading_ends}
 
 -- how many words were taken, whether or not the reader stopped behind them
 pub words_count : {Value : Type 0} (p q : Progress) (left after : Option (List ℕ)) (words : List ℕ)
-    (read : Result Value Stop) → OnOk read (TakesWords p q left after words)
-    → IfErr read (λ stop. StopsBehind p q left after words stop) → q.place ≡ p.place + 4 * length words
+    (read : Result Value Stop) → OnOk read (TakesWords (standing p left) (standing q after) words)
+    → IfErr read (λ stop. StopsBehind (standing p left) (standing q after) words stop)
+    → q.place ≡ p.place + 4 * length words
 words_count p q left after words (Ok v) takes behind = takes.place
 words_count p q left after words (Err stop) takes behind = behind.takes.place
 
@@ -139,7 +140,8 @@ pub record Keeps (version work : ℕ) (read_before read_now write_before write_n
 pub event_goes : (start : Tale) (version : ℕ) (before : Streams) (left_mid left : Option (List ℕ)) (mid now : Outlets)
     (was_rig rig : RigState) (old new : Progress) (draft : Draft) (since : ℕ)
     (was : Passes (raised start version) version before (beside left_mid mid) was_rig old draft since)
-    → old.place < since + 4096 → (given : Event) → Takes old new left_mid left (given ∷ []) → version ≡ new.version
+    → old.place < since + 4096 → (given : Event) → Takes (standing old left_mid) (standing new left) (given ∷ [])
+    → version ≡ new.version
     → 1 ≤ new.version → (is last : Draft) (at : ℕ) (held : Option (List ℕ))
     → PassesEvent was.tale given (stage draft mid was_rig) (stage is now rig) → last.file ≡ is.file
     → Pauses new.place since (sink_with now.held is.gathered) (sink_with held last.gathered) at
@@ -196,7 +198,7 @@ module _ (start : Tale) (version : ℕ) (before : Streams) (left held : Option (
     follows = record { replays = was.follows.replays };
   }
 
-  reads_all : (after : Option (List ℕ)) (takes : TakesWords p q left after words)
+  reads_all : (after : Option (List ℕ)) (takes : TakesWords (standing p left) (standing q after) words)
       → ReadsTo script q next (was.taken ++ takes.taken) events []
   reads_all after takes = read_words script p q left after was.tale next was.taken words was.events reads_before takes
       (record {
@@ -218,7 +220,7 @@ module _ (start : Tale) (version : ℕ) (before : Streams) (left held : Option (
       (without_sink heard_now steps_now) rig
   told = rw was.stands.played (tells was.tale.state was.stands.state)
 
-  words_play : (after : Option (List ℕ)) → TakesWords p q left after words
+  words_play : (after : Option (List ℕ)) → TakesWords (standing p left) (standing q after) words
       → Passes first version before (streams after held heard_now steps_now) rig q gathering since
   words_play after takes =
       let reads = reads_all after takes in
@@ -274,7 +276,7 @@ module _ (start : Tale) (version : ℕ) (before : Streams) (left held : Option (
 
     -- all of them were
     pub words_went : {Value : Type 0} (after : Option (List ℕ)) (v : Value) → Puts {Value = Value} (Ok v)
-        → TakesWords p q left after words
+        → TakesWords (standing p left) (standing q after) words
         → Passes first version before (streams after now heard_now steps_now) rig q is since
     words_went after v puts takes =
         let P : FlatFile → Type 0 = λ f. Passes first version before (streams after now heard_now steps_now) rig q
@@ -286,7 +288,8 @@ module _ (start : Tale) (version : ℕ) (before : Streams) (left held : Option (
 
     -- and then was a pause
     pub words_go : {Value : Type 0} (after : Option (List ℕ)) (v : Value) → Puts {Value = Value} (Ok v)
-        → TakesWords p q left after words → (last : Draft) (at : ℕ) (written : Option (List ℕ)) → last.file ≡ is.file
+        → TakesWords (standing p left) (standing q after) words
+        → (last : Draft) (at : ℕ) (written : Option (List ℕ)) → last.file ≡ is.file
         → Pauses q.place since (sink_with now is.gathered) (sink_with written last.gathered) at
         → GoesOn start version before (streams after written heard_now steps_now) rig q last at
     words_go after v puts takes last at written same_file pauses = record {
@@ -298,8 +301,9 @@ module _ (start : Tale) (version : ℕ) (before : Streams) (left held : Option (
 
     -- one could not be put, whether or not the reader stopped behind them
     pub words_fail : {Value Got : Type 0} (after : Option (List ℕ)) (lacking : ℕ) (read : Result Got Stop)
-        → Puts {Value = Value} (Err lacking) → OnOk read (TakesWords p q left after words)
-        → IfErr read (λ stop. StopsBehind p q left after words stop) → q.place < since + 4096 → version ≤ 3
+        → Puts {Value = Value} (Err lacking) → OnOk read (TakesWords (standing p left) (standing q after) words)
+        → IfErr read (λ stop. StopsBehind (standing p left) (standing q after) words stop)
+        → q.place < since + 4096 → version ≤ 3
         → EndsFlat start before (streams after now heard_now steps_now) rig (WriteFailed lacking)
     words_fail after lacking (Ok v) puts takes behind near low =
         passes_off start version before (streams after held heard_now steps_now) rig q gathering since

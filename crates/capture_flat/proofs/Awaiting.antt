@@ -8,7 +8,7 @@ use Rattle.dev_io.proofs.Parts.{prepended-nil}
 use Rattle.gathered_out.specs.Pieces.{Piece}
 use Rattle.gathered_out.proofs.Gathers.{Gathers, gathers_none, gathers_written}
 use Rattle.gpu_capture.proofs.Taken.{taken_count}
-use Rattle.gpu_capture.specs.Reader.{Takes, StopsAt, IsStart}
+use Rattle.gpu_capture.specs.Reader.{Takes, StopsAt, IsStart, standing}
 use Rattle.gpu_capture.specs.declared.event.Event.{Event}
 use Rattle.gpu_capture.specs.declared.event.Stop.{Stop}
 use Rattle.gpu_capture.specs.declared.progress.Progress.{Progress}
@@ -28,8 +28,8 @@ use Rattle.capture_flat.proofs.Needed.{none_needed, takes_version, stops_version
 
 -- the reader went from one place to the next, and answered this
 abbrev pub Answers : (old new : Progress) (before now : Option (List ℕ)) → Result Event Stop → Type 0
-Answers old new before now (Ok event) = Takes old new before now (event ∷ []) × (1 ≤ new.version)
-Answers old new before now (Err stop) = StopsAt old new before now stop
+Answers old new before now (Ok event) = Takes (standing old before) (standing new now) (event ∷ []) × (1 ≤ new.version)
+Answers old new before now (Err stop) = StopsAt (standing old before) (standing new now) stop
 
 pub record Awaits (start : Tale) (version : ℕ) (before now : Streams) (rig : RigState) (new : Progress)
     (draft : Draft) (since : ℕ) (next : Result Event Stop) : Type 0 where
@@ -57,8 +57,8 @@ pub raised_played : (t : Tale) (version : ℕ) → (raised t version).played ≡
 raised_played t version = elim (cases_Bool (version == tall_version)) [ inl is ↦ rw is refl | inr is ↦ rw is refl ]
 
 pub answers : (old new : Progress) (before now : Option (List ℕ)) (next : Result Event Stop)
-    → IfOk next (λ event. Takes old new before now (event ∷ []))
-    → OnOk next (1 ≤ new.version) → IfErr next (λ stop. StopsAt old new before now stop)
+    → IfOk next (λ event. Takes (standing old before) (standing new now) (event ∷ []))
+    → OnOk next (1 ≤ new.version) → IfErr next (λ stop. StopsAt (standing old before) (standing new now) stop)
     → Answers old new before now next
 answers old new before now (Ok event) takes known stops = (takes, known)
 answers old new before now (Err stop) takes known stops = stops
@@ -67,8 +67,9 @@ pub starts : (s : Machine) (left left_now held : Option (List ℕ)) (heard : Lis
     (first new : Progress) (version : ℕ) (draft : Draft)
     (next : Result Event Stop) → IsStart first → draft.file ≡ record { version = version; size = 0 }
     → draft.gathered ≡ [] → StandsFor rig (raised (from_state s 0) version) → version ≡ new.version
-    → IfOk next (λ event. Takes first new left left_now (event ∷ [])) → OnOk next (1 ≤ new.version)
-    → IfErr next (λ stop. StopsAt first new left left_now stop)
+    → IfOk next (λ event. Takes (standing first left) (standing new left_now) (event ∷ []))
+    → OnOk next (1 ≤ new.version)
+    → IfErr next (λ stop. StopsAt (standing first left) (standing new left_now) stop)
     → Awaits (from_state s 0) version (streams left held heard steps) (streams left_now held heard steps) rig new
     draft 0 next
 starts s left left_now held heard steps rig first new version draft next is file empty stands same takes known stops =
@@ -120,8 +121,8 @@ pub reads : (start : Tale) (version : ℕ) (before now : Streams) (rig : RigStat
     (since : ℕ) (left : Option (List ℕ))
     (next : Result Event Stop) → Passes (raised start version) version before now rig old draft since
     → old.place < since + 4096 → version ≡ old.version → 1 ≤ old.version
-    → IfOk next (λ event. Takes old new now.left left (event ∷ [])) → OnOk next (1 ≤ new.version)
-    → IfErr next (λ stop. StopsAt old new now.left left stop)
+    → IfOk next (λ event. Takes (standing old now.left) (standing new left) (event ∷ [])) → OnOk next (1 ≤ new.version)
+    → IfErr next (λ stop. StopsAt (standing old now.left) (standing new left) stop)
     → Awaits start version before (streams left now.held now.heard now.steps) rig new draft since next
 reads start version before now rig old new draft since left (Ok event) was near same was_known takes known stops =
     record {

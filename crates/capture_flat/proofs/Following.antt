@@ -6,7 +6,7 @@ use Rattle.dev_io.specs.Device.{prepended}
 use Rattle.dev_io.proofs.Parts.{taken_on}
 use Rattle.gp0_packets.specs.declared.note.Note.{Note}
 use Rattle.gpu_capture.specs.Capture.{Captured, capture, then_events, limit}
-use Rattle.gpu_capture.specs.Reader.{AreNeeded as ReaderNeeds, IsStart, Takes, capture_from}
+use Rattle.gpu_capture.specs.Reader.{AreNeeded as ReaderNeeds, IsStart, Takes, capture_from, standing}
 use Rattle.gpu_capture.specs.Written.{written, AllowsAll}
 use Rattle.gpu_capture.specs.declared.event.Event.{Event}
 use Rattle.gpu_capture.specs.declared.progress.Progress.{Progress}
@@ -158,7 +158,8 @@ module _ (start : Tale) (version : ℕ) (before : Streams) (left_mid left : Opti
     (was_rig rig : RigState) (old new : Progress) (draft : Draft) (since : ℕ)
     (was : Passes (raised start version) version before (beside left_mid mid) was_rig old draft since)
     (near : old.place < since + 4096)
-    (given : Event) (takes : Takes old new left_mid left (given ∷ [])) (same : version ≡ new.version)
+    (given : Event) (takes : Takes (standing old left_mid) (standing new left) (given ∷ []))
+    (same : version ≡ new.version)
     (known : 1 ≤ new.version) where
   abbrev first : Tale
   first = raised start version

@@ -2,7 +2,7 @@
 use Rattle.std.proofs.Common.{◌≡◌, ◌≤◌, inl, inr, ◌++◌, ℕ, List, [], ◌∷◌, Option, refl, ap, sym, ◌∙◌, append_assoc}
 use Rattle.std.proofs.Common.{append-nil}
 use Rattle.gpu_capture.specs.Capture.{Captured, capture, ended, then_events}
-use Rattle.gpu_capture.specs.Reader.{AreNeeded as ReaderNeeds, Takes, SaysStop as ReaderSays, capture_from}
+use Rattle.gpu_capture.specs.Reader.{AreNeeded as ReaderNeeds, Takes, SaysStop as ReaderSays, capture_from, standing}
 use Rattle.gpu_capture.specs.declared.event.Event.{Event}
 use Rattle.gpu_capture.specs.declared.event.Stop.{Stop}
 use Rattle.gpu_capture.specs.declared.event.Stop.TheVariants.{End, NotCapture, Truncated, BadRecord}
@@ -142,7 +142,7 @@ stop_says old way xs ys left (ReadFault byte) are reached says = rw are
 -- ---- versions
 
 pub takes_version : (old new : Progress) (before now : Option (List ℕ)) (events : List Event)
-    → Takes old new before now events
+    → Takes (standing old before) (standing new now) events
     → 1 ≤ old.version → 1 ≤ new.version → old.version ≡ new.version
 takes_version old new before now events takes was is =
     sym (version_from old (takes.taken ++ []) was) ∙ ap (λ (c : Captured). c.version) (takes.says [])

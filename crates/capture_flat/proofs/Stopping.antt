@@ -6,7 +6,7 @@ use Rattle.dev_io.proofs.Parts.{taken_on}
 use Rattle.gpu_capture.specs.Capture.{capture, limit}
 use Rattle.gathered_out.specs.Puts.{BreaksWriting}
 use Rattle.gathered_out.proofs.Gathers.{gathers_more, gathers_off, gathers_written}
-use Rattle.gpu_capture.specs.Reader.{StopsAt, capture_from}
+use Rattle.gpu_capture.specs.Reader.{StopsAt, capture_from, standing}
 use Rattle.gpu_capture.proofs.Versions.{version_from}
 use Rattle.gpu_capture.specs.Written.{written, AllowsAll}
 use Rattle.gpu_capture.specs.declared.event.Event.{Event}
@@ -100,7 +100,7 @@ module _ (start : Tale) (version : ℕ) (before : Streams) (left_mid left held_o
   abbrev first_tale : Tale
   first_tale = raised start version
 
-  abbrev way : (stop : Stop) → StopsAt old new left_mid left stop → Way
+  abbrev way : (stop : Stop) → StopsAt (standing old left_mid) (standing new left) stop → Way
   way stop stops =
       record {
         version = version;
@@ -111,15 +111,16 @@ module _ (start : Tale) (version : ℕ) (before : Streams) (left_mid left held_o
             was.tale;
       }
 
-  needs : (stop : Stop) (stops : StopsAt old new left_mid left stop)
+  needs : (stop : Stop) (stops : StopsAt (standing old left_mid) (standing new left) stop)
       → AreNeededToEnd was.events (was.taken ++ stops.taken)
   needs stop stops = needed_end old was.events was.taken stops.taken was.says was.needed stops.needed
 
-  bytes : (stop : Stop) (stops : StopsAt old new left_mid left stop)
+  bytes : (stop : Stop) (stops : StopsAt (standing old left_mid) (standing new left) stop)
       → before.left ≡ prepended (was.taken ++ stops.taken) left
   bytes stop stops = taken_on before.left left_mid left was.taken stops.taken was.bytes stops.bytes
 
-  says : (stop : Stop) (stops : StopsAt old new left_mid left stop) → SaysStop (way stop stops) stop left
+  says : (stop : Stop) (stops : StopsAt (standing old left_mid) (standing new left) stop)
+      → SaysStop (way stop stops) stop left
   says stop stops = stop_says old (way stop stops) was.taken stops.taken left stop refl was.says (rw same stops.says)
 
   fits : length (flat_file first_tale version was.events) ≤ limit
@@ -128,7 +129,7 @@ module _ (start : Tale) (version : ℕ) (before : Streams) (left_mid left held_o
   box_cost : steps ≤ before.steps + was.tale.box_cost
   box_cost = spent_within before.steps steps was.tale.cost was.tale.box_cost was.cost was.small
 
-  whole_ends : StopsAt old new left_mid left End → version ≤ 3
+  whole_ends : StopsAt (standing old left_mid) (standing new left) End → version ≤ 3
       → held ≡ appended held_mid (end_due version was.tale.played)
       → EndsFlat start before (streams left held heard steps) rig Done
   whole_ends stops low wrote =
@@ -156,7 +157,8 @@ module _ (start : Tale) (version : ℕ) (before : Streams) (left_mid left held_o
         box_cost = box_cost;
       }
 
-  lacks_ends : (number : ℕ) (stops : StopsAt old new left_mid left End) → number ≡ next_number was.tale.played
+  lacks_ends : (number : ℕ) (stops : StopsAt (standing old left_mid) (standing new left) End)
+      → number ≡ next_number was.tale.played
       → AppendsPart held_mid held (end_due version was.tale.played)
       → EndsFlat start before (streams left held heard steps) rig (WriteFailed number)
   lacks_ends number stops at part =
@@ -181,7 +183,7 @@ module _ (start : Tale) (version : ℕ) (before : Streams) (left_mid left held_o
         box_cost = box_cost;
       }
 
-  stopped_ends : (number : ℕ) (stop : Stop) (stops : StopsAt old new left_mid left stop)
+  stopped_ends : (number : ℕ) (stop : Stop) (stops : StopsAt (standing old left_mid) (standing new left) stop)
       → number ≡ next_number was.tale.played
       → IsNotEnd stop → held ≡ held_mid
       → EndsFlat start before (streams left held heard steps) rig (Stopped number stop)
@@ -200,17 +202,19 @@ module _ (start : Tale) (version : ℕ) (before : Streams) (left_mid left held_o
     box_cost = box_cost;
   }
 
-  stop_ends : (stop : Stop) (ending : FlatEnding) → StopsAt old new left_mid left stop → version ≤ 3
+  stop_ends : (stop : Stop) (ending : FlatEnding) → StopsAt (standing old left_mid) (standing new left) stop
+      → version ≤ 3
       → StopsAs stop (next_number was.tale.played) ending
       → Closes (end_due version was.tale.played) held_mid held ending
       → EndsFlat start before (streams left held heard steps) rig ending
   stop_ends stop Done stops low ends wrote =
-      let P : Stop → Type 0 = λ stop. StopsAt old new left_mid left stop in whole_ends (subst P ends stops) low wrote
+      let P : Stop → Type 0 = λ stop. StopsAt (standing old left_mid) (standing new left) stop in
+      whole_ends (subst P ends stops) low wrote
   stop_ends stop (WriteFailed number) stops low ends wrote =
-      let P : Stop → Type 0 = λ stop. StopsAt old new left_mid left stop in
+      let P : Stop → Type 0 = λ stop. StopsAt (standing old left_mid) (standing new left) stop in
       lacks_ends number (subst P ends.0 stops) ends.1 wrote
   stop_ends stop (Stopped number told) stops low ends wrote =
-      let P : Stop → Type 0 = λ stop. StopsAt old new left_mid left stop in
+      let P : Stop → Type 0 = λ stop. StopsAt (standing old left_mid) (standing new left) stop in
       let Q : Stop → Type 0 = λ stop. IsNotEnd stop in
       stopped_ends number told (subst P (sym ends.1) stops) ends.0 (subst Q (sym ends.1) ends.2) wrote
   stop_ends stop (Faulted number fault) stops low ends wrote = absurd ends
@@ -228,7 +232,7 @@ module _ (start : Tale) (version : ℕ) (before : Streams) (left_mid left held_m
     (was : Passes (raised start version) version before (streams left_mid held_mid heard steps) rig old draft since)
     (near : old.place < since + 4096)
     (same : version ≡ new.version) where
-  abbrev way_here : (stop : Stop) → StopsAt old new left_mid left stop → Way
+  abbrev way_here : (stop : Stop) → StopsAt (standing old left_mid) (standing new left) stop → Way
   way_here stop stops = record {
     version = version;
     taken = was.taken ++ stops.taken;
@@ -238,7 +242,7 @@ module _ (start : Tale) (version : ℕ) (before : Streams) (left_mid left held_m
   }
 
   -- the bytes taken say the events, if there are some
-  says_events : (stop : Stop) (stops : StopsAt old new left_mid left stop) → 1 ≤ old.version
+  says_events : (stop : Stop) (stops : StopsAt (standing old left_mid) (standing new left) stop) → 1 ≤ old.version
       → SaysFirst (way_here stop stops) was.events
   says_events stop stops known = λ rest. (
     capture_from old (stops.taken ++ rest),
@@ -247,7 +251,8 @@ module _ (start : Tale) (version : ℕ) (before : Streams) (left_mid left held_m
         ∙ sym same,
   )
 
-  gathered_lacks : (stop : Stop) (lacking : ℕ) → StopsAt old new left_mid left stop → 1 ≤ old.version
+  gathered_lacks : (stop : Stop) (lacking : ℕ) → StopsAt (standing old left_mid) (standing new left) stop
+      → 1 ≤ old.version
       → BreaksWriting held_mid held draft.gathered lacking
       → EndsFlat start before (streams left held heard steps) rig (WriteFailed lacking)
   gathered_lacks stop lacking stops known breaks =
@@ -268,7 +273,8 @@ module _ (start : Tale) (version : ℕ) (before : Streams) (left_mid left held_m
       was.stands was.heard was.cost (spent_within before.steps steps was.tale.cost was.tale.box_cost was.cost was.small)
 
   -- by the number of events that the rig has counted
-  pub reading_ends : (played : ℕ) (stop : Stop) (ending : FlatEnding) → StopsAt old new left_mid left stop
+  pub reading_ends : (played : ℕ) (stop : Stop) (ending : FlatEnding)
+      → StopsAt (standing old left_mid) (standing new left) stop
       → version ≤ 3 → played ≡ rig.played
       → EndsReading played stop (writing draft held_mid) held ending
       → EndsFlat start before (streams left held heard steps) rig ending

@@ -59,7 +59,7 @@ SaysFirst way events = SaysThese capture way.version way.taken events
 
 -- what a capture of the bytes taken says where the reader stopped behind the events of the way
 abbrev pub SaysStop : Way → Stop → (left : Option (List ℕ)) → Type 0
-SaysStop way stop left = Stops capture way.version way.taken way.events stop left
+SaysStop way stop left = Stops capture way.taken (record { version = way.version; events = way.events }) stop left
 
 -- ---- the endings
 

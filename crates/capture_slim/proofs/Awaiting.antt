@@ -8,7 +8,7 @@ use Rattle.dev_io.proofs.Parts.{prepended-nil, taken_on}
 use Rattle.gpu_capture.specs.Capture.{Captured, capture, then_events, opened, numbered_version, heads}
 use Rattle.gpu_capture.specs.Head.{head_among}
 use Rattle.gpu_capture.specs.Reader.{Takes, StopsAt, IsReadFault, IsStart, SaysStop as ReaderSays, capture_from}
-use Rattle.gpu_capture.specs.Reader.{work_left, tag_due}
+use Rattle.gpu_capture.specs.Reader.{standing, work_left, tag_due}
 use Rattle.gpu_capture.specs.declared.event.Event.{Event}
 use Rattle.gpu_capture.specs.declared.event.Stop.{Stop}
 use Rattle.gpu_capture.specs.declared.event.Stop.TheVariants.{End, NotCapture, Truncated, BadRecord}
@@ -106,8 +106,9 @@ pub starts : (before : Streams) (left : Option (List ℕ)) (faults : ℕ) (windo
     (version : ℕ) (draft : Draft) (next : Result Event Stop)
     → draft.file ≡ record { version = version; size = 0 } → draft.gathered ≡ []
     → IsStart first → window ≡ first_window (height_for version) → version ≡ max new.version 1
-    → IfOk next (λ event. Takes first new before.left left (event ∷ [])) → OnOk next (1 ≤ new.version)
-    → IfErr next (λ stop. StopsAt first new before.left left stop)
+    → IfOk next (λ event. Takes (standing first before.left) (standing new left) (event ∷ []))
+    → OnOk next (1 ≤ new.version)
+    → IfErr next (λ stop. StopsAt (standing first before.left) (standing new left) stop)
     → Awaits version before (streams left faults before.held) window draft 0 new next
 starts before left faults window first new version draft next file_is none is window_is same takes answered stops =
     record {
@@ -141,7 +142,7 @@ module _ (version : ℕ) (before now : Streams) (window : Window) (draft : Draft
   abbrev passed : Passed
   passed = record { version = version; events = at.events; base = before.held }
 
-  takes : Takes at.old new at.left now.left (e ∷ [])
+  takes : Takes (standing at.old at.left) (standing new now.left) (e ∷ [])
   takes = at.answer.0
 
   version_is : new.version ≡ version
@@ -174,8 +175,9 @@ module _ (version : ℕ) (before now : Streams) (window : Window) (draft : Draft
   pub goes_on : (newer : Progress) (left held : Option (List ℕ)) (faults : ℕ) (next_window : Window)
       (next_draft : Draft) (next : Result Event Stop)
       → Came (and_event passed e) next_window next_draft (count + 1) held
-      → IfOk next (λ event. Takes new newer now.left left (event ∷ [])) → OnOk next (1 ≤ newer.version)
-      → IfErr next (λ stop. StopsAt new newer now.left left stop)
+      → IfOk next (λ event. Takes (standing new now.left) (standing newer left) (event ∷ []))
+      → OnOk next (1 ≤ newer.version)
+      → IfErr next (λ stop. StopsAt (standing new now.left) (standing newer left) stop)
       → Awaits version before (streams left faults held) next_window next_draft (count + 1) newer next
   goes_on newer left held faults next_window next_draft next came took answered stops =
       let answer = answers new newer now.left left next took answered stops in
@@ -253,7 +255,7 @@ module _ (version : ℕ) (before now : Streams) (window : Window) (draft : Draft
     (stop : Stop)
     (at : Awaits version before now window draft count new (Err stop)) (most : version ≤ 3)
     (cause : IsReadFault stop → Rose before.faults now.faults) where
-  stops : StopsAt at.old new at.left now.left stop
+  stops : StopsAt (standing at.old at.left) (standing new now.left) stop
   stops = at.answer
 
   -- these events, of a capture of this version

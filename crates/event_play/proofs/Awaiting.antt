@@ -11,7 +11,7 @@ use Rattle.gpu_capture.specs.Capture.{Captured, ended, then_events, records, cap
 use Rattle.gpu_capture.proofs.Steps.{split}
 use Rattle.gpu_capture.proofs.Taken.{few_between}
 use Rattle.gpu_capture.proofs.Versions.{version_from}
-use Rattle.gpu_capture.specs.Reader.{AreNeeded, Takes, StopsAt, SaysStop, capture_from, IsStart, work_left}
+use Rattle.gpu_capture.specs.Reader.{AreNeeded, Takes, StopsAt, SaysStop, capture_from, IsStart, work_left, standing}
 use Rattle.gpu_capture.specs.declared.event.Event.{Event}
 use Rattle.gpu_capture.specs.declared.event.Stop.{Stop}
 use Rattle.gpu_capture.specs.declared.event.Stop.TheVariants.{End, NotCapture, Truncated, BadRecord, TooLong, ReadFault}
@@ -203,9 +203,10 @@ module _ (mode : Mode) (s : Machine) (played : ℕ) (left left_now held : Option
         ∙ ap (raised begun) (version_from new rest known))
         needed says (λ rest. version_from new rest known)
 
-    pub starts : (next : Result Event Stop) → IfOk next (λ event. Takes start new left left_now (event ∷ []))
+    pub starts : (next : Result Event Stop)
+        → IfOk next (λ event. Takes (standing start left) (standing new left_now) (event ∷ []))
         → OnOk next (1 ≤ new.version)
-        → IfErr next (λ stop. StopsAt start new left left_now stop)
+        → IfErr next (λ stop. StopsAt (standing start left) (standing new left_now) stop)
         → Awaits mode (script_behind begun start) (streams left held heard steps) (streams left_now held heard steps)
         gathered since rig new next
     starts (Ok event) takes known stops =
@@ -316,7 +317,8 @@ module _ (mode : Mode) (script : List ℕ → Script) (before now : Streams) (ga
   }
 
   -- the reader stopped
-  pub stops : (stop : Stop) (at : StopsAt old new now.left left stop) → AreFew mode (reached.behind ++ at.taken)
+  pub stops : (stop : Stop) (at : StopsAt (standing old now.left) (standing new left) stop)
+      → AreFew mode (reached.behind ++ at.taken)
       → Awaits mode script before read gathered since rig new (Err stop)
   stops stop at few =
       answered (Err stop) at.taken at.bytes at.needed
@@ -335,8 +337,9 @@ module _ (mode : Mode) (script : List ℕ → Script) (before now : Streams) (ga
         (omega (arith, near, place)) needed in
         omega (arith, all, few)
 
-    pub reads : (next : Result Event Stop) → IfOk next (λ event. Takes old new now.left left (event ∷ []))
-        → IfErr next (λ stop. StopsAt old new now.left left stop)
+    pub reads : (next : Result Event Stop)
+        → IfOk next (λ event. Takes (standing old now.left) (standing new left) (event ∷ []))
+        → IfErr next (λ stop. StopsAt (standing old now.left) (standing new left) stop)
         → Awaits mode script before read gathered since rig new next
     reads (Ok event) takes stops_at =
         answered (Ok event) takes.taken takes.bytes takes.needed

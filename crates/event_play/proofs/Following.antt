@@ -2,7 +2,7 @@
 use Rattle.std.proofs.Common.{◌≡◌, ◌<◌, inl, inr, ◌++◌, ℕ, zero, suc, List, [], ◌∷◌, Option, Ok, refl, ap, sym}
 use Rattle.std.proofs.Common.{◌∙◌, append_assoc, append-nil, add-zero, take, length, subst, arith}
 use Rattle.gpu_capture.specs.Capture.{Captured, ended, then_events}
-use Rattle.gpu_capture.specs.Reader.{AreNeeded as ReaderNeeds, capture_from}
+use Rattle.gpu_capture.specs.Reader.{AreNeeded as ReaderNeeds, capture_from, standing}
 use Rattle.gpu_capture.specs.Reading.{AreNeeded, IsCutShort, SaysFirst}
 use Rattle.gpu_capture.specs.Words.{TakesWords, word_events}
 use Rattle.gpu_capture.specs.declared.event.Event.{Event}
@@ -280,7 +280,7 @@ read_on script old new t xs ys events event read needed says = record {
 -- words were read and played, an event each
 pub read_words : (script : List ℕ → Script) (old new : Progress) (before now : Option (List ℕ)) (t next : Tale)
     (xs words : List ℕ) (events : List Event)
-    → ReadsTo script old t xs events [] → (takes : TakesWords old new before now words)
+    → ReadsTo script old t xs events [] → (takes : TakesWords (standing old before) (standing new now) words)
     → Follows t (word_events words) next
     → ReadsTo script new next (xs ++ takes.taken) (events ++ word_events words) []
 read_words script old new before now t next xs words events read takes behind =

@@ -6,7 +6,7 @@ use Rattle.gathered_out.specs.Pieces.{Piece}
 use Rattle.gathered_out.proofs.Gathers.{Gathers, gathers_more}
 use Rattle.gp0_packets.specs.declared.note.Note.{Note}
 use Rattle.gpu_capture.specs.Capture.{Captured, ended, then_events}
-use Rattle.gpu_capture.specs.Reader.{AreNeeded as ReaderNeeds, capture_from, work_left}
+use Rattle.gpu_capture.specs.Reader.{AreNeeded as ReaderNeeds, capture_from, work_left, standing}
 use Rattle.gpu_capture.specs.Words.{TakesWords, word_events}
 use Rattle.gpu_capture.specs.declared.event.Event.{Event}
 use Rattle.gpu_capture.specs.declared.event.Event.TheVariants.{Gp0}
@@ -61,7 +61,7 @@ words_short t words version byte = rw (words_are t words (ended version (Truncat
 all_needed : (script : List ℕ → Script) (t : Tale) (old new : Progress) (before now : Option (List ℕ))
     (xs words : List ℕ)
     → PlaysOn script old t xs
-    → AreAllNeeded (plays script) xs → (takes : TakesWords old new before now words)
+    → AreAllNeeded (plays script) xs → (takes : TakesWords (standing old before) (standing new now) words)
     → AreAllNeeded (plays script) (xs ++ takes.taken)
 all_needed script t old new before now xs words goes was takes part more is some =
     elim (split xs takes.taken part more is) [
@@ -188,7 +188,8 @@ module _ (mode : Mode) (script : List ℕ → Script) (before : Streams) (left a
     (tells : (t : Tale) (first : Outlets) → IsTold t first (without_sink heard steps) was.gpu was.played
     → IsTold (after_words t words) first (without_sink heard_now steps_now) rig.gpu rig.played)
     (started : 1 ≤ q.version) (near : IsGathered mode → q.place < since + 4096) where
-  lies_behind : (takes : TakesWords p q left after words) → LiesBehind since q (reached.behind ++ takes.taken)
+  lies_behind : (takes : TakesWords (standing p left) (standing q after) words)
+      → LiesBehind since q (reached.behind ++ takes.taken)
   lies_behind takes =
       let lies = reached.says.lies in
       record {
@@ -202,7 +203,8 @@ module _ (mode : Mode) (script : List ℕ → Script) (before : Streams) (left a
             ∙ then_both lies.events (word_events words) (capture_from q rest);
       }
 
-  still_few : (takes : TakesWords p q left after words) → AreFew mode (reached.behind ++ takes.taken)
+  still_few : (takes : TakesWords (standing p left) (standing q after) words)
+      → AreFew mode (reached.behind ++ takes.taken)
   still_few takes is =
       let lies = lies_behind takes in
       let lt = near is in
@@ -211,7 +213,7 @@ module _ (mode : Mode) (script : List ℕ → Script) (before : Streams) (left a
       (omega (arith, lt, at)) (none_needed q) in
       omega (arith, few)
 
-  still_gathers : (takes : TakesWords p q left after words)
+  still_gathers : (takes : TakesWords (standing p left) (standing q after) words)
       → GathersWords script reached.tale words reached.events reached.flushed (reached.taken ++ takes.taken) before.held
       held gathered mode
   still_gathers takes =
@@ -229,7 +231,7 @@ module _ (mode : Mode) (script : List ℕ → Script) (before : Streams) (left a
       (due_more mode script reached.events [] reached.events reached.flushed reached.taken takes.taken
       (sym (append-nil reached.events))) reached.gathers)
 
-  pub words_play : TakesWords p q left after words
+  pub words_play : TakesWords (standing p left) (standing q after) words
       → Reaches mode script before (streams after held heard_now steps_now)
       (gathered ++ pieces_for mode (word_notes reached.tale words)) rig (GoesOn mode script since q)
   words_play takes =

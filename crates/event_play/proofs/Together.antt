@@ -1,6 +1,7 @@
 -- Words of GP0 that are played at once, with the lines that are put for them, or where one can't be put.
 use Rattle.std.proofs.Common.{◌≡◌, ◌≤◌, ◌<◌, ◌+◌, ◌++◌, inr, ℕ, List, Option, Result, Ok, Err, OnOk, IfErr, refl}
 use Rattle.gathered_out.specs.Pieces.{Piece}
+use Rattle.gpu_capture.specs.Reader.{standing}
 use Rattle.gpu_capture.specs.Words.{TakesWords, StopsBehind}
 use Rattle.gpu_capture.specs.declared.event.Stop.{Stop}
 use Rattle.gpu_capture.specs.declared.progress.Progress.{Progress}
@@ -45,7 +46,7 @@ module _ (mode : Mode) (script : List ℕ → Script) (before : Streams) (left a
       puts reached.tale _ (told_before mode script before left held heard steps gathered since was p reached)
 
   -- the reader stopped behind them, and nothing of theirs is written yet
-  stops_behind : (stop : Stop) → StopsBehind p q left after words stop
+  stops_behind : (stop : Stop) → StopsBehind (standing p left) (standing q after) words stop
       → Awaits mode script before (streams after held heard_now steps_now) (gathered ++ pieces) since rig q (Err stop)
   stops_behind stop behind =
       let at = words_play mode script before left behind.left held heard heard_now steps steps_now gathered since was
@@ -57,7 +58,8 @@ module _ (mode : Mode) (script : List ℕ → Script) (before : Streams) (left a
 
   -- all were put
   pub words_went : {Value : Type 0} (now : Option (List ℕ)) (new : List Piece) (v : Value)
-      → PutsWords {Value = Value} now new (Ok v) → MayGather mode new → TakesWords p q left after words
+      → PutsWords {Value = Value} now new (Ok v) → MayGather mode new
+      → TakesWords (standing p left) (standing q after) words
       → Reaches mode script before (streams after now heard_now steps_now) new rig (GoesOn mode script since q)
   words_went now new v puts free takes =
       lines_out mode script before after held now heard_now steps_now gathered pieces new rig
@@ -67,7 +69,8 @@ module _ (mode : Mode) (script : List ℕ → Script) (before : Streams) (left a
 
   -- and then the reader stopped
   pub words_stop : {Value : Type 0} (now : Option (List ℕ)) (new : List Piece) (v : Value) (stop : Stop)
-      → PutsWords {Value = Value} now new (Ok v) → MayGather mode new → StopsBehind p q left after words stop
+      → PutsWords {Value = Value} now new (Ok v) → MayGather mode new
+      → StopsBehind (standing p left) (standing q after) words stop
       → Awaits mode script before (streams after now heard_now steps_now) new since rig q (Err stop)
   words_stop now new v stop puts free behind =
       lines_out mode script before after held now heard_now steps_now gathered pieces new rig
@@ -76,8 +79,8 @@ module _ (mode : Mode) (script : List ℕ → Script) (before : Streams) (left a
   -- one could not be put
   pub words_fail : {Value Got : Type 0} (now : Option (List ℕ)) (new : List Piece) (lacking : ℕ)
       (read : Result Got Stop) → PutsWords {Value = Value} now new (Err lacking)
-      → OnOk read (TakesWords p q left after words)
-      → IfErr read (λ stop. StopsBehind p q left after words stop) → AreSmall (plays script)
+      → OnOk read (TakesWords (standing p left) (standing q after) words)
+      → IfErr read (λ stop. StopsBehind (standing p left) (standing q after) words stop) → AreSmall (plays script)
       → EndsPlay mode script before (at_end (streams after now heard_now steps_now) rig) (WriteFailed lacking)
   words_fail now new lacking (Ok v) puts takes behind is_small =
       pause_ends mode script before (streams after held heard_now steps_now) (gathered ++ pieces) since rig q now

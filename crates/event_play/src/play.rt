@@ -1,8 +1,8 @@
 // A capture is played to its end.
 ghost use Rattle.std.specs.Prelude.{◌≡◌, ◌≤◌, ◌+◌, None, map, OnOk, OnErr, IfErr};
 ghost use Rattle.dev_io.specs.Device.{Rose};
-ghost use Rattle.gpu_capture.specs.Reader.{IsReadFault, work_left};
-ghost use Rattle.gpu_capture.specs.Words.{TakesWords, StopsBehind};
+ghost use Rattle.gpu_capture.specs.Reader.{CountsFaults, standing};
+ghost use Rattle.gpu_capture.specs.Words.{TakesWords, StopsBehind, GoesOn};
 ghost use Rattle.event_play.specs.Causes.{MayReadFault, MayWriteFault, IsEnding};
 ghost use Rattle.event_play.specs.Course.{at_end};
 ghost use Rattle.event_play.specs.Lines.{IsGathered};
@@ -146,17 +146,15 @@ fn read_words<S: Source>(
     block: &mut WordBlock,
 ) -> Result<(), Stop>
     requires { reader.old.stop ≡ None }
-    ensures version { reader.new.progress.version ≡ reader.old.progress.version }
+    ensures goes_on { GoesOn reader.old.progress reader.new.progress }
     ensures few { IsGathered mode → reader.new.progress.place ≤ reader.old.progress.place + 2048 }
     ensures unwatched { AreUnwatched mode block.new }
-    ensures takes { OnOk result (TakesWords reader.old.progress reader.new.progress
-        (S.left source.old) (S.left source.new) block.new) }
-    ensures forward { work_left reader.new.progress ≤ work_left reader.old.progress }
+    ensures takes { OnOk result (TakesWords (standing reader.old.progress (S.left source.old))
+        (standing reader.new.progress (S.left source.new)) block.new) }
     ensures runs_on { OnOk result (reader.new.stop ≡ None) }
-    ensures stop { IfErr result (λ stop. StopsBehind reader.old.progress reader.new.progress
-        (S.left source.old) (S.left source.new) block.new stop) }
-    ensures cause { IfErr result (λ stop. IsReadFault stop → Rose (S.faults source.old) (S.faults source.new)) }
-    ensures faults { S.faults source.old ≤ S.faults source.new }
+    ensures stop { IfErr result (StopsBehind (standing reader.old.progress (S.left source.old))
+        (standing reader.new.progress (S.left source.new)) block.new) }
+    ensures faults { CountsFaults (S.faults source.old) (S.faults source.new) result }
 {
     match mode {
         Mode::List => {

@@ -47,7 +47,8 @@ by_tests place tag count false false false false false false false false true j 
 by_tests place tag count false false false false false false false false false true = tt
 by_tests place tag count false false false false false false false false false false = tt
 
-by_address : (b : Bool) (next : Due) (byte word : ℕ) → ClosesFinally (cond b (Opens next) (Closes (BadRecord byte word)))
+by_address : (b : Bool) (next : Due) (byte word : ℕ)
+    → ClosesFinally (cond b (Opens next) (Closes (BadRecord byte word)))
 by_address true next byte word = tt
 by_address false next byte word = tt
 

@@ -7,8 +7,8 @@ use Rattle.dev_io.proofs.Parts.{prepended-nil, taken_on}
 use Rattle.byteorder.specs.Endian.{little_number}
 use Rattle.gpu_capture.specs.Capture.{Captured, ended, opened, head_version, then_events, after_step, records, limit}
 use Rattle.gpu_capture.specs.Record.{word_step, IsWordStop}
-use Rattle.gpu_capture.specs.Reader.{IsWord, EndsWord, AreNeeded, Takes, StopsAt, SaysStop, SaysNoWord, capture_from}
-use Rattle.gpu_capture.specs.Reader.{work_left, tag_due, behind_word}
+use Rattle.gpu_capture.specs.Reader.{Standing, IsWord, EndsWord, AreNeeded, Takes, StopsAt, SaysStop, SaysNoWord}
+use Rattle.gpu_capture.specs.Reader.{capture_from, standing, work_left, tag_due, behind_word}
 use Rattle.gpu_capture.specs.declared.event.Event.{Event}
 use Rattle.gpu_capture.specs.declared.event.Stop.{Stop}
 use Rattle.gpu_capture.specs.declared.event.Stop.TheVariants.{End, NotCapture, BadRecord, TooLong, Truncated, ReadFault}
@@ -133,7 +133,7 @@ no_word_needed p (BadRecord byte word) taken now started none says = absurd says
 
 -- where no word can be had, a reader stops
 pub no_word_stops : (p : Progress) (before now : Option (List ℕ)) (stop : Stop) → 0 < p.version → p.left ≡ 0
-    → EndsWord before now p.place stop → StopsAt p p before now stop
+    → EndsWord before now p.place stop → StopsAt (standing p before) (standing p now) stop
 no_word_stops p before now stop started none lack = record {
   taken = lack.taken;
   bytes = lack.bytes;
@@ -169,7 +169,7 @@ behind_says p next repeated left rest started = rw (on p.version started) refl
 
 pub opens_word : (p : Progress) (before now : Option (List ℕ)) (word : ℕ) (next : Due) → 0 < p.version → p.left ≡ 0
     → IsWord before now p.place word → Opens next ≡ word_step p.version p.due p.place word
-    → Takes p (behind_word p next p.repeated 0) before now []
+    → Takes (standing p before) (standing (behind_word p next p.repeated 0) now) []
 opens_word p before now word next started none took is = record {
   taken = took.a ∷ took.b ∷ took.c ∷ took.d ∷ [];
   bytes = took.bytes;
@@ -188,7 +188,7 @@ first_of_them event (suc n) more some = let e : suc n - 1 ≡ n = omega arith in
 pub gives_word : (p : Progress) (before now : Option (List ℕ)) (word : ℕ) (event : Event) (count : ℕ) (next : Due)
     → 0 < p.version → p.left ≡ 0
     → 1 ≤ count → IsWord before now p.place word → GivesEvents event count next ≡ word_step p.version p.due p.place word
-    → Takes p (behind_word p next event (count - 1)) before now (event ∷ [])
+    → Takes (standing p before) (standing (behind_word p next event (count - 1)) now) (event ∷ [])
 gives_word p before now word event count next started none some took is = record {
   taken = took.a ∷ took.b ∷ took.c ∷ took.d ∷ [];
   bytes = took.bytes;
@@ -200,8 +200,7 @@ gives_word p before now word event count next started none some took is = record
 
 -- an event that is still to be given takes no byte
 pub gives_repeated : (p : Progress) (left : Option (List ℕ)) → 0 < p.version → 1 ≤ p.left
-    → Takes p (record { version = p.version; place = p.place; due = p.due; repeated = p.repeated; left = p.left - 1 })
-    left left (p.repeated ∷ [])
+    → Takes (standing p left) (standing (record p { left = p.left - 1 }) left) (p.repeated ∷ [])
 gives_repeated p left started some = record {
   taken = [];
   bytes = prepended-nil left;
@@ -225,7 +224,7 @@ word_stop_says p before now word (ReadFault byte) started none took is decided =
 
 pub word_stops : (p : Progress) (before now : Option (List ℕ)) (word : ℕ) (stop : Stop) → 0 < p.version → p.left ≡ 0
     → IsWord before now p.place word → Closes stop ≡ word_step p.version p.due p.place word → IsWordStop stop
-    → StopsAt p p before now stop
+    → StopsAt (standing p before) (standing p now) stop
 word_stops p before now word stop started none took is decided = record {
   taken = took.a ∷ took.b ∷ took.c ∷ took.d ∷ [];
   bytes = took.bytes;
@@ -235,15 +234,20 @@ word_stops p before now word stop started none took is decided = record {
 
 -- ---- steps, one after another
 
-pub takes_none : (p : Progress) (left : Option (List ℕ)) → Takes p p left left []
-takes_none p left = record { taken = []; bytes = prepended-nil left; needed = none_needed p; says = λ rest. refl }
+pub takes_none : (at : Standing) → Takes at at []
+takes_none at = record {
+  taken = [];
+  bytes = prepended-nil at.left;
+  needed = none_needed at.progress;
+  says = λ rest. refl;
+}
 
-pub takes_on : (p q r : Progress) (before mid now : Option (List ℕ)) (events : List Event)
-    → Takes p q before mid [] → Takes q r mid now events → Takes p r before now events
-takes_on p q r before mid now events first next = record {
+pub takes_on : (before mid now : Standing) (events : List Event)
+    → Takes before mid [] → Takes mid now events → Takes before now events
+takes_on before mid now events first next = record {
   taken = first.taken ++ next.taken;
-  bytes = taken_on before mid now first.taken next.taken first.bytes next.bytes;
-  needed = needed_on p q first.taken next.taken first.says first.needed next.needed;
+  bytes = taken_on before.left mid.left now.left first.taken next.taken first.bytes next.bytes;
+  needed = needed_on before.progress mid.progress first.taken next.taken first.says first.needed next.needed;
   says = λ rest. rw (append_assoc first.taken next.taken rest) (first.says (next.taken ++ rest) ∙ next.says rest);
 }
 
@@ -260,13 +264,14 @@ says_on p q version (TooLong byte) xs ys now moved says = λ rest. rw (append_as
 says_on p q version (BadRecord byte word) xs ys now moved says = λ rest. rw (append_assoc xs ys rest)
     (moved (ys ++ rest) ∙ says rest)
 
-pub stops_on : (p q r : Progress) (before mid now : Option (List ℕ)) (stop : Stop)
-    → Takes p q before mid [] → StopsAt q r mid now stop → StopsAt p r before now stop
-stops_on p q r before mid now stop first next = record {
+pub stops_on : (before mid now : Standing) (stop : Stop)
+    → Takes before mid [] → StopsAt mid now stop → StopsAt before now stop
+stops_on before mid now stop first next = record {
   taken = first.taken ++ next.taken;
-  bytes = taken_on before mid now first.taken next.taken first.bytes next.bytes;
-  needed = needed_on p q first.taken next.taken first.says first.needed next.needed;
-  says = says_on p q r.version stop first.taken next.taken now first.says next.says;
+  bytes = taken_on before.left mid.left now.left first.taken next.taken first.bytes next.bytes;
+  needed = needed_on before.progress mid.progress first.taken next.taken first.says first.needed next.needed;
+  says = says_on before.progress mid.progress now.progress.version stop first.taken next.taken now.left first.says
+      next.says;
 }
 
 -- behind a word there is less to come
@@ -303,7 +308,7 @@ whole buf before now eight took = took ∙ ap (λ bytes. prepended bytes now) (t
 pub head_takes : (p : Progress) (buf : List ℕ) (before now : Option (List ℕ)) (version : ℕ) → p.version ≡ 0
     → length buf ≡ 8
     → before ≡ prepended (take 8 buf) now → head_version buf ≡ Ok version → 1 ≤ version
-    → Takes p (tag_due version 8) before now []
+    → Takes (standing p before) (standing (tag_due version 8) now) []
 head_takes p buf before now version unstarted eight took is known = record {
   taken = buf;
   bytes = whole buf before now eight took;
@@ -313,7 +318,8 @@ head_takes p buf before now version unstarted eight took is known = record {
 
 pub head_stops : (p : Progress) (buf : List ℕ) (before now : Option (List ℕ)) (place : ℕ) → p.version ≡ 0
     → length buf ≡ 8
-    → before ≡ prepended (take 8 buf) now → head_version buf ≡ Err place → StopsAt p p before now (NotCapture place)
+    → before ≡ prepended (take 8 buf) now → head_version buf ≡ Err place
+    → StopsAt (standing p before) (standing p now) (NotCapture place)
 head_stops p buf before now place unstarted eight took is = record {
   taken = buf;
   bytes = whole buf before now eight took;
@@ -330,7 +336,8 @@ short_says p bytes unstarted short = let e : nat_lt (length bytes) 8 ≡ true = 
 
 pub head_short : (p : Progress) (buf : List ℕ) (before now : Option (List ℕ)) (n : ℕ) → p.version ≡ 0 → n ≤ length buf
     → n < 8
-    → before ≡ prepended (take n buf) now → IsAtEnd now → StopsAt p p before now (Truncated n)
+    → before ≡ prepended (take n buf) now → IsAtEnd now
+    → StopsAt (standing p before) (standing p now) (Truncated n)
 head_short p buf before now n unstarted fits few took at_end =
     let long : length (take n buf) ≡ n = length-take-le n buf fits in record {
       taken = take n buf;
@@ -345,7 +352,7 @@ head_short p buf before now n unstarted fits few took at_end =
 
 pub head_fails : (p : Progress) (buf : List ℕ) (before now : Option (List ℕ)) (n : ℕ) → p.version ≡ 0 → n ≤ length buf
     → n < 8
-    → before ≡ prepended (take n buf) now → StopsAt p p before now (ReadFault n)
+    → before ≡ prepended (take n buf) now → StopsAt (standing p before) (standing p now) (ReadFault n)
 head_fails p buf before now n unstarted fits few took =
     let long : length (take n buf) ≡ n = length-take-le n buf fits in record {
       taken = take n buf;

@@ -1,7 +1,7 @@
 -- How many bytes are taken: as many as the place of a reader says, and behind the head at most 16 for one answer.
 use Rattle.std.proofs.Common.{◌≡◌, ◌≤◌, ◌<◌, ◌+◌, ◌*◌, ◌%◌, ◌&&◌, ◌==◌, ◌++◌, ℕ, zero, suc, List, [], ◌∷◌, Bool}
-use Rattle.std.proofs.Common.{true, false, cond, nat_lt, nat_le, min, length, take, drop, Result, Ok, Err, refl, ap, sym}
-use Rattle.std.proofs.Common.{subst, inl, inr, append-nil, ◌∙◌, arith, replicate}
+use Rattle.std.proofs.Common.{true, false, cond, nat_lt, nat_le, min, length, take, drop, Result, Ok, Err, refl, ap}
+use Rattle.std.proofs.Common.{sym, subst, inl, inr, append-nil, ◌∙◌, arith, replicate}
 use Rattle.std.proofs.lemmas.Bool.{cases_Bool, cases_lt}
 use Rattle.std.proofs.lemmas.Bool.Decides.{nat_tests}
 use Rattle.std.proofs.lemmas.List.{take-append-drop, length-drop, length-take-le}
@@ -106,7 +106,8 @@ behind_counts n k version (Gives e count next) on bytes leads later = later next
 behind_counts n k version (Closes stop) on bytes leads later = by_word n stop bytes leads
 
 at_limit : (n place more : ℕ) → n ≡ place + more → place ≤ limit → nat_lt place limit ≡ false → n ≡ limit + more
-at_limit n place more count le is = let ge : limit ≤ place = grind (arith, nat_tests, is) in omega (arith, count, le, ge)
+at_limit n place more count le is =
+    let ge : limit ≤ place = grind (arith, nat_tests, is) in omega (arith, count, le, ge)
 
 records_count : (bytes : List ℕ) (n version : ℕ) (at : Due) (place : ℕ) → n ≡ place + length bytes → place % 4 ≡ 0
     → place ≤ limit
@@ -251,7 +252,8 @@ few_at_once p taken started needed = elim (cases_lt 16 (length taken)) [
       let some : drop 16 taken ≡ [] → ⊥ = λ none.
       let e = length-drop 16 taken in let z = ap length none in omega (arith, e, z, more) in
       let short = needed (take 16 taken) (drop 16 taken) (sym (take-append-drop 16 taken)) some in
-      let long : 16 ≤ length (take 16 taken) = let e = length-take-le 16 taken (omega (arith, more)) in omega (arith, e) in
+      let long : 16 ≤ length (take 16 taken) =
+      let e = length-take-le 16 taken (omega (arith, more)) in omega (arith, e) in
       absurd (subst IsTold short.is (told_from p (take 16 taken) started long) refl tt)
   | inr le ↦ le
 ]
@@ -273,7 +275,8 @@ few_at_first p taken start needed = elim (cases_lt 24 (length taken)) [
       let some : drop 24 taken ≡ [] → ⊥ = λ none.
       let e = length-drop 24 taken in let z = ap length none in omega (arith, e, z, more) in
       let short = needed (take 24 taken) (drop 24 taken) (sym (take-append-drop 24 taken)) some in
-      let long : 24 ≤ length (take 24 taken) = let e = length-take-le 24 taken (omega (arith, more)) in omega (arith, e) in
+      let long : 24 ≤ length (take 24 taken) =
+      let e = length-take-le 24 taken (omega (arith, more)) in omega (arith, e) in
       let told : IsTold (capture_from p (take 24 taken)) = rw start.version (told_whole (take 24 taken) long) in
       absurd (subst IsTold short.is told refl tt)
   | inr le ↦ le
@@ -281,8 +284,8 @@ few_at_first p taken start needed = elim (cases_lt 24 (length taken)) [
 
 -- ---- between two places
 
--- of bytes up to this place: where they are cut short, that is the place, and where they are too long, it is no more than
--- so far before those that are left
+-- of bytes up to this place: where they are cut short, that is the place, and where they are too long, it is no more
+-- than so far before those that are left
 abbrev Reach : (n most : ℕ) → Stop → List ℕ → Type 0
 Reach n most (Truncated byte) rest = byte ≡ n
 Reach n most (TooLong byte) rest = n ≤ most + length rest
@@ -328,7 +331,8 @@ records_reach (a ∷ b ∷ c ∷ d ∷ bytes) n most version at place count le f
           let lt : place < limit = grind (arith, nat_tests, is) in
           rw is (behind_reaches n most (words_to at) version _ (λ next. records version next (place + 4) bytes) bytes
           (step_leads version at place _)
-          (λ next. records_reach bytes n most version next (place + 4) (omega (arith, count)) (omega (arith, lt, far)) far))
+          (λ next. records_reach bytes n most version next (place + 4) (omega (arith, count)) (omega (arith, lt, far))
+          far))
       | inr is ↦ rw is (omega (arith, count, le))
     ]
 

@@ -10,7 +10,7 @@ use Rattle.dev_io.specs.Device.{prepended, IsAtEnd}
 use Rattle.dev_io.proofs.Parts.{prepended-nil, prepended-prepended, taken_on}
 use Rattle.gpu_capture.specs.Capture.{Captured, then_events, records, limit}
 use Rattle.gpu_capture.specs.Record.{gp0_due, word_step}
-use Rattle.gpu_capture.specs.Reader.{IsWord, Takes, SaysNoWord, capture_from}
+use Rattle.gpu_capture.specs.Reader.{Standing, IsWord, Takes, SaysNoWord, capture_from, standing}
 use Rattle.gpu_capture.specs.Words.{word_events, IsCutWithin, TakesWords, StopsBehind, MayTake, gp0_left, words_due}
 use Rattle.gpu_capture.specs.Words.{behind_words}
 use Rattle.gpu_capture.specs.declared.event.Event.{Event}
@@ -28,7 +28,7 @@ use Rattle.gpu_capture.proofs.Steps.{split, word_needed, took_says, on, at_word,
 -- where two readers stand at the same place and say the same of every rest, no word lies between them
 pub words_none : (p q : Progress) (left : Option (List ℕ)) → q.place ≡ p.place
     → ((rest : List ℕ) → capture_from p rest ≡ capture_from q rest)
-    → TakesWords p q left left []
+    → TakesWords (standing p left) (standing q left) []
 words_none p q left at same = record {
   taken = [];
   bytes = prepended-nil left;
@@ -50,14 +50,14 @@ events_on words word c =
     ∙ append_assoc (word_events words) (Gp0 word ∷ []) c.events in
     ap (λ (events : List Event). record c { events = events }) (sym e)
 
-module _ (p q r : Progress) (before mid now : Option (List ℕ)) (words : List ℕ) (word : ℕ)
-    (first : TakesWords p q before mid words) (next : Takes q r mid now (Gp0 word ∷ []))
-    (at : r.place ≡ q.place + 4) where
+module _ (before mid now : Standing) (words : List ℕ) (word : ℕ)
+    (first : TakesWords before mid words) (next : Takes mid now (Gp0 word ∷ []))
+    (at : now.progress.place ≡ mid.progress.place + 4) where
   longer : length words < length (words ++ word ∷ [])
   longer = let e = length-append words (word ∷ []) in omega (arith, e)
 
   cut_on : (part more : List ℕ) → first.taken ++ next.taken ≡ part ++ more → (more ≡ [] → ⊥)
-      → IsCutWithin p (words ++ word ∷ []) part
+      → IsCutWithin before.progress (words ++ word ∷ []) part
   cut_on part more is some =
       elim (split first.taken next.taken part more is) [
         | inl behind ↦ let short = next.needed behind.0 more behind.2 some in record {
@@ -70,7 +70,8 @@ module _ (p q r : Progress) (before mid now : Option (List ℕ)) (words : List �
             take_all (length words) words
                 (omega arith),
           )
-              (ap (capture_from p) behind.1 ∙ first.says behind.0 ∙ ap (then_events (word_events words)) short.is);
+              (ap (capture_from before.progress) behind.1 ∙ first.says behind.0
+              ∙ ap (then_events (word_events words)) short.is);
         }
         | inr inside ↦ let short = first.needed part inside.0 inside.1 inside.2 in record {
           count = short.count;
@@ -82,13 +83,14 @@ module _ (p q r : Progress) (before mid now : Option (List ℕ)) (words : List �
         }
       ]
 
-  pub words_on : TakesWords p r before now (words ++ word ∷ [])
+  pub words_on : TakesWords before now (words ++ word ∷ [])
   words_on = record {
     taken = first.taken ++ next.taken;
-    bytes = taken_on before mid now first.taken next.taken first.bytes next.bytes;
+    bytes = taken_on before.left mid.left now.left first.taken next.taken first.bytes next.bytes;
     needed = cut_on;
-    says = λ rest. ap (capture_from p) (append_assoc first.taken next.taken rest) ∙ first.says (next.taken ++ rest)
-        ∙ ap (then_events (word_events words)) (next.says rest) ∙ events_on words word (capture_from r rest);
+    says = λ rest. ap (capture_from before.progress) (append_assoc first.taken next.taken rest)
+        ∙ first.says (next.taken ++ rest) ∙ ap (then_events (word_events words)) (next.says rest)
+        ∙ events_on words word (capture_from now.progress rest);
     place = let was = first.place in let long = length-append words (word ∷ []) in omega (arith, was, at, long);
   }
 
@@ -139,7 +141,7 @@ module _ (p : Progress) (most : ℕ) (may : MayTake p most) where
       ∙ ap (λ place. records p.version (words_due (gp0_left p.due) 0) place rest) place
       ∙ sym (behind_say p 0 rest may.started)
 
-  pub none_taken : (left : Option (List ℕ)) → TakesWords p (behind_words p 0) left left []
+  pub none_taken : (left : Option (List ℕ)) → TakesWords (standing p left) (standing (behind_words p 0) left) []
   none_taken left = words_none p (behind_words p 0) left (omega arith) same_none
 
   module _ (count word : ℕ) (lt : count < most) where
@@ -161,7 +163,7 @@ module _ (p : Progress) (most : ℕ) (may : MayTake p most) where
         ∙ sym (behind_say p (count + 1) rest may.started)
 
     pub word_taken : (before now : Option (List ℕ)) → IsWord before now (p.place + 4 * count) word
-        → Takes (behind_words p count) (behind_words p (count + 1)) before now (Gp0 word ∷ [])
+        → Takes (standing (behind_words p count) before) (standing (behind_words p (count + 1)) now) (Gp0 word ∷ [])
     word_taken before now took = record {
       taken = took.a ∷ took.b ∷ took.c ∷ took.d ∷ [];
       bytes = took.bytes;
@@ -209,26 +211,29 @@ word_in bytes i place word now below four is =
 -- ---- bytes that were taken at once
 
 module _ (p q : Progress) (before now : Option (List ℕ)) (words bytes : List ℕ) (got : before ≡ prepended bytes now)
-    (takes : (now : Option (List ℕ)) → TakesWords p q (prepended bytes now)
-    (prepended (drop (4 * (length bytes / 4)) bytes) now) words) where
+    (takes : (now : Option (List ℕ)) → TakesWords (standing p (prepended bytes now))
+    (standing q (prepended (drop (4 * (length bytes / 4)) bytes) now)) words) where
   -- the bytes behind the last whole word
   abbrev begun : List ℕ
   begun = drop (4 * (length bytes / 4)) bytes
 
-  all_words : TakesWords p q before (prepended begun now) words
-  all_words = let P : Option (List ℕ) → Type 0 = λ before. TakesWords p q before (prepended begun now) words in
+  all_words : TakesWords (standing p before) (standing q (prepended begun now)) words
+  all_words =
+      let P : Option (List ℕ) → Type 0 = λ left.
+      TakesWords (standing p left) (standing q (prepended begun now)) words in
       subst P (sym got) (takes now)
 
-  pub whole_words : length bytes % 4 ≡ 0 → TakesWords p q before now words
+  pub whole_words : length bytes % 4 ≡ 0 → TakesWords (standing p before) (standing q now) words
   whole_words whole =
       let none : begun ≡ [] = drop_all (4 * (length bytes / 4)) bytes (omega arith) in
       let same : prepended begun now ≡ now = ap (λ bytes. prepended bytes now) none ∙ sym (prepended-nil now) in
-      let P : Option (List ℕ) → Type 0 = λ now. TakesWords p q before now words in
+      let P : Option (List ℕ) → Type 0 = λ left. TakesWords (standing p before) (standing q left) words in
       subst P same all_words
 
   module _ (room : ℕ) (may : MayTake p (room / 4)) (whole : room % 4 ≡ 0) (short : length bytes < room)
       (is : q ≡ behind_words p (length bytes / 4)) where
-    stops_in : (stop : Stop) → SaysNoWord stop q.place begun now → StopsBehind p q before now words stop
+    stops_in : (stop : Stop) → SaysNoWord stop q.place begun now
+        → StopsBehind (standing p before) (standing q now) words stop
     stops_in stop says = record {
       left = prepended begun now;
       takes = all_words;
@@ -252,8 +257,8 @@ module _ (p q : Progress) (before now : Option (List ℕ)) (words bytes : List �
       ends_at : p.place + n ≡ q.place + length begun
       ends_at = let e = place_is in let f = few in omega (arith, e, f, long)
 
-      pub stops_short : IsAtEnd now → StopsBehind p q before now words (Truncated (p.place + n))
+      pub stops_short : IsAtEnd now → StopsBehind (standing p before) (standing q now) words (Truncated (p.place + n))
       stops_short at_end = stops_in _ (within_limit, (let f = few in omega (arith, f)), ends_at, at_end)
 
-      pub stops_failed : StopsBehind p q before now words (ReadFault (p.place + n))
+      pub stops_failed : StopsBehind (standing p before) (standing q now) words (ReadFault (p.place + n))
       stops_failed = stops_in _ (within_limit, (let f = few in omega (arith, f)), ends_at)

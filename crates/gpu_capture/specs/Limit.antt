@@ -5,15 +5,15 @@ use Rattle.gpu_capture.specs.Reader.{AreNeeded, IsStart, capture_from}
 use Rattle.gpu_capture.specs.declared.event.Event.{Event}
 use Rattle.gpu_capture.specs.declared.progress.Progress.{Progress}
 
--- Where none of the bytes taken is one too many, no more than 2^30 of a capture are taken, from its beginning on and from
--- any word of it.
+-- Where none of the bytes taken is one too many, no more than 2^30 of a capture are taken, from its beginning on and
+-- from any word of it.
 pub record TakesFew : Type 0 where
   pub all : (p : Progress) (taken : List ℕ) → IsStart p → AreNeeded p taken → length taken ≤ limit
   pub rest : (p : Progress) (taken : List ℕ) → 1 ≤ p.version → p.place % 4 ≡ 0 → p.place ≤ limit → AreNeeded p taken
       → p.place + length taken ≤ limit
 
--- One answer of a reader takes at most 16 bytes, and with the head 24. Behind the head as many bytes were taken in all as
--- the reader's place says, up to 2^30.
+-- One answer of a reader takes at most 16 bytes, and with the head 24. Behind the head as many bytes were taken in all
+-- as the reader's place says, up to 2^30.
 pub record TakesFewAtOnce : Type 0 where
   pub first : (p : Progress) (taken : List ℕ) → IsStart p → AreNeeded p taken → length taken ≤ 24
   pub once : (p : Progress) (taken : List ℕ) → 1 ≤ p.version → AreNeeded p taken → length taken ≤ 16

@@ -1,8 +1,8 @@
 -- What the steps of a reader take from its source, and what the format says of that.
 use Rattle.std.specs.Prelude.{◌≡◌, ◌<◌, ◌≤◌, ℕ, List, [], ◌∷◌, ◌++◌, ◌+◌, ◌-◌, ◌*◌, ◌^◌, nat_lt, Option, length}
-use Rattle.std.specs.Prelude.{replicate, if◌then◌else◌}
+use Rattle.std.specs.Prelude.{replicate, if◌then◌else◌, Result, IfErr}
 use Rattle.byteorder.specs.Endian.{little_number}
-use Rattle.dev_io.specs.Device.{prepended, IsAtEnd}
+use Rattle.dev_io.specs.Device.{prepended, IsAtEnd, Rose}
 use Rattle.gpu_capture.specs.Record.{IsDue, IsEvent}
 use Rattle.gpu_capture.specs.Capture.{Captured, ended, then_events, records, capture, limit}
 use Rattle.gpu_capture.specs.declared.event.Event.{Event}
@@ -12,6 +12,14 @@ use Rattle.gpu_capture.specs.declared.event.Event.TheVariants.{Stat}
 use Rattle.gpu_capture.specs.declared.record.Due.{Due}
 use Rattle.gpu_capture.specs.declared.record.Due.TheVariants.{Tag}
 use Rattle.gpu_capture.specs.declared.progress.Progress.{Progress}
+
+-- where a reader stands, and the bytes that are left of its source
+pub record Standing : Type 0 where
+  pub progress : Progress
+  pub left : Option (List ℕ)
+
+abbrev pub standing : Progress → Option (List ℕ) → Standing
+standing progress left = record { progress = progress; left = left }
 
 -- a word was taken
 pub record IsWord (before now : Option (List ℕ)) (place word : ℕ) : Type 0 where
@@ -26,6 +34,11 @@ pub record IsWord (before now : Option (List ℕ)) (place word : ℕ) : Type 0 w
 abbrev pub IsReadFault : Stop → Type 0
 IsReadFault (ReadFault byte) = Unit {0}
 IsReadFault stop = ⊥
+
+-- the source's count of faults does not fall, and it rose where a read failed
+pub record CountsFaults {Value : Type 0} (before now : ℕ) (result : Result Value Stop) : Type 0 where
+  pub kept : before ≤ now
+  pub cause : IfErr result (λ stop. IsReadFault stop → Rose before now)
 
 -- the stop where a word that is due can't be had, after these bytes of it
 abbrev pub SaysNoWord : Stop → ℕ → List ℕ → Option (List ℕ) → Type 0
@@ -50,6 +63,11 @@ pub record IsProgress (p : Progress) : Type 0 where
   pub version : p.version ≤ 3
   pub start : p.version ≡ 0 → p.place ≡ 0
 
+-- the same behind the head
+pub record IsBehindHead (p : Progress) : Type 0 where
+  pub bounds : IsProgress p
+  pub started : 1 ≤ p.version
+
 -- what the bytes from a reader's place on say
 abbrev pub capture_from : Progress → List ℕ → Captured
 capture_from p bytes =
@@ -72,11 +90,12 @@ AreNeeded p taken = (part more : List ℕ) → taken ≡ part ++ more → (more 
 
 -- bytes were taken, none too many, and events were given: what the format says of those bytes and any rest is these
 -- events, and then what it says of the rest from the new place on
-pub record Takes (old new : Progress) (before now : Option (List ℕ)) (events : List Event) : Type 0 where
+pub record Takes (before now : Standing) (events : List Event) : Type 0 where
   pub taken : List ℕ
-  pub bytes : before ≡ prepended taken now
-  pub needed : AreNeeded old taken
-  pub says : (rest : List ℕ) → capture_from old (taken ++ rest) ≡ then_events events (capture_from new rest)
+  pub bytes : before.left ≡ prepended taken now.left
+  pub needed : AreNeeded before.progress taken
+  pub says : (rest : List ℕ)
+      → capture_from before.progress (taken ++ rest) ≡ then_events events (capture_from now.progress rest)
 
 -- What the format says of the bytes taken where a reader stops, in a capture of this version. No byte is taken past
 -- those that decide it. Where the source failed, the bytes taken were not enough.
@@ -86,11 +105,12 @@ SaysStop (Truncated byte) old version taken now =
     (capture_from old taken ≡ ended version (Truncated byte) []) × IsAtEnd now
 SaysStop stop old version taken now = (rest : List ℕ) → capture_from old (taken ++ rest) ≡ ended version stop rest
 
-pub record StopsAt (old new : Progress) (before now : Option (List ℕ)) (stop : Stop) : Type 0 where
+-- bytes were taken, none too many, and no event was given: they say where the reader stops
+pub record StopsAt (before now : Standing) (stop : Stop) : Type 0 where
   pub taken : List ℕ
-  pub bytes : before ≡ prepended taken now
-  pub needed : AreNeeded old taken
-  pub says : SaysStop stop old new.version taken now
+  pub bytes : before.left ≡ prepended taken now.left
+  pub needed : AreNeeded before.progress taken
+  pub says : SaysStop stop before.progress now.progress.version taken now.left
 
 -- where a new reader stands
 pub record IsStart (p : Progress) : Type 0 where

@@ -1,5 +1,5 @@
--- What the bytes taken of a capture say (our own rule), by how bytes are read: a whole capture by `capture`, what a reader
--- has still to take by `capture_from progress`.
+-- What the bytes taken of a capture say (our own rule), by how bytes are read: a whole capture by `capture`, what a
+-- reader has still to take by `capture_from progress`.
 use Rattle.std.specs.Prelude.{◌≡◌, ◌≤◌, ℕ, List, [], ◌∷◌, ◌++◌, Option, length}
 use Rattle.dev_io.specs.Device.{IsAtEnd}
 use Rattle.gpu_capture.specs.Capture.{Captured, then_events}
@@ -34,14 +34,21 @@ abbrev pub SaysFirst : Reading → (version : ℕ) → (taken : List ℕ) → Li
 SaysFirst read version taken events = (rest : List ℕ)
     → (more : Captured) × (read (taken ++ rest) ≡ then_events events more) × (more.version ≡ version)
 
--- the bytes taken say these events, and where the reader stopped behind them
-abbrev pub SaysStop : Reading → (version : ℕ) → (taken : List ℕ) → List Event → Stop → (left : Option (List ℕ)) → Type 0
-SaysStop read version taken events (ReadFault byte) left =
-    read taken ≡ record { version = version; events = events; ending = Truncated byte; rest = [] }
-SaysStop read version taken events (Truncated byte) left =
-    (read taken ≡ record { version = version; events = events; ending = Truncated byte; rest = [] }) × IsAtEnd left
-SaysStop read version taken events stop left = (rest : List ℕ)
-    → read (taken ++ rest) ≡ record { version = version; events = events; ending = stop; rest = rest }
+-- what a capture says before it ends: its version, and its events
+pub record Said : Type 0 where
+  pub version : ℕ
+  pub events : List Event
+
+-- the whole of it: with its end, and the bytes after that
+abbrev pub said_whole : Said → (ending : Stop) → (rest : List ℕ) → Captured
+said_whole said ending rest =
+    record { version = said.version; events = said.events; ending = ending; rest = rest }
+
+-- the bytes taken say this, and where the reader stopped behind it
+abbrev pub SaysStop : Reading → (taken : List ℕ) → Said → Stop → (left : Option (List ℕ)) → Type 0
+SaysStop read taken said (ReadFault byte) left = read taken ≡ said_whole said (Truncated byte) []
+SaysStop read taken said (Truncated byte) left = (read taken ≡ said_whole said (Truncated byte) []) × IsAtEnd left
+SaysStop read taken said stop left = (rest : List ℕ) → read (taken ++ rest) ≡ said_whole said stop rest
 
 -- So many bytes at most were taken behind those that the last of these events needs.
 pub record AreFewBehind (read : Reading) (events : List Event) (taken : List ℕ) (most : ℕ) : Type 0 where

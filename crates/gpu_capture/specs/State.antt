@@ -1,8 +1,17 @@
 -- What contracts see of a reader: how far it has come, and the stop that it has answered.
-use Rattle.std.specs.Prelude.{Option}
+use Rattle.std.specs.Prelude.{◌≡◌, ℕ, List, Option, None, Some, Result, Err, OnOk, IfErr, IfSome}
 use Rattle.gpu_capture.specs.declared.event.Stop.{Stop}
 use Rattle.gpu_capture.specs.declared.progress.Progress.{Progress}
 
 pub record ReaderState : Type 0 where
   pub progress : Progress
   pub stop : Option Stop
+
+-- A reader keeps the stop that it answers, and has kept none where it answers anything else. A stop that it has kept is
+-- answered again: it stands where it stood then, and takes nothing.
+pub record KeepsStop {Value : Type 0} (before now : ReaderState) (left left_now : Option (List ℕ))
+    (result : Result Value Stop) : Type 0 where
+  pub running : OnOk result (before.stop ≡ None)
+  pub runs_on : OnOk result (now.stop ≡ None)
+  pub kept : IfErr result (λ stop. now.stop ≡ Some stop)
+  pub again : IfSome before.stop (λ stop. (result ≡ Err stop) × (now ≡ before) × (left_now ≡ left))

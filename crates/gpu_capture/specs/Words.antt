@@ -3,7 +3,7 @@ use Rattle.std.specs.Prelude.{◌≡◌, ◌<◌, ◌≤◌, ℕ, List, [], ◌+
 use Rattle.std.specs.Prelude.{if◌then◌else◌}
 use Rattle.dev_io.specs.Device.{prepended}
 use Rattle.gpu_capture.specs.Capture.{ended, then_events, limit}
-use Rattle.gpu_capture.specs.Reader.{IsProgress, StopsAt, capture_from, work_left}
+use Rattle.gpu_capture.specs.Reader.{Standing, IsProgress, StopsAt, capture_from, standing, work_left}
 use Rattle.gpu_capture.specs.declared.event.Event.{Event}
 use Rattle.gpu_capture.specs.declared.event.Event.TheVariants.{Gp0}
 use Rattle.gpu_capture.specs.declared.event.Stop.{Stop}
@@ -26,27 +26,31 @@ pub record IsCutWithin (old : Progress) (words bytes : List ℕ) : Type 0 where
       ≡ then_events (word_events (take count words)) (ended version (Truncated byte) [])
 
 -- Words were taken, each of them an event: what the format says of their bytes and any rest is these events, and then
--- what it says of the rest from the new place on. No byte is one too many: a proper part of them gives fewer words. Each
--- word has four bytes.
-pub record TakesWords (old new : Progress) (before now : Option (List ℕ)) (words : List ℕ) : Type 0 where
+-- what it says of the rest from the new place on. No byte is one too many: a proper part of them gives fewer words.
+-- Each word has four bytes.
+pub record TakesWords (before now : Standing) (words : List ℕ) : Type 0 where
   pub taken : List ℕ
-  pub bytes : before ≡ prepended taken now
-  pub needed : (part more : List ℕ) → taken ≡ part ++ more → (more ≡ [] → ⊥) → IsCutWithin old words part
-  pub says : (rest : List ℕ) →
-      capture_from old (taken ++ rest) ≡ then_events (word_events words) (capture_from new rest)
-  pub place : new.place ≡ old.place + 4 * length words
+  pub bytes : before.left ≡ prepended taken now.left
+  pub needed : (part more : List ℕ) → taken ≡ part ++ more → (more ≡ [] → ⊥) → IsCutWithin before.progress words part
+  pub says : (rest : List ℕ)
+      → capture_from before.progress (taken ++ rest) ≡ then_events (word_events words) (capture_from now.progress rest)
+  pub place : now.progress.place ≡ before.progress.place + 4 * length words
 
 -- words were taken, and then the reader stopped behind them
-pub record StopsBehind (old new : Progress) (before now : Option (List ℕ)) (words : List ℕ) (stop : Stop) : Type 0 where
+pub record StopsBehind (before now : Standing) (words : List ℕ) (stop : Stop) : Type 0 where
   pub left : Option (List ℕ)
-  pub takes : TakesWords old new before left words
-  pub stops : StopsAt new new left now stop
+  pub takes : TakesWords before (standing now.progress left) words
+  pub stops : StopsAt (standing now.progress left) now stop
 
--- a reader goes on within its capture: it keeps its bounds, and has no more to do than before
+-- a reader goes on within its capture, and has no more to do than before
 pub record GoesOn (old new : Progress) : Type 0 where
-  pub bounds : IsProgress new
   pub version : new.version ≡ old.version
   pub forward : work_left new ≤ work_left old
+
+-- and it keeps its bounds
+pub record StaysWithin (old new : Progress) : Type 0 where
+  pub bounds : IsProgress new
+  pub goes_on : GoesOn old new
 
 -- how many words are left of an open Gp0 record
 abbrev pub gp0_left : Due → ℕ
@@ -60,6 +64,12 @@ pub record MayTake (p : Progress) (count : ℕ) : Type 0 where
   pub open_record : 0 < gp0_left p.due
   pub few : count ≤ gp0_left p.due
   pub below_limit : p.place + 4 * count ≤ limit
+
+-- a reader may take so many words, and a block has room for them
+pub record CanTake (p : Progress) (count : ℕ) : Type 0 where
+  pub bounds : IsProgress p
+  pub may : MayTake p count
+  pub room : count ≤ 512
 
 -- what is open behind so many of the words that are left
 abbrev pub words_due : (left count : ℕ) → Due

@@ -9,9 +9,11 @@ mod block;
 mod event;
 mod head;
 pub mod laws;
+mod open_words;
 mod progress;
 mod reader;
 mod record;
+mod tags;
 mod write;
 
 pub use block::WordBlock;

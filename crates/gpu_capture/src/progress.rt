@@ -1,11 +1,10 @@
 // How far a reader has come, and the steps by which it goes on.
 ghost use Rattle.std.specs.Prelude.{◌≡◌, ◌<◌, ◌≤◌, ◌+◌, ◌^◌, None, [], ◌∷◌, IfSome, IfOk, IfErr, OnOk};
 ghost use Rattle.std.specs.Prelude.{option_to_list};
-ghost use Rattle.dev_io.specs.Device.{Rose};
 ghost use Rattle.gpu_capture.specs.Record.{IsEvent};
 ghost use Rattle.gpu_capture.specs.Capture.{head_version, IsVersion};
-ghost use Rattle.gpu_capture.specs.Reader.{IsWord, EndsWord, IsProgress, Takes, StopsAt, IsReadFault, work_left};
-ghost use Rattle.gpu_capture.specs.Reader.{tag_due, behind_word};
+ghost use Rattle.gpu_capture.specs.Reader.{IsWord, EndsWord, IsBehindHead, IsProgress, Takes, StopsAt};
+ghost use Rattle.gpu_capture.specs.Reader.{CountsFaults, standing, work_left, tag_due, behind_word};
 
 use crate::event::{Event, Stop};
 use crate::head::head_among;
@@ -34,8 +33,7 @@ fn read_word<S: Source>(source: &mut S, place: u32) -> Result<u32, Stop>
     requires { place < 2 ^ 31 }
     ensures word { IfOk result (λ word. IsWord (S.left source.old) (S.left source.new) place word) }
     ensures stop { IfErr result (λ stop. EndsWord (S.left source.old) (S.left source.new) place stop) }
-    ensures cause { IfErr result (λ stop. IsReadFault stop → Rose (S.faults source.old) (S.faults source.new)) }
-    ensures faults { S.faults source.old ≤ S.faults source.new }
+    ensures faults { CountsFaults (S.faults source.old) (S.faults source.new) result }
 {
     if place >= LIMIT {
         return Err(Stop::TooLong { byte: LIMIT });
@@ -65,14 +63,14 @@ fn version_of(bytes: &[u8; 8]) -> Result<u8, usize>
 /// Takes the head, if it is still due.
 fn take_head<S: Source>(progress: &mut Progress, source: &mut S) -> Result<(), Stop>
     requires { IsProgress progress.old }
-    ensures takes { OnOk result (Takes progress.old progress.new (S.left source.old) (S.left source.new) []) }
+    ensures takes { OnOk result
+        (Takes (standing progress.old (S.left source.old)) (standing progress.new (S.left source.new)) []) }
     ensures started { OnOk result (1 ≤ progress.new.version) }
     ensures bounds { IsProgress progress.new }
     ensures forward { OnOk result (work_left progress.new ≤ work_left progress.old) }
-    ensures stop { IfErr result (λ stop.
-        StopsAt progress.old progress.new (S.left source.old) (S.left source.new) stop) }
-    ensures cause { IfErr result (λ stop. IsReadFault stop → Rose (S.faults source.old) (S.faults source.new)) }
-    ensures faults { S.faults source.old ≤ S.faults source.new }
+    ensures stop { IfErr result
+        (StopsAt (standing progress.old (S.left source.old)) (standing progress.new (S.left source.new))) }
+    ensures faults { CountsFaults (S.faults source.old) (S.faults source.new) result }
 {
     if progress.version > 0 {
         return Ok(());
@@ -109,18 +107,15 @@ pub(crate) fn at_tag(version: u8, place: u32) -> Progress
 
 /// Takes one word, or gives an event that is still to be given.
 fn take_word<S: Source>(progress: &mut Progress, source: &mut S) -> Result<Option<Event>, Stop>
-    requires bounds { IsProgress progress.old }
-    requires started { 1 ≤ progress.old.version }
-    ensures takes { IfOk result (λ event.
-        Takes progress.old progress.new (S.left source.old) (S.left source.new) (option_to_list event)) }
-    ensures started { OnOk result (1 ≤ progress.new.version) }
-    ensures bounds { IsProgress progress.new }
+    requires { IsBehindHead progress.old }
+    ensures takes { IfOk result (λ event. Takes (standing progress.old (S.left source.old))
+        (standing progress.new (S.left source.new)) (option_to_list event)) }
+    ensures stays { IsBehindHead progress.new }
     ensures event { IfOk result (λ event. IfSome event IsEvent) }
     ensures forward { OnOk result (work_left progress.new < work_left progress.old) }
-    ensures stop { IfErr result (λ stop.
-        StopsAt progress.old progress.new (S.left source.old) (S.left source.new) stop) }
-    ensures cause { IfErr result (λ stop. IsReadFault stop → Rose (S.faults source.old) (S.faults source.new)) }
-    ensures faults { S.faults source.old ≤ S.faults source.new }
+    ensures stop { IfErr result
+        (StopsAt (standing progress.old (S.left source.old)) (standing progress.new (S.left source.new))) }
+    ensures faults { CountsFaults (S.faults source.old) (S.faults source.new) result }
 {
     if progress.left > 0 {
         progress.left -= 1;
@@ -158,16 +153,15 @@ fn behind_word(progress: Progress, due: Due, repeated: Event, left: u32) -> Prog
 /// The next event.
 pub(crate) fn advance<S: Source>(progress: &mut Progress, source: &mut S) -> Result<Event, Stop>
     requires { IsProgress progress.old }
-    ensures takes { IfOk result (λ event.
-        Takes progress.old progress.new (S.left source.old) (S.left source.new) (event ∷ [])) }
+    ensures takes { IfOk result (λ event. Takes (standing progress.old (S.left source.old))
+        (standing progress.new (S.left source.new)) (event ∷ [])) }
     ensures bounds { IsProgress progress.new }
     ensures event { IfOk result IsEvent }
     ensures started { OnOk result (1 ≤ progress.new.version) }
     ensures forward { OnOk result (work_left progress.new < work_left progress.old) }
-    ensures stop { IfErr result (λ stop.
-        StopsAt progress.old progress.new (S.left source.old) (S.left source.new) stop) }
-    ensures cause { IfErr result (λ stop. IsReadFault stop → Rose (S.faults source.old) (S.faults source.new)) }
-    ensures faults { S.faults source.old ≤ S.faults source.new }
+    ensures stop { IfErr result
+        (StopsAt (standing progress.old (S.left source.old)) (standing progress.new (S.left source.new))) }
+    ensures faults { CountsFaults (S.faults source.old) (S.faults source.new) result }
 {
     take_head(progress, source)?;
     'words: loop {

@@ -1,15 +1,17 @@
 // The events of a capture, one after another, and the stop that a reader has answered.
-ghost use Rattle.std.specs.Prelude.{◌≡◌, ◌≤◌, ◌<◌, ◌+◌, ◌*◌, ◌%◌, ◌^◌, [], ◌∷◌, false, None, Some, min};
-ghost use Rattle.std.specs.Prelude.{IfSome, IfOk, IfErr, OnOk, Err};
+ghost use Rattle.std.specs.Prelude.{◌≡◌, ◌≤◌, ◌<◌, ◌+◌, ◌*◌, ◌%◌, ◌^◌, [], ◌∷◌, false, None, min};
+ghost use Rattle.std.specs.Prelude.{IfOk, IfErr, OnOk};
 ghost use Rattle.dev_io.specs.Device.{Rose};
 ghost use Rattle.gpu_capture.specs.Record.{IsEvent};
-ghost use Rattle.gpu_capture.specs.Reader.{StopsAt, Takes, IsReadFault, IsStart, work_left, tag_due};
+ghost use Rattle.gpu_capture.specs.Reader.{StopsAt, Takes, CountsFaults, IsReadFault, IsStart, standing, work_left};
+ghost use Rattle.gpu_capture.specs.Reader.{tag_due};
 ghost use Rattle.gpu_capture.specs.Capture.{IsVersion};
-ghost use Rattle.gpu_capture.specs.State.{ReaderState};
-ghost use Rattle.gpu_capture.specs.Words.{TakesWords, StopsBehind, gp0_left};
+ghost use Rattle.gpu_capture.specs.State.{KeepsStop};
+ghost use Rattle.gpu_capture.specs.Words.{TakesWords, StopsBehind, GoesOn, gp0_left};
 
-use crate::block::{WordBlock, gp0_left};
+use crate::block::WordBlock;
 use crate::event::{Event, Stop};
+use crate::open_words::gp0_left;
 use crate::progress::{Progress, advance, at_tag};
 use crate::record::Due;
 use crate::write::RECORD_MOST;
@@ -110,20 +112,14 @@ impl EventReader {
     /// The next event. It takes no byte past those that the event or the stop needs. After a stop it answers the same
     /// stop, and takes nothing.
     pub fn next<S: Source>(&mut self, source: &mut S) -> Result<Event, Stop>
-        ensures takes { IfOk result (λ event.
-            Takes self.old.progress self.new.progress (S.left source.old) (S.left source.new) (event ∷ [])) }
+        ensures takes { IfOk result (λ event. Takes (standing self.old.progress (S.left source.old))
+            (standing self.new.progress (S.left source.new)) (event ∷ [])) }
         ensures event { IfOk result IsEvent }
         ensures forward { OnOk result (work_left self.new.progress < work_left self.old.progress) }
         ensures version { OnOk result (1 ≤ self.new.progress.version) }
-        ensures running { OnOk result (self.old.stop ≡ None) }
-        ensures runs_on { OnOk result (self.new.stop ≡ None) }
-        ensures stop { self.old.stop ≡ None → IfErr result (λ stop.
-            StopsAt self.old.progress self.new.progress (S.left source.old) (S.left source.new) stop) }
-        ensures kept { IfErr result (λ stop. self.new.stop ≡ Some stop) }
-
-        // A stop that was answered before is answered again.
-        ensures again { IfSome self.old.stop (λ stop.
-            (result ≡ Err stop) × (self.new ≡ self.old) × (S.left source.new ≡ S.left source.old)) }
+        ensures stop { self.old.stop ≡ None → IfErr result (StopsAt (standing self.old.progress (S.left source.old))
+            (standing self.new.progress (S.left source.new))) }
+        ensures keeps { KeepsStop self.old self.new (S.left source.old) (S.left source.new) result }
         ensures cause { self.old.stop ≡ None → IfErr result (λ stop.
             IsReadFault stop → Rose (S.faults source.old) (S.faults source.new)) }
         ensures faults { S.faults source.old ≤ S.faults source.new }
@@ -142,8 +138,8 @@ impl EventReader {
 
     /// Takes the next words of an open Gp0 record at once, as many as are left of it and find room in the block, but no
     /// more than `most`; none where no such record is open. They are the next events, of 2,048 bytes at most. Whatever
-    /// follows, no event of the record can be refused, so no byte is taken too many. Where the reader stops behind them,
-    /// that is the answer, and the words stand.
+    /// follows, no event of the record can be refused, so no byte is taken too many. Where the reader stops behind
+    /// them, that is the answer, and the words stand.
     pub fn words<S: Source>(
         &mut self,
         source: &mut S,
@@ -151,17 +147,14 @@ impl EventReader {
         block: &mut WordBlock,
     ) -> Result<(), Stop>
         requires { self.old.stop ≡ None }
-        ensures takes { OnOk result
-            (TakesWords self.old.progress self.new.progress (S.left source.old) (S.left source.new) block.new) }
+        ensures takes { OnOk result (TakesWords (standing self.old.progress (S.left source.old))
+            (standing self.new.progress (S.left source.new)) block.new) }
         ensures few { self.new.progress.place ≤ self.old.progress.place + min (4 * most) 2048 }
-        ensures version { self.new.progress.version ≡ self.old.progress.version }
-        ensures forward { work_left self.new.progress ≤ work_left self.old.progress }
-        ensures runs_on { OnOk result (self.new.stop ≡ None) }
-        ensures stop { IfErr result (λ stop. StopsBehind self.old.progress self.new.progress
-            (S.left source.old) (S.left source.new) block.new stop) }
-        ensures kept { IfErr result (λ stop. self.new.stop ≡ Some stop) }
-        ensures cause { IfErr result (λ stop. IsReadFault stop → Rose (S.faults source.old) (S.faults source.new)) }
-        ensures faults { S.faults source.old ≤ S.faults source.new }
+        ensures goes_on { GoesOn self.old.progress self.new.progress }
+        ensures stop { IfErr result (StopsBehind (standing self.old.progress (S.left source.old))
+            (standing self.new.progress (S.left source.new)) block.new) }
+        ensures keeps { KeepsStop self.old self.new (S.left source.old) (S.left source.new) result }
+        ensures faults { CountsFaults (S.faults source.old) (S.faults source.new) result }
     {
         self.stop = block.take(&mut self.progress, source, most).err();
         match self.stop {

@@ -1,19 +1,13 @@
 // What a word does, by the record that is open where it stands.
 ghost use Rattle.std.specs.Prelude.{◌≡◌, ◌<◌, ◌/◌};
-ghost use Rattle.gpu_capture.specs.Record.{IsDue, IsStep, word_step, tag_step, address_step, gp0_due};
+ghost use Rattle.gpu_capture.specs.Record.{IsDue, IsStep, word_step, address_step, gp0_due};
 ghost use Rattle.gpu_capture.specs.Record.{started_by, IsBy, IsEvent};
 
 use crate::event::{Event, Stop};
-use px_num::bits;
+use crate::tags::tag;
 
 /// How many bytes main memory has.
-const MEMORY_BYTES: u32 = 0x20_0000;
-
-/// How many words main memory has.
-const MEMORY_WORDS: u32 = MEMORY_BYTES / 4;
-
-/// The most events that a record without payload gives.
-const MOST_REPEATS: u32 = 262_144;
+pub(crate) const MEMORY_BYTES: u32 = 0x20_0000;
 
 /// The record that is open, by what its next word is.
 #[derive(Clone, Copy, Debug, PartialEq, Eq)]
@@ -108,51 +102,6 @@ fn started(by: Start, madr: u32, bcr: u32, chcr: u32) -> Event
             chcr,
         },
         Start::Begin => Event::Begin { madr, bcr, chcr },
-    }
-}
-
-fn tag(version: u8, place: u32, word: u32) -> Step
-    ensures value { result ≡ tag_step version place word }
-    ensures bounds { IsStep result }
-{
-    let count = bits(word, 0, 24);
-    match word >> 24 {
-        0 if count == 0 => Step::Closes { stop: Stop::End },
-        1 if 1 <= count && count <= MEMORY_WORDS => Step::Opens {
-            next: Due::Address { count },
-        },
-        2 if 1 <= count => Step::Opens {
-            next: Due::Gp0 { left: count },
-        },
-        3 if count == 1 => Step::Opens { next: Due::Gp1 },
-        4 if 1 <= count && count <= MOST_REPEATS => repeats(Event::Read, count),
-        5 if count == 1 => repeats(Event::Stat, 1),
-        6 if count == 2 || count == 6 => Step::Opens {
-            next: Due::Madr {
-                by: Start::Dma {
-                    channel: count as u8,
-                },
-            },
-        },
-        7 if version >= 2 && count == 2 => Step::Opens {
-            next: Due::Madr { by: Start::Begin },
-        },
-        8 if version >= 2 && (1 <= count && count <= MOST_REPEATS) => repeats(Event::Turn, count),
-        9 if version >= 2 && (1 <= count && count <= MOST_REPEATS) => repeats(Event::Skip, count),
-        _ => Step::Closes {
-            stop: Stop::BadRecord { byte: place, word },
-        },
-    }
-}
-
-// A record without payload, which is so many of an event.
-fn repeats(event: Event, count: u32) -> Step
-    ensures { result ≡ Step.Gives event count Due.Tag }
-{
-    Step::Gives {
-        event,
-        count,
-        next: Due::Tag,
     }
 }
 

@@ -1,20 +1,17 @@
 -- What bytes are found to be stays so where more bytes follow them, unless they break off.
-use Rattle.std.proofs.Common.{◌≡◌, ◌≤◌, ◌+◌, ◌*◌, ◌++◌, List, [], ◌∷◌, ℕ, false, Option, length, nat_lt}
+use Rattle.std.proofs.Common.{◌≡◌, ◌≤◌, ◌+◌, ◌*◌, ◌++◌, List, [], ◌∷◌, ℕ, false, length, nat_lt}
 use Rattle.std.proofs.Common.{refl, arith, inl, inr, length-append}
 use Rattle.std.proofs.lemmas.Bool.{cases_Bool}
 use Rattle.std.proofs.lemmas.List.{take-append-le, drop-append-le}
 use Rattle.snapshot_words.specs.Reading.{Found, Whole, Short, Bad, found_then, section_from, outline_from}
-use Rattle.snapshot_words.specs.Reading.{word_of, run_from, store_from, pending_from, registers_from}
+use Rattle.snapshot_words.specs.Reading.{word_of, begun, run_from, store_from, pending_from, registers_from}
 use Rattle.snapshot_words.specs.Reading.{memory_from, memories_from, state_from, ram_words}
 use Rattle.snapshot_words.specs.Sections.{allows, wants}
 use Rattle.snapshot_words.specs.Values.{height_in, played_in, pending_in, load_in, store_in}
 use Rattle.snapshot_words.specs.declared.outline.Outline.{Outline}
 use Rattle.snapshot_words.specs.declared.section.Section.{Section}
 use Rattle.snapshot_words.specs.declared.section.Section.TheVariants as section
-use Rattle.gp0_words.specs.declared.pending.Pending.{Pending}
-use Rattle.gp1_status.specs.Registers.{Registers}
 use Rattle.gp1_status.specs.Words.{registers_in}
-use Rattle.vram_copy.specs.declared.transfer.Transfer.{Transfer}
 
 -- by what was found, what is found where more bytes follow
 abbrev pub Keeps : {A : Type 0} → Found A → (more : List ℕ) → Found A → Type 0
@@ -72,30 +69,29 @@ then_keeps (Whole value place rest) wider more next is nexts = rw is (nexts valu
 then_keeps (Short place) wider more next is nexts = tt
 then_keeps (Bad place word) wider more next is nexts = rw is refl
 
-run_keeps : (played : ℕ) (regs : Registers) (at_splitter : Pending) (load store : Option Transfer) (place : ℕ)
-    (bytes more : List ℕ) → Keeps (run_from played regs at_splitter load store place bytes) more
-    (run_from played regs at_splitter load store place (bytes ++ more))
-run_keeps played regs at_splitter load store place bytes more =
+run_keeps : (o : Outline) (place : ℕ) (bytes more : List ℕ)
+    → Keeps (run_from o place bytes) more (run_from o place (bytes ++ more))
+run_keeps o place bytes more =
     then_keeps _ _ more _ (section_keeps section.Run [] place bytes more) (λ words place rest. refl)
 
-store_keeps : (played : ℕ) (regs : Registers) (at_splitter : Pending) (load : Option Transfer) (place : ℕ)
-    (bytes more : List ℕ) → Keeps (store_from played regs at_splitter load place bytes) more
-    (store_from played regs at_splitter load place (bytes ++ more))
-store_keeps played regs at_splitter load place bytes more =
-    then_keeps _ _ more _ (section_keeps (section.Store regs.height) [] place bytes more)
-    (λ words place rest. run_keeps played regs at_splitter load (store_in words) place rest more)
+store_keeps : (o : Outline) (place : ℕ) (bytes more : List ℕ)
+    → Keeps (store_from o place bytes) more (store_from o place (bytes ++ more))
+store_keeps o place bytes more =
+    then_keeps _ _ more _ (section_keeps (section.Store o.regs.height) [] place bytes more)
+    (λ words place rest. run_keeps (record o { store = store_in words }) place rest more)
 
-pending_keeps : (played : ℕ) (regs : Registers) (place : ℕ) (bytes more : List ℕ)
-    → Keeps (pending_from played regs place bytes) more (pending_from played regs place (bytes ++ more))
-pending_keeps played regs place bytes more =
-    then_keeps _ _ more _ (section_keeps (section.Pending regs.height) [] place bytes more)
-    (λ words place rest. store_keeps played regs (pending_in words) (load_in words) place rest more)
+pending_keeps : (o : Outline) (place : ℕ) (bytes more : List ℕ)
+    → Keeps (pending_from o place bytes) more (pending_from o place (bytes ++ more))
+pending_keeps o place bytes more =
+    then_keeps _ _ more _ (section_keeps (section.Pending o.regs.height) [] place bytes more)
+    (λ words place rest.
+    store_keeps (record o { pending = pending_in words; load = load_in words }) place rest more)
 
 registers_keeps : (height played place : ℕ) (bytes more : List ℕ)
     → Keeps (registers_from height played place bytes) more (registers_from height played place (bytes ++ more))
 registers_keeps height played place bytes more =
     then_keeps _ _ more _ (section_keeps (section.Registers height) [] place bytes more)
-    (λ words place rest. pending_keeps played (registers_in height words) place rest more)
+    (λ words place rest. pending_keeps (begun played (registers_in height words)) place rest more)
 
 pub outline_keeps : (place : ℕ) (bytes more : List ℕ)
     → Keeps (outline_from place bytes) more (outline_from place (bytes ++ more))

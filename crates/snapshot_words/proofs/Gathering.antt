@@ -15,6 +15,7 @@ use Rattle.gpu_capture.specs.Written.{word_bytes}
 use Rattle.snapshot_words.specs.Outline.{bytes_of}
 use Rattle.snapshot_words.specs.Reading.{Found, Whole, Short, Bad, section_from}
 use Rattle.snapshot_words.specs.Taking.{IsWord, EndsWord, SaysNoWord, Goes, Takes, SaysFault, Stops, AreNeeded}
+use Rattle.snapshot_words.specs.Taking.{Remainder, remainder}
 use Rattle.snapshot_words.specs.declared.fault.SnapFault.{SnapFault}
 use Rattle.snapshot_words.specs.declared.fault.SnapFault.TheVariants as fault
 use Rattle.snapshot_words.specs.declared.section.Section.{Section}
@@ -112,48 +113,49 @@ few_of_word (fault.Bad byte word) place taken now says = absurd says
 
 -- ---- from word to word
 
-pub goes_start : (s : Section) (left : Option (List ℕ)) (place : ℕ) → Goes s left left place place []
-goes_start s left place = record {
-  bytes = prepended-nil left;
+pub goes_start : (s : Section) (at : Remainder) → Goes s at at []
+goes_start s at = record {
+  bytes = prepended-nil at.left;
   needed = λ part more is some. absurd (let short = part_shorter [] part more is some in omega (arith, short));
   says = λ rest. refl;
 }
 
-module _ (s : Section) (before mid now : Option (List ℕ)) (first place : ℕ) (got : List ℕ)
-    (goes : Goes s before mid first place got) where
+module _ (s : Section) (before mid : Remainder) (now : Option (List ℕ)) (got : List ℕ)
+    (goes : Goes s before mid got) where
   short_says : (taken : List ℕ) → wants s got ≡ true → length taken < 4
-      → section_from s [] first ((bytes_of got) ++ taken) ≡ Short (place + length taken)
-  short_says taken due few = goes.says taken ∙ breaks_off s got place taken due few
+      → section_from s [] before.place ((bytes_of got) ++ taken) ≡ Short (mid.place + length taken)
+  short_says taken due few = goes.says taken ∙ breaks_off s got mid.place taken due few
 
   -- at most the bytes of the next word
   needed_next : (taken : List ℕ) → wants s got ≡ true → length taken ≤ 4
-      → AreNeeded (section_from s [] first) (bytes_of got ++ taken)
+      → AreNeeded (section_from s [] before.place) (bytes_of got ++ taken)
   needed_next taken due few =
-      needed_on (section_from s [] first) (bytes_of got) taken goes.needed
+      needed_on (section_from s [] before.place) (bytes_of got) taken goes.needed
       (λ part more is some.
       let short = part_shorter taken part more is some in rw (short_says part due (omega (arith, short, few))) tt)
 
-  pub goes_on : (word : ℕ) → IsWord mid now word → wants s got ≡ true → allows s got word ≡ true
-      → Goes s before now first (place + 4) (got ++ word ∷ [])
+  pub goes_on : (word : ℕ) → IsWord mid.left now word → wants s got ≡ true → allows s got word ≡ true
+      → Goes s before (remainder (mid.place + 4) now) (got ++ word ∷ [])
   goes_on word took due may = record {
-    bytes = rw (bytes_on got word) (taken_on before mid now (bytes_of got) (word_bytes word) goes.bytes took.bytes);
+    bytes = rw (bytes_on got word)
+        (taken_on before.left mid.left now (bytes_of got) (word_bytes word) goes.bytes took.bytes);
     needed = rw (bytes_on got word) (needed_next (word_bytes word) due (word_long word));
     says = λ rest. rw (bytes_on got word, append_assoc (bytes_of got) (word_bytes word) rest)
-        (goes.says (word_bytes word ++ rest) ∙ next_word s got place word rest due may took.fits);
+        (goes.says (word_bytes word ++ rest) ∙ next_word s got mid.place word rest due may took.fits);
   }
 
-  pub bad_stops : (word : ℕ) → IsWord mid now word → wants s got ≡ true → allows s got word ≡ false
-      → Stops (section_from s [] first) before now (fault.Bad place word)
+  pub bad_stops : (word : ℕ) → IsWord mid.left now word → wants s got ≡ true → allows s got word ≡ false
+      → Stops (section_from s [] before.place) before.left now (fault.Bad mid.place word)
   bad_stops word took due may = record {
     taken = bytes_of got ++ word_bytes word;
-    bytes = taken_on before mid now (bytes_of got) (word_bytes word) goes.bytes took.bytes;
+    bytes = taken_on before.left mid.left now (bytes_of got) (word_bytes word) goes.bytes took.bytes;
     needed = needed_next (word_bytes word) due (word_long word);
     says = λ rest. rw (append_assoc (bytes_of got) (word_bytes word) rest)
-        (goes.says (word_bytes word ++ rest) ∙ bad_word s got place word rest due may took.fits);
+        (goes.says (word_bytes word ++ rest) ∙ bad_word s got mid.place word rest due may took.fits);
   }
 
-  fault_says : (why : SnapFault) (taken : List ℕ) → wants s got ≡ true → SaysNoWord why place taken now
-      → SaysFault why (section_from s [] first) ((bytes_of got) ++ taken) now
+  fault_says : (why : SnapFault) (taken : List ℕ) → wants s got ≡ true → SaysNoWord why mid.place taken now
+      → SaysFault why (section_from s [] before.place) ((bytes_of got) ++ taken) now
   fault_says (fault.Stop (Truncated byte)) taken due says = (rw says.1 (short_says taken due says.0), says.2)
   fault_says (fault.Stop (ReadFault byte)) taken due says = rw says.1 (short_says taken due says.0)
   fault_says (fault.Stop End) taken due says = absurd says
@@ -162,23 +164,23 @@ module _ (s : Section) (before mid now : Option (List ℕ)) (first place : ℕ) 
   fault_says (fault.Stop (TooLong byte)) taken due says = absurd says
   fault_says (fault.Bad byte word) taken due says = absurd says
 
-  pub no_word_stops : (why : SnapFault) → EndsWord mid now place why → wants s got ≡ true
-      → Stops (section_from s [] first) before now why
+  pub no_word_stops : (why : SnapFault) → EndsWord mid.left now mid.place why → wants s got ≡ true
+      → Stops (section_from s [] before.place) before.left now why
   no_word_stops why lack due = record {
     taken = (bytes_of got) ++ lack.taken;
-    bytes = taken_on before mid now (bytes_of got) lack.taken goes.bytes lack.bytes;
-    needed = needed_next lack.taken due (few_of_word why place lack.taken now lack.says);
+    bytes = taken_on before.left mid.left now (bytes_of got) lack.taken goes.bytes lack.bytes;
+    needed = needed_next lack.taken due (few_of_word why mid.place lack.taken now lack.says);
     says = fault_says why lack.taken due lack.says;
   }
 
-pub goes_whole : (s : Section) (before now : Option (List ℕ)) (first place : ℕ) (got : List ℕ)
-    → Goes s before now first place got → place ≡ first + 4 * length got → wants s got ≡ false
-    → Takes s before now first place got
-goes_whole s before now first place got goes moved full = record {
+pub goes_whole : (s : Section) (before now : Remainder) (got : List ℕ)
+    → Goes s before now got → now.place ≡ before.place + 4 * length got → wants s got ≡ false
+    → Takes s before now got
+goes_whole s before now got goes moved full = record {
   bytes = goes.bytes;
   needed = goes.needed;
   moved = moved;
-  says = λ rest. goes.says rest ∙ whole_stays s got place rest full;
+  says = λ rest. goes.says rest ∙ whole_stays s got now.place rest full;
 }
 
 -- ---- every word was due, and may stand at its place

@@ -3,17 +3,17 @@ use Rattle.std.proofs.Common.{◌≡◌, ◌<◌, ◌+◌, ◌*◌, ◌^◌, ◌
 use Rattle.std.proofs.Common.{refl, ap, sym, subst, ◌∙◌, append_assoc, append-nil, length-append, arith}
 use Rattle.std.proofs.lemmas.List.{length_push, take-append-le, take_all, get_or-append_right}
 use Rattle.snapshot_words.specs.Sections.{allows, wants, IsWhole}
-use Rattle.snapshot_words.specs.Taking.{Goes, Takes}
+use Rattle.snapshot_words.specs.Taking.{Goes, Takes, remainder}
 use Rattle.snapshot_words.specs.declared.section.Section.{Section}
 use Rattle.snapshot_words.proofs.Gathering.{goes_start, goes_on, goes_whole, minus_self}
 
 -- the words of a whole part that are left, from bytes that nobody tells
 takes_on : (s : Section) (all : List ℕ) (first : ℕ) → IsWhole s all → (got more : List ℕ) (place : ℕ)
-    → got ++ more ≡ all → place ≡ first + 4 * length got → Goes s None None first place got
-    → Takes s None None first (first + 4 * length all) all
+    → got ++ more ≡ all → place ≡ first + 4 * length got → Goes s (remainder first None) (remainder place None) got
+    → Takes s (remainder first None) (remainder (first + 4 * length all) None) all
 takes_on s all first is got [] place e moved goes =
     let same : got ≡ all = sym (append-nil got) ∙ e in
-    rw (← same, ← moved) (goes_whole s None None first place got goes moved (rw same is.whole))
+    rw (← same, ← moved) (goes_whole s (remainder first None) (remainder place None) got goes moved (rw same is.whole))
 takes_on s all first is got (w ∷ more) place e moved goes =
     let within : length got < length all = rw (← e) (let n = length-append got (w ∷ more) in omega (arith, n)) in
     let front : take (length got) all ≡ got =
@@ -29,9 +29,10 @@ takes_on s all first is got (w ∷ more) place e moved goes =
     let longer = length_push got w in
     takes_on s all first is (got ++ w ∷ []) more (place + 4) (append_assoc got (w ∷ []) more ∙ e)
     (omega (arith, longer, moved))
-    (goes_on s None None None first place got goes w (record { bytes = refl; fits = fits }) due may)
+    (goes_on s (remainder first None) (remainder place None) None got goes w (record { bytes = refl; fits = fits }) due
+    may)
 
 pub whole_takes : (s : Section) (words : List ℕ) (first : ℕ) → IsWhole s words
-    → Takes s None None first (first + 4 * length words) words
+    → Takes s (remainder first None) (remainder (first + 4 * length words) None) words
 whole_takes s words first is =
-    takes_on s words first is [] words first refl (omega arith) (goes_start s None first)
+    takes_on s words first is [] words first refl (omega arith) (goes_start s (remainder first None))

@@ -4,7 +4,7 @@ use Rattle.gp1_status.specs.Words.{words_of}
 use Rattle.gpu_capture.specs.Whole.{AreWords}
 use Rattle.snapshot_words.specs.Outline.{IsOutline, outline_words, bytes_of}
 use Rattle.snapshot_words.specs.Reading.{Whole, outline_from}
-use Rattle.snapshot_words.specs.Taking.{TakesOutline}
+use Rattle.snapshot_words.specs.Taking.{TakesOutline, remainder}
 use Rattle.snapshot_words.specs.Values.{front_words, pending_words, store_words, run_words}
 use Rattle.snapshot_words.specs.declared.outline.Outline.{Outline}
 use Rattle.snapshot_words.specs.declared.section.Section.TheVariants as section
@@ -51,8 +51,9 @@ outline_taken o place is are =
     (store_whole o.regs.height tall o.store is.store) in
     let runs = whole_takes section.Run (run_words o.run) place4 (run_whole o.run is.run) in (
       place5,
-      all_came place None None place1 o.regs.height o.played front None place2 o.regs refl registers None place3
-          o.pending o.load is.link pendings None place4 o.store stores None place5 o.run runs,
+      all_came (remainder place None) (remainder place1 None) o.regs.height o.played front (remainder place2 None)
+          o.regs refl registers (remainder place3 None) o.pending o.load is.link pendings (remainder place4 None)
+          o.store stores (remainder place5 None) o.run runs,
     )
 
 pub outline_read : (o : Outline) (place : ℕ) (rest : List ℕ) → IsOutline o → AreWords (outline_words o)

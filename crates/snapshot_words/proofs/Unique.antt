@@ -11,7 +11,7 @@ use Rattle.gpu_capture.specs.Written.{word_bytes}
 use Rattle.snapshot_words.specs.Laws.{AreBytes, IsSpelled}
 use Rattle.snapshot_words.specs.Outline.{IsOutline, outline_words, bytes_of}
 use Rattle.snapshot_words.specs.Reading.{Found, Whole, Short, Bad, found_then, section_from, outline_from}
-use Rattle.snapshot_words.specs.Reading.{registers_from, pending_from, store_from, run_from}
+use Rattle.snapshot_words.specs.Reading.{begun, registers_from, pending_from, store_from, run_from}
 use Rattle.snapshot_words.specs.Sections.{wants, allows, AreAllowed, IsWhole}
 use Rattle.snapshot_words.specs.Values.{height_in, played_in, pending_words, pending_in, load_in}
 use Rattle.snapshot_words.specs.Values.{store_words, store_in, run_words, run_in}
@@ -255,19 +255,19 @@ one_spelling o first place bytes rest are found =
     let h = height_in a in
     let r1 = read_part section.Front a first f1.place bytes f1.rest are f1.was in
     let f2 =
-    then_from (section_from (section.Registers h) [] f1.place f1.rest) (λ words. pending_from (played_in a)
-    (registers_in h words)) o place rest f1.behind in
+    then_from (section_from (section.Registers h) [] f1.place f1.rest) (λ words. pending_from
+    (begun (played_in a) (registers_in h words))) o place rest f1.behind in
     let b = f2.value in
     let r2 = read_part (section.Registers h) b f1.place f2.place f1.rest f2.rest r1.bytes_left f2.was in
-    let regs = registers_in h b in
+    let first_parts = begun (played_in a) (registers_in h b) in
     let f3 =
-    then_from (section_from (section.Pending h) [] f2.place f2.rest) (λ words. store_from (played_in a) regs
-    (pending_in words) (load_in words)) o place rest f2.behind in
+    then_from (section_from (section.Pending h) [] f2.place f2.rest) (λ words. store_from
+    (record first_parts { pending = pending_in words; load = load_in words })) o place rest f2.behind in
     let c = f3.value in
     let r3 = read_part (section.Pending h) c f2.place f3.place f2.rest f3.rest r2.bytes_left f3.was in
     let f4 =
-    then_from (section_from (section.Store h) [] f3.place f3.rest) (λ words. run_from (played_in a) regs
-    (pending_in c) (load_in c) (store_in words)) o place rest f3.behind in
+    then_from (section_from (section.Store h) [] f3.place f3.rest) (λ words. run_from
+    (record first_parts { pending = pending_in c; load = load_in c; store = store_in words })) o place rest f3.behind in
     let d = f4.value in
     let r4 = read_part (section.Store h) d f3.place f4.place f3.rest f4.rest r3.bytes_left f4.was in
     let f5 =

@@ -1,18 +1,26 @@
 -- A state but for its two memories, its bounds, and its spelling (our own rule). A state has one spelling.
-use Rattle.std.specs.Prelude.{◌≡◌, ◌<◌, ℕ, ◌*◌, ◌^◌, List, [], ◌∷◌, ◌++◌, codes, flat_map, length}
+use Rattle.std.specs.Prelude.{◌≡◌, ◌<◌, ℕ, ◌*◌, ◌^◌, List, [], ◌∷◌, ◌++◌, Option, codes, flat_map, length}
 use Rattle.gp0_words.specs.Next.{IsPending}
+use Rattle.gp0_words.specs.declared.pending.Pending.{Pending}
 use Rattle.gp1_status.specs.Words.{words_of, AreAllowed as RegisterBits}
 use Rattle.gpu_capture.specs.Whole.{AreWords}
 use Rattle.gpu_capture.specs.Written.{word_bytes}
 use Rattle.gpu_core.specs.Kept.{IsLinked, IsOpen}
 use Rattle.list_dma.specs.Plans.{IsRun}
 use Rattle.px_num.specs.Height.{IsHeight}
+use Rattle.vram_copy.specs.declared.transfer.Transfer.{Transfer}
 use Rattle.snapshot_words.specs.Values.{front_words, pending_words, store_words, run_words, cell_words}
 use Rattle.snapshot_words.specs.declared.outline.Outline.{Outline}
 
 -- the first eight bytes of a snapshot
 abbrev pub snapshot_head : List ℕ
 snapshot_head = codes "PSXGPUS1"
+
+-- what is pending, with the open load that goes with it
+pub record ArePending (height : ℕ) (at_splitter : Pending) (job : Option Transfer) : Type 0 where
+  pub bounds : IsPending at_splitter
+  pub link : IsLinked at_splitter job
+  pub load : IsOpen height job
 
 -- the bounds of a state but for its memories
 pub record IsOutline (o : Outline) : Type 0 where

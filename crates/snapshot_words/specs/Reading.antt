@@ -1,10 +1,10 @@
 -- What bytes are, read as a state (our own rule).
-use Rattle.std.specs.Prelude.{ℕ, ◌+◌, ◌*◌, List, [], ◌∷◌, ◌++◌, Option, if◌then◌else◌, length, take, drop, nat_lt}
+use Rattle.std.specs.Prelude.{ℕ, ◌+◌, ◌*◌, List, [], ◌∷◌, ◌++◌, None, if◌then◌else◌, length, take, drop, nat_lt}
 use Rattle.byteorder.specs.Endian.{little_number}
-use Rattle.gp0_words.specs.declared.pending.Pending.{Pending}
+use Rattle.gp0_words.specs.declared.pending.Pending.TheVariants as pending
 use Rattle.gp1_status.specs.Registers.{Registers}
 use Rattle.gp1_status.specs.Words.{registers_in}
-use Rattle.vram_copy.specs.declared.transfer.Transfer.{Transfer}
+use Rattle.list_dma.specs.declared.run.Run.TheVariants as run
 use Rattle.snapshot_words.specs.Sections.{allows, wants}
 use Rattle.snapshot_words.specs.Values.{height_in, played_in, pending_in, load_in, store_in, run_in, cells_in}
 use Rattle.snapshot_words.specs.declared.outline.Outline.{Outline}
@@ -45,35 +45,35 @@ section_from s got place (a ∷ b ∷ c ∷ d ∷ rest) =
 
 -- ---- a state but for its memories: its parts, one after another
 
+-- Each part that is read takes its place in what was read so far.
+
+-- what was read behind the registers: the parts that are still to come are none yet
+abbrev pub begun : (played : ℕ) → Registers → Outline
+begun played regs =
+    record { played = played; regs = regs; pending = pending.Idle; load = None; store = None; run = run.Idle }
+
 -- behind the open store
-abbrev pub run_from : (played : ℕ) → Registers → Pending → (load store : Option Transfer) → ℕ → List ℕ → Found Outline
-run_from played regs at_splitter load store place bytes =
-    found_then (section_from section.Run [] place bytes) (λ words. Whole (record {
-      played = played;
-      regs = regs;
-      pending = at_splitter;
-      load = load;
-      store = store;
-      run = run_in words;
-    }))
+abbrev pub run_from : Outline → ℕ → List ℕ → Found Outline
+run_from o place bytes =
+    found_then (section_from section.Run [] place bytes) (λ words. Whole (record o { run = run_in words }))
 
 -- behind what is pending
-abbrev pub store_from : (played : ℕ) → Registers → Pending → (load : Option Transfer) → ℕ → List ℕ → Found Outline
-store_from played regs at_splitter load place bytes =
-    found_then (section_from (section.Store regs.height) [] place bytes)
-    (λ words. run_from played regs at_splitter load (store_in words))
+abbrev pub store_from : Outline → ℕ → List ℕ → Found Outline
+store_from o place bytes =
+    found_then (section_from (section.Store o.regs.height) [] place bytes)
+    (λ words. run_from (record o { store = store_in words }))
 
 -- behind the registers
-abbrev pub pending_from : (played : ℕ) → Registers → ℕ → List ℕ → Found Outline
-pending_from played regs place bytes =
-    found_then (section_from (section.Pending regs.height) [] place bytes)
-    (λ words. store_from played regs (pending_in words) (load_in words))
+abbrev pub pending_from : Outline → ℕ → List ℕ → Found Outline
+pending_from o place bytes =
+    found_then (section_from (section.Pending o.regs.height) [] place bytes)
+    (λ words. store_from (record o { pending = pending_in words; load = load_in words }))
 
 -- behind the front
 abbrev pub registers_from : (height played : ℕ) → ℕ → List ℕ → Found Outline
 registers_from height played place bytes =
     found_then (section_from (section.Registers height) [] place bytes)
-    (λ words. pending_from played (registers_in height words))
+    (λ words. pending_from (begun played (registers_in height words)))
 
 unfoldable pub outline_from : (place : ℕ) → List ℕ → Found Outline
 outline_from place bytes =

@@ -1,6 +1,6 @@
 -- What is taken from a source, word by word, and what the table says of it.
-use Rattle.std.specs.Prelude.{◌≡◌, ◌<◌, ℕ, ◌+◌, ◌*◌, ◌^◌, List, [], ◌++◌, Option, length}
-use Rattle.dev_io.specs.Device.{prepended, IsAtEnd}
+use Rattle.std.specs.Prelude.{◌≡◌, ◌≤◌, ◌<◌, ℕ, ◌+◌, ◌*◌, ◌^◌, List, [], ◌++◌, Option, Result, IfErr, length}
+use Rattle.dev_io.specs.Device.{Rose, prepended, IsAtEnd}
 use Rattle.gpu_capture.specs.Written.{word_bytes}
 use Rattle.gpu_capture.specs.declared.event.Stop.TheVariants.{Truncated, ReadFault}
 use Rattle.snapshot_words.specs.Outline.{bytes_of, outline_words}
@@ -14,6 +14,11 @@ use Rattle.snapshot_words.specs.declared.section.Section.{Section}
 abbrev pub IsReadFault : SnapFault → Type 0
 IsReadFault (fault.Stop (ReadFault byte)) = Unit {0}
 IsReadFault other = ⊥
+
+-- the source's count of faults does not fall, and it rose where a read failed
+pub record CountsFaults {Value : Type 0} (before now : ℕ) (result : Result Value SnapFault) : Type 0 where
+  pub kept : before ≤ now
+  pub cause : IfErr result (λ fault. IsReadFault fault → Rose before now)
 
 -- ---- words
 
@@ -69,18 +74,27 @@ pub record Stops {A : Type 0} (found : List ℕ → Found A) (before now : Optio
   pub needed : AreNeeded found taken
   pub says : SaysFault why found taken now
 
+-- the bytes that are left of a source, and the place of the first of them
+pub record Remainder : Type 0 where
+  pub place : ℕ
+  pub left : Option (List ℕ)
+
+abbrev pub remainder : ℕ → Option (List ℕ) → Remainder
+remainder place left = record { place = place; left = left }
+
 -- The words so far of a part were taken. Whatever follows, it goes on from them at the place behind them.
-pub record Goes (s : Section) (before now : Option (List ℕ)) (first place : ℕ) (got : List ℕ) : Type 0 where
-  pub bytes : before ≡ prepended (bytes_of got) now
-  pub needed : AreNeeded (section_from s [] first) (bytes_of got)
-  pub says : (rest : List ℕ) → section_from s [] first (bytes_of got ++ rest) ≡ section_from s got place rest
+pub record Goes (s : Section) (before now : Remainder) (got : List ℕ) : Type 0 where
+  pub bytes : before.left ≡ prepended (bytes_of got) now.left
+  pub needed : AreNeeded (section_from s [] before.place) (bytes_of got)
+  pub says : (rest : List ℕ)
+      → section_from s [] before.place (bytes_of got ++ rest) ≡ section_from s got now.place rest
 
 -- the words of a whole part were taken
-pub record Takes (s : Section) (before now : Option (List ℕ)) (first place : ℕ) (words : List ℕ) : Type 0 where
-  pub bytes : before ≡ prepended (bytes_of words) now
-  pub needed : AreNeeded (section_from s [] first) (bytes_of words)
-  pub moved : place ≡ first + 4 * length words
-  pub says : (rest : List ℕ) → section_from s [] first (bytes_of words ++ rest) ≡ Whole words place rest
+pub record Takes (s : Section) (before now : Remainder) (words : List ℕ) : Type 0 where
+  pub bytes : before.left ≡ prepended (bytes_of words) now.left
+  pub needed : AreNeeded (section_from s [] before.place) (bytes_of words)
+  pub moved : now.place ≡ before.place + 4 * length words
+  pub says : (rest : List ℕ) → section_from s [] before.place (bytes_of words ++ rest) ≡ Whole words now.place rest
 
 -- the words of a state but for its memories were taken, and no byte more
 pub record TakesOutline (before now : Option (List ℕ)) (first place : ℕ) (o : Outline) : Type 0 where

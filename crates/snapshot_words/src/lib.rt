@@ -1,8 +1,10 @@
 //! The table of a snapshot: the state of a machine as words, and which words may stand at each place.
 #![tactic(auto)]
 
+mod bytes;
 mod fault;
 pub mod laws;
+mod needs;
 mod outline;
 mod parts;
 mod read;

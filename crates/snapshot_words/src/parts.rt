@@ -1,13 +1,12 @@
 // Whole parts that are read.
 ghost use Rattle.std.specs.Prelude.{◌≡◌, ◌≤◌, ◌<◌, ◌+◌, ◌^◌, [], IfOk, IfErr};
-ghost use Rattle.dev_io.specs.Device.{Rose};
-ghost use Rattle.gp0_words.specs.Next.{IsPending};
 ghost use Rattle.gp1_status.specs.Words.{words_of, AreAllowed as RegisterBits};
-ghost use Rattle.gpu_core.specs.Kept.{IsLinked, IsOpen};
+ghost use Rattle.gpu_core.specs.Kept.{IsOpen};
 ghost use Rattle.list_dma.specs.Plans.{IsRun};
 ghost use Rattle.px_num.specs.Height.{IsHeight};
+ghost use Rattle.snapshot_words.specs.Outline.{ArePending};
 ghost use Rattle.snapshot_words.specs.Reading.{section_from};
-ghost use Rattle.snapshot_words.specs.Taking.{Takes, Stops, IsReadFault};
+ghost use Rattle.snapshot_words.specs.Taking.{CountsFaults, Takes, Stops, remainder};
 ghost use Rattle.snapshot_words.specs.Values.{front_words, pending_words, store_words, run_words};
 
 use crate::fault::SnapFault;
@@ -28,14 +27,14 @@ pub(crate) fn read_front<S: Source>(
 ) -> Result<(u16, u64), SnapFault>
     requires place { place.old < 2 ^ 30 }
     ensures takes { IfOk result (λ front.
-        Takes Section.Front (S.left source.old) (S.left source.new) place.old place.new (front_words front.0 front.1)) }
+        Takes Section.Front (remainder place.old (S.left source.old))
+        (remainder place.new (S.left source.new)) (front_words front.0 front.1)) }
     ensures height { IfOk result (λ front. IsHeight front.0) }
     ensures few { IfOk result (λ front. front.1 < 2 ^ 63) }
     ensures near { place.new ≤ place.old + 52 }
     ensures fault { IfErr result (λ fault.
         Stops (section_from Section.Front [] place.old) (S.left source.old) (S.left source.new) fault) }
-    ensures cause { IfErr result (λ fault. IsReadFault fault → Rose (S.faults source.old) (S.faults source.new)) }
-    ensures faults { S.faults source.old ≤ S.faults source.new }
+    ensures faults { CountsFaults (S.faults source.old) (S.faults source.new) result }
 {
     match take_section(source, place, Section::Front) {
         Ok(words) => Ok(front_in(words.as_slice())),
@@ -53,14 +52,14 @@ pub(crate) fn read_registers<S: Source>(
     requires height { IsHeight height }
     requires place { place.old < 2 ^ 30 }
     ensures takes { IfOk result (λ regs.
-        Takes (Section.Registers height) (S.left source.old) (S.left source.new) place.old place.new (words_of regs)) }
+        Takes (Section.Registers height) (remainder place.old (S.left source.old))
+        (remainder place.new (S.left source.new)) (words_of regs)) }
     ensures height { IfOk result (λ regs. regs.height ≡ height) }
     ensures bits { IfOk result (λ regs. RegisterBits height (words_of regs)) }
     ensures near { place.new ≤ place.old + 52 }
     ensures fault { IfErr result (λ fault.
         Stops (section_from (Section.Registers height) [] place.old) (S.left source.old) (S.left source.new) fault) }
-    ensures cause { IfErr result (λ fault. IsReadFault fault → Rose (S.faults source.old) (S.faults source.new)) }
-    ensures faults { S.faults source.old ≤ S.faults source.new }
+    ensures faults { CountsFaults (S.faults source.old) (S.faults source.new) result }
 {
     match take_section(source, place, Section::Registers { height }) {
         Ok(words) => Ok(registers_in(height, words.as_slice())),
@@ -78,13 +77,13 @@ pub(crate) fn read_store<S: Source>(
     requires height { IsHeight height }
     requires place { place.old < 2 ^ 30 }
     ensures takes { IfOk result (λ store.
-        Takes (Section.Store height) (S.left source.old) (S.left source.new) place.old place.new (store_words store)) }
+        Takes (Section.Store height) (remainder place.old (S.left source.old))
+        (remainder place.new (S.left source.new)) (store_words store)) }
     ensures bounds { IfOk result (λ store. IsOpen height store) }
     ensures near { place.new ≤ place.old + 52 }
     ensures fault { IfErr result (λ fault.
         Stops (section_from (Section.Store height) [] place.old) (S.left source.old) (S.left source.new) fault) }
-    ensures cause { IfErr result (λ fault. IsReadFault fault → Rose (S.faults source.old) (S.faults source.new)) }
-    ensures faults { S.faults source.old ≤ S.faults source.new }
+    ensures faults { CountsFaults (S.faults source.old) (S.faults source.new) result }
 {
     match take_section(source, place, Section::Store { height }) {
         Ok(words) => Ok(store_in(height, words.as_slice())),
@@ -102,16 +101,13 @@ pub(crate) fn read_pending<S: Source>(
     requires height { IsHeight height }
     requires place { place.old < 2 ^ 30 }
     ensures takes { IfOk result (λ part.
-        Takes (Section.Pending height) (S.left source.old) (S.left source.new) place.old place.new
-        (pending_words part.0 part.1)) }
-    ensures bounds { IfOk result (λ part. IsPending part.0) }
-    ensures link { IfOk result (λ part. IsLinked part.0 part.1) }
-    ensures load { IfOk result (λ part. IsOpen height part.1) }
+        Takes (Section.Pending height) (remainder place.old (S.left source.old))
+        (remainder place.new (S.left source.new)) (pending_words part.0 part.1)) }
+    ensures bounds { IfOk result (λ part. ArePending height part.0 part.1) }
     ensures near { place.new ≤ place.old + 52 }
     ensures fault { IfErr result (λ fault.
         Stops (section_from (Section.Pending height) [] place.old) (S.left source.old) (S.left source.new) fault) }
-    ensures cause { IfErr result (λ fault. IsReadFault fault → Rose (S.faults source.old) (S.faults source.new)) }
-    ensures faults { S.faults source.old ≤ S.faults source.new }
+    ensures faults { CountsFaults (S.faults source.old) (S.faults source.new) result }
 {
     match take_section(source, place, Section::Pending { height }) {
         Ok(words) => {
@@ -127,13 +123,13 @@ pub(crate) fn read_pending<S: Source>(
 pub(crate) fn read_run<S: Source>(source: &mut S, place: &mut u32) -> Result<Run, SnapFault>
     requires place { place.old < 2 ^ 30 }
     ensures takes { IfOk result (λ run.
-        Takes Section.Run (S.left source.old) (S.left source.new) place.old place.new (run_words run)) }
+        Takes Section.Run (remainder place.old (S.left source.old))
+        (remainder place.new (S.left source.new)) (run_words run)) }
     ensures bounds { IfOk result IsRun }
     ensures near { place.new ≤ place.old + 52 }
     ensures fault { IfErr result (λ fault.
         Stops (section_from Section.Run [] place.old) (S.left source.old) (S.left source.new) fault) }
-    ensures cause { IfErr result (λ fault. IsReadFault fault → Rose (S.faults source.old) (S.faults source.new)) }
-    ensures faults { S.faults source.old ≤ S.faults source.new }
+    ensures faults { CountsFaults (S.faults source.old) (S.faults source.new) result }
 {
     match take_section(source, place, Section::Run) {
         Ok(words) => Ok(run_in(words.as_slice())),

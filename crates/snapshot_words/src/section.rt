@@ -1,13 +1,8 @@
 // The parts of a state, and which words may stand in each.
-ghost use Rattle.std.specs.Prelude.{◌≡◌, ◌≤◌, ◌<◌, ◌+◌, ◌*◌, ◌==◌, true, length, slice_index};
+ghost use Rattle.std.specs.Prelude.{◌≡◌, ◌≤◌, ◌<◌, ◌+◌, ◌*◌, ◌==◌, length, slice_index};
 ghost use Rattle.gp0_words.specs.Kinds.{is_set, is_end};
 ghost use Rattle.snapshot_words.specs.Sections.{
-  need,
-  wants,
   allows,
-  need_pending,
-  need_store,
-  need_run,
   allows_front,
   allows_pending,
   allows_packet,
@@ -86,58 +81,6 @@ fn is_line(word: u32) -> bool
     ensures { result ≡ is_line word }
 {
     word >> 29 == 2 && bit(word, 27)
-}
-
-fn need_pending(got: &[u32]) -> usize
-    ensures value { result ≡ need_pending got.now }
-    ensures most { result ≤ 13 }
-{
-    match word_at(got, 0) {
-        1 => 2 + word_at(got, 1).min(11) as usize,
-        2 => 6,
-        3 => if word_at(got, 4) == 1 { 6 } else { 5 },
-        _ => 1,
-    }
-}
-
-fn need_store(got: &[u32]) -> usize
-    ensures value { result ≡ need_store got.now }
-    ensures most { result ≤ 13 }
-{
-    if word_at(got, 0) == 1 { 6 } else { 1 }
-}
-
-fn need_run(got: &[u32]) -> usize
-    ensures value { result ≡ need_run got.now }
-    ensures most { result ≤ 13 }
-{
-    match word_at(got, 0) {
-        1 => 5,
-        2 => 2,
-        _ => 1,
-    }
-}
-
-/// How many words a part has, by the words of it that came, at most thirteen.
-pub(crate) fn need(section: Section, got: &[u32]) -> usize
-    ensures value { result ≡ need section got.now }
-    ensures most { result ≤ 13 }
-{
-    match section {
-        Section::Front => 3,
-        Section::Registers { .. } => 13,
-        Section::Pending { .. } => need_pending(got),
-        Section::Store { .. } => need_store(got),
-        Section::Run => need_run(got),
-    }
-}
-
-/// Whether one word more is due in a part.
-pub(crate) fn wants(section: Section, got: &[u32]) -> bool
-    ensures value { result ≡ wants section got.now }
-    ensures few { result ≡ true → length got.now < 13 }
-{
-    got.len() < need(section, got)
 }
 
 fn allows_front(got: &[u32], word: u32) -> bool

@@ -4,10 +4,11 @@ ghost use Rattle.dev_io.specs.Device.{Rose};
 ghost use Rattle.gpu_capture.specs.Written.{word_bytes};
 ghost use Rattle.snapshot_words.specs.Reading.{section_from};
 ghost use Rattle.snapshot_words.specs.Sections.{IsSection, IsWhole};
-ghost use Rattle.snapshot_words.specs.Taking.{IsWord, EndsWord, Takes, Stops, IsReadFault};
+ghost use Rattle.snapshot_words.specs.Taking.{IsWord, EndsWord, CountsFaults, Takes, Stops, IsReadFault, remainder};
 
 use crate::fault::SnapFault;
-use crate::section::{Section, allows, wants};
+use crate::needs::wants;
+use crate::section::{Section, allows};
 use arrayvec::ArrayVec;
 use byteorder::{ByteOrder, LittleEndian};
 use dev_io::{Source, fill};
@@ -56,13 +57,12 @@ pub(crate) fn take_section<S: Source>(
     requires section { IsSection section }
     requires place { place.old < 2 ^ 30 }
     ensures takes { IfOk result (λ words.
-        Takes section (S.left source.old) (S.left source.new) place.old place.new words.items) }
+        Takes section (remainder place.old (S.left source.old)) (remainder place.new (S.left source.new)) words.items) }
     ensures whole { IfOk result (λ words. IsWhole section words.items) }
     ensures near { place.new ≤ place.old + 52 }
     ensures fault { IfErr result (λ fault.
         Stops (section_from section [] place.old) (S.left source.old) (S.left source.new) fault) }
-    ensures cause { IfErr result (λ fault. IsReadFault fault → Rose (S.faults source.old) (S.faults source.new)) }
-    ensures faults { S.faults source.old ≤ S.faults source.new }
+    ensures faults { CountsFaults (S.faults source.old) (S.faults source.new) result }
 {
     let mut words = ArrayVec::<u32, 16>::new();
     'words: while wants(section, words.as_slice()) {

@@ -2,11 +2,11 @@
 ghost use Rattle.std.specs.Prelude.{◌≡◌, ◌≤◌, ◌<◌, ◌+◌, ◌*◌, ◌++◌, ◌∷◌, None, length};
 ghost use Rattle.dev_io.specs.Device.{Writes};
 ghost use Rattle.gp0_words.specs.Next.{IsPending};
-ghost use Rattle.gpu_capture.specs.Written.{word_bytes};
 ghost use Rattle.snapshot_words.specs.Outline.{snapshot_head, outline_words, bytes_of};
 ghost use Rattle.snapshot_words.specs.Values.{front_words, job_words, load_words, pending_words};
 ghost use Rattle.snapshot_words.specs.Values.{store_words, run_words};
 
+use crate::bytes::bytes_in;
 use crate::outline::Outline;
 use arrayvec::ArrayVec;
 use dev_io::{Failed, Sink, write_all};
@@ -49,35 +49,6 @@ fn gather(outline: &Outline) -> ArrayVec<u32, 48>
     append_store(&mut words, &outline.store);
     append_run(&mut words, &outline.run);
     words
-}
-
-// The bytes of words, the low byte of each first.
-fn bytes_in(words: &[u32]) -> ArrayVec<u8, 192>
-    requires { length words.now ≤ 48 }
-    ensures { result.items ≡ bytes_of words.now }
-{
-    let mut bytes = ArrayVec::new();
-    for word in words {
-        append_word(&mut bytes, *word);
-    }
-    bytes
-}
-
-fn append_word(bytes: &mut ArrayVec<u8, 192>, word: u32)
-    requires { length bytes.old.items ≤ 188 }
-    ensures bytes { bytes.new.items ≡ bytes.old.items ++ word_bytes word }
-    ensures long { length bytes.new.items ≡ length bytes.old.items + 4 }
-{
-    for byte in &word_array(word) {
-        bytes.push(*byte);
-    }
-}
-
-#[tactic(auto, unfolding(gpu_capture::specs::Written::word_bytes))]
-fn word_array(word: u32) -> [u8; 4]
-    ensures { result ≡ word_bytes word }
-{
-    word.to_le_bytes()
 }
 
 fn append(words: &mut ArrayVec<u32, 48>, more: &[u32])

@@ -32,7 +32,7 @@ events-init g c = record {
       c.version.ensures.value c.next-first.ensures.takes c.next-first.ensures.version
       (c.next-first.ensures.stop c.new-reader.ensures.stop) in
       played_on 0 _ _ _ _ _ _ _ _ _ _ at (c.in_ok-play_answer.ensures.ok at.tale at.stands.rig_is) (omega arith);
-  ready = answered c.next-first.result _ c.in_ok-play_answer.ensures.answered c.next-first.ensures.runs_on;
+  ready = answered c.next-first.result _ c.in_ok-play_answer.ensures.answered c.next-first.ensures.keeps.runs_on;
   few = let less = answered c.next-first.result _ c.in_ok-play_answer.ensures.answered c.next-first.ensures.forward in
       omega (arith, less, c.new-reader.ensures.work);
   faults = c.next-first.ensures.faults;
@@ -63,7 +63,7 @@ events-preserved g c = record {
       c.next-next.ensures.takes c.next-next.ensures.version (c.next-next.ensures.stop c.events.invariant.ready) in
       played_on _ _ _ _ _ _ _ _ _ _ _ at (c.in_ok-play_answer-2.ensures.ok at.tale at.stands.rig_is)
       (omega (arith, c.events-test.true, c.ranges.n.fits));
-  ready = answered c.next-next.result _ c.in_ok-play_answer-2.ensures.answered c.next-next.ensures.runs_on;
+  ready = answered c.next-next.result _ c.in_ok-play_answer-2.ensures.answered c.next-next.ensures.keeps.runs_on;
   few = let less = answered c.next-next.result _ c.in_ok-play_answer-2.ensures.answered c.next-next.ensures.forward in
       omega (arith, less, c.events.invariant.few);
   faults = omega (arith, c.events.invariant.faults, c.next-next.ensures.faults);

@@ -24,7 +24,7 @@ events-preserved g c = record {
       came_on _ _ _ _ _ _ _ _ paused.comes _ _ _ paused.near c.in-Ok-next.event
       c.in-Ok-next.ensures.takes c.in-Ok-next.ensures.version _ c.put_record.new.draft refl
       c.in-Ok-put_record.ensures.ok c.in-Ok-put_record.ensures.allowed;
-  ready = c.in-Ok-next.ensures.runs_on;
+  ready = c.in-Ok-next.ensures.keeps.runs_on;
   fits = c.in-Ok-put_record.ensures.room;
   room = omega (arith, c.events.invariant.room, c.in-Ok-next.ensures.forward);
   read_faults = omega (arith, c.events.invariant.read_faults, c.in-Ok-next.ensures.faults);

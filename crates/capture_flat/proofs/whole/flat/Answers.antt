@@ -27,7 +27,7 @@ events-init g c =
           c.next-next.ensures.takes c.next-next.ensures.version (c.next-next.ensures.stop c.new-reader.ensures.stop);
       few = omega (arith, size);
       version = ap (λ (f : FlatFile). f.version) c.first_draft-draft.ensures.file;
-      running = c.next-next.ensures.runs_on;
+      running = c.next-next.ensures.keeps.runs_on;
       read_cause = c.next-next.ensures.cause c.new-reader.ensures.stop;
       read_faults = c.next-next.ensures.faults;
       write_faults = omega arith;
@@ -66,7 +66,7 @@ returns-in-Err-pass_words-clause-ends g c = λ s e.
     let count = words_count _ _ _ _ _ c.words-read.result read.takes read.stop in
     let near = c.words_at_once-most.ensures.near goes.paused.near in
     words_fail _ _ _ _ _ _ _ _ _ _ _ _ _ _ _ _
-    goes.paused.passes goes.known goes.same read.version (omega (arith, counts))
+    goes.paused.passes goes.known goes.same read.goes_on.version (omega (arith, counts))
     (rw c.as_slice-words.ensures at c.pass_words.ensures.tells)
     (rw c.as_slice-words.ensures at c.pass_words.ensures.allowed)
     (omega (arith, few, fits, count)) c.pass_words.new.draft (g.K.Sink.held c.pass_words.new.out)
@@ -91,14 +91,14 @@ returns-in-Err-read-clause-ends g c = λ s e.
     let count = words_count _ _ _ _ _ c.words-read.result read.takes read.stop in
     let near = c.words_at_once-most.ensures.near goes.paused.near in
     let went = words_went _ _ _ _ _ _ _ _ _ _ _ _ _ _ _ _
-    goes.paused.passes goes.known goes.same read.version (omega (arith, counts))
+    goes.paused.passes goes.known goes.same read.goes_on.version (omega (arith, counts))
     (rw c.as_slice-words.ensures at c.pass_words.ensures.tells)
     (rw c.as_slice-words.ensures at c.pass_words.ensures.allowed)
     (omega (arith, few, fits, count)) c.pass_words.new.draft (g.K.Sink.held c.pass_words.new.out)
     (rw c.as_slice-words.ensures at c.pass_words.ensures.file) _ c.in_default.field-0
     (rw c.as_slice-words.ensures at c.in_default.ensures.puts)
     c.in-Err-read.ensures.stop.takes in
-    reading_ends _ _ _ _ _ _ _ _ _ _ _ _ _ _ went (omega (arith, few, near)) (at.same ∙ sym read.version) _
+    reading_ends _ _ _ _ _ _ _ _ _ _ _ _ _ _ went (omega (arith, few, near)) (at.same ∙ sym read.goes_on.version) _
     c.in-Err-read.stop c.end_reading.result c.in-Err-read.ensures.stop.stops c.version-version.ensures.known
     c.played.ensures c.end_reading.ensures.ends
 
@@ -119,15 +119,15 @@ returns-in-Err-write_at_pause-2-clause-ends g c = λ s e.
     let count = words_count _ _ _ _ _ c.words-read.result read.takes read.stop in
     let near = c.words_at_once-most.ensures.near goes.paused.near in
     let went = words_went _ _ _ _ _ _ _ _ _ _ _ _ _ _ _ _
-    goes.paused.passes goes.known goes.same read.version (omega (arith, counts))
+    goes.paused.passes goes.known goes.same read.goes_on.version (omega (arith, counts))
     (rw c.as_slice-words.ensures at c.pass_words.ensures.tells)
     (rw c.as_slice-words.ensures at c.pass_words.ensures.allowed)
     (omega (arith, few, fits, count)) c.pass_words.new.draft (g.K.Sink.held c.pass_words.new.out)
     (rw c.as_slice-words.ensures at c.pass_words.ensures.file) _ c.in_default.field-0
     (rw c.as_slice-words.ensures at c.in_default.ensures.puts)
     c.in_default-read.ensures.takes in
-    passes_off _ _ _ _ _ _ c.pass_words.new.draft _ went (omega (arith, few, near)) (rw read.version takes.1)
-    (at.same ∙ sym read.version) (g.K.Sink.held c.write_at_pause-then-most-gt0.new.out)
+    passes_off _ _ _ _ _ _ c.pass_words.new.draft _ went (omega (arith, few, near)) (rw read.goes_on.version takes.1)
+    (at.same ∙ sym read.goes_on.version) (g.K.Sink.held c.write_at_pause-then-most-gt0.new.out)
     c.in-Err-write_at_pause-2.lacking
     c.in-Err-write_at_pause-2.ensures.failed
 
@@ -154,12 +154,12 @@ kept g c =
           let size = ap (λ (f : FlatFile). f.size) w.pass_words.ensures.file in
           rw (w.source-is, w.out-is, w.reader-is, w.draft-is)
           (record {
-            running = w.in_default-read.ensures.runs_on;
-            forward = read.forward;
+            running = w.in_default-read.ensures.keeps.runs_on;
+            forward = read.goes_on.forward;
             few = omega (arith, few, fits, count, long, size);
             version_is = ap (λ (f : FlatFile). f.version) w.pass_words.ensures.file
                 ∙ c.in-Ok-pass_event.ensures.version ∙ c.events.invariant.version;
-            read_faults = omega (arith, c.events.invariant.read_faults, read.faults);
+            read_faults = omega (arith, c.events.invariant.read_faults, read.faults.kept);
             write_faults = omega (
               arith,
               c.events.invariant.write_faults,
@@ -222,7 +222,7 @@ events-preserved g c =
                 let count = words_count _ _ _ _ _ w.words-read.result read.takes read.stop in
                 rw (w.rig-is, w.source-is, w.out-is, w.taps-is, w.steps-is, w.reader-is, w.draft-is, w.since-is)
                 (words_go _ _ _ _ _ _ _ _ _ _ _ _ _ _ _ _
-                goes.paused.passes goes.known goes.same read.version (omega (arith, counts))
+                goes.paused.passes goes.known goes.same read.goes_on.version (omega (arith, counts))
                 (rw w.as_slice-words.ensures at w.pass_words.ensures.tells)
                 (rw w.as_slice-words.ensures at w.pass_words.ensures.allowed)
                 (omega (arith, few, fits, count)) w.pass_words.new.draft (g.K.Sink.held w.pass_words.new.out)
@@ -238,7 +238,7 @@ events-preserved g c =
           (c.next-next-in-Ok.ensures.stop kept.running);
       few = omega (arith, few);
       version = kept.version_is;
-      running = c.next-next-in-Ok.ensures.runs_on;
+      running = c.next-next-in-Ok.ensures.keeps.runs_on;
       read_cause = IfErr-weaker c.next-next-in-Ok.result _ _
           (λ stop may fault. omega (arith, may fault, kept.read_faults)) (c.next-next-in-Ok.ensures.cause kept.running);
       read_faults = omega (arith, kept.read_faults, c.next-next-in-Ok.ensures.faults);

@@ -22,7 +22,7 @@ events-init g c = record {
         size = omega (arith, size);
       };
   room = omega (arith, left_falls _ _ c.next-next.result c.next-next.ensures.forward, c.new-reader.ensures.work);
-  running = c.next-next.ensures.runs_on;
+  running = c.next-next.ensures.keeps.runs_on;
   read_cause = c.next-next.ensures.cause c.new-reader.ensures.stop;
   read_faults = c.next-next.ensures.faults;
   write_faults = omega arith;
@@ -61,7 +61,7 @@ events-preserved g c =
         falls_on _ _ _ c.next-next-in-Ok.result c.in-Ok.event c.in-Ok.is c.next-next-in-Ok.ensures.forward,
         c.events.invariant.room,
       );
-      running = c.next-next-in-Ok.ensures.runs_on;
+      running = c.next-next-in-Ok.ensures.keeps.runs_on;
       read_cause = IfErr-weaker c.next-next-in-Ok.result _ _
           (λ stop may fault. omega (arith, may fault, c.events.invariant.read_faults))
           (c.next-next-in-Ok.ensures.cause running);

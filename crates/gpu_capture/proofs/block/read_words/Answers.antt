@@ -1,4 +1,5 @@
 use Rattle.std.proofs.Common.{◌+◌, ◌*◌, refl, arith}
+use Rattle.gpu_capture.specs.Reader.{standing}
 use Rattle.gpu_capture.specs.Words.{behind_words}
 use Rattle.gpu_capture.proofs.Words.{none_taken, words_on, word_taken, word_in}
 use Rattle.gpu_capture.proofs.block.read_words.Goals as goal
@@ -6,7 +7,7 @@ use Rattle.gpu_capture.proofs.block.read_words.Goals as goal
 pub loop-i-init : goal.loop-i-init
 loop-i-init c = record {
   count = rw c.requires.empty refl;
-  takes = λ now. rw c.requires.empty (none_taken c.args.progress.now _ c.requires.may _);
+  takes = λ now. rw c.requires.empty (none_taken c.args.progress.now _ c.requires.can.may _);
 }
 
 pub loop-i-preserved : goal.loop-i-preserved
@@ -14,12 +15,12 @@ loop-i-preserved c = record {
   count = omega arith;
   takes = λ now.
       let lt = c.loop-i-test.true in
-      let below = c.requires.may.below_limit in
+      let below = c.requires.can.may.below_limit in
       let p = c.args.progress.now in
       let took = word_in c.args.bytes.now c.loop-i.i (p.place + 4 * c.loop-i.i) c.read_u32.result now
       (omega (arith, lt, below)) (omega (arith, lt)) c.read_u32.ensures in
       rw c.push.ensures.items
-      (words_on p (behind_words p c.loop-i.i) (behind_words p (c.loop-i.i + 1)) _ _ _ c.loop-i.words.items
-      c.read_u32.result (c.loop-i.invariant.takes now)
-      (word_taken p _ c.requires.may c.loop-i.i c.read_u32.result lt _ _ took) (omega arith));
+      (words_on (standing p _) (standing (behind_words p c.loop-i.i) _) (standing (behind_words p (c.loop-i.i + 1)) _)
+      c.loop-i.words.items c.read_u32.result (c.loop-i.invariant.takes now)
+      (word_taken p _ c.requires.can.may c.loop-i.i c.read_u32.result lt _ _ took) (omega arith));
 }

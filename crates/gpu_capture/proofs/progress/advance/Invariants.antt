@@ -1,12 +1,12 @@
 use Rattle.std.proofs.Common.{◌≤◌, []}
-use Rattle.gpu_capture.specs.Reader.{IsProgress, Takes, work_left}
+use Rattle.gpu_capture.specs.Reader.{IsBehindHead, Takes, standing, work_left}
 use Rattle.gpu_capture.proofs.progress.advance.Given as goal
 
 abbrev pub invariant-words : goal.invariant-words
 invariant-words g l = record {
-  takes : Takes l.fn.progress l.progress (g.S.Source.left l.fn.source) (g.S.Source.left l.source) [];
-  started : 1 ≤ l.progress.version;
-  bounds : IsProgress l.progress;
+  takes : Takes (standing l.fn.progress (g.S.Source.left l.fn.source))
+      (standing l.progress (g.S.Source.left l.source)) [];
+  stays : IsBehindHead l.progress;
   forward : work_left l.progress ≤ work_left l.fn.progress;
   faults : g.S.Source.faults l.fn.source ≤ g.S.Source.faults l.source;
 }

@@ -4,7 +4,7 @@ use Rattle.gpu_capture.proofs.Steps.{takes_none, head_takes, head_stops, head_sh
 use Rattle.gpu_capture.proofs.progress.take_head.Goals as goal
 
 pub returns-then-progress-gt0-clause-takes : goal.returns-then-progress-gt0-clause-takes
-returns-then-progress-gt0-clause-takes g c = takes_none _ _
+returns-then-progress-gt0-clause-takes g c = takes_none _
 
 pub returns-in-Ok-version_of-clause-takes : goal.returns-in-Ok-version_of-clause-takes
 returns-in-Ok-version_of-clause-takes g c =

@@ -1,12 +1,12 @@
 use Rattle.std.proofs.Common.{◌≡◌, ◌≤◌, ◌+◌, ◌*◌, ◌-◌, length}
-use Rattle.snapshot_words.specs.Taking.{Goes}
+use Rattle.snapshot_words.specs.Taking.{Goes, remainder}
 use Rattle.snapshot_words.specs.Sections.{AreAllowed}
 use Rattle.snapshot_words.proofs.taking.take_section.Given as goal
 
 abbrev pub invariant-words : goal.invariant-words
 invariant-words g l = record {
-  goes : Goes l.section (g.S.Source.left l.initial.source)
-      (g.S.Source.left l.source) l.initial.place l.place l.words.items;
+  goes : Goes l.section (remainder l.initial.place (g.S.Source.left l.initial.source))
+      (remainder l.place (g.S.Source.left l.source)) l.words.items;
   allowed : AreAllowed l.section l.words.items;
   place : l.place ≡ l.initial.place + 4 * length l.words.items;
   few : length l.words.items ≤ 13;

@@ -18,7 +18,7 @@ events-init g c = record {
       (record { state = e; played = refl }))
       c.next-next.result c.next-next.ensures.takes c.next-next.ensures.version
       (c.next-next.ensures.stop c.requires);
-  running = c.next-next.ensures.runs_on;
+  running = c.next-next.ensures.keeps.runs_on;
   known = c.next-next.ensures.version;
   read_cause = c.next-next.ensures.cause c.requires;
   read_faults = c.next-next.ensures.faults;
@@ -62,7 +62,7 @@ returns-in-Err-play_words-clause-ends g c = λ s e.
     let read = c.read_words-read.ensures in
     words_fail _ _ _ _ _ _ _ _ _ _ _ _ _ _ _ _ _
     paused.reached read.unwatched c.play_words.ensures.ram c.play_words.ensures.running
-    (rw c.as_slice.ensures at c.play_words.ensures.told) (rw read.version started)
+    (rw c.as_slice.ensures at c.play_words.ensures.told) (rw read.goes_on.version started)
     (λ is. let few = read.few is in let near = c.in-Ok-write_before_words.ensures.near in omega (arith, few, near))
     (g.K.Sink.held c.play_words.new.out) c.play_words.new.lines c.in-Err-play_words.event c.read_words-read.result
     (rw c.as_slice.ensures at c.in-Err-play_words.ensures.puts) read.takes read.stop
@@ -79,7 +79,7 @@ returns-in-Err-read-clause-ends g c = λ s e.
     let read = c.read_words-read.ensures in
     let stopped = words_stop _ _ _ _ _ _ _ _ _ _ _ _ _ _ _ _ _
     paused.reached read.unwatched c.play_words.ensures.ram c.play_words.ensures.running
-    (rw c.as_slice.ensures at c.play_words.ensures.told) (rw read.version started)
+    (rw c.as_slice.ensures at c.play_words.ensures.told) (rw read.goes_on.version started)
     (λ is. let few = read.few is in let near = c.in-Ok-write_before_words.ensures.near in omega (arith, few, near))
     (g.K.Sink.held c.play_words.new.out) c.play_words.new.lines c.in_default-play_words.field-0 c.in-Err-read.stop
     (rw c.as_slice.ensures at c.in_default-play_words.ensures.puts) (c.play_words.ensures.free paused.reached.free)
@@ -104,7 +104,7 @@ returns-in-Err-write_at_pause-clause-ends g c = λ s e.
     pause_ends _ _ _ _ _ _ _ _ (g.K.Sink.held c.write_at_pause.new.out) c.in-Err-write_at_pause.event
     (words_went _ _ _ _ _ _ _ _ _ _ _ _ _ _ _ _ _
     paused.reached read.unwatched c.play_words.ensures.ram c.play_words.ensures.running
-    (rw c.as_slice.ensures at c.play_words.ensures.told) (rw read.version started)
+    (rw c.as_slice.ensures at c.play_words.ensures.told) (rw read.goes_on.version started)
     (λ is. let few = read.few is in let near = c.in-Ok-write_before_words.ensures.near in omega (arith, few, near))
     (g.K.Sink.held c.play_words.new.out) c.play_words.new.lines c.in_default-play_words.field-0
     (rw c.as_slice.ensures at c.in_default-play_words.ensures.puts) (c.play_words.ensures.free paused.reached.free)
@@ -113,7 +113,7 @@ returns-in-Err-write_at_pause-clause-ends g c = λ s e.
 
 pub events-smaller : goal.events-smaller
 events-smaller g c =
-    left_less _ _ _ _ c.next-next-in-Ok.result c.in-Ok.event c.in-Ok.is c.in_default-read.ensures.forward
+    left_less _ _ _ _ c.next-next-in-Ok.result c.in-Ok.event c.in-Ok.is c.in_default-read.ensures.goes_on.forward
     c.next-next-in-Ok.ensures.forward
 
 pub events-preserved : goal.events-preserved
@@ -129,7 +129,7 @@ events-preserved g c =
           let read = c.read_words-read.ensures in
           let went = words_went _ _ _ _ _ _ _ _ _ _ _ _ _ _ _ _ _
           paused.reached read.unwatched c.play_words.ensures.ram c.play_words.ensures.running
-          (rw c.as_slice.ensures at c.play_words.ensures.told) (rw read.version started)
+          (rw c.as_slice.ensures at c.play_words.ensures.told) (rw read.goes_on.version started)
           (λ is. let few = read.few is in let near = c.in-Ok-write_before_words.ensures.near in
           omega (arith, few, near))
           (g.K.Sink.held c.play_words.new.out) c.play_words.new.lines c.in_default-play_words.field-0
@@ -137,19 +137,20 @@ events-preserved g c =
           (c.play_words.ensures.free paused.reached.free)
           c.in_default-read.ensures.takes in
           let again = pauses_on _ _ _ _ _ _ _ c.in-Ok-write_at_pause.place _ _ (g.K.Sink.held c.write_at_pause.new.out)
-          went (rw read.version started) c.in-Ok-write_at_pause.ensures.ok in
-          reads _ _ _ _ _ _ _ _ _ _ again.reached (rw read.version started) again.near
+          went (rw read.goes_on.version started) c.in-Ok-write_at_pause.ensures.ok in
+          reads _ _ _ _ _ _ _ _ _ _ again.reached (rw read.goes_on.version started) again.near
           c.next-next-in-Ok.result c.next-next-in-Ok.ensures.takes
           (c.next-next-in-Ok.ensures.stop c.in_default-read.ensures.runs_on);
-      running = c.next-next-in-Ok.ensures.runs_on;
+      running = c.next-next-in-Ok.ensures.keeps.runs_on;
       known = c.next-next-in-Ok.ensures.version;
       read_cause = IfErr-weaker c.next-next-in-Ok.result _ _
-          (λ stop may fault. omega (arith, may fault, c.events.invariant.read_faults, c.read_words-read.ensures.faults))
+          (λ stop may fault.
+          omega (arith, may fault, c.events.invariant.read_faults, c.read_words-read.ensures.faults.kept))
           (c.next-next-in-Ok.ensures.cause c.in_default-read.ensures.runs_on);
       read_faults = omega (
         arith,
         c.events.invariant.read_faults,
-        c.read_words-read.ensures.faults,
+        c.read_words-read.ensures.faults.kept,
         c.next-next-in-Ok.ensures.faults,
       );
       write_faults = omega (

@@ -1,6 +1,6 @@
 use Rattle.std.proofs.Common.{◌≡◌, ◌*◌, length, take}
 use Rattle.snapshot_words.specs.Outline.{bytes_of}
-use Rattle.snapshot_words.proofs.write.bytes_in.Given as goal
+use Rattle.snapshot_words.proofs.bytes.bytes_in.Given as goal
 
 abbrev pub invariant-loop-word : goal.invariant-loop-word
 invariant-loop-word l = record {
