@@ -1,5 +1,5 @@
 -- The rows of a box of video memory.
-use Rattle.std.proofs.Common.{◌≡◌, ◌≤◌, ◌<◌, ◌+◌, ◌-◌, ℕ, ℤ, pos, false, ap, arith, Option, None, Some, IfSome}
+use Rattle.std.proofs.Common.{◌≡◌, ◌≤◌, ◌<◌, ◌+◌, ◌-◌, ℕ, ℤ, pos, false, ap, arith}
 use Rattle.std.proofs.lemmas.Int.{ints}
 use Rattle.px_num.specs.declared.shape.Box2.{Box2}
 use Rattle.edge_walk.specs.Extent.{bounding_box}
@@ -10,7 +10,6 @@ use Rattle.edge_walk.specs.declared.walk.RowWalk.{RowWalk}
 use Rattle.prim_draw.specs.Boxes.{block_of, row_box, IsOnScreen, LiesIn}
 use Rattle.prim_draw.specs.Walks.{IsRowOf, StandAt}
 use Rattle.prim_draw.specs.declared.tri_rows.TriRows.{TriRows}
-use Rattle.prim_draw.specs.declared.triangles.Run.{Run}
 
 -- a block of video memory and its box
 pub record IsBoxOf (clip : Box2) (x y w h : ℕ) : Type 0 where
@@ -72,8 +71,3 @@ at_row rows y at within =
       on_screen = at.on_screen;
       in_box = omega (arith, ints, box.bottom, box.rows, y_is, h_is, within);
     }
-
-pub both : (F G : Run → Type 0) (found : Option Run) → IfSome found F → IfSome found G
-    → IfSome found (λ run. F run × G run)
-both F G None f g = tt
-both F G (Some run) f g = (f, g)

@@ -6,7 +6,7 @@ ghost use Rattle.prim_draw.specs.Walks.{AreRowsIn};
 
 use crate::boxes::block_of;
 use crate::rows::Rows;
-use crate::triangles::{Run, next_run};
+use crate::triangles::Run;
 use edge_walk::{RowWalk, Tri};
 use px_num::Box2;
 use span_lanes::Block;
@@ -55,6 +55,12 @@ impl Rows for TriRows<'_> {
 
     #[inline(always)]
     fn run_at(&mut self, _y: u16) -> Option<Run> {
-        next_run(&mut self.walk)
+        match self.walk.next() {
+            None => None,
+            Some((first, last)) => Some(Run {
+                x: first as u16,
+                n: (last - first + 1) as u16,
+            }),
+        }
     }
 }

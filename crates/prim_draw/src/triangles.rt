@@ -11,7 +11,7 @@ ghost use Rattle.prim_draw.specs.Costs.{triangle_cost};
 ghost use Rattle.prim_draw.specs.Triangles.{drawn_triangle, placed_corners};
 ghost use Rattle.prim_draw.specs.Triangles.{triangle_box, triangle_coat, triangle_paint, FitsTriangle, IsAlike};
 ghost use Rattle.prim_draw.specs.Triangles.{IsCoat};
-ghost use Rattle.prim_draw.specs.Walks.{DrawsTriangle, IsOnRow, TakesRow};
+ghost use Rattle.prim_draw.specs.Walks.{DrawsTriangle};
 
 use crate::boxes::{block_of, clipped};
 use crate::coat::Coat;
@@ -19,7 +19,7 @@ use crate::row_pen::RowPen;
 use crate::settings::{brush_in, placed, texture_in};
 use crate::solid::solid_in;
 use crate::style::Style;
-use edge_walk::{RowWalk, Tri};
+use edge_walk::Tri;
 use gp1_status::Regs;
 use px_num::{Box2, Vertex};
 use span_lanes::{Paint, Pen};
@@ -65,21 +65,6 @@ pub(crate) struct Run {
     pub(crate) x: u16,
     /// How many cells, at least 1.
     pub(crate) n: u16,
-}
-
-/// The cells that a triangle draws of the row at which a walk stands, which then goes on.
-#[inline(always)]
-pub(crate) fn next_run(rows: &mut RowWalk) -> Option<Run>
-    requires { IsOnRow rows.old }
-    ensures { TakesRow rows.old rows.new result }
-{
-    match rows.next() {
-        None => None,
-        Some((first, last)) => Some(Run {
-            x: first as u16,
-            n: (last - first + 1) as u16,
-        }),
-    }
 }
 
 impl RowPen for Pen {
