@@ -12,15 +12,15 @@ use Rattle.edge_walk.specs.Triangle.{Corners}
 use Rattle.line_walk.specs.Line.{Ends, is_near}
 use Rattle.span_lanes.specs.Cells.{cell_in_row, row_cells}
 use Rattle.span_lanes.proofs.CostLemmas.{cost_law as span_small}
-use Rattle.prim_draw.specs.Boxes.{block_of, count_in}
-use Rattle.prim_draw.specs.Costs.{side_by_side, triangle_rows_cost, inside_cost, triangle_cost, polygon_cost}
-use Rattle.prim_draw.specs.Costs.{tile_rows_cost, tile_span, all_cost, rectangle_cost, ends_cost, draw_cost, box_cost}
+use Rattle.prim_draw.specs.Boxes.{block_of, block_row, count_in}
+use Rattle.prim_draw.specs.Costs.{side_by_side, cost_down, inside_cost, triangle_cost, polygon_cost}
+use Rattle.prim_draw.specs.Costs.{all_cost, rectangle_cost, ends_cost, draw_cost, box_cost}
 use Rattle.prim_draw.specs.Laws.{CostLaw}
 use Rattle.prim_draw.specs.Lines.{placed_ends, segment_box}
 use Rattle.prim_draw.specs.Parts.{polygon, polygon_style, rectangle_style}
-use Rattle.prim_draw.specs.Rectangles.{extent_at, rectangle_box, tile_in}
-use Rattle.prim_draw.specs.Triangles.{draws, lower_half, triangle_box, triangle_coat, upper_half}
-use Rattle.span_lanes.specs.declared.block.Block.{Block}
+use Rattle.prim_draw.specs.Pattern.{Pattern, even, span_from}
+use Rattle.prim_draw.specs.Rectangles.{extent_at, pattern_of, rectangle_box, tile_in}
+use Rattle.prim_draw.specs.Triangles.{draws, row_inside, lower_half, triangle_box, triangle_coat, upper_half}
 use Rattle.prim_draw.specs.declared.coat.Coat.{Coat}
 use Rattle.prim_draw.specs.declared.polygon.Polygon.{Polygon}
 use Rattle.prim_draw.specs.declared.rectangles.Extent.{Extent}
@@ -30,10 +30,9 @@ use Rattle.prim_draw.proofs.PointCounts.{points_small}
 
 -- ---- triangles
 
-side_small : (coat : Coat) (cells : List Cell) → side_by_side coat cells ≤ 4 * length cells
-side_small coat [] = omega arith
-side_small coat (cell ∷ cells) = span_small
-    (record { x = cell.x; y = cell.y; n = length (cell ∷ cells); paint = coat.paint; brush = coat.brush })
+side_small : (p : Pattern) (cells : List Cell) → side_by_side p cells ≤ 4 * length cells
+side_small p [] = omega arith
+side_small p (cell ∷ cells) = span_small (span_from p cell (length (cell ∷ cells)))
 
 kept_one : (b : Bool) (cell : Cell) (cells : List Cell) (n : ℕ) → length cells ≤ n
     → length (cond b (cell ∷ cells) cells) ≤ suc n
@@ -52,19 +51,25 @@ row_length x y n = length-map-range_with_len (cell_in_row x y) 0 n
 more : (rows row w h : ℕ) → rows ≤ 4 * (w * h) → row ≤ 4 * w → rows + row ≤ 4 * (w * suc h)
 more rows row w h f g = omega (arith, f, g, mul-suc w h)
 
-triangle_rows_small : (coat : Coat) (t : Corners) (b : Block) (h : ℕ) → triangle_rows_cost coat t b h ≤ 4 * (b.w * h)
-triangle_rows_small coat t b zero = omega arith
-triangle_rows_small coat t b (suc h) =
-    let cells = row_cells b.x (b.y + h) b.w in
-    let row = side_small coat (filter (draws t) cells) in
-    let few = filter_small (draws t) cells in
-    let long = row_length b.x (b.y + h) b.w in
-    more (triangle_rows_cost coat t b h) (side_by_side coat (filter (draws t) cells)) b.w h
-    (triangle_rows_small coat t b h) (omega (arith, row, few, long))
+-- rows of at most w cells each
+rows_small : (p : Pattern) (row : ℕ → List Cell) (w top h : ℕ) → ((y : ℕ) → length (row y) ≤ w)
+    → cost_down p row top h ≤ 4 * (w * h)
+rows_small p row w top zero few = omega arith
+rows_small p row w top (suc h) few =
+    let here = side_small p (row (top + h)) in
+    let cells = few (top + h) in
+    more (cost_down p row top h) (side_by_side p (row (top + h))) w h (rows_small p row w top h few)
+    (omega (arith, here, cells))
 
 inside_small : (coat : Coat) (t : Corners) (box : Option Box2) → inside_cost coat t box ≤ 4 * count_in box
 inside_small coat t None = omega arith
-inside_small coat t (Some b) = triangle_rows_small coat t (block_of b) (block_of b).h
+inside_small coat t (Some b) =
+    rows_small (even coat) (row_inside t (block_of b)) (block_of b).w (block_of b).y (block_of b).h
+    (λ y.
+    let cells = row_cells (block_of b).x y (block_of b).w in
+    let few = filter_small (draws t) cells in
+    let long = row_length (block_of b).x y (block_of b).w in
+    omega (arith, few, long))
 
 triangle_small : (r : Registers) (style : Style) (t : Corners)
     → triangle_cost r style t ≤ 4 * count_in (triangle_box r t)
@@ -77,14 +82,11 @@ sum_small false a b c d f g = omega arith
 
 -- ---- rectangles
 
-tile_rows_small : (tile : Tile) (e : Extent) (b : Block) (h : ℕ) → tile_rows_cost tile e b h ≤ 4 * (b.w * h)
-tile_rows_small tile e b zero = omega arith
-tile_rows_small tile e b (suc h) =
-    more (tile_rows_cost tile e b h) _ b.w h (tile_rows_small tile e b h) (span_small (tile_span tile e b (b.y + h)))
-
 all_small : (tile : Tile) (e : Extent) (box : Option Box2) → all_cost tile e box ≤ 4 * count_in box
 all_small tile e None = omega arith
-all_small tile e (Some b) = tile_rows_small tile e (block_of b) (block_of b).h
+all_small tile e (Some b) =
+    rows_small (pattern_of tile e) (block_row (block_of b)) (block_of b).w (block_of b).y (block_of b).h
+    (λ y. let long = row_length (block_of b).x y (block_of b).w in omega (arith, long))
 
 rectangle_small : (r : Registers) (tile : Tile) (e : Extent)
     → rectangle_cost r tile e ≤ 4 * count_in (rectangle_box r e)

@@ -17,10 +17,11 @@ use Rattle.prim_draw.specs.Draw.{drawn_packet}
 use Rattle.prim_draw.specs.Lines.{drawn_ends, drawn_point, drawn_points, is_in, cell_of as cell_at, placed_ends}
 use Rattle.prim_draw.specs.Parts.{polygon, polygon_style, rectangle_style}
 use Rattle.prim_draw.specs.Rectangles.{extent_at, drawn_all, drawn_rectangle, rectangle_box, tile_in, tile_paint}
-use Rattle.prim_draw.specs.Rectangles.{tile_pixel}
+use Rattle.prim_draw.specs.Rectangles.{pattern_of}
+use Rattle.prim_draw.specs.Pattern.{even, pixel_at}
 use Rattle.gp1_status.specs.Drawing.{drawing_area}
 use Rattle.prim_draw.specs.Settings.{brush_in}
-use Rattle.prim_draw.specs.Triangles.{draws, drawn_inside, drawn_polygon, drawn_triangle, pixel_at}
+use Rattle.prim_draw.specs.Triangles.{draws, drawn_inside, drawn_polygon, drawn_triangle}
 use Rattle.prim_draw.specs.Triangles.{triangle_box, triangle_coat, triangle_paint, upper_half, lower_half}
 use Rattle.prim_draw.specs.declared.coat.Coat.{Coat}
 use Rattle.prim_draw.specs.declared.rectangles.Extent.{Extent}
@@ -51,7 +52,7 @@ plain_local (TexturedRow color texture u v flip) brush plain = absurd plain
 inside_same : (coat : Coat) (t : Corners) (b : Option Box2) (k : ℕ) (m now : List ℕ) → IsPlainPaint coat.paint
     → SameAt k m now → SameAt k (drawn_inside coat t b m) (drawn_inside coat t b now)
 inside_same coat t None k m now plain same = same
-inside_same coat t (Some b) k m now plain same = cells_same (pixel_at coat) coat.brush.mask k
+inside_same coat t (Some b) k m now plain same = cells_same (pixel_at (even coat)) coat.brush.mask k
     (plain_local coat.paint coat.brush plain) (filter (draws t) (cells_of (block_of b))) m now same
 
 flat_or_shaded : (b : Bool) (color : ℕ) (t : Corners) → IsPlainPaint (cond b (Shaded t) (Flat color))
@@ -87,14 +88,14 @@ polygon_same r style p k m now e same = by_test p.four
 
 -- ---- rectangles
 
-tile_local : (tile : Tile) (e : Extent) → tile.texture ≡ None → IsLocal (tile_pixel tile e)
+tile_local : (tile : Tile) (e : Extent) → tile.texture ≡ None → IsLocal (pixel_at (pattern_of tile e))
 unfolding tile_paint
 tile_local tile e none = λ cell m now same. rw none (rw same refl)
 
 all_same : (tile : Tile) (e : Extent) (b : Option Box2) (k : ℕ) (m now : List ℕ) → tile.texture ≡ None
     → SameAt k m now → SameAt k (drawn_all tile e b m) (drawn_all tile e b now)
 all_same tile e None k m now none same = same
-all_same tile e (Some b) k m now none same = cells_same (tile_pixel tile e) tile.brush.mask k (tile_local tile e none)
+all_same tile e (Some b) k m now none same = cells_same (pixel_at (pattern_of tile e)) tile.brush.mask k (tile_local tile e none)
     (cells_of (block_of b)) m now same
 
 rectangle_same : (r : Registers) (tile : Tile) (e : Extent) (k : ℕ) (m now : List ℕ) → tile.texture ≡ None
@@ -117,11 +118,11 @@ point_same area brush p k m now same = by_test (is_in area p)
   where
     by_test : (b : Bool)
         → SameAt k
-        (cond b (drawn_cells (pixel_at (record { paint = Flat p.color; brush = brush })) brush.mask
+        (cond b (drawn_cells (pixel_at (even (record { paint = Flat p.color; brush = brush }))) brush.mask
         (cell_at p ∷ []) m) m)
-        (cond b (drawn_cells (pixel_at (record { paint = Flat p.color; brush = brush })) brush.mask
+        (cond b (drawn_cells (pixel_at (even (record { paint = Flat p.color; brush = brush }))) brush.mask
         (cell_at p ∷ []) now) now)
-    by_test true = cells_same (pixel_at (record { paint = Flat p.color; brush = brush })) brush.mask k
+    by_test true = cells_same (pixel_at (even (record { paint = Flat p.color; brush = brush }))) brush.mask k
         (plain_local (Flat p.color) brush tt) (cell_at p ∷ []) m now same
     by_test false = same
 

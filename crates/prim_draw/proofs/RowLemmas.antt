@@ -1,7 +1,7 @@
 -- The cells of a row that a triangle draws, as a run of cells.
 use Rattle.std.proofs.Common.{◌≡◌, ◌<◌, ◌≤◌, ℕ, zero, suc, ◌+◌, ◌-◌, min, ℤ, pos, ◌≤ℤ◌, ◌-ℤ◌, unsigned_abs, List, []}
 use Rattle.std.proofs.Common.{Option, length, ◌∷◌, ◌++◌, Bool, true, false, IsTrue, cond, map, inl, inr, refl, sym, ap}
-use Rattle.std.proofs.Common.{◌∙◌, arith, add-one, append-nil}
+use Rattle.std.proofs.Common.{◌∙◌, arith, add-one, append-nil, Some, subst}
 use Rattle.std.specs.List.{filter, range_with_len}
 use Rattle.std.proofs.lemmas.Bool.{cases_lt}
 use Rattle.std.proofs.lemmas.Int.{ints}
@@ -12,12 +12,17 @@ use Rattle.edge_walk.specs.Row.{IsRowSpan, IsInBox}
 use Rattle.edge_walk.specs.Triangle.{Corners, is_inside}
 use Rattle.span_lanes.specs.Cells.{drawn_cells, cell_in_row, row_cells}
 use Rattle.span_lanes.specs.Cost.{span_cost}
-use Rattle.span_lanes.specs.Shade.{paint_pixel, shade, shade_at}
+use Rattle.span_lanes.specs.Cells.{Stage}
+use Rattle.span_lanes.specs.Pen.{DrawsCells, ink_of}
+use Rattle.span_lanes.specs.Shade.{shade, shade_at}
+use Rattle.span_lanes.specs.declared.span.Span.{Span}
 use Rattle.span_lanes.proofs.CellsLemmas.{cells_append, row_more, row_none, row_same}
+use Rattle.prim_draw.specs.Boxes.{cells_down, cells_in_rows, row_box}
 use Rattle.prim_draw.specs.Costs.{side_by_side}
-use Rattle.prim_draw.specs.declared.coat.Coat.{Coat}
-use Rattle.prim_draw.specs.Boxes.{cells_in_rows, row_box}
-use Rattle.prim_draw.specs.Triangles.{draws, pixel_at, IsAlike}
+use Rattle.prim_draw.specs.Pattern.{Pattern, painted_cells, pixel_at, span_from}
+use Rattle.prim_draw.specs.Rows.{CanDraw, DrawsRows, DrawsRun, Figure, run_span}
+use Rattle.prim_draw.specs.Triangles.{draws, row_inside, run_cells}
+use Rattle.prim_draw.specs.declared.triangles.Run.{Run}
 use Rattle.span_lanes.specs.declared.block.Block.{Block}
 
 -- a test holds in a row from one column on, of so many cells, and nowhere else in its first w cells
@@ -138,56 +143,75 @@ none_found t b y some none =
     (omega arith)
     ∙ row_none b.x y
 
--- ---- rows that are drawn one after another
-
-rows_more : (test : Cell → Bool) (x y w j : ℕ) → filter test (cells_in_rows x y w (j + 1))
-    ≡ filter test (cells_in_rows x y w j) ++ filter test (row_cells x (y + j) w)
-rows_more test x y w j = rw (add-one j) (filter-append test (cells_in_rows x y w j) (row_cells x (y + j) w))
-
-pub row_drawn : (pixel : Cell → List ℕ → Option ℕ) (mask : ℕ) (test : Cell → Bool) (x y w j : ℕ)
-    (first before after : List ℕ)
-    → before ≡ drawn_cells pixel mask (filter test (cells_in_rows x y w j)) first
-    → after ≡ drawn_cells pixel mask (filter test (row_cells x (y + j) w)) before
-    → after ≡ drawn_cells pixel mask (filter test (cells_in_rows x y w (j + 1))) first
-row_drawn pixel mask test x y w j first before after so_far here =
-    here
-    ∙ ap (drawn_cells pixel mask (filter test (row_cells x (y + j) w))) so_far
-    ∙ sym (cells_append pixel mask (filter test (cells_in_rows x y w j)) (filter test (row_cells x (y + j) w)) first)
-    ∙ ap (λ (cells : List Cell). drawn_cells pixel mask cells first) (sym (rows_more test x y w j))
+-- ---- a run that is drawn as a span
 
 -- cells that stand side by side cost what their span does
-pub span_of_row : (coat : Coat) (x y n : ℕ) → 1 ≤ n
-    → side_by_side coat (row_cells x y n)
-    ≡ span_cost (record { x = x; y = y; n = n; paint = coat.paint; brush = coat.brush })
+pub span_of_row : (p : Pattern) (x y n : ℕ) → 1 ≤ n
+    → side_by_side p (row_cells x y n) ≡ span_cost (span_from p (record { x = x; y = y }) n)
 unfolding row_cells
-span_of_row coat x y zero some = absurd (omega arith)
-span_of_row coat x y (suc n) some =
+span_of_row p x y zero some = absurd (omega arith)
+span_of_row p x y (suc n) some =
     let here : x + 0 ≡ x = omega arith in
     let count : length (map (cell_in_row x y) (range_with_len 0 (suc n))) ≡ suc n = length-map-range_with_len
     (cell_in_row x y) 0 (suc n) in
-    ap (λ (column : ℕ). span_cost
-    (record {
-      x = column;
-      y = y;
-      n = length (map (cell_in_row x y) (range_with_len 0 (suc n)));
-      paint = coat.paint;
-      brush = coat.brush;
-    })) here
-    ∙ ap (λ (k : ℕ). span_cost (record { x = x; y = y; n = k; paint = coat.paint; brush = coat.brush })) count
+    ap (λ (column : ℕ). span_cost (span_from p (record { x = column; y = y })
+    (length (map (cell_in_row x y) (range_with_len 0 (suc n)))))) here
+    ∙ ap (λ (k : ℕ). span_cost (span_from p (record { x = x; y = y }) k)) count
 
--- a span of such a paint is its cells
-pub span_pixels : (coat : Coat) (x y n : ℕ) (m : List ℕ) → IsAlike coat.paint
-    → drawn_cells (shade_at (record { x = x; y = y; n = n; paint = coat.paint; brush = coat.brush })) coat.brush.mask
-    (row_cells x y n) m
-    ≡ drawn_cells (pixel_at coat) coat.brush.mask (row_cells x y n) m
+-- its span is its cells
+span_pixels : (height : ℕ) (p : Pattern) (y : ℕ) (run : Run) (m : List ℕ) → CanDraw height p y run
+    → drawn_cells (shade_at (run_span p y run)) p.brush.mask (row_cells run.x y run.n) m
+    ≡ painted_cells p (row_cells run.x y run.n) m
 unfolding shade
-span_pixels coat x y n m h =
-    row_same (shade_at (record { x = x; y = y; n = n; paint = coat.paint; brush = coat.brush }))
-    (pixel_at coat) coat.brush.mask x y n m
+span_pixels height p y run m can =
+    row_same (shade_at (run_span p y run)) (pixel_at p) p.brush.mask run.x y run.n m
     (λ i lt now.
-    let back : x + ((x + i) - x) ≡ x + i = omega arith in
-    ap (λ (column : ℕ). paint_pixel coat.paint coat.brush column y ((x + i) - x) now) back
-    ∙ h.alike coat.brush (x + i) y ((x + i) - x) 0 now)
+    let back : (run.x + i) - run.x ≡ i = omega arith in
+    rw back (can.alike i lt now))
+
+pub run_drawn : (height : ℕ) (p : Pattern) (y : ℕ) (run : Run) (s : Span) (before after : Stage) → CanDraw height p y run
+    → s ≡ run_span p y run → DrawsCells (ink_of s) s.x s.y s.n before after → DrawsRun p y (Some run) before after
+run_drawn height p y run s before after can is drawn =
+    let so : DrawsCells (ink_of (run_span p y run)) run.x y run.n before after =
+    subst (λ (k : Span). DrawsCells (ink_of k) k.x k.y k.n before after) is drawn in
+    record {
+      cells = so.cells ∙ span_pixels height p y run before.m can;
+      long = so.long;
+      cost = rw (span_of_row p run.x y run.n can.span.some) so.cost;
+    }
+
+-- ---- rows that are drawn one after another
+
+pub rows_start : (f : Figure) (before : Stage) → DrawsRows f 0 before before
+rows_start f before = record { cells = refl; long = refl; cost = omega arith }
+
+spent : (before now next rows row : ℕ) → now ≤ before + rows → next ≤ now + row → next ≤ before + (rows + row)
+spent before now next rows row so_far here = omega arith
+
+pub rows_next : (f : Figure) (count : ℕ) (found : Option Run) (before now after : Stage)
+    → run_cells found (f.top + count) ≡ f.row (f.top + count) → DrawsRows f count before now
+    → DrawsRun f.pattern (f.top + count) found now after → DrawsRows f (count + 1) before after
+rows_next f count found before now after is so_far run = record {
+  cells = rw (add-one count)
+      (run.cells
+      ∙ ap (λ (cells : List Cell). painted_cells f.pattern cells now.m) is
+      ∙ ap (painted_cells f.pattern (f.row (f.top + count))) so_far.cells
+      ∙ sym (cells_append (pixel_at f.pattern) f.pattern.brush.mask (cells_down f.row f.top count)
+      (f.row (f.top + count)) before.m));
+  long = run.long ∙ so_far.long;
+  cost = rw (add-one count)
+      (spent _ _ _ _ _ so_far.cost
+      (subst (λ cost. after.steps ≤ now.steps + cost) (ap (λ (cells : List Cell). side_by_side f.pattern cells) is)
+      run.cost));
+}
+
+-- the cells of a block that a triangle draws, by rows
+pub inside_rows : (t : Corners) (b : Block) (h : ℕ)
+    → cells_down (row_inside t b) b.y h ≡ filter (draws t) (cells_in_rows b.x b.y b.w h)
+inside_rows t b zero = refl
+inside_rows t b (suc h) =
+    ap (λ (cells : List Cell). cells ++ row_inside t b (b.y + h)) (inside_rows t b h)
+    ∙ sym (filter-append (draws t) (cells_in_rows b.x b.y b.w h) (row_cells b.x (b.y + h) b.w))
 
 -- a row of one cell
 pub row_one : (x y : ℕ) → row_cells x y 1 ≡ record { x = x; y = y } ∷ []

@@ -23,10 +23,11 @@ use Rattle.prim_draw.specs.Lines.{drawn_ends, drawn_point, drawn_points, ends_bo
 use Rattle.prim_draw.specs.Lines.{segment_box}
 use Rattle.prim_draw.specs.Parts.{polygon, polygon_style, rectangle_style}
 use Rattle.prim_draw.specs.Rectangles.{cells_box, extent_at, drawn_all, drawn_rectangle, rectangle_box, tile_in}
-use Rattle.prim_draw.specs.Rectangles.{tile_pixel}
+use Rattle.prim_draw.specs.Rectangles.{pattern_of}
+use Rattle.prim_draw.specs.Pattern.{even, pixel_at}
 use Rattle.gp1_status.specs.Drawing.{drawing_area}
 use Rattle.prim_draw.specs.Settings.{brush_in}
-use Rattle.prim_draw.specs.Triangles.{draws, drawn_inside, drawn_polygon, drawn_triangle, pixel_at}
+use Rattle.prim_draw.specs.Triangles.{draws, drawn_inside, drawn_polygon, drawn_triangle}
 use Rattle.prim_draw.specs.Triangles.{triangle_box, triangle_coat, upper_half, lower_half}
 use Rattle.prim_draw.specs.declared.coat.Coat.{Coat}
 use Rattle.prim_draw.specs.declared.rectangles.Extent.{Extent}
@@ -145,7 +146,7 @@ rectangle_seen r e = test_unseen r (cells_box e) _
 inside_stays : (coat : Coat) (t : Corners) (b : Option Box2) (m : List ℕ) → IfSome b IsSeen
     → AgreeOutside b m (drawn_inside coat t b m)
 inside_stays coat t None m seen = but_same _ m
-inside_stays coat t (Some b) m seen = cells_but (Has b) (pixel_at coat) coat.brush.mask _ m
+inside_stays coat t (Some b) m seen = cells_but (Has b) (pixel_at (even coat)) coat.brush.mask _ m
     (each_filter (Has b) (draws t) (cells_of (block_of b)) (each_in_box b seen))
 
 triangle_stays : (r : Registers) (style : Style) (t : Corners) (m : List ℕ)
@@ -202,7 +203,8 @@ polygon_stays r style p m = by_test p.four
 all_stays : (tile : Tile) (e : Extent) (b : Option Box2) (m : List ℕ) → IfSome b IsSeen
     → AgreeOutside b m (drawn_all tile e b m)
 all_stays tile e None m seen = but_same _ m
-all_stays tile e (Some b) m seen = cells_but (Has b) (tile_pixel tile e) tile.brush.mask _ m (each_in_box b seen)
+all_stays tile e (Some b) m seen = cells_but (Has b) (pixel_at (pattern_of tile e)) tile.brush.mask _ m
+    (each_in_box b seen)
 
 rectangle_stays : (r : Registers) (tile : Tile) (e : Extent) (m : List ℕ)
     → AgreeOutside (rectangle_box r e) m (drawn_rectangle r tile e m)
@@ -265,10 +267,10 @@ point_stays r brush s p m amid = by_test (is_in (drawing_area r) p) refl
   where
     by_test : (b : Bool) → is_in (drawing_area r) p ≡ b
         → AgreeOutside (clipped r (ends_box s)) m
-        (cond b (drawn_cells (pixel_at (record { paint = Flat p.color; brush = brush })) brush.mask
+        (cond b (drawn_cells (pixel_at (even (record { paint = Flat p.color; brush = brush }))) brush.mask
         (cell_of p ∷ []) m) m)
     by_test true e = cells_but (IsIn (clipped r (ends_box s)))
-        (pixel_at (record { paint = Flat p.color; brush = brush })) brush.mask (cell_of p ∷ []) m
+        (pixel_at (even (record { paint = Flat p.color; brush = brush }))) brush.mask (cell_of p ∷ []) m
         (in_segment r s p amid e, tt)
     by_test false e = but_same _ m
 

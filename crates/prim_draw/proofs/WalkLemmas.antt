@@ -1,5 +1,5 @@
 -- The rows of a box of video memory.
-use Rattle.std.proofs.Common.{◌≡◌, ◌≤◌, ◌<◌, ◌+◌, ◌-◌, ℕ, ℤ, pos, Option, None, Some, IfSome, false, ap, arith}
+use Rattle.std.proofs.Common.{◌≡◌, ◌≤◌, ◌<◌, ◌+◌, ◌-◌, ℕ, ℤ, pos, false, ap, arith}
 use Rattle.std.proofs.lemmas.Int.{ints}
 use Rattle.px_num.specs.declared.shape.Box2.{Box2}
 use Rattle.edge_walk.specs.Extent.{bounding_box}
@@ -8,11 +8,8 @@ use Rattle.edge_walk.specs.Triangle.{Corners, is_inside}
 use Rattle.edge_walk.specs.Walk.{AreRows, HasRows}
 use Rattle.edge_walk.specs.declared.walk.RowWalk.{RowWalk}
 use Rattle.prim_draw.specs.Boxes.{block_of, row_box, IsOnScreen, LiesIn}
-use Rattle.prim_draw.specs.Triangles.{FitsTriangle, IsRun}
-use Rattle.prim_draw.specs.Walks.{CanDraw, IsRowOf}
-use Rattle.span_lanes.specs.declared.block.Block.{Block}
-use Rattle.prim_draw.specs.declared.triangles.Run.{Run}
-use Rattle.span_lanes.specs.declared.span.Paint.{Paint}
+use Rattle.prim_draw.specs.Walks.{IsRowOf, StandAt}
+use Rattle.prim_draw.specs.declared.tri_rows.TriRows.{TriRows}
 
 -- a block of video memory and its box
 pub record IsBoxOf (clip : Box2) (x y w h : ℕ) : Type 0 where
@@ -62,18 +59,15 @@ module _ (t : Corners) (clip : Box2) (y : ℕ) (rows : RowWalk) (h : IsRowOf t c
 pub has_rows : (t : Corners) (clip : Box2) → IsOnScreen 1024 clip → LiesIn (bounding_box t) clip → HasRows t clip
 has_rows t clip h lies = record { top = lies.top; some = h.down; bottom = lies.bottom }
 
--- a run of a triangle can be drawn with its paint
-pub can_draw : (t : Corners) (paint : Paint) (y : ℕ) (found : Option Run) → FitsTriangle t paint
-    → IfSome found (IsRun t y) → IfSome found (CanDraw paint y)
-can_draw t paint y None fits run = tt
-can_draw t paint y
-    (Some run) fits is = record { some = is.some; in_row = is.in_row; inside = fits.inside run.x y run.n is.inside }
-
--- row j of a box
-pub row_at : (t : Corners) (clip : Box2) (b : Block) (j : ℕ) (rows : RowWalk) → IsOnScreen 1024 clip
-    → b ≡ block_of clip → j < b.h → AreRows t clip (pos (b.y + j)) rows → IsRowOf t clip (b.y + j) rows
-row_at t clip b j rows on is lt stands =
-    let box = box_is clip on in
-    let y_is : b.y ≡ (block_of clip).y = ap (λ k. k.y) is in
-    let h_is : b.h ≡ (block_of clip).h = ap (λ k. k.h) is in
-    record { stands = stands; on_screen = on; in_box = omega (arith, ints, box.bottom, box.rows, y_is, h_is, lt) }
+pub at_row : (rows : TriRows) (y : ℕ) → StandAt rows y → y < rows.block.y + rows.block.h
+    → IsRowOf rows.tri.now rows.clip.now y rows.walk
+at_row rows y at within =
+    let clip = rows.clip.now in
+    let box = box_is clip at.on_screen in
+    let y_is : rows.block.y ≡ (block_of clip).y = ap (λ k. k.y) at.block in
+    let h_is : rows.block.h ≡ (block_of clip).h = ap (λ k. k.h) at.block in
+    record {
+      stands = at.stands;
+      on_screen = at.on_screen;
+      in_box = omega (arith, ints, box.bottom, box.rows, y_is, h_is, within);
+    }

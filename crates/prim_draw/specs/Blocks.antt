@@ -9,7 +9,7 @@ use Rattle.span_lanes.specs.declared.block_pen.Way.{Way}
 use Rattle.span_lanes.specs.declared.span.Paint.TheVariants.{TexturedTri}
 use Rattle.prim_draw.specs.Boxes.{IsOnScreen, LiesIn, block_of}
 use Rattle.prim_draw.specs.Triangles.{FitsTriangle, IsCoat}
-use Rattle.prim_draw.specs.Walks.{DrawsRows}
+use Rattle.prim_draw.specs.Walks.{DrawsTriangle}
 use Rattle.prim_draw.specs.declared.blocks.Blocked.{Blocked}
 use Rattle.prim_draw.specs.declared.coat.Coat.{Coat}
 
@@ -39,5 +39,4 @@ pub record CanDrawBlocked (height : ℕ) (found : Blocked) (way : Way) : Type 0 
 
 -- they were drawn, with video memory and the steps before and after
 abbrev pub DrawsBlocked : Blocked → (before after : Stage) → Type 0
-DrawsBlocked found before after =
-    DrawsRows (coat_of found) found.tri.now (block_of found.clip.now) (block_of found.clip.now).h before after
+DrawsBlocked found before after = DrawsTriangle (coat_of found) found.tri.now found.clip.now before after

@@ -51,10 +51,18 @@ block_of b = record {
   h = unsigned_abs (b.y2 -ℤ b.y1) + 1;
 }
 
+-- the cells of so many rows, from a top one on
+abbrev pub cells_down : (row : ℕ → List Cell) → (top count : ℕ) → List Cell
+cells_down row top zero = []
+cells_down row top (suc count) = cells_down row top count ++ row (top + count)
+
 -- h rows of w cells from (x, y) on: rows from the top, and each from left to right
 abbrev pub cells_in_rows : (x y w h : ℕ) → List Cell
-cells_in_rows x y w zero = []
-cells_in_rows x y w (suc h) = cells_in_rows x y w h ++ row_cells x (y + h) w
+cells_in_rows x y w h = cells_down (λ row. row_cells x row w) y h
+
+-- all cells of row y of a block
+abbrev pub block_row : Block → (y : ℕ) → List Cell
+block_row b y = row_cells b.x y b.w
 
 -- all cells of a block
 abbrev pub cells_of : Block → List Cell

@@ -7,15 +7,14 @@ use Rattle.gp0_packets.specs.declared.packet.Packet.TheVariants as packet
 use Rattle.gp1_status.specs.Registers.{Registers}
 use Rattle.edge_walk.specs.Triangle.{Corners}
 use Rattle.line_walk.specs.Line.{Ends, is_near, len_of, point_of}
-use Rattle.span_lanes.specs.declared.span.Span.{Span}
 use Rattle.span_lanes.specs.Cost.{span_cost}
-use Rattle.prim_draw.specs.Boxes.{block_of, count_in}
+use Rattle.prim_draw.specs.Boxes.{block_of, block_row, count_in}
 use Rattle.prim_draw.specs.Lines.{is_in, placed_ends, segment_box}
 use Rattle.prim_draw.specs.Parts.{polygon, polygon_style, rectangle_style}
-use Rattle.prim_draw.specs.Rectangles.{column_of, extent_at, rectangle_box, row_of, tile_in, tile_paint}
+use Rattle.prim_draw.specs.Pattern.{Pattern, even, span_from}
+use Rattle.prim_draw.specs.Rectangles.{extent_at, pattern_of, rectangle_box, tile_in}
 use Rattle.gp1_status.specs.Drawing.{drawing_area}
 use Rattle.prim_draw.specs.Triangles.{lower_half, row_inside, triangle_box, triangle_coat, upper_half}
-use Rattle.span_lanes.specs.declared.block.Block.{Block}
 use Rattle.prim_draw.specs.declared.coat.Coat.{Coat}
 use Rattle.prim_draw.specs.declared.polygon.Polygon.{Polygon}
 use Rattle.prim_draw.specs.declared.rectangles.Extent.{Extent}
@@ -23,20 +22,20 @@ use Rattle.prim_draw.specs.declared.rectangles.Tile.{Tile}
 use Rattle.prim_draw.specs.declared.style.Style.{Style}
 
 -- the drawn cells of a row, which stand side by side, as one span
-abbrev pub side_by_side : Coat → List Cell → ℕ
-side_by_side coat [] = 0
-side_by_side coat (cell ∷ cells) =
-    span_cost (record { x = cell.x; y = cell.y; n = length (cell ∷ cells); paint = coat.paint; brush = coat.brush })
+abbrev pub side_by_side : Pattern → List Cell → ℕ
+side_by_side p [] = 0
+side_by_side p (cell ∷ cells) = span_cost (span_from p cell (length (cell ∷ cells)))
+
+-- those of so many rows, from a top one on
+abbrev pub cost_down : Pattern → (row : ℕ → List Cell) → (top count : ℕ) → ℕ
+cost_down p row top zero = 0
+cost_down p row top (suc count) = cost_down p row top count + side_by_side p (row (top + count))
 
 -- ---- triangles
 
-abbrev pub triangle_rows_cost : Coat → Corners → Block → ℕ → ℕ
-triangle_rows_cost coat t b zero = 0
-triangle_rows_cost coat t b (suc h) = triangle_rows_cost coat t b h + side_by_side coat (row_inside t b (b.y + h))
-
 abbrev pub inside_cost : Coat → Corners → Option Box2 → ℕ
 inside_cost coat t None = 0
-inside_cost coat t (Some b) = triangle_rows_cost coat t (block_of b) (block_of b).h
+inside_cost coat t (Some b) = cost_down (even coat) (row_inside t (block_of b)) (block_of b).y (block_of b).h
 
 unfoldable pub triangle_cost : Registers → Style → Corners → ℕ
 triangle_cost r style t = inside_cost (triangle_coat r style t) t (triangle_box r t)
@@ -47,23 +46,9 @@ polygon_cost r style p =
 
 -- ---- rectangles
 
--- row y of a block
-abbrev pub tile_span : Tile → Extent → Block → ℕ → Span
-tile_span tile e b y = record {
-  x = b.x;
-  y = y;
-  n = b.w;
-  paint = tile_paint tile (column_of e (record { x = b.x; y = y })) (row_of e (record { x = b.x; y = y }));
-  brush = tile.brush;
-}
-
-abbrev pub tile_rows_cost : Tile → Extent → Block → ℕ → ℕ
-tile_rows_cost tile e b zero = 0
-tile_rows_cost tile e b (suc h) = tile_rows_cost tile e b h + span_cost (tile_span tile e b (b.y + h))
-
 abbrev pub all_cost : Tile → Extent → Option Box2 → ℕ
 all_cost tile e None = 0
-all_cost tile e (Some b) = tile_rows_cost tile e (block_of b) (block_of b).h
+all_cost tile e (Some b) = cost_down (pattern_of tile e) (block_row (block_of b)) (block_of b).y (block_of b).h
 
 unfoldable pub rectangle_cost : Registers → Tile → Extent → ℕ
 rectangle_cost r tile e = all_cost tile e (rectangle_box r e)

@@ -8,10 +8,13 @@ pub mod Ink
 pub mod Laws
 pub mod Lines
 pub mod Parts
+pub mod Pattern
 pub mod Rectangles
+pub mod Rows
 pub mod Settings
 pub mod Solids
 pub mod Spots
 pub mod Staying
+pub mod Tiled
 pub mod Triangles
 pub mod Walks

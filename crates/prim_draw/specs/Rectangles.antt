@@ -9,9 +9,9 @@ use Rattle.span_lanes.specs.declared.span.Paint.{Paint}
 use Rattle.span_lanes.specs.declared.span.Paint.TheVariants.{Flat, TexturedRow}
 use Rattle.texel_lanes.specs.declared.texture.Texture.{Texture}
 use Rattle.texel_lanes.specs.Texture.{IsTexture}
-use Rattle.span_lanes.specs.Shade.{HasInside, paint_pixel, row_u}
-use Rattle.span_lanes.specs.Cells.{drawn_cells}
+use Rattle.span_lanes.specs.Shade.{row_u}
 use Rattle.prim_draw.specs.Boxes.{block_of, cells_of, clipped}
+use Rattle.prim_draw.specs.Pattern.{Pattern, painted_cells}
 use Rattle.prim_draw.specs.Settings.{brush_in, texture_in}
 use Rattle.span_lanes.specs.declared.block.Block.{Block}
 use Rattle.prim_draw.specs.declared.rectangles.Extent.{Extent}
@@ -75,13 +75,9 @@ column_of e cell = unsigned_abs (pos cell.x -ℤ e.left)
 abbrev pub row_of : Extent → Cell → ℕ
 row_of e cell = unsigned_abs (pos cell.y -ℤ e.top)
 
--- the pixel, or none, at a cell, with video memory as it is then
-abbrev pub tile_pixel : Tile → Extent → Cell → List ℕ → Option ℕ
-tile_pixel tile e cell m = paint_pixel (tile_paint tile (column_of e cell) (row_of e cell)) tile.brush cell.x cell.y 0 m
-
--- cells of a rectangle, one after another
-abbrev pub tiled_cells : Tile → Extent → List Cell → List ℕ → List ℕ
-tiled_cells tile e cells m = drawn_cells (tile_pixel tile e) tile.brush.mask cells m
+-- what its cells are drawn with
+abbrev pub pattern_of : Tile → Extent → Pattern
+pattern_of tile e = record { paint = λ cell. tile_paint tile (column_of e cell) (row_of e cell); brush = tile.brush }
 
 -- a block of cells of a rectangle that has at most 1023 columns and as many rows
 pub record IsPartOf (e : Extent) (b : Block) : Type 0 where
@@ -100,11 +96,7 @@ pub record IsTile (height : ℕ) (tile : Tile) : Type 0 where
 -- all cells of a box, in scan order
 abbrev pub drawn_all : Tile → Extent → Option Box2 → List ℕ → List ℕ
 drawn_all tile e None m = m
-drawn_all tile e (Some b) m = tiled_cells tile e (cells_of (block_of b)) m
+drawn_all tile e (Some b) m = painted_cells (pattern_of tile e) (cells_of (block_of b)) m
 
 unfoldable pub drawn_rectangle : Registers → Tile → Extent → List ℕ → List ℕ
 drawn_rectangle r tile e m = drawn_all tile e (rectangle_box r e) m
-
--- the cells may lie anywhere
-pub record IsFree (paint : Paint) : Type 0 where
-  pub inside : (x y n : ℕ) → HasInside paint x y n

@@ -13,22 +13,15 @@ use Rattle.span_lanes.specs.declared.span.Paint.{Paint}
 use Rattle.span_lanes.specs.declared.span.Paint.TheVariants.{Flat, Shaded, TexturedTri}
 use Rattle.texel_lanes.specs.Texture.{IsTexture}
 use Rattle.span_lanes.specs.Shade.{AreInside, HasInside, paint_pixel, texture_of}
-use Rattle.span_lanes.specs.Cells.{drawn_cells, row_cells}
+use Rattle.span_lanes.specs.Cells.{row_cells}
 use Rattle.prim_draw.specs.Boxes.{block_of, cells_of, clipped}
+use Rattle.prim_draw.specs.Pattern.{even, painted_cells}
 use Rattle.prim_draw.specs.Settings.{brush_in, placed, texture_in}
 use Rattle.span_lanes.specs.declared.block.Block.{Block}
 use Rattle.prim_draw.specs.declared.coat.Coat.{Coat}
 use Rattle.prim_draw.specs.declared.polygon.Polygon.{Polygon}
 use Rattle.prim_draw.specs.declared.style.Style.{Style}
 use Rattle.prim_draw.specs.declared.triangles.Run.{Run}
-
--- the pixel, or none, that a primitive draws at a cell, with video memory as it is then
-abbrev pub pixel_at : Coat → Cell → List ℕ → Option ℕ
-pixel_at coat cell m = paint_pixel coat.paint coat.brush cell.x cell.y 0 m
-
--- cells with such a coat, one after another
-abbrev pub painted_cells : Coat → List Cell → List ℕ → List ℕ
-painted_cells coat cells m = drawn_cells (pixel_at coat) coat.brush.mask cells m
 
 -- the triangle draws this cell
 abbrev pub draws : Corners → Cell → Bool
@@ -52,7 +45,7 @@ triangle_coat r style t =
 -- the cells of a box that the triangle draws, in scan order
 abbrev pub drawn_inside : Coat → Corners → Option Box2 → List ℕ → List ℕ
 drawn_inside coat t None m = m
-drawn_inside coat t (Some b) m = painted_cells coat (filter (draws t) (cells_of (block_of b))) m
+drawn_inside coat t (Some b) m = painted_cells (even coat) (filter (draws t) (cells_of (block_of b))) m
 
 unfoldable pub drawn_triangle : Registers → Style → Corners → List ℕ → List ℕ
 drawn_triangle r style t m = drawn_inside (triangle_coat r style t) t (triangle_box r t) m

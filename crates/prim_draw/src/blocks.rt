@@ -5,12 +5,13 @@ ghost use Rattle.span_lanes.specs.Shade.{texture_of};
 ghost use Rattle.span_lanes.specs.declared.block_pen.Way.TheVariants.{Beside, Mixed, Scaled, Strip};
 ghost use Rattle.texel_lanes.specs.Texture.{IsTexture};
 ghost use Rattle.prim_draw.specs.Blocks.{CanDrawBlocked, CanDrawRows, DrawsBlocked, IsBlocked};
-ghost use Rattle.prim_draw.specs.Boxes.{IsOnScreen, block_of};
-ghost use Rattle.prim_draw.specs.Walks.{DrawsRows};
+ghost use Rattle.prim_draw.specs.Boxes.{IsOnScreen};
+ghost use Rattle.prim_draw.specs.Walks.{DrawsTriangle};
 
 use crate::boxes::block_of;
 use crate::coat::Coat;
 use crate::row_pen::{RowPen, draw_rows};
+use crate::tri_rows::rows_of;
 use crate::triangles::Run;
 use edge_walk::Tri;
 use px_num::Box2;
@@ -28,9 +29,9 @@ struct InBlock<P> {
 
 impl<P: BlockPen> RowPen for InBlock<P> {
     ghost use Rattle.span_lanes.specs.Pen.{IsFresh};
-    ghost use Rattle.prim_draw.specs.Walks.{LiesInBlock, coat_of_ink};
+    ghost use Rattle.prim_draw.specs.Rows.{LiesInBlock, pattern_of_ink};
 
-    ghost coat = { λ rows. coat_of_ink (P.framed rows.pen).loaded.ink };
+    ghost pattern = { λ rows. pattern_of_ink (P.framed rows.pen).loaded.ink };
 
     ghost reaches = { λ rows. LiesInBlock (P.framed rows.pen).block };
 
@@ -74,7 +75,7 @@ impl Blocked<'_> {
         let mut pen = InBlock {
             pen: StripPen::new(self.own, self.texture, self.brush, &block, color),
         };
-        draw_rows(vram, &mut pen, self.tri, self.clip, steps);
+        draw_rows(vram, &mut rows_of(self.tri, self.clip), &mut pen, steps);
     }
 
     #[inline(always)]
@@ -87,7 +88,7 @@ impl Blocked<'_> {
         let mut pen = InBlock {
             pen: BesidePen::new(self.own, self.texture, self.brush, &block),
         };
-        draw_rows(vram, &mut pen, self.tri, self.clip, steps);
+        draw_rows(vram, &mut rows_of(self.tri, self.clip), &mut pen, steps);
     }
 
     #[inline(always)]
@@ -100,7 +101,7 @@ impl Blocked<'_> {
         let mut pen = InBlock {
             pen: ScaledPen::new(self.own, self.texture, self.brush, &block, color),
         };
-        draw_rows(vram, &mut pen, self.tri, self.clip, steps);
+        draw_rows(vram, &mut rows_of(self.tri, self.clip), &mut pen, steps);
     }
 
     #[inline(always)]
@@ -113,7 +114,7 @@ impl Blocked<'_> {
         let mut pen = InBlock {
             pen: MixedPen::new(self.own, self.texture, self.brush, &block),
         };
-        draw_rows(vram, &mut pen, self.tri, self.clip, steps);
+        draw_rows(vram, &mut rows_of(self.tri, self.clip), &mut pen, steps);
     }
 
     #[inline(always)]
@@ -157,11 +158,11 @@ impl Coat {
     #[inline(always)]
     fn draw_open<L: Ledger>(&self, vram: &mut Vram, tri: &Tri, clip: &Box2, steps: &mut Steps<L>)
         requires { CanDrawRows (height_of vram.old) self.now tri.now clip.now }
-        ensures { DrawsRows self.now tri.now (block_of clip.now) (block_of clip.now).h
+        ensures { DrawsTriangle self.now tri.now clip.now
             (record { m = vram.old; steps = steps.old }) (record { m = vram.new; steps = steps.new }) }
     {
         let mut pen = Pen::new(&self.paint, &self.brush);
-        draw_rows(vram, &mut pen, tri, clip, steps);
+        draw_rows(vram, &mut rows_of(tri, clip), &mut pen, steps);
     }
 
     /// Draws the cells of a box that are inside of a triangle.
@@ -174,7 +175,7 @@ impl Coat {
         steps: &mut Steps<L>,
     )
         requires { CanDrawRows (height_of vram.old) self.now tri.now clip.now }
-        ensures { DrawsRows self.now tri.now (block_of clip.now) (block_of clip.now).h
+        ensures { DrawsTriangle self.now tri.now clip.now
             (record { m = vram.old; steps = steps.old }) (record { m = vram.new; steps = steps.new }) }
     {
         match self.blocked(tri, clip) {

@@ -16,9 +16,12 @@ mod polygon;
 mod primitives;
 mod rectangles;
 mod row_pen;
+mod rows;
 mod settings;
 mod solid;
 mod style;
+mod tiled;
+mod tri_rows;
 mod triangles;
 
 pub use area::area_of;

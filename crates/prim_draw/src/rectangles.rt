@@ -1,21 +1,19 @@
 // Rectangles by rows.
-ghost use Rattle.std.specs.Prelude.{◌≡◌, ◌≤◌, ◌<◌, ◌+◌, ◌*◌, IfSome, length, pos, ◌-ℤ◌, unsigned_abs};
+ghost use Rattle.std.specs.Prelude.{◌≡◌, ◌≤◌, ◌<◌, ◌+◌, ◌*◌, IfSome, length};
 ghost use Rattle.gp0_packets.specs.Ranges.{IsPlace};
-ghost use Rattle.vram_store.specs.Vram.{height_of};
 ghost use Rattle.texel_lanes.specs.Texture.{IsTexture};
-ghost use Rattle.span_lanes.specs.Shade.{texture_of};
-ghost use Rattle.span_lanes.specs.Frame.{IsBlock};
-ghost use Rattle.prim_draw.specs.Boxes.{IsOnScreen, block_of, cells_of};
-ghost use Rattle.prim_draw.specs.Costs.{rectangle_cost, tile_rows_cost};
+ghost use Rattle.prim_draw.specs.Boxes.{IsOnScreen, block_of};
+ghost use Rattle.prim_draw.specs.Costs.{rectangle_cost};
 ghost use Rattle.prim_draw.specs.Rectangles.{cells_box, drawn_rectangle, extent_at, optional_texture, rectangle_box};
-ghost use Rattle.prim_draw.specs.Rectangles.{tile_in, tile_paint, tiled_cells, IsExtent, IsTile, IsFree, IsPartOf};
+ghost use Rattle.prim_draw.specs.Rectangles.{tile_in, IsExtent, IsTile, IsPartOf};
 
 use crate::boxes::{block_of, clipped};
 use crate::settings::{brush_in, texture_in};
 use crate::style::Style;
+use crate::tiled::Tiled;
 use gp1_status::Regs;
 use px_num::Box2;
-use span_lanes::{Block, Brush, Paint, Span, Spans, Texture, draw_spans, row_u};
+use span_lanes::{Brush, Texture};
 use std::sync::ledger::Ledger;
 use vram_store::{Steps, Vram};
 
@@ -49,13 +47,6 @@ pub(crate) struct Tile {
     pub(crate) flip_y: bool,
     /// How the pixels come to the cells.
     pub(crate) brush: Brush,
-}
-
-/// How many columns and rows of a whole rectangle lie before its first drawn cell.
-#[derive(Clone, Copy)]
-struct Skipped {
-    columns: u16,
-    rows: u16,
 }
 
 /// A rectangle of w by h cells, with the offset added.
@@ -135,77 +126,7 @@ pub(crate) fn tile_in(regs: &Regs, style: &Style, u: u8, v: u8) -> Tile
     }
 }
 
-// How much of a rectangle lies before the first cell of a block of it.
-fn cells_before(extent: &Extent, block: &Block) -> Skipped
-    requires part { IsPartOf extent.now block.now }
-    requires block { IsBlock 1024 block.now }
-    requires is { IsExtent extent.now }
-    ensures columns { result.columns ≡ unsigned_abs (pos block.now.x -ℤ extent.now.left) }
-    ensures rows { result.rows ≡ unsigned_abs (pos block.now.y -ℤ extent.now.top) }
-    ensures right { result.columns + block.now.w ≤ 1023 }
-    ensures bottom { result.rows + block.now.h ≤ 1023 }
-{
-    Skipped {
-        columns: (block.x as i32 - extent.left) as u16,
-        rows: (block.y as i32 - extent.top) as u16,
-    }
-}
-
 impl Tile {
-    // The paint from a column and a row of the whole rectangle on.
-    #[tactic(auto, unfolding(crate::specs::Rectangles::tile_paint))]
-    fn paint_at(&self, column: u16, row: u16) -> Paint
-        requires column { column ≤ 1023 }
-        requires row { row ≤ 1023 }
-        ensures value { result ≡ tile_paint self.now column row }
-        ensures texture { texture_of result ≡ self.now.texture }
-        ensures free { IsFree result }
-    {
-        match self.texture {
-            None => Paint::Flat { color: self.color },
-            Some(texture) => Paint::TexturedRow {
-                color: self.color,
-                texture,
-                u: row_u(self.u, self.flip_x, column),
-                v: row_u(self.v, self.flip_y, row),
-                flip: self.flip_x,
-            },
-        }
-    }
-
-    // Draws the cells of a block of a rectangle.
-    fn draw_rows<L: Ledger>(
-        &self,
-        vram: &mut Vram,
-        extent: &Extent,
-        block: &Block,
-        steps: &mut Steps<L>,
-    )
-        requires tile { IsTile (height_of vram.old) self.now }
-        requires is { IsExtent extent.now }
-        requires part { IsPartOf extent.now block.now }
-        requires small { IsBlock 1024 block.now }
-        requires block { IsBlock (height_of vram.old) block.now }
-        ensures cells { vram.new ≡ tiled_cells self.now extent.now (cells_of block.now) vram.old }
-        ensures long { length vram.new ≡ length vram.old }
-        ensures cost { steps.new ≤ steps.old + tile_rows_cost self.now extent.now block.now block.now.h }
-    {
-        let before = cells_before(extent, block);
-        let first = Span {
-            x: block.x,
-            y: block.y,
-            n: block.w,
-            paint: self.paint_at(before.columns, before.rows),
-            brush: self.brush,
-        };
-        let spans = Spans {
-            first,
-            rows: block.h,
-            falls: self.flip_y,
-        };
-        draw_spans(vram, &spans, steps);
-    }
-
     /// Draws a rectangle, and answers its box as [`rectangle_box`] does.
     pub(crate) fn draw<L: Ledger>(
         &self,
@@ -224,7 +145,12 @@ impl Tile {
     {
         let area = rectangle_box(regs, extent);
         if let Some(clip) = &area {
-            self.draw_rows(vram, extent, &block_of(clip), steps);
+            let tiled = Tiled {
+                tile: self,
+                extent,
+                block: &block_of(clip),
+            };
+            tiled.draw(vram, steps);
         }
         area
     }

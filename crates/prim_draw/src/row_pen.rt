@@ -1,25 +1,23 @@
-// The loop over the rows of a triangle.
-ghost use Rattle.std.specs.Prelude.{ℕ, ◌≡◌, ◌<◌, IfSome, List};
-ghost use Rattle.edge_walk.specs.Extent.{bounding_box};
+// The loop over the rows of what is drawn.
+ghost use Rattle.std.specs.Prelude.{ℕ};
 ghost use Rattle.vram_store.specs.Vram.{height_of};
-ghost use Rattle.prim_draw.specs.Boxes.{IsOnScreen, LiesIn, block_of};
-ghost use Rattle.prim_draw.specs.Triangles.{FitsTriangle, IsCoat};
-ghost use Rattle.prim_draw.specs.Walks.{CanDraw, DrawsRows, DrawsRun, LiesInBlock};
+ghost use Rattle.span_lanes.specs.Frame.{IsBlock};
+ghost use Rattle.prim_draw.specs.Rows.{CanDraw, DrawsRows};
 ghost use Rattle.prim_draw.specs.declared.triangles.Run.{Run};
 
-use crate::boxes::block_of;
-use crate::triangles::{Run, next_run};
-use edge_walk::Tri;
-use px_num::Box2;
+use crate::rows::Rows;
+use crate::triangles::Run;
 use std::sync::ledger::Ledger;
 use vram_store::{Steps, Vram};
 
-/// What draws the cells of a triangle, row by row.
+/// What draws cells, row by row.
 pub(crate) trait RowPen: Drop {
-    ghost use Rattle.prim_draw.specs.declared.coat.Coat.{Coat};
+    ghost use Rattle.std.specs.Prelude.{◌≡◌, IfSome, List};
+    ghost use Rattle.prim_draw.specs.Pattern.{Pattern};
+    ghost use Rattle.prim_draw.specs.Rows.{DrawsRun};
 
     // What it draws with.
-    ghost coat: { Self → Coat };
+    ghost pattern: { Self → Pattern };
 
     // The runs that it may draw.
     ghost reaches: { Self → ℕ → Run → Type 0 };
@@ -35,40 +33,38 @@ pub(crate) trait RowPen: Drop {
         y: u16,
         steps: &mut Steps<L>,
     )
-        requires coat { IsCoat (height_of vram.old) (coat self.old) }
-        requires row { y < height_of vram.old }
-        requires run { IfSome found (CanDraw (coat self.old).paint y) }
+        requires run { IfSome found (CanDraw (height_of vram.old) (pattern self.old) y) }
         requires reaches { IfSome found (reaches self.old y) }
         requires ready { ready self.old vram.old }
-        ensures drawn { DrawsRun (coat self.old) y found
+        ensures drawn { DrawsRun (pattern self.old) y found
             (record { m = vram.old; steps = steps.old }) (record { m = vram.new; steps = steps.new }) }
-        ensures coat { coat self.new ≡ coat self.old }
+        ensures pattern { pattern self.new ≡ pattern self.old }
         ensures reaches { (y : ℕ) (run : Run) → reaches self.old y run → reaches self.new y run }
         ensures ready { ready self.new vram.new };
 }
 
-/// Draws the cells of a box that are inside of a triangle.
-pub(crate) fn draw_rows<P: RowPen, L: Ledger>(
+/// Draws the cells of each row, from the first row to the last.
+#[inline(always)]
+pub(crate) fn draw_rows<R: Rows, P: RowPen, L: Ledger>(
     vram: &mut Vram,
+    rows: &mut R,
     pen: &mut P,
-    tri: &Tri,
-    clip: &Box2,
     steps: &mut Steps<L>,
 )
-    requires coat { IsCoat (height_of vram.old) (P.coat pen.old) }
-    requires fits { FitsTriangle tri.now (P.coat pen.old).paint }
-    requires reaches { (y : ℕ) (run : Run) → LiesInBlock (block_of clip.now) y run → P.reaches pen.old y run }
+    requires block { IsBlock 1024 (R.within rows.old) }
+    requires stands { R.stands rows.old (R.within rows.old).y }
+    requires can { (y : ℕ) (run : Run) → R.gives rows.old y run
+        → CanDraw (height_of vram.old) (P.pattern pen.old) y run × P.reaches pen.old y run }
     requires ready { P.ready pen.old vram.old }
-    requires small { IsOnScreen 1024 clip.now }
-    requires clip { IsOnScreen (height_of vram.old) clip.now }
-    requires inside { LiesIn (bounding_box tri.now) clip.now }
-    ensures { DrawsRows (P.coat pen.old) tri.now (block_of clip.now) (block_of clip.now).h
+    ensures { DrawsRows
+        (record { pattern = P.pattern pen.old; row = R.cells rows.old; top = (R.within rows.old).y })
+        (R.within rows.old).h
         (record { m = vram.old; steps = steps.old }) (record { m = vram.new; steps = steps.new }) }
 {
-    let block = block_of(clip);
-    let mut rows = tri.rows(clip);
+    let block = rows.block();
     for j in 0..block.h {
-        let run = next_run(&mut rows);
-        pen.draw_run(vram, run, block.y + j, steps);
+        let y = block.y + j;
+        let run = rows.run_at(y);
+        pen.draw_run(vram, run, y, steps);
     }
 }

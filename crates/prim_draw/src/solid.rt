@@ -1,14 +1,20 @@
 // Triangles whose cells all become one halfword.
 ghost use Rattle.std.specs.Prelude.{ℕ, ◌≡◌, ◌≤◌, IfSome};
 ghost use Rattle.edge_walk.specs.Triangle.{Corners};
+ghost use Rattle.vram_store.specs.Vram.{height_of};
+ghost use Rattle.prim_draw.specs.Blocks.{CanDrawRows};
+ghost use Rattle.prim_draw.specs.Walks.{DrawsTriangle};
 ghost use Rattle.prim_draw.specs.Triangles.{IsCoat, triangle_coat};
 ghost use Rattle.prim_draw.specs.Solids.{IsEven, flat_coat, solid_coat};
 
-use crate::row_pen::RowPen;
+use crate::row_pen::{RowPen, draw_rows};
 use crate::settings::brush_in;
 use crate::style::Style;
+use crate::tri_rows::rows_of;
 use crate::triangles::Run;
+use edge_walk::Tri;
 use gp1_status::Regs;
+use px_num::Box2;
 use span_lanes::{Brush, Paint, Span, draw_solid, solid_of};
 use std::sync::ledger::Ledger;
 use vram_store::{Steps, Vram};
@@ -59,10 +65,31 @@ fn solid_flat(color: u32, brush: &Brush) -> Option<Solid>
     }
 }
 
+impl Solid {
+    /// Draws the cells of a box that are inside of a triangle.
+    #[inline(always)]
+    pub(crate) fn draw_rows<L: Ledger>(
+        &self,
+        vram: &mut Vram,
+        tri: &Tri,
+        clip: &Box2,
+        steps: &mut Steps<L>,
+    )
+        requires even { IsEven self.now }
+        requires can { CanDrawRows (height_of vram.old) (solid_coat self.now) tri.now clip.now }
+        ensures { DrawsTriangle (solid_coat self.now) tri.now clip.now
+            (record { m = vram.old; steps = steps.old }) (record { m = vram.new; steps = steps.new }) }
+    {
+        let mut solid = *self;
+        draw_rows(vram, &mut rows_of(tri, clip), &mut solid, steps);
+    }
+}
+
 impl RowPen for Solid {
+    ghost use Rattle.prim_draw.specs.Pattern.{even};
     ghost use Rattle.prim_draw.specs.Solids.{IsEven, solid_coat};
 
-    ghost coat = { solid_coat };
+    ghost pattern = { λ solid. even (solid_coat solid) };
 
     ghost reaches = { λ solid y run. Unit {0} };
 

@@ -11,15 +11,15 @@ ghost use Rattle.prim_draw.specs.Costs.{triangle_cost};
 ghost use Rattle.prim_draw.specs.Triangles.{drawn_triangle, placed_corners};
 ghost use Rattle.prim_draw.specs.Triangles.{triangle_box, triangle_coat, triangle_paint, FitsTriangle, IsAlike};
 ghost use Rattle.prim_draw.specs.Triangles.{IsCoat};
-ghost use Rattle.prim_draw.specs.Walks.{DrawsRows, IsOnRow, TakesRow};
+ghost use Rattle.prim_draw.specs.Walks.{DrawsTriangle};
 
 use crate::boxes::{block_of, clipped};
 use crate::coat::Coat;
-use crate::row_pen::{RowPen, draw_rows};
+use crate::row_pen::RowPen;
 use crate::settings::{brush_in, placed, texture_in};
 use crate::solid::solid_in;
 use crate::style::Style;
-use edge_walk::{RowWalk, Tri};
+use edge_walk::Tri;
 use gp1_status::Regs;
 use px_num::{Box2, Vertex};
 use span_lanes::{Paint, Pen};
@@ -67,26 +67,11 @@ pub(crate) struct Run {
     pub(crate) n: u16,
 }
 
-/// The cells that a triangle draws of the row at which a walk stands, which then goes on.
-#[inline(always)]
-pub(crate) fn next_run(rows: &mut RowWalk) -> Option<Run>
-    requires { IsOnRow rows.old }
-    ensures { TakesRow rows.old rows.new result }
-{
-    match rows.next() {
-        None => None,
-        Some((first, last)) => Some(Run {
-            x: first as u16,
-            n: (last - first + 1) as u16,
-        }),
-    }
-}
-
 impl RowPen for Pen {
     ghost use Rattle.span_lanes.specs.Pen.{IsFresh};
-    ghost use Rattle.prim_draw.specs.Walks.{coat_of_ink};
+    ghost use Rattle.prim_draw.specs.Rows.{pattern_of_ink};
 
-    ghost coat = { λ pen. coat_of_ink pen.ink };
+    ghost pattern = { λ pen. pattern_of_ink pen.ink };
 
     ghost reaches = { λ pen y run. Unit {0} };
 
@@ -163,11 +148,11 @@ fn draw_inside<L: Ledger>(
     requires small { IsOnScreen 1024 clip.now }
     requires clip { IsOnScreen regs.now.height clip.now }
     requires inside { LiesIn (bounding_box tri.now) clip.now }
-    ensures { DrawsRows (triangle_coat regs.now style.now tri.now) tri.now (block_of clip.now) (block_of clip.now).h
+    ensures { DrawsTriangle (triangle_coat regs.now style.now tri.now) tri.now clip.now
         (record { m = vram.old; steps = steps.old }) (record { m = vram.new; steps = steps.new }) }
 {
     match solid_in(regs, style) {
-        Some(mut solid) => draw_rows(vram, &mut solid, tri, clip, steps),
+        Some(solid) => solid.draw_rows(vram, tri, clip, steps),
         None => coat_of(regs, style, tri).draw_rows(vram, tri, clip, steps),
     }
 }

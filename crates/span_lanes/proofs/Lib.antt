@@ -11,7 +11,6 @@ pub mod PlainLemmas
 pub mod PlanLemmas
 pub mod RampedLemmas
 pub mod SolidLemmas
-pub mod SpansLemmas
 mod SheetLemmas
 mod StretchLemmas
 mod SwatchLemmas

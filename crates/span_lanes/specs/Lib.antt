@@ -17,9 +17,8 @@ pub mod Ready
 pub mod Shade
 pub mod Sheet
 pub mod Solid
-pub mod Spans
 pub mod Stretch
-pub mod Strips
 pub mod Swatches
+pub mod TexelRows
 pub mod Toned
 pub mod Track

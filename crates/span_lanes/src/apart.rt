@@ -4,10 +4,8 @@ ghost use Rattle.texel_lanes.specs.Texture.{IsTexture, clut_row};
 ghost use Rattle.span_lanes.specs.Shade.{IsSpan, texture_of};
 ghost use Rattle.span_lanes.specs.Guard.{IsApart, IsInOtherRow, LiesBeside, page_width};
 ghost use Rattle.span_lanes.specs.Frame.{IsBlock, IsInBlock};
-ghost use Rattle.span_lanes.specs.Spans.{nth_span, AreBelow};
 ghost use Rattle.span_lanes.specs.Frame.{IsBlockApart};
 
-use crate::spans::Spans;
 use crate::{Block, Span, Texture};
 use texel_lanes::clut_row;
 
@@ -93,22 +91,4 @@ pub(crate) fn is_block_apart(block: &Block, texture: &Texture) -> bool
     ensures { IsTrue result → IsBlockApart block.now texture.now }
 {
     is_block_beside(block, texture) && is_block_off_palette(block, texture)
-}
-
-// Whether spans are known to read nothing that they write.
-pub(crate) fn are_apart(spans: &Spans, texture: &Texture) -> bool
-    requires spans { AreBelow spans.now }
-    requires texture { (j : ℕ) → texture_of (nth_span spans.now j).paint ≡ Some texture.now }
-    ensures apart { IsTrue result → (j : ℕ) → j < spans.now.rows → IsApart (nth_span spans.now j) }
-    ensures palette { IsTrue result
-        → (j : ℕ) → j < spans.now.rows → IsInOtherRow texture.now (spans.now.first.y + j) }
-{
-    let Span { x, y, n, .. } = spans.first;
-    let block = Block {
-        x,
-        y,
-        w: n,
-        h: spans.rows,
-    };
-    is_block_apart(&block, texture)
 }

@@ -12,6 +12,20 @@ pub(crate) fn is_plain(brush: &Brush) -> bool
     brush.mask == 0 && !brush.semi
 }
 
+// A brush of which that is known.
+#[inline(always)]
+pub(crate) fn plain_brush(brush: &Brush) -> Brush
+    requires mask { brush.now.mask ≡ 0 }
+    requires semi { brush.now.semi ≡ false }
+    ensures { result ≡ brush.now }
+{
+    Brush {
+        mask: 0,
+        semi: false,
+        ..*brush
+    }
+}
+
 // A span of which that is known: such spans have loops of their own.
 #[inline(always)]
 pub(crate) fn plain(span: &Span) -> Span
@@ -20,11 +34,7 @@ pub(crate) fn plain(span: &Span) -> Span
     ensures { result ≡ span.now }
 {
     Span {
-        brush: Brush {
-            mask: 0,
-            semi: false,
-            ..span.brush
-        },
+        brush: plain_brush(&span.brush),
         ..*span
     }
 }

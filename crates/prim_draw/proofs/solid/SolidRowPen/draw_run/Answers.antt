@@ -1,17 +1,14 @@
-use Rattle.std.proofs.Common.{◌∙◌}
+use Rattle.std.proofs.Common.{refl}
+use Rattle.prim_draw.specs.Pattern.{even}
+use Rattle.prim_draw.specs.Rows.{run_span}
 use Rattle.prim_draw.specs.Solids.{solid_coat}
-use Rattle.prim_draw.proofs.RowLemmas.{span_of_row, span_pixels}
+use Rattle.prim_draw.proofs.RowLemmas.{run_drawn}
 use Rattle.prim_draw.proofs.solid.SolidRowPen.draw_run.Goals as goal
 
 pub returns-in-Some-clause-drawn : goal.returns-in-Some-clause-drawn
 returns-in-Some-clause-drawn g c =
+    let p = even (solid_coat c.args.self.now) in
     let run = c.in-Some.run' in
-    let coat = solid_coat c.args.self.now in
-    let can = rw c.in-Some.is at c.requires.run in
-    let drawn = c.draw_solid.ensures.drawn in
-    record {
-      cells = rw c.in-Some.is
-          (drawn.cells ∙ span_pixels coat run.x c.args.y run.n c.args.vram.now c.requires.coat.alike);
-      long = drawn.long;
-      cost = rw (c.in-Some.is, span_of_row coat run.x c.args.y run.n can.some) drawn.cost;
-    }
+    rw c.in-Some.is
+    (run_drawn _ p c.args.y run (run_span p c.args.y run) _ _ (rw c.in-Some.is at c.requires.run) refl
+    c.draw_solid.ensures.drawn)

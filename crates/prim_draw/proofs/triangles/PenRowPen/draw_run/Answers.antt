@@ -1,16 +1,12 @@
-use Rattle.std.proofs.Common.{◌∙◌}
-use Rattle.prim_draw.specs.Walks.{coat_of_ink}
-use Rattle.prim_draw.proofs.RowLemmas.{span_of_row, span_pixels}
+use Rattle.std.proofs.Common.{refl}
+use Rattle.prim_draw.specs.Rows.{pattern_of_ink, run_span}
+use Rattle.prim_draw.proofs.RowLemmas.{run_drawn}
 use Rattle.prim_draw.proofs.triangles.PenRowPen.draw_run.Goals as goal
 
 pub returns-in-Some-clause-drawn : goal.returns-in-Some-clause-drawn
 returns-in-Some-clause-drawn g c =
+    let p = pattern_of_ink c.args.self.now.ink in
     let run = c.in-Some.run' in
-    let coat = coat_of_ink c.args.self.now.ink in
-    let can = rw c.in-Some.is at c.requires.run in
-    record {
-      cells = rw c.in-Some.is
-          (c.draw.ensures.drawn.cells ∙ span_pixels coat run.x c.args.y run.n c.args.vram.now c.requires.coat.alike);
-      long = c.draw.ensures.drawn.long;
-      cost = rw (c.in-Some.is, span_of_row coat run.x c.args.y run.n can.some) c.draw.ensures.drawn.cost;
-    }
+    rw c.in-Some.is
+    (run_drawn _ p c.args.y run (run_span p c.args.y run) _ _ (rw c.in-Some.is at c.requires.run) refl
+    c.draw.ensures.drawn)

@@ -1,0 +1,30 @@
+-- What cells are drawn with.
+use Rattle.std.specs.Prelude.{ℕ, List, Option}
+use Rattle.px_num.specs.declared.shape.Cell.{Cell}
+use Rattle.span_lanes.specs.Cells.{drawn_cells}
+use Rattle.span_lanes.specs.Shade.{paint_pixel}
+use Rattle.span_lanes.specs.declared.span.Brush.{Brush}
+use Rattle.span_lanes.specs.declared.span.Paint.{Paint}
+use Rattle.span_lanes.specs.declared.span.Span.{Span}
+use Rattle.prim_draw.specs.declared.coat.Coat.{Coat}
+
+-- the paint of cells of a row, by the first of them, and how the pixels come to the cells
+pub record Pattern : Type 0 where
+  pub paint : Cell → Paint
+  pub brush : Brush
+
+-- one paint for all cells
+abbrev pub even : Coat → Pattern
+even coat = record { paint = λ cell. coat.paint; brush = coat.brush }
+
+-- the pixel, or none, that a primitive draws at a cell, with video memory as it is then
+abbrev pub pixel_at : Pattern → Cell → List ℕ → Option ℕ
+pixel_at p cell m = paint_pixel (p.paint cell) p.brush cell.x cell.y 0 m
+
+-- cells with such a pattern, one after another
+abbrev pub painted_cells : Pattern → List Cell → List ℕ → List ℕ
+painted_cells p cells m = drawn_cells (pixel_at p) p.brush.mask cells m
+
+-- n cells of a row, from a first one to the right
+abbrev pub span_from : Pattern → Cell → (n : ℕ) → Span
+span_from p first n = record { x = first.x; y = first.y; n = n; paint = p.paint first; brush = p.brush }

@@ -1,0 +1,54 @@
+-- Rows of cells, drawn one after another.
+use Rattle.std.specs.Prelude.{ℕ, ◌+◌, ◌<◌, ◌≤◌, ◌≡◌, List, Option, length}
+use Rattle.px_num.specs.declared.shape.Cell.{Cell}
+use Rattle.span_lanes.specs.Cells.{Stage}
+use Rattle.span_lanes.specs.Frame.{IsInBlock}
+use Rattle.span_lanes.specs.Pen.{Ink}
+use Rattle.span_lanes.specs.Shade.{IsSpan, LiesIn, paint_pixel}
+use Rattle.span_lanes.specs.declared.block.Block.{Block}
+use Rattle.span_lanes.specs.declared.span.Span.{Span}
+use Rattle.prim_draw.specs.Boxes.{cells_down}
+use Rattle.prim_draw.specs.Costs.{cost_down, side_by_side}
+use Rattle.prim_draw.specs.Pattern.{Pattern, even, painted_cells, span_from}
+use Rattle.prim_draw.specs.Triangles.{run_cells}
+use Rattle.prim_draw.specs.declared.triangles.Run.{Run}
+
+-- cells of row y that lie in a block
+abbrev pub LiesInBlock : Block → ℕ → Run → Type 0
+LiesInBlock b y run = IsInBlock b run.x y run.n
+
+-- what a pen draws with
+abbrev pub pattern_of_ink : Ink → Pattern
+pattern_of_ink ink = even (record { paint = ink.paint; brush = ink.brush })
+
+-- a run of cells of row y
+abbrev pub run_span : Pattern → ℕ → Run → Span
+run_span p y run = span_from p (record { x = run.x; y = y }) run.n
+
+-- it can be drawn in video memory of a height, and the paint of its first cell gives the pixel of each
+pub record CanDraw (height : ℕ) (p : Pattern) (y : ℕ) (run : Run) : Type 0 where
+  pub span : IsSpan (run_span p y run)
+  pub lies : LiesIn height (run_span p y run)
+  pub alike : (i : ℕ) → i < run.n → (m : List ℕ)
+      → paint_pixel (run_span p y run).paint p.brush (run.x + i) y i m
+      ≡ paint_pixel (p.paint (record { x = run.x + i; y = y })) p.brush (run.x + i) y 0 m
+
+-- ---- what was drawn, with video memory and the steps before and after
+
+-- a run of cells of row y, or none
+pub record DrawsRun (p : Pattern) (y : ℕ) (found : Option Run) (before after : Stage) : Type 0 where
+  pub cells : after.m ≡ painted_cells p (run_cells found y) before.m
+  pub long : length after.m ≡ length before.m
+  pub cost : after.steps ≤ before.steps + side_by_side p (run_cells found y)
+
+-- the cells of each row from a top one on, and what they are drawn with
+pub record Figure : Type 0 where
+  pub pattern : Pattern
+  pub row : ℕ → List Cell
+  pub top : ℕ
+
+-- the first rows of a figure
+pub record DrawsRows (f : Figure) (count : ℕ) (before after : Stage) : Type 0 where
+  pub cells : after.m ≡ painted_cells f.pattern (cells_down f.row f.top count) before.m
+  pub long : length after.m ≡ length before.m
+  pub cost : after.steps ≤ before.steps + cost_down f.pattern f.row f.top count

@@ -1,0 +1,184 @@
+// Rectangles in a block of their cells.
+ghost use Rattle.std.specs.Prelude.{◌≡◌, ◌≤◌, ◌<◌, ◌+◌, ◌-ℤ◌, Some, None, pos, unsigned_abs, true, false};
+ghost use Rattle.vram_store.specs.Vram.{height_of};
+ghost use Rattle.span_lanes.specs.Frame.{IsBlock};
+ghost use Rattle.span_lanes.specs.Shade.{row_u};
+ghost use Rattle.span_lanes.specs.TexelRows.{IsLaidFresh, KeepsPalette};
+ghost use Rattle.prim_draw.specs.Rectangles.{IsExtent, IsPartOf};
+ghost use Rattle.prim_draw.specs.Tiled.{AreTexelsOf, CanTile, DrawsTiled, IsReadyFor, texels_of};
+
+use crate::rectangles::{Extent, Tile};
+use crate::row_pen::{RowPen, draw_rows};
+use crate::rows::BlockRows;
+use crate::triangles::Run;
+use span_lanes::{
+    Block, EachRowPen, KeptRowsPen, Paint, Pen, TexelRowPen, TexelRows, Texture, row_u,
+};
+use std::sync::ledger::Ledger;
+use vram_store::{Steps, Vram};
+
+/// A rectangle, of which the cells of a block are drawn.
+#[derive(Clone, Copy)]
+pub(crate) struct Tiled<'a> {
+    /// What it is drawn with.
+    pub(crate) tile: &'a Tile,
+    /// All its cells.
+    pub(crate) extent: &'a Extent,
+    /// Those that are drawn.
+    pub(crate) block: &'a Block,
+}
+
+/// What draws the rows of texels.
+#[derive(Drop)]
+struct InTile<'a, P> {
+    tiled: Tiled<'a>,
+    pen: P,
+}
+
+impl<P: TexelRowPen> RowPen for InTile<'_, P> {
+    ghost use Rattle.prim_draw.specs.Tiled.{IsWholeRow, tiled_pattern};
+
+    ghost pattern = { λ rows. tiled_pattern rows.tiled };
+
+    ghost reaches = { λ rows. IsWholeRow rows.tiled.block.now };
+
+    ghost ready = { λ rows. IsReadyFor rows.tiled (P.laid rows.pen) };
+
+    #[inline(always)]
+    fn draw_run<L: Ledger>(
+        &mut self,
+        vram: &mut Vram,
+        found: Option<Run>,
+        y: u16,
+        steps: &mut Steps<L>,
+    ) {
+        if let Some(_) = found {
+            let v = self.tiled.texel_row(y);
+            self.pen.draw_row(vram, y, v, steps);
+        }
+    }
+}
+
+impl Tiled<'_> {
+    // The row of the page whose texels row y of the block has.
+    #[inline(always)]
+    fn texel_row(&self, y: u16) -> u8
+        requires extent { IsExtent self.now.extent.now }
+        requires part { IsPartOf self.now.extent.now self.now.block.now }
+        requires top { self.now.block.now.y ≤ y }
+        requires bottom { y < self.now.block.now.y + self.now.block.now.h }
+        ensures { result ≡ row_u self.now.tile.now.v self.now.tile.now.flip_y
+            (unsigned_abs (pos y -ℤ self.now.extent.now.top)) }
+    {
+        let row = (y as i32 - self.extent.top) as u16;
+        row_u(self.tile.v, self.tile.flip_y, row)
+    }
+
+    // The texels of the block, row by row.
+    #[inline(always)]
+    fn texels(&self, texture: &Texture) -> TexelRows
+        requires extent { IsExtent self.now.extent.now }
+        requires part { IsPartOf self.now.extent.now self.now.block.now }
+        requires small { IsBlock 1024 self.now.block.now }
+        ensures { result ≡ texels_of self.now texture.now }
+    {
+        let column = (self.block.x as i32 - self.extent.left) as u16;
+        TexelRows {
+            color: self.tile.color,
+            texture: *texture,
+            u: row_u(self.tile.u, self.tile.flip_x, column),
+            flip: self.tile.flip_x,
+            brush: self.tile.brush,
+            block: *self.block,
+        }
+    }
+
+    // Draws the texels with a pen for them.
+    #[inline(always)]
+    fn draw_by<P: TexelRowPen, L: Ledger>(&self, pen: P, vram: &mut Vram, steps: &mut Steps<L>)
+        requires can { CanTile (height_of vram.old) self.now }
+        requires rows { AreTexelsOf self.now (P.laid pen).rows }
+        requires fresh { IsLaidFresh (P.laid pen) vram.old }
+        ensures { DrawsTiled self.now
+            (record { m = vram.old; steps = steps.old }) (record { m = vram.new; steps = steps.new }) }
+    {
+        let mut rows = BlockRows { block: *self.block };
+        let mut pen = InTile { tiled: *self, pen };
+        draw_rows(vram, &mut rows, &mut pen, steps);
+    }
+
+    // Texels whose palette is coloured once, by whether pixels are stored as they are.
+    #[inline(always)]
+    fn draw_kept<L: Ledger>(&self, rows: &TexelRows, vram: &mut Vram, steps: &mut Steps<L>)
+        requires can { CanTile (height_of vram.old) self.now }
+        requires rows { AreTexelsOf self.now rows.now }
+        requires keeps { KeepsPalette rows.now }
+        ensures { DrawsTiled self.now
+            (record { m = vram.old; steps = steps.old }) (record { m = vram.new; steps = steps.new }) }
+    {
+        if rows.is_plain() {
+            self.draw_by(KeptRowsPen::new(&rows.known_plain()), vram, steps);
+        } else {
+            self.draw_by(KeptRowsPen::new(rows), vram, steps);
+        }
+    }
+
+    // The same, by whether the texels are drawn as they are.
+    #[inline(never)]
+    fn draw_kept_by_raw<L: Ledger>(&self, rows: &TexelRows, vram: &mut Vram, steps: &mut Steps<L>)
+        requires can { CanTile (height_of vram.old) self.now }
+        requires rows { AreTexelsOf self.now rows.now }
+        requires keeps { KeepsPalette rows.now }
+        ensures { DrawsTiled self.now
+            (record { m = vram.old; steps = steps.old }) (record { m = vram.new; steps = steps.new }) }
+    {
+        if rows.texture.raw {
+            self.draw_kept(&rows.known_raw(true), vram, steps);
+        } else {
+            self.draw_kept(&rows.known_raw(false), vram, steps);
+        }
+    }
+
+    // Texels of which each row is looked at by itself.
+    #[inline(never)]
+    fn draw_each<L: Ledger>(&self, rows: &TexelRows, vram: &mut Vram, steps: &mut Steps<L>)
+        requires can { CanTile (height_of vram.old) self.now }
+        requires rows { AreTexelsOf self.now rows.now }
+        ensures { DrawsTiled self.now
+            (record { m = vram.old; steps = steps.old }) (record { m = vram.new; steps = steps.new }) }
+    {
+        self.draw_by(EachRowPen::new(rows), vram, steps);
+    }
+
+    // The colour of a rectangle without texture.
+    fn draw_flat<L: Ledger>(&self, vram: &mut Vram, steps: &mut Steps<L>)
+        requires can { CanTile (height_of vram.old) self.now }
+        requires flat { self.now.tile.now.texture ≡ None }
+        ensures { DrawsTiled self.now
+            (record { m = vram.old; steps = steps.old }) (record { m = vram.new; steps = steps.new }) }
+    {
+        let paint = Paint::Flat {
+            color: self.tile.color,
+        };
+        let mut rows = BlockRows { block: *self.block };
+        let mut pen = Pen::new(&paint, &self.tile.brush);
+        draw_rows(vram, &mut rows, &mut pen, steps);
+    }
+
+    /// Draws the cells of the block.
+    pub(crate) fn draw<L: Ledger>(&self, vram: &mut Vram, steps: &mut Steps<L>)
+        requires { CanTile (height_of vram.old) self.now }
+        ensures { DrawsTiled self.now
+            (record { m = vram.old; steps = steps.old }) (record { m = vram.new; steps = steps.new }) }
+    {
+        let Some(texture) = &self.tile.texture else {
+            return self.draw_flat(vram, steps);
+        };
+        let rows = self.texels(texture);
+        if rows.keeps_palette() {
+            self.draw_kept_by_raw(&rows, vram, steps)
+        } else {
+            self.draw_each(&rows, vram, steps)
+        }
+    }
+}
