@@ -95,7 +95,8 @@ tile_local tile e none = λ cell m now same. rw none (rw same refl)
 all_same : (tile : Tile) (e : Extent) (b : Option Box2) (k : ℕ) (m now : List ℕ) → tile.texture ≡ None
     → SameAt k m now → SameAt k (drawn_all tile e b m) (drawn_all tile e b now)
 all_same tile e None k m now none same = same
-all_same tile e (Some b) k m now none same = cells_same (pixel_at (pattern_of tile e)) tile.brush.mask k (tile_local tile e none)
+all_same tile e (Some b) k m now none same = cells_same (pixel_at (pattern_of tile e)) tile.brush.mask k (tile_local
+    tile e none)
     (cells_of (block_of b)) m now same
 
 rectangle_same : (r : Registers) (tile : Tile) (e : Extent) (k : ℕ) (m now : List ℕ) → tile.texture ≡ None

@@ -7,7 +7,7 @@ use Rattle.span_lanes.specs.Cells.{Stage}
 use Rattle.span_lanes.specs.Frame.{IsInBlock}
 use Rattle.span_lanes.specs.Pen.{DrawsCells}
 use Rattle.span_lanes.specs.Shade.{HasInside, IsSpan, LiesIn, paint_pixel, row_u, texture_of}
-use Rattle.span_lanes.specs.TexelRows.{CanDrawTexels, texel_ink, texel_span}
+use Rattle.span_lanes.specs.TexelRows.{CanDrawTexels, texel_span}
 use Rattle.span_lanes.specs.declared.block.Block.{Block}
 use Rattle.span_lanes.specs.declared.span.Brush.{Brush}
 use Rattle.span_lanes.specs.declared.span.Paint.TheVariants.{Flat}
@@ -21,7 +21,7 @@ use Rattle.prim_draw.proofs.RowLemmas.{run_drawn}
 use Rattle.prim_draw.specs.Tiled.{AreTexelsOf, CanTile, IsWholeRow, texels_of, tiled_pattern}
 use Rattle.prim_draw.specs.declared.rectangles.Tile.{Tile}
 use Rattle.prim_draw.specs.declared.tiled.Tiled.{Tiled}
-use Rattle.prim_draw.specs.declared.triangles.Run.{Run}
+use Rattle.span_lanes.specs.declared.span.Run.{Run}
 
 -- the column of a texel, some cells on from some cells on
 row_u-more : (u : ℕ) (flip : Bool) (a i : ℕ) → a + i ≤ 1023 → row_u (row_u u flip a) flip i
@@ -108,7 +108,7 @@ module _ (tiled : Tiled) (y : ℕ) (run : Run) (whole : IsWholeRow tiled.block.n
   pub texels_drawn : (rows : TexelRows) (height v : ℕ) (before after : Stage) → AreTexelsOf tiled rows
       → v ≡ row_u tiled.tile.now.v tiled.tile.now.flip_y (unsigned_abs (pos y -ℤ tiled.extent.now.top))
       → CanDraw height (tiled_pattern tiled) y run
-      → DrawsCells (texel_ink rows v) rows.block.x y rows.block.w before after
+      → DrawsCells (texel_span rows y v) before after
       → DrawsRun (tiled_pattern tiled) y (Some run) before after
   texels_drawn rows height v before after of row can drawn =
       run_drawn height (tiled_pattern tiled) y run (texel_span rows y v) before after can (row_is rows v of row) drawn

@@ -13,7 +13,7 @@ use Rattle.edge_walk.specs.Triangle.{Corners, is_inside}
 use Rattle.span_lanes.specs.Cells.{drawn_cells, cell_in_row, row_cells}
 use Rattle.span_lanes.specs.Cost.{span_cost}
 use Rattle.span_lanes.specs.Cells.{Stage}
-use Rattle.span_lanes.specs.Pen.{DrawsCells, ink_of}
+use Rattle.span_lanes.specs.Pen.{DrawsCells}
 use Rattle.span_lanes.specs.Shade.{shade, shade_at}
 use Rattle.span_lanes.specs.declared.span.Span.{Span}
 use Rattle.span_lanes.proofs.CellsLemmas.{cells_append, row_more, row_none, row_same}
@@ -22,7 +22,7 @@ use Rattle.prim_draw.specs.Costs.{side_by_side}
 use Rattle.prim_draw.specs.Pattern.{Pattern, painted_cells, pixel_at, span_from}
 use Rattle.prim_draw.specs.Rows.{CanDraw, DrawsRows, DrawsRun, Figure, run_span}
 use Rattle.prim_draw.specs.Triangles.{draws, row_inside, run_cells}
-use Rattle.prim_draw.specs.declared.triangles.Run.{Run}
+use Rattle.span_lanes.specs.declared.span.Run.{Run}
 use Rattle.span_lanes.specs.declared.block.Block.{Block}
 
 -- a test holds in a row from one column on, of so many cells, and nowhere else in its first w cells
@@ -169,11 +169,12 @@ span_pixels height p y run m can =
     let back : (run.x + i) - run.x ≡ i = omega arith in
     rw back (can.alike i lt now))
 
-pub run_drawn : (height : ℕ) (p : Pattern) (y : ℕ) (run : Run) (s : Span) (before after : Stage) → CanDraw height p y run
-    → s ≡ run_span p y run → DrawsCells (ink_of s) s.x s.y s.n before after → DrawsRun p y (Some run) before after
+pub run_drawn : (height : ℕ) (p : Pattern) (y : ℕ) (run : Run) (s : Span) (before after : Stage) → CanDraw height p y
+    run
+    → s ≡ run_span p y run → DrawsCells s before after → DrawsRun p y (Some run) before after
 run_drawn height p y run s before after can is drawn =
-    let so : DrawsCells (ink_of (run_span p y run)) run.x y run.n before after =
-    subst (λ (k : Span). DrawsCells (ink_of k) k.x k.y k.n before after) is drawn in
+    let so : DrawsCells (run_span p y run) before after =
+    subst (λ (k : Span). DrawsCells k before after) is drawn in
     record {
       cells = so.cells ∙ span_pixels height p y run before.m can;
       long = so.long;

@@ -1,5 +1,5 @@
 -- The rows of a triangle in a box.
-use Rattle.std.proofs.Common.{ℕ, ◌≡◌, ◌+◌, sym, subst, arith}
+use Rattle.std.proofs.Common.{ℕ, ◌+◌, sym, subst, arith}
 use Rattle.std.proofs.lemmas.Int.{ints}
 use Rattle.px_num.specs.declared.shape.Box2.{Box2}
 use Rattle.edge_walk.specs.Triangle.{Corners}
@@ -14,7 +14,7 @@ use Rattle.prim_draw.specs.Triangles.{IsRun, row_inside}
 use Rattle.prim_draw.specs.Walks.{AreRowsIn, StandAt}
 use Rattle.prim_draw.specs.declared.coat.Coat.{Coat}
 use Rattle.prim_draw.specs.declared.tri_rows.TriRows.{TriRows}
-use Rattle.prim_draw.specs.declared.triangles.Run.{Run}
+use Rattle.span_lanes.specs.declared.span.Run.{Run}
 use Rattle.prim_draw.proofs.WalkLemmas.{box_is}
 
 -- a run of a triangle can be drawn with its coat

@@ -5,7 +5,7 @@ use Rattle.px_num.specs.declared.shape.Box2.{Box2}
 use Rattle.edge_walk.specs.Extent.{bounding_box}
 use Rattle.edge_walk.specs.Row.{IsInBox, IsRowSpan}
 use Rattle.edge_walk.specs.Triangle.{Corners, is_inside}
-use Rattle.edge_walk.specs.Walk.{AreRows, HasRows}
+use Rattle.edge_walk.specs.Walk.{HasRows}
 use Rattle.edge_walk.specs.declared.walk.RowWalk.{RowWalk}
 use Rattle.prim_draw.specs.Boxes.{block_of, row_box, IsOnScreen, LiesIn}
 use Rattle.prim_draw.specs.Walks.{IsRowOf, StandAt}

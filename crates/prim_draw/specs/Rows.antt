@@ -11,7 +11,7 @@ use Rattle.prim_draw.specs.Boxes.{cells_down}
 use Rattle.prim_draw.specs.Costs.{cost_down, side_by_side}
 use Rattle.prim_draw.specs.Pattern.{Pattern, even, painted_cells, span_from}
 use Rattle.prim_draw.specs.Triangles.{run_cells}
-use Rattle.prim_draw.specs.declared.triangles.Run.{Run}
+use Rattle.span_lanes.specs.declared.span.Run.{Run}
 
 -- cells of row y that lie in a block
 abbrev pub LiesInBlock : Block → ℕ → Run → Type 0

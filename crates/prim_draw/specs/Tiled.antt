@@ -10,9 +10,9 @@ use Rattle.texel_lanes.specs.declared.texture.Texture.{Texture}
 use Rattle.prim_draw.specs.Boxes.{block_row}
 use Rattle.prim_draw.specs.Pattern.{Pattern}
 use Rattle.prim_draw.specs.Rectangles.{IsExtent, IsPartOf, IsTile, pattern_of}
-use Rattle.prim_draw.specs.Rows.{DrawsRows, Figure}
+use Rattle.prim_draw.specs.Rows.{DrawsRows}
 use Rattle.prim_draw.specs.declared.tiled.Tiled.{Tiled}
-use Rattle.prim_draw.specs.declared.triangles.Run.{Run}
+use Rattle.span_lanes.specs.declared.span.Run.{Run}
 
 -- the cells of a block of a rectangle can be drawn in video memory of a height
 pub record CanTile (height : ℕ) (tiled : Tiled) : Type 0 where

@@ -21,7 +21,7 @@ use Rattle.span_lanes.specs.declared.block.Block.{Block}
 use Rattle.prim_draw.specs.declared.coat.Coat.{Coat}
 use Rattle.prim_draw.specs.declared.polygon.Polygon.{Polygon}
 use Rattle.prim_draw.specs.declared.style.Style.{Style}
-use Rattle.prim_draw.specs.declared.triangles.Run.{Run}
+use Rattle.span_lanes.specs.declared.span.Run.{Run}
 
 -- the triangle draws this cell
 abbrev pub draws : Corners → Cell → Bool

@@ -12,11 +12,11 @@ use crate::boxes::block_of;
 use crate::coat::Coat;
 use crate::row_pen::{RowPen, draw_rows};
 use crate::tri_rows::rows_of;
-use crate::triangles::Run;
 use edge_walk::Tri;
 use px_num::Box2;
 use span_lanes::{
-    BesidePen, BlockPen, Brush, MixedPen, Paint, Pen, ScaledPen, StripPen, Texture, Way, way_in,
+    BesidePen, BlockPen, Brush, MixedPen, Paint, Pen, Run, ScaledPen, StripPen, Texture, Way,
+    way_in,
 };
 use std::sync::ledger::Ledger;
 use vram_store::{Steps, Vram};
@@ -45,8 +45,8 @@ impl<P: BlockPen> RowPen for InBlock<P> {
         y: u16,
         steps: &mut Steps<L>,
     ) {
-        if let Some(Run { x, n }) = found {
-            self.pen.draw(vram, x, y, n, steps);
+        if let Some(run) = found {
+            self.pen.draw(vram, run, y, steps);
         }
     }
 }

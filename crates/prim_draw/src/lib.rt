@@ -9,6 +9,7 @@ mod area;
 mod blocks;
 mod boxes;
 mod coat;
+mod corners;
 pub mod laws;
 mod lines;
 mod point;

@@ -5,11 +5,11 @@ ghost use Rattle.gp0_packets.specs.Ranges.{IsPlace};
 ghost use Rattle.line_walk.specs.Line.{len_of, point_of};
 ghost use Rattle.prim_draw.specs.Costs.{ends_cost, points_cost};
 ghost use Rattle.prim_draw.specs.Ink.{AreInked, IsInMemory, inked_points};
-ghost use Rattle.prim_draw.specs.Lines.{drawn_ends, drawn_point, drawn_points, ends_box, is_between, is_in};
+ghost use Rattle.prim_draw.specs.Lines.{drawn_ends, drawn_point, drawn_points, ends_box, is_in};
 ghost use Rattle.prim_draw.specs.Lines.{placed_ends, segment_box};
 ghost use Rattle.gp1_status.specs.Drawing.{IsArea};
 
-use crate::boxes::{Spot, box_from, clipped, greatest, least};
+use crate::boxes::{box_from, clipped, greatest, is_in, least, spot_of};
 use crate::point::{ink_of, plot_color};
 use crate::settings::{brush_in, placed};
 use gp1_status::Regs;
@@ -19,26 +19,6 @@ use span_lanes::Brush;
 use std::marker::Model;
 use std::sync::ledger::Ledger;
 use vram_store::{Steps, Vram};
-
-fn is_in_columns(b: &Box2, p: &Vertex) -> bool
-    ensures { result ≡ is_between b.now.x1 b.now.x2 p.now.x }
-{
-    b.x1 <= p.x && p.x <= b.x2
-}
-
-fn is_in_rows(b: &Box2, p: &Vertex) -> bool
-    ensures { result ≡ is_between b.now.y1 b.now.y2 p.now.y }
-{
-    b.y1 <= p.y && p.y <= b.y2
-}
-
-// Whether a point lies in a box.
-#[tactic(auto, unfolding(crate::specs::Lines::is_in))]
-fn is_in(b: &Box2, p: &Vertex) -> bool
-    ensures { result ≡ is_in b.now p.now }
-{
-    is_in_columns(b, p) && is_in_rows(b, p)
-}
 
 // Draws a point that lies in the drawing area.
 fn draw_inside<L: Ledger>(
@@ -194,13 +174,6 @@ pub(crate) fn draw_segment<L: Ledger>(
             clipped(regs, &ends_box(ends))
         }
     }
-}
-
-fn spot_of(p: &Vertex) -> Spot
-    ensures x { result.x ≡ p.now.x }
-    ensures y { result.y ≡ p.now.y }
-{
-    Spot { x: p.x, y: p.y }
 }
 
 #[tactic(auto, unfolding(crate::specs::Lines::ends_box))]

@@ -7,11 +7,12 @@ ghost use Rattle.prim_draw.specs.Draw.{drawn_packet};
 ghost use Rattle.prim_draw.specs.Triangles.{drawn_polygon};
 
 use crate::area::{area_of, joined};
+use crate::corners::placed_corners;
 use crate::lines::{draw_segment, placed_ends};
 use crate::polygon::Polygon;
 use crate::rectangles::{extent_at, tile_in};
 use crate::style::{Style, style_of};
-use crate::triangles::{draw_triangle, placed_corners};
+use crate::triangles::draw_triangle;
 use gp0_packets::Packet;
 use gp1_status::Regs;
 use px_num::Box2;

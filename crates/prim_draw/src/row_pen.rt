@@ -3,10 +3,10 @@ ghost use Rattle.std.specs.Prelude.{ℕ};
 ghost use Rattle.vram_store.specs.Vram.{height_of};
 ghost use Rattle.span_lanes.specs.Frame.{IsBlock};
 ghost use Rattle.prim_draw.specs.Rows.{CanDraw, DrawsRows};
-ghost use Rattle.prim_draw.specs.declared.triangles.Run.{Run};
+ghost use Rattle.span_lanes.specs.declared.span.Run.{Run};
 
 use crate::rows::Rows;
-use crate::triangles::Run;
+use span_lanes::Run;
 use std::sync::ledger::Ledger;
 use vram_store::{Steps, Vram};
 

@@ -1,6 +1,5 @@
 // What cells of each row are drawn.
-use crate::triangles::Run;
-use span_lanes::Block;
+use span_lanes::{Block, Run};
 
 /// Rows of a block of cells, from the top: the cells that are drawn of each stand side by side.
 pub(crate) trait Rows: Drop {
@@ -8,7 +7,7 @@ pub(crate) trait Rows: Drop {
     ghost use Rattle.px_num.specs.declared.shape.Cell.{Cell};
     ghost use Rattle.span_lanes.specs.declared.block.Block.{Block};
     ghost use Rattle.prim_draw.specs.Triangles.{run_cells};
-    ghost use Rattle.prim_draw.specs.declared.triangles.Run.{Run};
+    ghost use Rattle.span_lanes.specs.declared.span.Run.{Run};
 
     // The block.
     ghost within: { Self → Block };

@@ -11,11 +11,10 @@ use crate::row_pen::{RowPen, draw_rows};
 use crate::settings::brush_in;
 use crate::style::Style;
 use crate::tri_rows::rows_of;
-use crate::triangles::Run;
 use edge_walk::Tri;
 use gp1_status::Regs;
 use px_num::Box2;
-use span_lanes::{Brush, Paint, Span, draw_solid, solid_of};
+use span_lanes::{Brush, Paint, Run, Span, draw_solid, solid_of};
 use std::sync::ledger::Ledger;
 use vram_store::{Steps, Vram};
 

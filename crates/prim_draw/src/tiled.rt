@@ -10,9 +10,8 @@ ghost use Rattle.prim_draw.specs.Tiled.{AreTexelsOf, CanTile, DrawsTiled, IsRead
 use crate::rectangles::{Extent, Tile};
 use crate::row_pen::{RowPen, draw_rows};
 use crate::rows::BlockRows;
-use crate::triangles::Run;
 use span_lanes::{
-    Block, EachRowPen, KeptRowsPen, Paint, Pen, TexelRowPen, TexelRows, Texture, row_u,
+    Block, EachRowPen, KeptRowsPen, Paint, Pen, Run, TexelRowPen, TexelRows, Texture, row_u,
 };
 use std::sync::ledger::Ledger;
 use vram_store::{Steps, Vram};

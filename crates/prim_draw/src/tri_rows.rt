@@ -1,15 +1,13 @@
 // The rows of a triangle in a box.
-ghost use Rattle.std.specs.Prelude.{◌≡◌};
 ghost use Rattle.edge_walk.specs.Extent.{bounding_box};
 ghost use Rattle.prim_draw.specs.Boxes.{IsOnScreen, LiesIn};
 ghost use Rattle.prim_draw.specs.Walks.{AreRowsIn};
 
 use crate::boxes::block_of;
 use crate::rows::Rows;
-use crate::triangles::Run;
 use edge_walk::{RowWalk, Tri};
 use px_num::Box2;
-use span_lanes::Block;
+use span_lanes::{Block, Run};
 
 /// The rows of a triangle in a box.
 #[derive(Drop)]

@@ -1,71 +1,29 @@
 // Triangles by rows.
 ghost use Rattle.std.specs.Prelude.{◌≡◌, ◌≤◌, ◌<◌, ◌+◌, ◌*◌, IfSome, length, true, ◌||◌};
-ghost use Rattle.vram_store.specs.Vram.{height_of};
-ghost use Rattle.gp0_packets.specs.Ranges.{IsPlace};
 ghost use Rattle.edge_walk.specs.Extent.{bounding_box};
 ghost use Rattle.edge_walk.specs.Triangle.{is_drawn};
 ghost use Rattle.texel_lanes.specs.Texture.{IsTexture};
 ghost use Rattle.span_lanes.specs.Shade.{texture_of};
-ghost use Rattle.prim_draw.specs.Boxes.{IsOnScreen, LiesIn, block_of};
+ghost use Rattle.prim_draw.specs.Boxes.{IsOnScreen, LiesIn};
 ghost use Rattle.prim_draw.specs.Costs.{triangle_cost};
-ghost use Rattle.prim_draw.specs.Triangles.{drawn_triangle, placed_corners};
+ghost use Rattle.prim_draw.specs.Triangles.{drawn_triangle};
 ghost use Rattle.prim_draw.specs.Triangles.{triangle_box, triangle_coat, triangle_paint, FitsTriangle, IsAlike};
 ghost use Rattle.prim_draw.specs.Triangles.{IsCoat};
 ghost use Rattle.prim_draw.specs.Walks.{DrawsTriangle};
 
-use crate::boxes::{block_of, clipped};
+use crate::boxes::clipped;
 use crate::coat::Coat;
+use crate::corners::Corners;
 use crate::row_pen::RowPen;
-use crate::settings::{brush_in, placed, texture_in};
+use crate::settings::{brush_in, texture_in};
 use crate::solid::solid_in;
 use crate::style::Style;
 use edge_walk::Tri;
 use gp1_status::Regs;
-use px_num::{Box2, Vertex};
-use span_lanes::{Paint, Pen};
-use std::marker::Model;
+use px_num::Box2;
+use span_lanes::{Paint, Pen, Run};
 use std::sync::ledger::Ledger;
 use vram_store::{Steps, Vram};
-
-/// The vertices of a triangle in their order, with the offset added.
-#[derive(Drop)]
-pub(crate) struct Corners {
-    first: Vertex,
-    second: Vertex,
-    third: Vertex,
-}
-
-impl Model for Corners {
-    ghost use Rattle.edge_walk.specs.Triangle.{Corners, corners};
-
-    ghost Value = { Corners };
-
-    ghost view = { λ c. corners c.first c.second c.third };
-}
-
-/// Three vertices of a packet, with the offset added.
-#[inline(always)]
-pub(crate) fn placed_corners(regs: &Regs, a: &Vertex, b: &Vertex, c: &Vertex) -> Corners
-    requires a { IsPlace a.now.x a.now.y }
-    requires b { IsPlace b.now.x b.now.y }
-    requires c { IsPlace c.now.x c.now.y }
-    ensures { result ≡ placed_corners regs.now a.now b.now c.now }
-{
-    Corners {
-        first: placed(regs, a),
-        second: placed(regs, b),
-        third: placed(regs, c),
-    }
-}
-
-/// Cells of a row, side by side.
-#[derive(Clone, Copy)]
-pub(crate) struct Run {
-    /// The first column.
-    pub(crate) x: u16,
-    /// How many cells, at least 1.
-    pub(crate) n: u16,
-}
 
 impl RowPen for Pen {
     ghost use Rattle.span_lanes.specs.Pen.{IsFresh};
@@ -86,7 +44,7 @@ impl RowPen for Pen {
         steps: &mut Steps<L>,
     ) {
         if let Some(run) = found {
-            self.draw(vram, run.x, y, run.n, steps);
+            self.draw(vram, run, y, steps);
         }
     }
 }

@@ -9,7 +9,7 @@ use Rattle.texture_page.specs.Page.{texel_place}
 use Rattle.overlap_guard.specs.Lanes.{lane_cells}
 use Rattle.span_lanes.specs.declared.span.Paint.{Paint}
 use Rattle.texel_lanes.specs.declared.texture.Texture.{Texture}
-use Rattle.span_lanes.specs.Lanes.{HasCoordinates}
+use Rattle.span_lanes.specs.Lanes.{HasCoordinates, columns_from, rows_from}
 use Rattle.span_lanes.specs.Guard.{paint_texel, paint_texels, texel_cells}
 
 -- two lists of n cells that are the same number by number
@@ -28,11 +28,12 @@ mapped_same f g first (suc n) same =
 
 -- the cells of texels by their coordinates are those of the paint
 pub cells_same : (paint : Paint) (t : Texture) (x y first : ℕ) (us vs : List ℕ) (k n : ℕ)
-    → HasCoordinates paint (x + first) y first n us vs → k ≤ n
+    → HasCoordinates (columns_from paint (x + first) y first) (rows_from paint (x + first) y first) n us vs → k ≤ n
     → paint_texels paint t x y first k ≡ texel_cells t us vs k
 unfolding paint_texels texel_cells
 cells_same paint t x y first us vs k n has le =
-    mapped_same (paint_texel paint t x y) (λ j. texel_place t.page t.window (get_or us j 0) (get_or vs j 0)) first k here
+    mapped_same (paint_texel paint t x y) (λ j. texel_place t.page t.window (get_or us j 0) (get_or vs j 0)) first k
+    here
   where
     here : (i : ℕ) → i < k → paint_texel paint t x y (first + i)
         ≡ texel_place t.page t.window (get_or us i 0) (get_or vs i 0)

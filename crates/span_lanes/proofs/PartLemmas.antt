@@ -1,11 +1,12 @@
 -- Spans that are drawn part by part, where each part spares some steps.
-use Rattle.std.proofs.Common.{◌≡◌, ◌<◌, ◌≤◌, ℕ, zero, suc, List, ◌+◌, ◌-◌, ◌*◌, ◌/◌, min, length, sym, subst, arith, ◌∙◌}
+use Rattle.std.proofs.Common.{◌≡◌, ◌<◌, ◌≤◌, ℕ, zero, suc, List, ◌+◌, ◌-◌, ◌*◌, ◌/◌}
+use Rattle.std.proofs.Common.{min, length, sym, subst, arith, ◌∙◌}
 use Rattle.span_lanes.specs.declared.part.Part.{Part}
 use Rattle.span_lanes.specs.declared.span.Span.{Span}
 use Rattle.texel_lanes.specs.declared.texture.Texture.{Texture}
 use Rattle.span_lanes.specs.Draws.{CanDraw, CanSample, DrawsPart, DrawsSpan, at_stage}
 use Rattle.span_lanes.specs.Cells.{Stage}
-use Rattle.span_lanes.specs.Pen.{DrawsCells, Ink, ink_span}
+use Rattle.span_lanes.specs.Pen.{DrawsCells}
 use Rattle.span_lanes.specs.Shade.{LiesIn}
 use Rattle.span_lanes.proofs.CellsLemmas.{span_law}
 use Rattle.span_lanes.proofs.ChunkLemmas.{AreDrawn, drawn_begun, drawn_next, all_cells, all_cost}
@@ -16,13 +17,14 @@ spares_more spared c = omega arith
 pub parts_begun : (s : Span) (spared steps : ℕ) (m : List ℕ) → AreDrawn s 0 steps (steps + spared * 0) m m
 parts_begun s spared steps m = drawn_begun s steps (steps + spared * 0) m (omega arith)
 
-pub parts_next : (s : Span) (c spared before steps after : ℕ) (m now next : List ℕ) (p : Part)
-    → AreDrawn s c before (steps + spared * c) m now
-    → p.first ≡ 16 * c → p.k ≡ min (s.n - 16 * c) 16 → 16 * c < s.n
-    → DrawsPart s p spared (at_stage now steps) (at_stage next after)
-    → AreDrawn s (c + 1) before (after + spared * (c + 1)) m next
-parts_next s c spared before steps after m now next p so_far at few room draws =
-    drawn_next s c before (steps + spared * c) (after + spared * (c + 1)) m now next p.first p.k so_far at few room
+pub parts_next : (c spared before steps after : ℕ) (m now next : List ℕ) (p : Part)
+    → AreDrawn p.span.now c before (steps + spared * c) m now
+    → p.first ≡ 16 * c → p.k ≡ min (p.span.now.n - 16 * c) 16 → 16 * c < p.span.now.n
+    → DrawsPart p spared (at_stage now steps) (at_stage next after)
+    → AreDrawn p.span.now (c + 1) before (after + spared * (c + 1)) m next
+parts_next c spared before steps after m now next p so_far at few room draws =
+    drawn_next p.span.now c before (steps + spared * c) (after + spared * (c + 1)) m now next p.first p.k so_far at
+    few room
     draws.cells draws.long (omega (arith, draws.cost, spares_more spared c))
 
 pub parts_all : (s : Span) (c spared before steps : ℕ) (m now : List ℕ)
@@ -52,10 +54,9 @@ pub none_spared : {steps most : ℕ} → steps + 0 ≤ most → steps ≤ most
 none_spared le = omega (arith, le)
 
 -- a span by its number of cells is the cells of its row
-pub draws_cells : (ink : Ink) (x y n : ℕ) (before after : Stage) → DrawsSpan (ink_span ink x y n) 0 before after
-    → DrawsCells ink x y n before after
-draws_cells ink x y n before after drawn = record {
-  cells = drawn.cells ∙ span_law (ink_span ink x y n) n before.m;
+pub draws_cells : (s : Span) (before after : Stage) → DrawsSpan s 0 before after → DrawsCells s before after
+draws_cells s before after drawn = record {
+  cells = drawn.cells ∙ span_law s s.n before.m;
   long = drawn.long;
   cost = none_spared drawn.cost;
 }

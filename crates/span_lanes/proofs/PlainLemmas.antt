@@ -1,5 +1,6 @@
 -- Pixels without a texture.
-use Rattle.std.proofs.Common.{◌≡◌, ◌<◌, ℕ, ℤ, List, Option, None, Some, Bool, true, false, cond, ◌+◌, ◌^◌, inl, inr, refl, ap}
+use Rattle.std.proofs.Common.{◌≡◌, ◌<◌, ℕ, ℤ, List, Option, None, Some, Bool, true, false, cond}
+use Rattle.std.proofs.Common.{◌+◌, ◌^◌, inl, inr, refl, ap}
 use Rattle.std.proofs.Common.{◌∙◌, arith}
 use Rattle.vram_store.specs.Vram.{at}
 use Rattle.vram_store.specs.Plot.{is_kept, forced, written_over}

@@ -4,6 +4,7 @@ use Rattle.overlap_guard.proofs.TestLemmas.{texture_iff, false_of}
 use Rattle.overlap_guard.specs.Hazard.{has_texture_hazard}
 use Rattle.texel_lanes.specs.declared.texture.Texture.{Texture}
 use Rattle.span_lanes.specs.declared.span.Paint.{Paint}
+use Rattle.span_lanes.specs.declared.part.Part.{Part}
 use Rattle.span_lanes.specs.declared.span.Span.{Span}
 use Rattle.span_lanes.specs.declared.track.Track.{Track}
 use Rattle.texel_lanes.specs.Texture.{texel, texel_steps}
@@ -11,10 +12,10 @@ use Rattle.span_lanes.specs.Shade.{texture_of}
 use Rattle.span_lanes.specs.Cost.{chunk_cost}
 use Rattle.span_lanes.specs.Guard.{has_hazard, paint_texels, palette_of, target, IsApart}
 use Rattle.texel_lanes.specs.Texels.{AreCoordinates}
-use Rattle.span_lanes.specs.Lanes.{HasCoordinates}
+use Rattle.span_lanes.specs.Lanes.{HasCoordinates, columns_from, rows_from}
 use Rattle.span_lanes.specs.Plan.{HasTexels}
 use Rattle.span_lanes.specs.Track.{along_at, IsTrack}
-use Rattle.span_lanes.specs.Paints.{paint_u, paint_v}
+use Rattle.span_lanes.specs.Paints.{paint_u, paint_v, part_u, part_v}
 use Rattle.span_lanes.proofs.CostLemmas.{free_cost}
 
 -- the coordinates of a chunk by those of its span
@@ -23,7 +24,7 @@ pub coordinates_here : (paint : Paint) (x y n first k : ℕ) (track : Track) (us
     → AreCoordinates us → AreCoordinates vs
     → ((j : ℕ) → j < 16 → get_or us j 0 ≡ along_at track.u first j)
     → ((j : ℕ) → j < 16 → get_or vs j 0 ≡ along_at track.v first j)
-    → HasCoordinates paint (x + first) y first k us vs
+    → HasCoordinates (columns_from paint (x + first) y first) (rows_from paint (x + first) y first) k us vs
 coordinates_here paint x y n first k track us vs is within few across down u v = record {
   across = across;
   down = down;
@@ -34,11 +35,11 @@ coordinates_here paint x y n first k track us vs is within few across down u v =
 }
 
 -- the texels of a chunk by their coordinates
-pub texels_here : (span : Span) (t : Texture) (first k : ℕ) (us vs m lanes : List ℕ)
-    → HasCoordinates span.paint (span.x + first) span.y first k us vs → length lanes ≡ 16
-    → ((j : ℕ) → j < k → get_or lanes j 0 ≡ texel t (get_or us j 0) (get_or vs j 0) m)
-    → HasTexels span t (record { first = first; k = k }) m lanes
-texels_here span t first k us vs m lanes at long read = record {
+pub texels_here : (p : Part) (t : Texture) (us vs m lanes : List ℕ)
+    → HasCoordinates (part_u p) (part_v p) p.k us vs → length lanes ≡ 16
+    → ((j : ℕ) → j < p.k → get_or lanes j 0 ≡ texel t (get_or us j 0) (get_or vs j 0) m)
+    → HasTexels t p m lanes
+texels_here p t us vs m lanes at long read = record {
   long = long;
   value = λ j lt. rw (at.u j lt, at.v j lt) at (read j lt);
 }

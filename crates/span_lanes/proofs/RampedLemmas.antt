@@ -10,9 +10,9 @@ use Rattle.span_lanes.specs.declared.ramped.RampedColors.{RampedColors}
 use Rattle.span_lanes.specs.declared.ramped.RampedSlopes.{RampedSlopes}
 use Rattle.span_lanes.specs.declared.span.Paint.{Paint}
 use Rattle.span_lanes.specs.declared.span.Paint.TheVariants.{Flat, Shaded, TexturedTri, TexturedRow}
-use Rattle.span_lanes.specs.declared.span.Span.{Span}
 use Rattle.span_lanes.specs.Draws.{IsPart}
-use Rattle.span_lanes.specs.Lanes.{AreChannels, HasColors, HasCoordinates, colors_from}
+use Rattle.span_lanes.specs.Lanes.{AreChannels, HasColors, HasCoordinates, colors_from, columns_from, rows_from}
+use Rattle.span_lanes.specs.Paints.{part_u, part_v}
 use Rattle.span_lanes.specs.Ramped.{AreColorsOf, AreSlopesOf}
 use Rattle.span_lanes.specs.Shade.{attribute_in, color_in, AreInside, HasInside, IsSpan}
 use Rattle.span_lanes.proofs.ColorLemmas.{red_mixed, green_mixed, blue_mixed}
@@ -35,7 +35,7 @@ FromPlane plane x y lanes = (t : Corners) (which : ℕ) → IsPlane t which plan
 of_paint : (paint : Paint) (x y n first k : ℕ) (slopes : RampedSlopes) (us vs : List ℕ) → 1 ≤ n → HasInside paint x y n
     → first + k ≤ n → k ≤ 16 → AreSlopesOf paint slopes → AreCoordinates us → AreCoordinates vs
     → FromPlane slopes.u.plane (x + first) y us → FromPlane slopes.v.plane (x + first) y vs
-    → HasCoordinates paint (x + first) y first k us vs
+    → HasCoordinates (columns_from paint (x + first) y first) (rows_from paint (x + first) y first) k us vs
 of_paint (Flat color) x y n first k slopes us vs some inside within few of across down u v = absurd (of)
 of_paint (Shaded tri) x y n first k slopes us vs some inside within few of across down u v = absurd (of)
 of_paint (TexturedTri tri texture) x y n first k slopes us vs some inside within few of across down u v = record {
@@ -47,12 +47,14 @@ of_paint (TexturedTri tri texture) x y n first k slopes us vs some inside within
 of_paint (TexturedRow color texture u0 v0 flip) x y n first k slopes us vs some inside within few of across down u v =
     absurd (of)
 
-pub coordinates_of : (span : Span) (p : Part) (slopes : RampedSlopes) (us vs : List ℕ) → IsSpan span → IsPart span p
-    → AreSlopesOf span.paint slopes → AreCoordinates us → AreCoordinates vs
-    → FromPlane slopes.u.plane (span.x + p.first) span.y us → FromPlane slopes.v.plane (span.x + p.first) span.y vs
-    → HasCoordinates span.paint (span.x + p.first) span.y p.first p.k us vs
-coordinates_of span p slopes us vs is part of across down u v =
-    of_paint span.paint span.x span.y span.n p.first p.k slopes us vs is.some is.inside part.within part.few of
+pub coordinates_of : (p : Part) (slopes : RampedSlopes) (us vs : List ℕ) → IsSpan p.span.now → IsPart p
+    → AreSlopesOf p.span.now.paint slopes → AreCoordinates us → AreCoordinates vs
+    → FromPlane slopes.u.plane (p.span.now.x + p.first) p.span.now.y us
+    → FromPlane slopes.v.plane (p.span.now.x + p.first) p.span.now.y vs
+    → HasCoordinates (part_u p) (part_v p) p.k us vs
+coordinates_of p slopes us vs is part of across down u v =
+    of_paint p.span.now.paint p.span.now.x p.span.now.y p.span.now.n p.first p.k slopes us vs is.some is.inside
+    part.within part.few of
     across down u v
 
 -- three channels, lane by lane
@@ -62,7 +64,8 @@ pub record Channels : Type 0 where
   pub blue : List ℕ
 
 -- the colours
-mixed_of : (tri : Corners) (x y k : ℕ) (c : Channels) → k ≤ 16 → AreChannels c.red → AreChannels c.green → AreChannels c.blue
+mixed_of : (tri : Corners) (x y k : ℕ) (c : Channels) → k ≤ 16 → AreChannels c.red → AreChannels c.green
+    → AreChannels c.blue
     → ((j : ℕ) → j < k → get_or c.red j 0 ≡ attribute_in tri 0 (x + j) y)
     → ((j : ℕ) → j < k → get_or c.green j 0 ≡ attribute_in tri 1 (x + j) y)
     → ((j : ℕ) → j < k → get_or c.blue j 0 ≡ attribute_in tri 2 (x + j) y)
@@ -95,12 +98,13 @@ painted (TexturedTri tri texture) x y n first k colors c some inside within few 
 painted (TexturedRow color texture u v flip) x y n first k colors c some inside within few of r g b red green blue =
     absurd (of)
 
-pub colors_of : (span : Span) (p : Part) (colors : RampedColors) (c : Channels) → IsSpan span → IsPart span p
-    → AreColorsOf span.paint colors → AreChannels c.red → AreChannels c.green → AreChannels c.blue
-    → FromPlane colors.red.plane (span.x + p.first) span.y c.red
-    → FromPlane colors.green.plane (span.x + p.first) span.y c.green
-    → FromPlane colors.blue.plane (span.x + p.first) span.y c.blue
-    → HasColors (colors_from span.paint (span.x + p.first) span.y) p.k c.red c.green c.blue
-colors_of span p colors c is part of r g b red green blue =
-    painted span.paint span.x span.y span.n p.first p.k colors c is.some is.inside part.within part.few of r g b
+pub colors_of : (p : Part) (colors : RampedColors) (c : Channels) → IsSpan p.span.now → IsPart p
+    → AreColorsOf p.span.now.paint colors → AreChannels c.red → AreChannels c.green → AreChannels c.blue
+    → FromPlane colors.red.plane (p.span.now.x + p.first) p.span.now.y c.red
+    → FromPlane colors.green.plane (p.span.now.x + p.first) p.span.now.y c.green
+    → FromPlane colors.blue.plane (p.span.now.x + p.first) p.span.now.y c.blue
+    → HasColors (colors_from p.span.now.paint (p.span.now.x + p.first) p.span.now.y) p.k c.red c.green c.blue
+colors_of p colors c is part of r g b red green blue =
+    painted p.span.now.paint p.span.now.x p.span.now.y p.span.now.n p.first p.k colors c is.some is.inside
+    part.within part.few of r g b
     red green blue

@@ -11,11 +11,12 @@ abbrev pub chunk_place : Span → ℕ → ℕ
 chunk_place span first = 1024 * span.y + (span.x + first)
 
 -- the cells of a part of a span, one after another
-abbrev pub drawn_chunk : Span → Part → List ℕ → List ℕ
-drawn_chunk s p m = drawn_lanes (later (shade s) p.first) s.brush.mask (chunk_place s p.first) p.k m
+abbrev pub drawn_chunk : Part → List ℕ → List ℕ
+drawn_chunk p m =
+    drawn_lanes (later (shade p.span.now) p.first) p.span.now.brush.mask (chunk_place p.span.now p.first) p.k m
 
 -- lanes that hold what all these cells become, each by video memory as it is
-abbrev pub HasChunk : Span → Part → (m lanes : List ℕ) → Type 0
-HasChunk s p m lanes =
-    HasLanes (later (shade s) p.first) s.brush.mask (chunk_place s p.first) m
+abbrev pub HasChunk : Part → (m lanes : List ℕ) → Type 0
+HasChunk p m lanes =
+    HasLanes (later (shade p.span.now) p.first) p.span.now.brush.mask (chunk_place p.span.now p.first) m
     (record { n = p.k; lanes = lanes; bits = 65535 })

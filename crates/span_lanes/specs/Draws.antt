@@ -24,17 +24,17 @@ pub record CanSample (s : Span) (t : Texture) (m : List ℕ) : Type 0 where
   pub texture : texture_of s.paint ≡ Some t
 
 -- one of the parts that a span is cut into from its left
-pub record IsPart (s : Span) (p : Part) : Type 0 where
+pub record IsPart (p : Part) : Type 0 where
   pub some : 1 ≤ p.k
   pub few : p.k ≤ 16
-  pub within : p.first + p.k ≤ s.n
+  pub within : p.first + p.k ≤ p.span.now.n
   pub cut : p.first % 16 ≡ 0
 
 -- the cells of a part were drawn, one after another; so many steps are spared
-pub record DrawsPart (s : Span) (p : Part) (spared : ℕ) (before after : Stage) : Type 0 where
-  pub cells : after.m ≡ drawn_chunk s p before.m
+pub record DrawsPart (p : Part) (spared : ℕ) (before after : Stage) : Type 0 where
+  pub cells : after.m ≡ drawn_chunk p before.m
   pub long : length after.m ≡ length before.m
-  pub cost : after.steps + spared ≤ before.steps + chunk_cost s p.first p.k
+  pub cost : after.steps + spared ≤ before.steps + chunk_cost p.span.now p.first p.k
 
 -- all cells of a span were, and so many steps are spared
 pub record DrawsSpan (s : Span) (spared : ℕ) (before after : Stage) : Type 0 where

@@ -1,5 +1,5 @@
 -- Spans of texels, and what is known of them before they are drawn.
-use Rattle.std.specs.Prelude.{ℕ, ◌≡◌, ◌+◌, ◌<◌, List, slice_index}
+use Rattle.std.specs.Prelude.{ℕ, ◌≡◌, ◌<◌, List, slice_index}
 use Rattle.px_num.specs.Lanes.{EachLane, AreBytes}
 use Rattle.texture_page.specs.Page.{clut_place}
 use Rattle.span_lanes.specs.declared.part.Part.{Part}
@@ -10,7 +10,7 @@ use Rattle.span_lanes.specs.declared.hues.Hues.TheVariants.{One}
 use Rattle.span_lanes.specs.Draws.{CanSample}
 use Rattle.span_lanes.specs.Guard.{IsApart}
 use Rattle.span_lanes.specs.Hues.{AreHues}
-use Rattle.span_lanes.specs.Paints.{paint_u, paint_v}
+use Rattle.span_lanes.specs.Paints.{part_u, part_v}
 use Rattle.texel_lanes.specs.Texture.{at_cell, texel}
 use Rattle.span_lanes.specs.Swatches.{AreColored, AreSwatches, SuitsPalette}
 
@@ -31,9 +31,8 @@ pub record CanKeep (s : Span) (t : Texture) (found : Type 0) (kept : Swatches) (
   pub entries : AreSwatches t m kept
 
 -- sixteen indexes of entries, the first ones those of the texels of a part
-pub record HasIndexes (s : Span) (t : Texture) (p : Part) (m lanes : List ℕ) : Type 0 where
+pub record HasIndexes (t : Texture) (p : Part) (m lanes : List ℕ) : Type 0 where
   pub bytes : AreBytes lanes
   pub low : EachLane (λ i. slice_index lanes i < 16)
   pub entry : (j : ℕ) → j < p.k → at_cell m (clut_place t.clut (slice_index lanes j))
-      ≡ texel t (paint_u s.paint (s.x + p.first + j) s.y (p.first + j))
-      (paint_v s.paint (s.x + p.first + j) s.y (p.first + j)) m
+      ≡ texel t (part_u p j) (part_v p j) m

@@ -1,6 +1,6 @@
 -- The parts of the pixels of a chunk, lane by lane.
-use Rattle.std.specs.Prelude.{ℕ, Bool, false, ◌==◌, ◌||◌, if◌then◌else◌, ◌≡◌, ◌+◌, ◌<◌, ◌≤◌, ◌⊎◌, ℤ, pos, List, Some, length, slice_index}
-use Rattle.std.specs.Prelude.{slice_index_or}
+use Rattle.std.specs.Prelude.{ℕ, Bool, false, ◌==◌, ◌||◌, if◌then◌else◌, ◌≡◌, ◌+◌, ◌<◌, ◌≤◌, ◌⊎◌, ℤ, pos, List, Some}
+use Rattle.std.specs.Prelude.{length, slice_index, slice_index_or}
 use Rattle.px_num.specs.Lanes.{EachLane}
 use Rattle.blend_dither.specs.Color.{IsShift, tone_of, red_of, green_of, blue_of}
 use Rattle.vram_store.specs.Plot.{forced, is_kept, is_testing, written_over}
@@ -43,12 +43,19 @@ pub record AreShiftsAt (dither : Bool) (x y : ℕ) (shifts : List ℤ) : Type 0 
 abbrev pub tone_with : ℕ → ℤ → ℕ
 tone_with color shift = tone_of (red_of color) (green_of color) (blue_of color) shift
 
--- the first n lanes are the texel coordinates of a paint in a row, from (x, y) on, which is cell `first` of a span
-pub record HasCoordinates (paint : Paint) (x y first n : ℕ) (us vs : List ℕ) : Type 0 where
+-- the columns and the rows of the texels of a paint in a row, from (x, y) on, which is cell `first` of a span
+abbrev pub columns_from : Paint → (x y first : ℕ) → ℕ → ℕ
+columns_from paint x y first j = paint_u paint (x + j) y (first + j)
+
+abbrev pub rows_from : Paint → (x y first : ℕ) → ℕ → ℕ
+rows_from paint x y first j = paint_v paint (x + j) y (first + j)
+
+-- the first n lanes are the coordinates of texels
+pub record HasCoordinates (column row : ℕ → ℕ) (n : ℕ) (us vs : List ℕ) : Type 0 where
   pub across : AreCoordinates us
   pub down : AreCoordinates vs
-  pub u : (j : ℕ) → j < n → slice_index us j ≡ paint_u paint (x + j) y (first + j)
-  pub v : (j : ℕ) → j < n → slice_index vs j ≡ paint_v paint (x + j) y (first + j)
+  pub u : (j : ℕ) → j < n → slice_index us j ≡ column j
+  pub v : (j : ℕ) → j < n → slice_index vs j ≡ row j
 
 -- a halfword that does for what a cell holds: it is the cell's, unless pixels are neither blended nor tested
 abbrev pub DoesFor : Brush → ℕ → ℕ → Type 0

@@ -1,5 +1,6 @@
 -- The parts of a paint at a cell.
-use Rattle.std.specs.Prelude.{ℕ}
+use Rattle.std.specs.Prelude.{ℕ, ◌+◌}
+use Rattle.span_lanes.specs.declared.part.Part.{Part}
 use Rattle.span_lanes.specs.declared.span.Paint.{Paint}
 use Rattle.span_lanes.specs.declared.span.Paint.TheVariants.{Flat, Shaded, TexturedTri, TexturedRow}
 use Rattle.span_lanes.specs.Shade.{row_u, attribute_in, color_in}
@@ -24,3 +25,10 @@ paint_v (Flat color) x y i = 0
 paint_v (Shaded tri) x y i = 0
 paint_v (TexturedTri tri texture) x y i = attribute_in tri 4 x y
 paint_v (TexturedRow color texture u v flip) x y i = v
+
+-- the column and the row of the texel of cell j of a part
+abbrev pub part_u : Part → ℕ → ℕ
+part_u p j = paint_u p.span.now.paint (p.span.now.x + p.first + j) p.span.now.y (p.first + j)
+
+abbrev pub part_v : Part → ℕ → ℕ
+part_v p j = paint_v p.span.now.paint (p.span.now.x + p.first + j) p.span.now.y (p.first + j)

@@ -32,11 +32,11 @@ pub record Loaded : Type 0 where
   pub ink : Ink
   pub palette : Option (List ℕ)
 
--- n cells from (x, y) on were drawn with it, one after another
-pub record DrawsCells (ink : Ink) (x y n : ℕ) (before after : Stage) : Type 0 where
-  pub cells : after.m ≡ drawn_cells (shade_at (ink_span ink x y n)) ink.brush.mask (row_cells x y n) before.m
+-- the cells of a span were drawn, one after another
+pub record DrawsCells (s : Span) (before after : Stage) : Type 0 where
+  pub cells : after.m ≡ drawn_cells (shade_at s) s.brush.mask (row_cells s.x s.y s.n) before.m
   pub long : length after.m ≡ length before.m
-  pub cost : after.steps ≤ before.steps + span_cost (ink_span ink x y n)
+  pub cost : after.steps ≤ before.steps + span_cost s
 
 -- one that has seen no palette
 abbrev pub new_pen : Paint → Brush → Loaded

@@ -3,7 +3,6 @@ use Rattle.std.specs.Prelude.{ℕ, List, ◌≡◌, ◌+◌, ◌<◌, pos, IsTru
 use Rattle.edge_walk.specs.Line.{line_value}
 use Rattle.edge_walk.specs.Triangle.{Corners, is_inside}
 use Rattle.span_lanes.specs.declared.part.Part.{Part}
-use Rattle.span_lanes.specs.declared.span.Span.{Span}
 use Rattle.span_lanes.specs.declared.track.Along.{Along}
 use Rattle.span_lanes.specs.declared.track.Along.TheVariants.{Line, Row, Same}
 use Rattle.span_lanes.specs.declared.track.Track.{Track}
@@ -25,10 +24,10 @@ pub record IsTrack (paint : Paint) (x y n : ℕ) (track : Track) : Type 0 where
   pub v : (at j : ℕ) → j < 16 → at + j < n → along_at track.v at j ≡ paint_v paint (x + (at + j)) y (at + j)
 
 -- the texels of a part of a span can be read by its coordinates; that these can be found is given
-pub record CanRead (span : Span) (t : Texture) (p : Part) (found : Type 0) (m : List ℕ) : Type 0 where
-  pub sample : CanSample span t m
+pub record CanRead (t : Texture) (p : Part) (found : Type 0) (m : List ℕ) : Type 0 where
+  pub sample : CanSample p.span.now t m
   pub places : found
-  pub part : IsPart span p
+  pub part : IsPart p
 
 -- a coordinate at the cells of a triangle is its attribute there, from (x, y) on
 abbrev pub IsAlong : Corners → (which x y : ℕ) → Along → Type 0

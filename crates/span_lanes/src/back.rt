@@ -5,8 +5,8 @@ ghost use Rattle.span_lanes.specs.Chunk.{chunk_place};
 ghost use Rattle.span_lanes.specs.Draws.{CanDraw, IsPart};
 ghost use Rattle.span_lanes.specs.Lanes.{DoesFor};
 
+use crate::Brush;
 use crate::part::Part;
-use crate::{Brush, Span};
 use px_num::lanes::splat;
 use std::simd::prelude::*;
 use std::sync::ledger::Ledger;
@@ -23,21 +23,17 @@ pub(crate) fn looks(brush: &Brush) -> bool
 
 // The cells of a part of a span; zeros where it does not matter what they hold.
 #[inline(always)]
-pub(crate) fn back_of<L: Ledger>(
-    vram: &Vram,
-    span: &Span,
-    part: Part,
-    steps: &mut Steps<L>,
-) -> u16x16
-    requires can { CanDraw span.now vram.now }
-    requires part { IsPart span.now part }
+pub(crate) fn back_of<L: Ledger>(vram: &Vram, part: &Part, steps: &mut Steps<L>) -> u16x16
+    requires can { CanDraw part.now.span.now vram.now }
+    requires part { IsPart part.now }
     ensures long { length result ≡ 16 }
-    ensures value { (j : ℕ) → j < part.k
-        → DoesFor span.now.brush (slice_index vram.now (chunk_place span.now part.first + j)) (slice_index result j) }
+    ensures value { (j : ℕ) → j < part.now.k
+        → DoesFor part.now.span.now.brush (slice_index vram.now (chunk_place part.now.span.now part.now.first + j))
+        (slice_index result j) }
     ensures cost { steps.new ≤ steps.old + 1 }
 {
-    if looks(&span.brush) {
-        vram.load16(span.x + part.first, span.y, part.k, steps)
+    if looks(&part.span.brush) {
+        vram.load16(part.span.x + part.first, part.span.y, part.k, steps)
     } else {
         splat(0)
     }

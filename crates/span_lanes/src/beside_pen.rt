@@ -8,7 +8,7 @@ use crate::draw::draw_beside_row;
 use crate::sheet::{Sheet, sheet_of};
 use crate::span::no_cells;
 use crate::swatches::Swatches;
-use crate::{Block, Brush, Span, Texture};
+use crate::{Block, Brush, Run, Span, Texture};
 use edge_walk::Tri;
 use std::marker::Model;
 use std::sync::ledger::Ledger;
@@ -60,10 +60,10 @@ impl BlockPen for BesidePen {
 
     #[inline(always)]
     #[tactic(auto, using(crate::proofs::SwatchLemmas::kept_of_fresh, crate::proofs::SwatchLemmas::fresh_of_kept))]
-    fn draw<L: Ledger>(&mut self, vram: &mut Vram, x: u16, y: u16, n: u16, steps: &mut Steps<L>) {
-        self.span.x = x;
+    fn draw<L: Ledger>(&mut self, vram: &mut Vram, run: Run, y: u16, steps: &mut Steps<L>) {
+        self.span.x = run.x;
         self.span.y = y;
-        self.span.n = n;
+        self.span.n = run.n;
         draw_beside_row(vram, &self.span, &self.sheet, &mut self.last, steps);
     }
 }

@@ -9,7 +9,7 @@ use crate::plainly::is_plain;
 use crate::shading::has_even_palette;
 use crate::stretch::has_room;
 use crate::tint::one_color;
-use crate::{Block, Brush, Texture};
+use crate::{Block, Brush, Run, Texture};
 use edge_walk::Tri;
 use std::sync::ledger::Ledger;
 use vram_store::{Steps, Vram};
@@ -39,16 +39,16 @@ pub trait BlockPen: Drop {
     // What it draws with, and in which block.
     ghost framed: { Self → Framed };
 
-    /// Draws n cells from (x, y) to the right, which lie in the block, as [`draw_span`](crate::draw_span) does.
-    fn draw<L: Ledger>(&mut self, vram: &mut Vram, x: u16, y: u16, n: u16, steps: &mut Steps<L>)
-        requires span { IsSpan (ink_span (framed self.old).loaded.ink x y n) }
-        requires height { LiesIn (height_of vram.old) (ink_span (framed self.old).loaded.ink x y n) }
-        requires block { IsInBlock (framed self.old).block x y n }
+    /// Draws cells of row y, which lie in the block, as [`draw_span`](crate::draw_span) does.
+    fn draw<L: Ledger>(&mut self, vram: &mut Vram, run: Run, y: u16, steps: &mut Steps<L>)
+        requires span { IsSpan (ink_span (framed self.old).loaded.ink run.x y run.n) }
+        requires height { LiesIn (height_of vram.old) (ink_span (framed self.old).loaded.ink run.x y run.n) }
+        requires block { IsInBlock (framed self.old).block run.x y run.n }
         requires fresh { IsFresh (framed self.old).loaded vram.old }
         ensures ink { (framed self.new).loaded.ink ≡ (framed self.old).loaded.ink }
         ensures block { (framed self.new).block ≡ (framed self.old).block }
         ensures fresh { IsFresh (framed self.new).loaded vram.new }
-        ensures drawn { DrawsCells (framed self.old).loaded.ink x y n
+        ensures drawn { DrawsCells (ink_span (framed self.old).loaded.ink run.x y run.n)
             (record { m = vram.old; steps = steps.old }) (record { m = vram.new; steps = steps.new }) };
 }
 

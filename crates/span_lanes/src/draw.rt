@@ -19,7 +19,7 @@
 // - `Kept<&Track>` and `Plan`, by the coordinates of each texel: in `draw_planned_row` [rectangle that is flipped], and
 //   in `draw_tri` where the block of a triangle is not known to lie apart, to which no line belongs.
 //
-// Rectangles whose palette is coloured once for all rows have four more of `Kept<Stretch>`, in `draw_strips`.
+// Rectangles whose palette is coloured once for all rows have four more of `Kept<Stretch>`, in `KeptRowsPen::draw_row`.
 // [rectangle, sprite 4-bit]
 ghost use Rattle.std.specs.Prelude.{◌≡◌};
 ghost use Rattle.span_lanes.specs.BlockPen.{IsBeside};
@@ -39,6 +39,7 @@ use crate::plan::{row_plan, tri_plan};
 use crate::planned::draw_planned;
 use crate::ready::Ready;
 use crate::row::TexelRow;
+use crate::sampler::Found;
 use crate::sheet::Sheet;
 use crate::solid::Solid;
 use crate::stretch::{Stretch, place_row, row_stretch};
@@ -56,26 +57,26 @@ use vram_store::{Steps, Vram};
 fn draw_beside<L: Ledger>(
     vram: &mut Vram,
     span: &Span,
-    texture: &Texture,
-    stretch: &Stretch,
+    found: &Found<Stretch>,
     tint: &Tint,
     last: &mut Option<Swatches>,
     steps: &mut Steps<L>,
 )
-    requires take { CanTake span.now texture.now (IsStretch span.now texture.now stretch.now) vram.old }
+    requires take { CanTake span.now found.now.texture.now (IsStretch span.now found.now.texture.now
+        found.now.sampler.now) vram.old }
     requires tint { IsTint span.now.paint tint.now }
-    requires palette { IsInOtherRow texture.now span.now.y }
+    requires palette { IsInOtherRow found.now.texture.now span.now.y }
     requires last { IsKept span.now.paint vram.old last.old }
     ensures drawn { DrawsSpan span.now 0 (at_stage vram.old steps.old) (at_stage vram.new steps.new) }
     ensures last { IsKept span.now.paint vram.new last.new }
 {
     match tint {
-        Tint::Plain { color } if suits_strip(span, texture) => {
-            draw_strip(vram, span, texture, stretch, *color, last, steps)
+        Tint::Plain { color } if suits_strip(span, found.texture) => {
+            draw_strip(vram, span, found, *color, last, steps)
         }
         _ => {
             *last = None;
-            draw_stretched(vram, span, texture, stretch, tint, steps)
+            draw_stretched(vram, span, found.texture, found.sampler, tint, steps)
         }
     }
 }
@@ -96,15 +97,11 @@ pub(crate) fn draw_beside_row<L: Ledger>(
     ensures last { IsKept span.now.paint vram.new last.new }
 {
     let stretch = place_row(span, sheet);
-    draw_beside(
-        vram,
-        span,
-        &sheet.texture,
-        &stretch,
-        &sheet.tint,
-        last,
-        steps,
-    );
+    let found = Found {
+        texture: &sheet.texture,
+        sampler: &stretch,
+    };
+    draw_beside(vram, span, &found, &sheet.tint, last, steps);
 }
 
 // A row of texels whose chunks are planned.
@@ -145,8 +142,12 @@ pub(crate) fn draw_row<L: Ledger>(
 {
     match row_stretch(span, texture, row) {
         Some(stretch) if is_apart(span, texture) => {
+            let found = Found {
+                texture,
+                sampler: &stretch,
+            };
             let tint = Tint::Plain { color: row.color };
-            draw_beside(vram, span, texture, &stretch, &tint, last, steps)
+            draw_beside(vram, span, &found, &tint, last, steps)
         }
         _ => {
             let (span, texture) = (*span, *texture);

@@ -6,10 +6,10 @@ ghost use Rattle.span_lanes.specs.Lanes.{AreShiftsAt};
 ghost use Rattle.span_lanes.specs.Plan.{HasFronts};
 ghost use Rattle.span_lanes.specs.Shade.{IsSpan, front_of};
 
+use crate::Texture;
 use crate::colors::{Shifts, modulated_by, no_shifts, one_color};
 use crate::hued::Hued;
 use crate::part::Part;
-use crate::{Span, Texture};
 use std::simd::prelude::*;
 
 // What one colour makes of sixteen texels, without dither.
@@ -30,24 +30,24 @@ pub(crate) fn even_fronts(raw: bool, color: u32, texels: u16x16) -> u16x16
 // What the colours of a span make of the texels of a part.
 #[inline(always)]
 pub(crate) fn fronts_of<H: Hued>(
-    span: &Span,
     texture: &Texture,
     hues: &H,
     shifts: Shifts,
     texels: u16x16,
-    part: Part,
+    part: &Part,
 ) -> u16x16
-    requires span { IsSpan span.now }
-    requires hues { H.suits hues.now span.now }
-    requires shifts { AreShiftsAt (span.now.brush.dither && not texture.now.raw) span.now.x span.now.y shifts.lanes }
-    requires part { IsPart span.now part }
+    requires span { IsSpan part.now.span.now }
+    requires hues { H.suits hues.now part.now.span.now }
+    requires shifts { AreShiftsAt (part.now.span.now.brush.dither && not texture.now.raw) part.now.span.now.x
+        part.now.span.now.y shifts.lanes }
+    requires part { IsPart part.now }
     requires long { length texels ≡ 16 }
     ensures long { length result ≡ 16 }
-    ensures fronts { HasFronts span.now texture.now part texels result }
+    ensures fronts { HasFronts texture.now part.now texels result }
 {
     if texture.raw {
         texels
     } else {
-        modulated_by(texels, hues.colors(span, part), shifts)
+        modulated_by(texels, hues.colors(part), shifts)
     }
 }

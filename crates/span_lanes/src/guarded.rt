@@ -3,6 +3,7 @@ ghost use Rattle.std.specs.Prelude.{◌≡◌, ◌+◌, false};
 ghost use Rattle.span_lanes.specs.Draws.{CanDraw, DrawsPart, IsPart, at_stage};
 ghost use Rattle.span_lanes.specs.Guard.{HasHazard, has_hazard};
 ghost use Rattle.span_lanes.specs.Lanes.{HasCoordinates};
+ghost use Rattle.span_lanes.specs.Paints.{part_u, part_v};
 ghost use Rattle.span_lanes.specs.Plan.{IsPlan};
 ghost use Rattle.span_lanes.specs.Shade.{IsSpan};
 
@@ -21,18 +22,18 @@ use vram_store::{Steps, Vram};
 
 // Whether a part reads what it writes, which is not asked where it is known that none of the span does.
 #[inline(always)]
-fn has_hazard(span: &Span, plan: &Plan, at: &Coordinates, part: Part) -> bool
-    requires span { IsSpan span.now }
-    requires plan { IsPlan span.now plan.now }
-    requires part { IsPart span.now part }
-    requires at { HasCoordinates span.now.paint (span.now.x + part.first) span.now.y part.first part.k
+fn has_hazard(plan: &Plan, at: &Coordinates, part: &Part) -> bool
+    requires span { IsSpan part.now.span.now }
+    requires plan { IsPlan part.now.span.now plan.now }
+    requires part { IsPart part.now }
+    requires at { HasCoordinates (part_u part.now) (part_v part.now) part.now.k
         at.now.us at.now.vs }
-    ensures free { result ≡ false → HasHazard span.now part.first part.k → ⊥ }
-    ensures value { result ≡ has_hazard span.now part.first part.k }
+    ensures free { result ≡ false → HasHazard part.now.span.now part.now.first part.now.k → ⊥ }
+    ensures value { result ≡ has_hazard part.now.span.now part.now.first part.now.k }
 {
     let to = Cell {
-        x: span.x + part.first,
-        y: span.y,
+        x: part.span.x + part.first,
+        y: part.span.y,
     };
     !plan.apart && reads_itself(&plan.texture, at, to, part.k)
 }
@@ -41,24 +42,23 @@ fn has_hazard(span: &Span, plan: &Plan, at: &Coordinates, part: Part) -> bool
 #[inline(never)]
 fn draw_guarded<L: Ledger>(
     vram: &mut Vram,
-    span: &Span,
     plan: Plan,
     at: Coordinates,
-    part: Part,
+    part: &Part,
     steps: &mut Steps<L>,
 )
-    requires can { CanDraw span.now vram.old }
-    requires plan { IsPlan span.now plan }
-    requires part { IsPart span.now part }
-    requires at { HasCoordinates span.now.paint (span.now.x + part.first) span.now.y part.first part.k at.us at.vs }
-    ensures { DrawsPart span.now part 0 (at_stage vram.old steps.old) (at_stage vram.new steps.new) }
+    requires can { CanDraw part.now.span.now vram.old }
+    requires plan { IsPlan part.now.span.now plan }
+    requires part { IsPart part.now }
+    requires at { HasCoordinates (part_u part.now) (part_v part.now) part.now.k at.us at.vs }
+    ensures { DrawsPart part.now 0 (at_stage vram.old steps.old) (at_stage vram.new steps.new) }
 {
-    if has_hazard(span, &plan, &at, part) {
-        draw_cells(vram, span, part, steps);
+    if has_hazard(&plan, &at, part) {
+        draw_cells(vram, part, steps);
     } else {
         let texture = &plan.texture;
         let texels = read_texels::<OneByOne, L>(vram, texture, &at, part.k, steps);
-        draw_shaded(vram, span, texture, &plan.shading, texels, part, steps);
+        draw_shaded(vram, texture, &plan.shading, texels, part, steps);
     }
 }
 
@@ -71,9 +71,9 @@ impl Chunks for Plan {
     ghost spared = { λ c. 0 };
 
     #[inline(always)]
-    fn draw_part<L: Ledger>(&self, vram: &mut Vram, span: &Span, part: Part, steps: &mut Steps<L>) {
+    fn draw_part<L: Ledger>(&self, vram: &mut Vram, part: &Part, steps: &mut Steps<L>) {
         let at = track_lanes(&self.track, part.first);
-        draw_guarded(vram, span, *self, at, part, steps);
+        draw_guarded(vram, *self, at, part, steps);
     }
 
     ghost can = { λ c s m serves. serves.0 };

@@ -15,10 +15,11 @@ pub(crate) trait Hued {
     // Holds where they are those of a span.
     ghost suits: { Self → Span → Type 0 };
 
-    fn colors(&self, span: &Span, part: Part) -> Colors
-        requires span { IsSpan span.now }
-        requires suits { suits self.now span.now }
-        requires part { IsPart span.now part }
-        ensures { HasColors (colors_from span.now.paint (span.now.x + part.first) span.now.y) part.k
+    fn colors(&self, part: &Part) -> Colors
+        requires span { IsSpan part.now.span.now }
+        requires suits { suits self.now part.now.span.now }
+        requires part { IsPart part.now }
+        ensures { HasColors (colors_from part.now.span.now.paint (part.now.span.now.x + part.now.first)
+            part.now.span.now.y) part.now.k
             result.red result.green result.blue };
 }

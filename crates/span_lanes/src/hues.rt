@@ -91,7 +91,7 @@ impl Hued for Hues {
     ghost suits = { λ hues s. AreHues s.paint s.x s.y s.n hues };
 
     #[inline(always)]
-    fn colors(&self, _span: &Span, part: Part) -> Colors {
+    fn colors(&self, part: &Part) -> Colors {
         hue_lanes(self, part.first)
     }
 }

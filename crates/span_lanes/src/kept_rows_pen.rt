@@ -2,6 +2,7 @@
 ghost use Rattle.span_lanes.specs.TexelRows.{KeepsPalette};
 
 use crate::TexelRows;
+use crate::sampler::Found;
 use crate::strip::draw_strip;
 use crate::swatches::Swatches;
 use crate::texel_row_pen::TexelRowPen;
@@ -52,14 +53,10 @@ impl TexelRowPen for KeptRowsPen {
     fn draw_row<L: Ledger>(&mut self, vram: &mut Vram, y: u16, v: u8, steps: &mut Steps<L>) {
         let span = self.rows.span(y, v);
         let stretch = self.rows.stretch(v);
-        draw_strip(
-            vram,
-            &span,
-            &self.rows.texture,
-            &stretch,
-            self.rows.color,
-            &mut self.last,
-            steps,
-        );
+        let found = Found {
+            texture: &self.rows.texture,
+            sampler: &stretch,
+        };
+        draw_strip(vram, &span, &found, self.rows.color, &mut self.last, steps);
     }
 }

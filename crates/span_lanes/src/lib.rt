@@ -68,7 +68,7 @@ pub use pen::{Pen, draw_span};
 pub use row::row_u;
 pub use scaled_pen::ScaledPen;
 pub use solid::{draw_solid, solid_of};
-pub use span::{Brush, Paint, Span};
+pub use span::{Brush, Paint, Run, Span};
 pub use strip_pen::StripPen;
 pub use texel_lanes::Texture;
 pub use texel_row_pen::{EachRowPen, TexelRowPen};

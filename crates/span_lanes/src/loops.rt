@@ -20,12 +20,12 @@ pub(crate) trait Chunks {
     // How many steps each part spares: they pay for what was read once.
     ghost spared: { Self → ℕ };
 
-    fn draw_part<L: Ledger>(&self, vram: &mut Vram, span: &Span, part: Part, steps: &mut Steps<L>)
-        requires serves { serves self.now span.now vram.old }
-        requires part { IsPart span.now part }
-        ensures drawn { DrawsPart span.now part (spared self.now)
+    fn draw_part<L: Ledger>(&self, vram: &mut Vram, part: &Part, steps: &mut Steps<L>)
+        requires serves { serves self.now part.now.span.now vram.old }
+        requires part { IsPart part.now }
+        ensures drawn { DrawsPart part.now (spared self.now)
             (at_stage vram.old steps.old) (at_stage vram.new steps.new) }
-        ensures serves { serves self.now span.now vram.new };
+        ensures serves { serves self.now part.now.span.now vram.new };
 
     // Only spans that can be drawn are served.
     ghost can: { (c : Self) (s : Span) (m : List ℕ) → serves c s m → CanDraw s m };
@@ -47,21 +47,23 @@ pub(crate) fn draw_parts<C: Chunks, L: Ledger>(
     let whole = span.n / 16;
     for c in 0..whole {
         let part = Part {
+            span,
             first: 16 * c,
             k: 16,
         };
-        chunks.draw_part(vram, span, part, steps);
+        chunks.draw_part(vram, &part, steps);
     }
     let rest = span.n % 16;
     let part = Part {
+        span,
         first: 16 * whole,
         k: rest as u8,
     };
     // A rest of at most half of the lanes is compiled apart, so that the compiler may drop the other half.
     if rest > HALF as u16 {
-        chunks.draw_part(vram, span, part, steps);
+        chunks.draw_part(vram, &part, steps);
     } else if rest > 0 {
-        chunks.draw_part(vram, span, part, steps);
+        chunks.draw_part(vram, &part, steps);
     }
 }
 

@@ -39,15 +39,15 @@ impl<'a> Chunks for Mixed<'a> {
 
     // What is reckoned for the other half of few lanes is dropped.
     #[inline(always)]
-    fn draw_part<L: Ledger>(&self, vram: &mut Vram, span: &Span, part: Part, steps: &mut Steps<L>) {
+    fn draw_part<L: Ledger>(&self, vram: &mut Vram, part: &Part, steps: &mut Steps<L>) {
         let Mix { slopes, colors } = self.mix;
-        let texels = slopes.read_texels(vram, span, self.texture, part, steps);
-        let fronts = fronts_of(span, self.texture, colors, self.shifts, texels, part);
+        let texels = slopes.read_texels(vram, self.texture, part, steps);
+        let fronts = fronts_of(self.texture, colors, self.shifts, texels, part);
         let drawn = Drawn {
             texels,
             fronts: wanted_lanes(part.k, fronts),
         };
-        draw_fronts(vram, span, self.texture, drawn, part, steps);
+        draw_fronts(vram, self.texture, drawn, part, steps);
     }
 
     ghost can = { λ c s m serves. serves.0.sample.can };

@@ -7,7 +7,7 @@ use crate::block_pen::BlockPen;
 use crate::mixed::draw_mixed;
 use crate::ramped::{Mix, tri_mix};
 use crate::span::no_cells;
-use crate::{Block, Brush, Span, Texture};
+use crate::{Block, Brush, Run, Span, Texture};
 use edge_walk::Tri;
 use std::marker::Model;
 use std::sync::ledger::Ledger;
@@ -58,10 +58,10 @@ impl BlockPen for MixedPen {
     ghost framed = { λ pen. pen };
 
     #[inline(always)]
-    fn draw<L: Ledger>(&mut self, vram: &mut Vram, x: u16, y: u16, n: u16, steps: &mut Steps<L>) {
-        self.span.x = x;
+    fn draw<L: Ledger>(&mut self, vram: &mut Vram, run: Run, y: u16, steps: &mut Steps<L>) {
+        self.span.x = run.x;
         self.span.y = y;
-        self.span.n = n;
+        self.span.n = run.n;
         draw_mixed(vram, &self.span, &self.texture, &self.mix, steps);
     }
 }

@@ -6,7 +6,7 @@ ghost use Rattle.span_lanes.specs.Shade.{IsSpan, LiesIn};
 use crate::draw::draw_ready;
 use crate::ready::{Ready, ready_of};
 use crate::swatches::Swatches;
-use crate::{Brush, Paint, Span};
+use crate::{Brush, Paint, Run, Span};
 use std::marker::Model;
 use std::sync::ledger::Ledger;
 use vram_store::{Steps, Vram};
@@ -56,21 +56,21 @@ impl Pen {
         }
     }
 
-    /// Draws n cells from (x, y) to the right, as [`draw_span`] does.
+    /// Draws cells of row y, as [`draw_span`] does.
     #[inline(always)]
     #[tactic(auto, using(crate::proofs::SwatchLemmas::kept_of_fresh, crate::proofs::SwatchLemmas::fresh_of_kept))]
-    pub fn draw<L: Ledger>(&mut self, vram: &mut Vram, x: u16, y: u16, n: u16, steps: &mut Steps<L>)
-        requires span { IsSpan (ink_span self.old.ink x y n) }
-        requires height { LiesIn (height_of vram.old) (ink_span self.old.ink x y n) }
+    pub fn draw<L: Ledger>(&mut self, vram: &mut Vram, run: Run, y: u16, steps: &mut Steps<L>)
+        requires span { IsSpan (ink_span self.old.ink run.x y run.n) }
+        requires height { LiesIn (height_of vram.old) (ink_span self.old.ink run.x y run.n) }
         requires fresh { IsFresh self.old vram.old }
         ensures ink { self.new.ink ≡ self.old.ink }
         ensures fresh { IsFresh self.new vram.new }
-        ensures drawn { DrawsCells self.old.ink x y n
+        ensures drawn { DrawsCells (ink_span self.old.ink run.x y run.n)
             (record { m = vram.old; steps = steps.old }) (record { m = vram.new; steps = steps.new }) }
     {
-        self.span.x = x;
+        self.span.x = run.x;
         self.span.y = y;
-        self.span.n = n;
+        self.span.n = run.n;
         draw_ready(vram, &self.span, &self.ready, &mut self.last, steps);
     }
 }
@@ -91,9 +91,13 @@ impl Pen {
 pub fn draw_span<L: Ledger>(vram: &mut Vram, span: &Span, steps: &mut Steps<L>)
     requires span { IsSpan span.now }
     requires height { LiesIn (height_of vram.old) span.now }
-    ensures drawn { DrawsCells (ink_of span.now) span.now.x span.now.y span.now.n
+    ensures drawn { DrawsCells span.now
         (record { m = vram.old; steps = steps.old }) (record { m = vram.new; steps = steps.new }) }
 {
     let mut pen = Pen::new(&span.paint, &span.brush);
-    pen.draw(vram, span.x, span.y, span.n, steps);
+    let run = Run {
+        x: span.x,
+        n: span.n,
+    };
+    pen.draw(vram, run, span.y, steps);
 }

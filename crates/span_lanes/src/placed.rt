@@ -4,6 +4,7 @@ ghost use Rattle.texel_lanes.specs.Texture.{texel_steps};
 ghost use Rattle.span_lanes.specs.Draws.{IsPart};
 ghost use Rattle.span_lanes.specs.Kept.{HasIndexes};
 ghost use Rattle.span_lanes.specs.Lanes.{HasCoordinates};
+ghost use Rattle.span_lanes.specs.Paints.{part_u, part_v};
 ghost use Rattle.span_lanes.specs.Plan.{HasTexels};
 ghost use Rattle.span_lanes.specs.Shade.{IsSpan};
 ghost use Rattle.span_lanes.specs.Track.{CanRead};
@@ -23,11 +24,11 @@ pub(crate) trait Placed {
     // Holds where it finds those of a span.
     ghost places: { Self → Span → Type 0 };
 
-    fn coordinates(&self, span: &Span, part: Part) -> Coordinates
-        requires span { IsSpan span.now }
-        requires places { places self.now span.now }
-        requires part { IsPart span.now part }
-        ensures { HasCoordinates span.now.paint (span.now.x + part.first) span.now.y part.first part.k
+    fn coordinates(&self, part: &Part) -> Coordinates
+        requires span { IsSpan part.now.span.now }
+        requires places { places self.now part.now.span.now }
+        requires part { IsPart part.now }
+        ensures { HasCoordinates (part_u part.now) (part_v part.now) part.now.k
             result.us result.vs };
 }
 
@@ -36,16 +37,15 @@ pub(crate) trait Placed {
 fn many_texels<P: Placed, L: Ledger>(
     placed: &P,
     vram: &Vram,
-    span: &Span,
     texture: &Texture,
-    part: Part,
+    part: &Part,
     steps: &mut Steps<L>,
 ) -> u16x16
-    requires { CanRead span.now texture.now part (P.places placed.now span.now) vram.now }
-    ensures texels { HasTexels span.now texture.now part vram.now result }
-    ensures cost { steps.new ≤ steps.old + texel_steps texture.now.page.depth * part.k }
+    requires { CanRead texture.now part.now (P.places placed.now part.now.span.now) vram.now }
+    ensures texels { HasTexels texture.now part.now vram.now result }
+    ensures cost { steps.new ≤ steps.old + texel_steps texture.now.page.depth * part.now.k }
 {
-    let at = placed.coordinates(span, part);
+    let at = placed.coordinates(part);
     read_texels::<AllAtOnce, L>(vram, texture, &at, part.k, steps)
 }
 
@@ -54,17 +54,16 @@ fn many_texels<P: Placed, L: Ledger>(
 fn few_texels<P: Placed, L: Ledger>(
     placed: &P,
     vram: &Vram,
-    span: &Span,
     texture: &Texture,
-    part: Part,
+    part: &Part,
     steps: &mut Steps<L>,
 ) -> u16x16
-    requires can { CanRead span.now texture.now part (P.places placed.now span.now) vram.now }
-    requires few { part.k ≤ 8 }
-    ensures texels { HasTexels span.now texture.now part vram.now result }
-    ensures cost { steps.new ≤ steps.old + texel_steps texture.now.page.depth * part.k }
+    requires can { CanRead texture.now part.now (P.places placed.now part.now.span.now) vram.now }
+    requires few { part.now.k ≤ 8 }
+    ensures texels { HasTexels texture.now part.now vram.now result }
+    ensures cost { steps.new ≤ steps.old + texel_steps texture.now.page.depth * part.now.k }
 {
-    let at = placed.coordinates(span, part);
+    let at = placed.coordinates(part);
     read_few(vram, texture, &at, part.k, steps)
 }
 
@@ -73,19 +72,18 @@ fn few_texels<P: Placed, L: Ledger>(
 pub(crate) fn placed_texels<P: Placed, L: Ledger>(
     placed: &P,
     vram: &Vram,
-    span: &Span,
     texture: &Texture,
-    part: Part,
+    part: &Part,
     steps: &mut Steps<L>,
 ) -> u16x16
-    requires { CanRead span.now texture.now part (P.places placed.now span.now) vram.now }
-    ensures texels { HasTexels span.now texture.now part vram.now result }
-    ensures cost { steps.new ≤ steps.old + texel_steps texture.now.page.depth * part.k }
+    requires { CanRead texture.now part.now (P.places placed.now part.now.span.now) vram.now }
+    ensures texels { HasTexels texture.now part.now vram.now result }
+    ensures cost { steps.new ≤ steps.old + texel_steps texture.now.page.depth * part.now.k }
 {
     if part.k <= HALF {
-        few_texels(placed, vram, span, texture, part, steps)
+        few_texels(placed, vram, texture, part, steps)
     } else {
-        many_texels(placed, vram, span, texture, part, steps)
+        many_texels(placed, vram, texture, part, steps)
     }
 }
 
@@ -94,16 +92,15 @@ pub(crate) fn placed_texels<P: Placed, L: Ledger>(
 pub(crate) fn placed_indexes<P: Placed, L: Ledger>(
     placed: &P,
     vram: &Vram,
-    span: &Span,
     texture: &Texture,
-    part: Part,
+    part: &Part,
     steps: &mut Steps<L>,
 ) -> u8x16
-    requires can { CanRead span.now texture.now part (P.places placed.now span.now) vram.now }
+    requires can { CanRead texture.now part.now (P.places placed.now part.now.span.now) vram.now }
     requires depth { texture.now.page.depth ≡ 0 }
-    ensures indexes { HasIndexes span.now texture.now part vram.now result }
-    ensures cost { steps.new ≤ steps.old + part.k }
+    ensures indexes { HasIndexes texture.now part.now vram.now result }
+    ensures cost { steps.new ≤ steps.old + part.now.k }
 {
-    let at = placed.coordinates(span, part);
+    let at = placed.coordinates(part);
     indexes_of::<OneByOne, L>(vram, texture, &at, part.k, steps)
 }

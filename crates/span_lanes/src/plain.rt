@@ -95,20 +95,23 @@ fn hue_tones(hues: &Hues, dither: bool, shifts: Shifts, first: u16) -> u16x16
 #[inline(always)]
 pub(crate) fn collect_plain<L: Ledger>(
     vram: &Vram,
-    span: &Span,
     hues: &Hues,
     shifts: Shifts,
-    part: Part,
+    part: &Part,
     steps: &mut Steps<L>,
 ) -> u16x16
-    requires tones { CanTone span.now hues.now shifts.lanes vram.now }
-    requires part { IsPart span.now part }
+    requires tones { CanTone part.now.span.now hues.now shifts.lanes vram.now }
+    requires part { IsPart part.now }
     ensures long { length result ≡ 16 }
-    ensures lanes { HasChunk span.now part vram.now result }
+    ensures lanes { HasChunk part.now vram.now result }
     ensures cost { steps.new ≤ steps.old + 1 }
 {
-    let back = back_of(vram, span, part, steps);
-    let tones = hue_tones(hues, span.brush.dither, shifts, part.first);
-    let plotted = blend_lanes_if(span.brush.semi, span.brush.mode, back, tones);
-    over_lanes(span.brush.mask, back, force_lanes(span.brush.mask, plotted))
+    let back = back_of(vram, part, steps);
+    let tones = hue_tones(hues, part.span.brush.dither, shifts, part.first);
+    let plotted = blend_lanes_if(part.span.brush.semi, part.span.brush.mode, back, tones);
+    over_lanes(
+        part.span.brush.mask,
+        back,
+        force_lanes(part.span.brush.mask, plotted),
+    )
 }

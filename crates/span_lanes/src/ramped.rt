@@ -1,14 +1,14 @@
 // The attributes of a triangle with their ramps, for the rows of a pen.
-ghost use Rattle.std.specs.Prelude.{◌≡◌, ◌+◌, ◌*◌};
+ghost use Rattle.std.specs.Prelude.{◌≡◌, ◌+◌};
 ghost use Rattle.edge_walk.specs.Held.{divisor_for};
 ghost use Rattle.span_lanes.specs.Ramped.{AreColorsOf, AreRampedColors, AreRampedSlopes, AreSlopesOf};
 
+use crate::Texture;
 use crate::colors::Colors;
 use crate::hued::Hued;
 use crate::part::Part;
 use crate::placed::{Placed, placed_indexes, placed_texels};
 use crate::sampler::{Indexed, Sampler};
-use crate::{Span, Texture};
 use edge_walk::{Divisor, RampedPlane, Tri};
 use std::simd::prelude::*;
 use std::sync::ledger::Ledger;
@@ -79,11 +79,11 @@ impl Placed for RampedSlopes {
     ghost places = { λ slopes s. AreSlopesOf s.paint slopes };
 
     #[inline(always)]
-    fn coordinates(&self, span: &Span, part: Part) -> Coordinates {
-        let x = span.x + part.first;
+    fn coordinates(&self, part: &Part) -> Coordinates {
+        let x = part.span.x + part.first;
         Coordinates {
-            us: self.u.lanes(x, span.y),
-            vs: self.v.lanes(x, span.y),
+            us: self.u.lanes(x, part.span.y),
+            vs: self.v.lanes(x, part.span.y),
         }
     }
 }
@@ -92,12 +92,12 @@ impl Hued for RampedColors {
     ghost suits = { λ colors s. AreColorsOf s.paint colors };
 
     #[inline(always)]
-    fn colors(&self, span: &Span, part: Part) -> Colors {
-        let x = span.x + part.first;
+    fn colors(&self, part: &Part) -> Colors {
+        let x = part.span.x + part.first;
         Colors {
-            red: self.red.lanes(x, span.y),
-            green: self.green.lanes(x, span.y),
-            blue: self.blue.lanes(x, span.y),
+            red: self.red.lanes(x, part.span.y),
+            green: self.green.lanes(x, part.span.y),
+            blue: self.blue.lanes(x, part.span.y),
         }
     }
 }
@@ -109,12 +109,11 @@ impl Sampler for RampedSlopes {
     fn read_texels<L: Ledger>(
         &self,
         vram: &Vram,
-        span: &Span,
         texture: &Texture,
-        part: Part,
+        part: &Part,
         steps: &mut Steps<L>,
     ) -> u16x16 {
-        placed_texels(self, vram, span, texture, part, steps)
+        placed_texels(self, vram, texture, part, steps)
     }
 }
 
@@ -125,11 +124,10 @@ impl Indexed for RampedSlopes {
     fn read_indexes<L: Ledger>(
         &self,
         vram: &Vram,
-        span: &Span,
         texture: &Texture,
-        part: Part,
+        part: &Part,
         steps: &mut Steps<L>,
     ) -> u8x16 {
-        placed_indexes(self, vram, span, texture, part, steps)
+        placed_indexes(self, vram, texture, part, steps)
     }
 }

@@ -11,6 +11,13 @@ use std::simd::prelude::*;
 use std::sync::ledger::Ledger;
 use vram_store::{Steps, Vram};
 
+// A texture, and what finds texels in it.
+#[derive(Drop)]
+pub(crate) struct Found<'a, S> {
+    pub(crate) texture: &'a Texture,
+    pub(crate) sampler: &'a S,
+}
+
 // How the texels of a span are found, part by part.
 pub(crate) trait Sampler {
     ghost use Rattle.span_lanes.specs.declared.span.Span.{Span};
@@ -22,16 +29,15 @@ pub(crate) trait Sampler {
     fn read_texels<L: Ledger>(
         &self,
         vram: &Vram,
-        span: &Span,
         texture: &Texture,
-        part: Part,
+        part: &Part,
         steps: &mut Steps<L>,
     ) -> u16x16
-        requires sample { CanSample span.now texture.now vram.now }
-        requires finds { finds self.now span.now texture.now }
-        requires part { IsPart span.now part }
-        ensures texels { HasTexels span.now texture.now part vram.now result }
-        ensures cost { steps.new ≤ steps.old + texel_steps texture.now.page.depth * part.k };
+        requires sample { CanSample part.now.span.now texture.now vram.now }
+        requires finds { finds self.now part.now.span.now texture.now }
+        requires part { IsPart part.now }
+        ensures texels { HasTexels texture.now part.now vram.now result }
+        ensures cost { steps.new ≤ steps.old + texel_steps texture.now.page.depth * part.now.k };
 }
 
 // How the indexes of texels of four bits are found.
@@ -44,17 +50,16 @@ pub(crate) trait Indexed {
     fn read_indexes<L: Ledger>(
         &self,
         vram: &Vram,
-        span: &Span,
         texture: &Texture,
-        part: Part,
+        part: &Part,
         steps: &mut Steps<L>,
     ) -> u8x16
-        requires sample { CanSample span.now texture.now vram.now }
-        requires finds { finds self.now span.now texture.now }
-        requires part { IsPart span.now part }
+        requires sample { CanSample part.now.span.now texture.now vram.now }
+        requires finds { finds self.now part.now.span.now texture.now }
+        requires part { IsPart part.now }
         requires depth { texture.now.page.depth ≡ 0 }
-        ensures indexes { HasIndexes span.now texture.now part vram.now result }
-        ensures cost { steps.new ≤ steps.old + part.k };
+        ensures indexes { HasIndexes texture.now part.now vram.now result }
+        ensures cost { steps.new ≤ steps.old + part.now.k };
 }
 
 impl<S: Sampler> Sampler for &S {
@@ -64,12 +69,11 @@ impl<S: Sampler> Sampler for &S {
     fn read_texels<L: Ledger>(
         &self,
         vram: &Vram,
-        span: &Span,
         texture: &Texture,
-        part: Part,
+        part: &Part,
         steps: &mut Steps<L>,
     ) -> u16x16 {
-        (**self).read_texels(vram, span, texture, part, steps)
+        (**self).read_texels(vram, texture, part, steps)
     }
 }
 
@@ -80,11 +84,10 @@ impl<S: Indexed> Indexed for &S {
     fn read_indexes<L: Ledger>(
         &self,
         vram: &Vram,
-        span: &Span,
         texture: &Texture,
-        part: Part,
+        part: &Part,
         steps: &mut Steps<L>,
     ) -> u8x16 {
-        (**self).read_indexes(vram, span, texture, part, steps)
+        (**self).read_indexes(vram, texture, part, steps)
     }
 }

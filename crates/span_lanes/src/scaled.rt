@@ -10,6 +10,7 @@ ghost use Rattle.span_lanes.specs.Swatches.{IsKept, SuitsPalette};
 use crate::hues::Hues;
 use crate::loops::draw_parts;
 use crate::ramped::RampedSlopes;
+use crate::sampler::Found;
 use crate::shading::shading_of;
 use crate::strip::suits_strip;
 use crate::swatches::{Swatches, swatches_of};
@@ -45,23 +46,22 @@ fn draw_shaded<L: Ledger>(
 fn draw_kept<L: Ledger>(
     vram: &mut Vram,
     span: &Span,
-    texture: &Texture,
-    slopes: &RampedSlopes,
+    found: &Found<RampedSlopes>,
     color: u32,
     last: &mut Option<Swatches>,
     steps: &mut Steps<L>,
 )
-    requires take { CanTake span.now texture.now (AreSlopesOf span.now.paint slopes.now) vram.old }
+    requires take { CanTake span.now found.now.texture.now (AreSlopesOf span.now.paint found.now.sampler.now) vram.old }
     requires hue { AreHues span.now.paint span.now.x span.now.y span.now.n (One color) }
-    requires suits { SuitsPalette span.now texture.now }
+    requires suits { SuitsPalette span.now found.now.texture.now }
     requires last { IsKept span.now.paint vram.old last.old }
     ensures drawn { DrawsSpan span.now 0 (at_stage vram.old steps.old) (at_stage vram.new steps.new) }
     ensures last { IsKept span.now.paint vram.new last.new }
 {
-    let swatches = swatches_of(vram, texture, color, last, steps);
+    let swatches = swatches_of(vram, found.texture, color, last, steps);
     let kept = Kept {
-        texture: *texture,
-        sampler: slopes,
+        texture: *found.texture,
+        sampler: found.sampler,
         swatches,
     };
     draw_parts(vram, span, &kept, steps);
@@ -72,23 +72,22 @@ fn draw_kept<L: Ledger>(
 pub(crate) fn draw_scaled<L: Ledger>(
     vram: &mut Vram,
     span: &Span,
-    texture: &Texture,
+    found: &Found<RampedSlopes>,
     color: u32,
-    slopes: &RampedSlopes,
     last: &mut Option<Swatches>,
     steps: &mut Steps<L>,
 )
-    requires take { CanTake span.now texture.now (AreSlopesOf span.now.paint slopes.now) vram.old }
-    requires palette { IsInOtherRow texture.now span.now.y }
+    requires take { CanTake span.now found.now.texture.now (AreSlopesOf span.now.paint found.now.sampler.now) vram.old }
+    requires palette { IsInOtherRow found.now.texture.now span.now.y }
     requires hue { AreHues span.now.paint span.now.x span.now.y span.now.n (One color) }
     requires last { IsKept span.now.paint vram.old last.old }
     ensures drawn { DrawsSpan span.now 0 (at_stage vram.old steps.old) (at_stage vram.new steps.new) }
     ensures last { IsKept span.now.paint vram.new last.new }
 {
-    if suits_strip(span, texture) {
-        draw_kept(vram, span, texture, slopes, color, last, steps);
+    if suits_strip(span, found.texture) {
+        draw_kept(vram, span, found, color, last, steps);
     } else {
         *last = None;
-        draw_shaded(vram, span, texture, slopes, color, steps);
+        draw_shaded(vram, span, found.texture, found.sampler, color, steps);
     }
 }

@@ -5,10 +5,11 @@ ghost use Rattle.span_lanes.specs.declared.span.Paint.TheVariants.{TexturedTri};
 
 use crate::block_pen::BlockPen;
 use crate::ramped::{RampedSlopes, tri_ramped_slopes};
+use crate::sampler::Found;
 use crate::scaled::draw_scaled;
 use crate::span::no_cells;
 use crate::swatches::Swatches;
-use crate::{Block, Brush, Span, Texture};
+use crate::{Block, Brush, Run, Span, Texture};
 use edge_walk::Tri;
 use std::marker::Model;
 use std::sync::ledger::Ledger;
@@ -67,18 +68,14 @@ impl BlockPen for ScaledPen {
 
     #[inline(always)]
     #[tactic(auto, using(crate::proofs::SwatchLemmas::kept_of_fresh, crate::proofs::SwatchLemmas::fresh_of_kept))]
-    fn draw<L: Ledger>(&mut self, vram: &mut Vram, x: u16, y: u16, n: u16, steps: &mut Steps<L>) {
-        self.span.x = x;
+    fn draw<L: Ledger>(&mut self, vram: &mut Vram, run: Run, y: u16, steps: &mut Steps<L>) {
+        self.span.x = run.x;
         self.span.y = y;
-        self.span.n = n;
-        draw_scaled(
-            vram,
-            &self.span,
-            &self.texture,
-            self.color,
-            &self.slopes,
-            &mut self.last,
-            steps,
-        );
+        self.span.n = run.n;
+        let found = Found {
+            texture: &self.texture,
+            sampler: &self.slopes,
+        };
+        draw_scaled(vram, &self.span, &found, self.color, &mut self.last, steps);
     }
 }

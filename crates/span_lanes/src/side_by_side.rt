@@ -1,8 +1,8 @@
 // Texels that stand side by side in a row of video memory, read by their depth.
+use crate::Texture;
 use crate::part::Part;
 use crate::sampler::{Indexed, Sampler};
 use crate::stretch::Stretch;
-use crate::{Span, Texture};
 use std::simd::prelude::*;
 use std::sync::ledger::Ledger;
 use texel_lanes::{
@@ -27,9 +27,8 @@ impl Sampler for Fours {
     fn read_texels<L: Ledger>(
         &self,
         vram: &Vram,
-        _span: &Span,
         texture: &Texture,
-        part: Part,
+        part: &Part,
         steps: &mut Steps<L>,
     ) -> u16x16 {
         let Stretch { u, y } = self.stretch;
@@ -55,9 +54,8 @@ impl Sampler for Eights {
     fn read_texels<L: Ledger>(
         &self,
         vram: &Vram,
-        _span: &Span,
         texture: &Texture,
-        part: Part,
+        part: &Part,
         steps: &mut Steps<L>,
     ) -> u16x16 {
         let Stretch { u, y } = self.stretch;
@@ -82,9 +80,8 @@ impl Sampler for Wholes {
     fn read_texels<L: Ledger>(
         &self,
         vram: &Vram,
-        _span: &Span,
         texture: &Texture,
-        part: Part,
+        part: &Part,
         steps: &mut Steps<L>,
     ) -> u16x16 {
         let Stretch { u, y } = self.stretch;
@@ -101,9 +98,8 @@ impl Indexed for Stretch {
     fn read_indexes<L: Ledger>(
         &self,
         vram: &Vram,
-        _span: &Span,
         texture: &Texture,
-        part: Part,
+        part: &Part,
         steps: &mut Steps<L>,
     ) -> u8x16 {
         let u = self.u + part.first;

@@ -3,7 +3,7 @@ ghost use Rattle.std.specs.Prelude.{ℕ, ◌≡◌, ◌&&◌, ◌||◌, not, IfS
 ghost use Rattle.vram_store.specs.Vram.{height_of};
 ghost use Rattle.vram_store.specs.Plot.{is_testing};
 ghost use Rattle.span_lanes.specs.declared.span.Paint.TheVariants.{Flat};
-ghost use Rattle.span_lanes.specs.Pen.{DrawsCells, HasHalfword, ink_of};
+ghost use Rattle.span_lanes.specs.Pen.{DrawsCells, HasHalfword};
 ghost use Rattle.span_lanes.specs.Shade.{IsSpan, LiesIn};
 ghost use Rattle.span_lanes.specs.Lanes.{IsSolid};
 
@@ -60,9 +60,9 @@ impl Chunks for Solid {
     ghost spared = { λ c. 0 };
 
     #[inline(always)]
-    fn draw_part<L: Ledger>(&self, vram: &mut Vram, span: &Span, part: Part, steps: &mut Steps<L>) {
-        let x = span.x + part.first;
-        vram.store16(x, span.y, part.k, splat(self.h), 0xffff, steps);
+    fn draw_part<L: Ledger>(&self, vram: &mut Vram, part: &Part, steps: &mut Steps<L>) {
+        let x = part.span.x + part.first;
+        vram.store16(x, part.span.y, part.k, splat(self.h), 0xffff, steps);
     }
 
     ghost can = { λ c s m serves. serves.can };
@@ -74,7 +74,7 @@ pub fn draw_solid<L: Ledger>(vram: &mut Vram, span: &Span, h: u16, steps: &mut S
     requires span { IsSpan span.now }
     requires height { LiesIn (height_of vram.old) span.now }
     requires solid { IsSolid span.now h }
-    ensures drawn { DrawsCells (ink_of span.now) span.now.x span.now.y span.now.n
+    ensures drawn { DrawsCells span.now
         (record { m = vram.old; steps = steps.old }) (record { m = vram.new; steps = steps.new }) }
 {
     draw_parts(vram, span, &Solid { h }, steps);

@@ -54,6 +54,15 @@ pub enum Paint {
     },
 }
 
+/// Cells of a row, side by side.
+#[derive(Clone, Copy)]
+pub struct Run {
+    /// The first column.
+    pub x: u16,
+    /// How many cells, at least 1.
+    pub n: u16,
+}
+
 /// Cells of one row, from (x, y) to the right.
 #[derive(Clone, Copy)]
 pub struct Span {

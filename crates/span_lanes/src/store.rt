@@ -15,15 +15,15 @@ use vram_store::{Steps, Vram};
 
 // The cells of a part, one after another.
 #[inline(never)]
-pub(crate) fn draw_cells<L: Ledger>(vram: &mut Vram, span: &Span, part: Part, steps: &mut Steps<L>)
-    requires can { CanDraw span.now vram.old }
-    requires part { IsPart span.now part }
-    ensures cells { vram.new ≡ drawn_chunk span.now part vram.old }
+pub(crate) fn draw_cells<L: Ledger>(vram: &mut Vram, part: &Part, steps: &mut Steps<L>)
+    requires can { CanDraw part.now.span.now vram.old }
+    requires part { IsPart part.now }
+    ensures cells { vram.new ≡ drawn_chunk part.now vram.old }
     ensures long { length vram.new ≡ length vram.old }
-    ensures cost { steps.new ≤ steps.old + (paint_steps span.now.paint + 2) * part.k }
+    ensures cost { steps.new ≤ steps.old + (paint_steps part.now.span.now.paint + 2) * part.now.k }
 {
     for j in 0..part.k {
-        draw_cell(vram, span, part.first + j as u16, steps);
+        draw_cell(vram, part.span, part.first + j as u16, steps);
     }
 }
 
@@ -31,20 +31,19 @@ pub(crate) fn draw_cells<L: Ledger>(vram: &mut Vram, span: &Span, part: Part, st
 #[inline(always)]
 pub(crate) fn store_part<L: Ledger>(
     vram: &mut Vram,
-    span: &Span,
-    part: Part,
+    part: &Part,
     lanes: u16x16,
     steps: &mut Steps<L>,
 )
-    requires can { CanDraw span.now vram.old }
-    requires part { IsPart span.now part }
-    requires free { HasHazard span.now part.first part.k → ⊥ }
+    requires can { CanDraw part.now.span.now vram.old }
+    requires part { IsPart part.now }
+    requires free { HasHazard part.now.span.now part.now.first part.now.k → ⊥ }
     requires long { length lanes ≡ 16 }
-    requires lanes { HasChunk span.now part vram.old lanes }
-    ensures cells { vram.new ≡ drawn_chunk span.now part vram.old }
-    ensures others { AgreesApart (chunk_place span.now part.first) part.k vram.old vram.new }
+    requires lanes { HasChunk part.now vram.old lanes }
+    ensures cells { vram.new ≡ drawn_chunk part.now vram.old }
+    ensures others { AgreesApart (chunk_place part.now.span.now part.now.first) part.now.k vram.old vram.new }
     ensures cost { steps.new ≤ steps.old + 1 }
 {
-    let x = span.x + part.first;
-    vram.store16(x, span.y, part.k, lanes, 0xffff, steps);
+    let x = part.span.x + part.first;
+    vram.store16(x, part.span.y, part.k, lanes, 0xffff, steps);
 }

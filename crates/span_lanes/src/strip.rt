@@ -12,6 +12,7 @@ ghost use Rattle.span_lanes.specs.Swatches.{IsKept, SuitsPalette};
 
 use crate::loops::{draw_by_brush, draw_parts};
 use crate::plainly::plain;
+use crate::sampler::Found;
 use crate::shading::has_even_palette;
 use crate::sheet::Sheet;
 use crate::stretch::{Stretch, place_row};
@@ -55,24 +56,23 @@ fn draw_by_raw<L: Ledger>(vram: &mut Vram, span: &Span, kept: &Kept<Stretch>, st
 pub(crate) fn draw_strip<L: Ledger>(
     vram: &mut Vram,
     span: &Span,
-    texture: &Texture,
-    stretch: &Stretch,
+    found: &Found<Stretch>,
     color: u32,
     last: &mut Option<Swatches>,
     steps: &mut Steps<L>,
 )
-    requires sample { CanSample span.now texture.now vram.old }
+    requires sample { CanSample span.now found.now.texture.now vram.old }
     requires hue { AreHues span.now.paint span.now.x span.now.y span.now.n (One color) }
-    requires stretch { IsStretch span.now texture.now stretch.now }
-    requires suits { SuitsPalette span.now texture.now }
+    requires stretch { IsStretch span.now found.now.texture.now found.now.sampler.now }
+    requires suits { SuitsPalette span.now found.now.texture.now }
     requires last { IsKept span.now.paint vram.old last.old }
     ensures drawn { DrawsSpan span.now 0 (at_stage vram.old steps.old) (at_stage vram.new steps.new) }
     ensures last { IsKept span.now.paint vram.new last.new }
 {
-    let swatches = swatches_of(vram, texture, color, last, steps);
+    let swatches = swatches_of(vram, found.texture, color, last, steps);
     let kept = Kept {
-        texture: *texture,
-        sampler: *stretch,
+        texture: *found.texture,
+        sampler: *found.sampler,
         swatches,
     };
     draw_by_raw(vram, span, &kept, steps);

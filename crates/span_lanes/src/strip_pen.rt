@@ -9,7 +9,7 @@ use crate::span::no_cells;
 use crate::strip::draw_plain_strip;
 use crate::swatches::Swatches;
 use crate::tint::Tint;
-use crate::{Block, Brush, Span, Texture};
+use crate::{Block, Brush, Run, Span, Texture};
 use edge_walk::Tri;
 use std::marker::Model;
 use std::sync::ledger::Ledger;
@@ -64,10 +64,10 @@ impl BlockPen for StripPen {
 
     #[inline(always)]
     #[tactic(auto, using(crate::proofs::SwatchLemmas::kept_of_fresh, crate::proofs::SwatchLemmas::fresh_of_kept))]
-    fn draw<L: Ledger>(&mut self, vram: &mut Vram, x: u16, y: u16, n: u16, steps: &mut Steps<L>) {
-        self.span.x = x;
+    fn draw<L: Ledger>(&mut self, vram: &mut Vram, run: Run, y: u16, steps: &mut Steps<L>) {
+        self.span.x = run.x;
         self.span.y = y;
-        self.span.n = n;
+        self.span.n = run.n;
         draw_plain_strip(
             vram,
             &self.span,

@@ -11,7 +11,7 @@ use vram_store::{Steps, Vram};
 pub trait TexelRowPen: Drop {
     ghost use Rattle.std.specs.Prelude.{◌≡◌};
     ghost use Rattle.span_lanes.specs.Pen.{DrawsCells};
-    ghost use Rattle.span_lanes.specs.TexelRows.{CanDrawTexels, IsLaidFresh, Laid, texel_ink};
+    ghost use Rattle.span_lanes.specs.TexelRows.{CanDrawTexels, IsLaidFresh, Laid, texel_span};
 
     // The rows, and the palette that it keeps.
     ghost laid: { Self → Laid };
@@ -22,8 +22,7 @@ pub trait TexelRowPen: Drop {
         requires fresh { IsLaidFresh (laid self.old) vram.old }
         ensures rows { (laid self.new).rows ≡ (laid self.old).rows }
         ensures fresh { IsLaidFresh (laid self.new) vram.new }
-        ensures drawn { DrawsCells (texel_ink (laid self.old).rows v)
-            (laid self.old).rows.block.x y (laid self.old).rows.block.w
+        ensures drawn { DrawsCells (texel_span (laid self.old).rows y v)
             (record { m = vram.old; steps = steps.old }) (record { m = vram.new; steps = steps.new }) };
 }
 

@@ -1,5 +1,5 @@
 // Rows of texels, one below another.
-ghost use Rattle.std.specs.Prelude.{ℕ, ◌≡◌, IsTrue, false, true};
+ghost use Rattle.std.specs.Prelude.{ℕ, ◌≡◌, IsTrue, false};
 ghost use Rattle.texel_lanes.specs.Texture.{IsTexture};
 ghost use Rattle.span_lanes.specs.Frame.{IsBlock};
 ghost use Rattle.span_lanes.specs.Stretch.{IsStretch};
@@ -60,7 +60,8 @@ impl TexelRows {
         stretch_at(&self.texture, self.u, v)
     }
 
-    /// Whether a palette of sixteen entries can be coloured once for all rows, whose texels stand side by side and apart
+    /// Whether a palette of sixteen entries can be coloured once for all rows, whose texels stand side by side and
+    /// apart
     /// from the block. [`KeptRowsPen`](crate::KeptRowsPen) draws such rows, and [`EachRowPen`](crate::EachRowPen) all.
     pub fn keeps_palette(&self) -> bool
         requires block { IsBlock 1024 self.now.block }

@@ -1,11 +1,11 @@
 // Spans of texels that read nothing that they write.
+use crate::Texture;
 use crate::loops::Chunks;
 use crate::part::Part;
 use crate::sampler::{Indexed, Sampler};
 use crate::shading::Shading;
 use crate::swatches::{Drawn, Swatches, drawn_at};
 use crate::textured::{draw_fronts, draw_shaded};
-use crate::{Span, Texture};
 use std::sync::ledger::Ledger;
 use vram_store::{Steps, Vram};
 
@@ -41,15 +41,13 @@ impl<S: Sampler> Chunks for Raw<S> {
     ghost spared = { λ c. 0 };
 
     #[inline(always)]
-    fn draw_part<L: Ledger>(&self, vram: &mut Vram, span: &Span, part: Part, steps: &mut Steps<L>) {
-        let texels = self
-            .sampler
-            .read_texels(vram, span, &self.texture, part, steps);
+    fn draw_part<L: Ledger>(&self, vram: &mut Vram, part: &Part, steps: &mut Steps<L>) {
+        let texels = self.sampler.read_texels(vram, &self.texture, part, steps);
         let drawn = Drawn {
             texels,
             fronts: texels,
         };
-        draw_fronts(vram, span, &self.texture, drawn, part, steps);
+        draw_fronts(vram, &self.texture, drawn, part, steps);
     }
 
     ghost can = { λ c s m serves. serves.0.sample.can };
@@ -65,19 +63,9 @@ impl<S: Sampler> Chunks for Shaded<S> {
     ghost spared = { λ c. 0 };
 
     #[inline(always)]
-    fn draw_part<L: Ledger>(&self, vram: &mut Vram, span: &Span, part: Part, steps: &mut Steps<L>) {
-        let texels = self
-            .sampler
-            .read_texels(vram, span, &self.texture, part, steps);
-        draw_shaded(
-            vram,
-            span,
-            &self.texture,
-            &self.shading,
-            texels,
-            part,
-            steps,
-        );
+    fn draw_part<L: Ledger>(&self, vram: &mut Vram, part: &Part, steps: &mut Steps<L>) {
+        let texels = self.sampler.read_texels(vram, &self.texture, part, steps);
+        draw_shaded(vram, &self.texture, &self.shading, texels, part, steps);
     }
 
     ghost can = { λ c s m serves. serves.0.sample.can };
@@ -92,12 +80,10 @@ impl<S: Indexed> Chunks for Kept<S> {
     ghost spared = { λ c. 1 };
 
     #[inline(always)]
-    fn draw_part<L: Ledger>(&self, vram: &mut Vram, span: &Span, part: Part, steps: &mut Steps<L>) {
-        let index = self
-            .sampler
-            .read_indexes(vram, span, &self.texture, part, steps);
+    fn draw_part<L: Ledger>(&self, vram: &mut Vram, part: &Part, steps: &mut Steps<L>) {
+        let index = self.sampler.read_indexes(vram, &self.texture, part, steps);
         let drawn = drawn_at(&self.swatches, self.texture.raw, index);
-        draw_fronts(vram, span, &self.texture, drawn, part, steps);
+        draw_fronts(vram, &self.texture, drawn, part, steps);
     }
 
     ghost can = { λ c s m serves. serves.sample.can };

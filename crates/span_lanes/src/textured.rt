@@ -6,16 +6,16 @@ ghost use Rattle.vram_store.specs.Chunk.{AgreesApart};
 ghost use Rattle.span_lanes.specs.Chunk.{chunk_place, drawn_chunk, HasChunk};
 ghost use Rattle.span_lanes.specs.Draws.{CanSample, IsPart};
 ghost use Rattle.span_lanes.specs.Guard.{HasHazard};
-ghost use Rattle.span_lanes.specs.Plan.{IsShading, HasTexels, HasFronts};
+ghost use Rattle.span_lanes.specs.Plan.{AreDrawn, IsShading, HasTexels};
 ghost use Rattle.span_lanes.specs.Lanes.{IsDrawnOver};
 
+use crate::Texture;
 use crate::fronts::fronts_of;
 use crate::part::Part;
 use crate::plotted::plotted_of;
 use crate::shading::Shading;
 use crate::store::store_part;
 use crate::swatches::Drawn;
-use crate::{Span, Texture};
 use px_num::lanes::{splat, where_equal};
 use std::simd::prelude::*;
 use std::sync::ledger::Ledger;
@@ -38,23 +38,20 @@ fn drawn_over(mask: u8, cells: u16x16, texels: u16x16, plotted: u16x16) -> u16x1
 #[inline(always)]
 fn collect_fronts<L: Ledger>(
     vram: &Vram,
-    span: &Span,
     texture: &Texture,
     drawn: Drawn,
-    part: Part,
+    part: &Part,
     steps: &mut Steps<L>,
 ) -> u16x16
-    requires sample { CanSample span.now texture.now vram.now }
-    requires part { IsPart span.now part }
-    requires texels { HasTexels span.now texture.now part vram.now drawn.texels }
-    requires long { length drawn.fronts ≡ 16 }
-    requires front { HasFronts span.now texture.now part drawn.texels drawn.fronts }
+    requires sample { CanSample part.now.span.now texture.now vram.now }
+    requires part { IsPart part.now }
+    requires drawn { AreDrawn texture.now part.now vram.now drawn }
     ensures long { length result ≡ 16 }
-    ensures lanes { HasChunk span.now part vram.now result }
+    ensures lanes { HasChunk part.now vram.now result }
     ensures cost { steps.new ≤ steps.old + 1 }
 {
-    let brush = span.brush;
-    let back = vram.load16(span.x + part.first, span.y, part.k, steps);
+    let brush = part.span.brush;
+    let back = vram.load16(part.span.x + part.first, part.span.y, part.k, steps);
     let plotted = plotted_of(&brush, texture.raw, back, drawn, part.k);
     drawn_over(brush.mask, back, drawn.texels, plotted)
 }
@@ -63,46 +60,42 @@ fn collect_fronts<L: Ledger>(
 #[inline(always)]
 pub(crate) fn draw_fronts<L: Ledger>(
     vram: &mut Vram,
-    span: &Span,
     texture: &Texture,
     drawn: Drawn,
-    part: Part,
+    part: &Part,
     steps: &mut Steps<L>,
 )
-    requires sample { CanSample span.now texture.now vram.old }
-    requires part { IsPart span.now part }
-    requires free { HasHazard span.now part.first part.k → ⊥ }
-    requires texels { HasTexels span.now texture.now part vram.old drawn.texels }
-    requires long { length drawn.fronts ≡ 16 }
-    requires front { HasFronts span.now texture.now part drawn.texels drawn.fronts }
-    ensures cells { vram.new ≡ drawn_chunk span.now part vram.old }
-    ensures others { AgreesApart (chunk_place span.now part.first) part.k vram.old vram.new }
+    requires sample { CanSample part.now.span.now texture.now vram.old }
+    requires part { IsPart part.now }
+    requires free { HasHazard part.now.span.now part.now.first part.now.k → ⊥ }
+    requires drawn { AreDrawn texture.now part.now vram.old drawn }
+    ensures cells { vram.new ≡ drawn_chunk part.now vram.old }
+    ensures others { AgreesApart (chunk_place part.now.span.now part.now.first) part.now.k vram.old vram.new }
     ensures cost { steps.new ≤ steps.old + 2 }
 {
-    let lanes = collect_fronts(vram, span, texture, drawn, part, steps);
-    store_part(vram, span, part, lanes, steps);
+    let lanes = collect_fronts(vram, texture, drawn, part, steps);
+    store_part(vram, part, lanes, steps);
 }
 
 // The same by its texels and the colours of the span.
 #[inline(always)]
 pub(crate) fn draw_shaded<L: Ledger>(
     vram: &mut Vram,
-    span: &Span,
     texture: &Texture,
     shading: &Shading,
     texels: u16x16,
-    part: Part,
+    part: &Part,
     steps: &mut Steps<L>,
 )
-    requires sample { CanSample span.now texture.now vram.old }
-    requires part { IsPart span.now part }
-    requires free { HasHazard span.now part.first part.k → ⊥ }
-    requires shading { IsShading span.now texture.now shading.now }
-    requires texels { HasTexels span.now texture.now part vram.old texels }
-    ensures cells { vram.new ≡ drawn_chunk span.now part vram.old }
-    ensures others { AgreesApart (chunk_place span.now part.first) part.k vram.old vram.new }
+    requires sample { CanSample part.now.span.now texture.now vram.old }
+    requires part { IsPart part.now }
+    requires free { HasHazard part.now.span.now part.now.first part.now.k → ⊥ }
+    requires shading { IsShading part.now.span.now texture.now shading.now }
+    requires texels { HasTexels texture.now part.now vram.old texels }
+    ensures cells { vram.new ≡ drawn_chunk part.now vram.old }
+    ensures others { AgreesApart (chunk_place part.now.span.now part.now.first) part.now.k vram.old vram.new }
     ensures cost { steps.new ≤ steps.old + 2 }
 {
-    let fronts = fronts_of(span, texture, &shading.hues, shading.shifts, texels, part);
-    draw_fronts(vram, span, texture, Drawn { texels, fronts }, part, steps);
+    let fronts = fronts_of(texture, &shading.hues, shading.shifts, texels, part);
+    draw_fronts(vram, texture, Drawn { texels, fronts }, part, steps);
 }

@@ -6,12 +6,12 @@ ghost use Rattle.span_lanes.specs.Pen.{AreSlopes};
 ghost use Rattle.texel_lanes.specs.Texels.{AreCoordinates};
 ghost use Rattle.span_lanes.specs.Track.{along_at, IsAlong};
 
+use crate::Texture;
 use crate::hues::line_of;
 use crate::part::Part;
 use crate::placed::{Placed, placed_indexes};
 use crate::sampler::Indexed;
 use crate::slopes::Slopes;
-use crate::{Span, Texture};
 use edge_walk::RowLine;
 use px_num::lanes::{add, low_bits, ramp, splat, sub_or_zero};
 use std::simd::prelude::*;
@@ -130,7 +130,7 @@ impl Placed for Track {
     ghost places = { λ track s. IsTrack s.paint s.x s.y s.n track };
 
     #[inline(always)]
-    fn coordinates(&self, _span: &Span, part: Part) -> Coordinates {
+    fn coordinates(&self, part: &Part) -> Coordinates {
         track_lanes(self, part.first)
     }
 }
@@ -144,11 +144,10 @@ impl Indexed for Track {
     fn read_indexes<L: Ledger>(
         &self,
         vram: &Vram,
-        span: &Span,
         texture: &Texture,
-        part: Part,
+        part: &Part,
         steps: &mut Steps<L>,
     ) -> u8x16 {
-        placed_indexes(self, vram, span, texture, part, steps)
+        placed_indexes(self, vram, texture, part, steps)
     }
 }

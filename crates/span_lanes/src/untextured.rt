@@ -34,9 +34,9 @@ impl Chunks for Toned {
     ghost spared = { λ c. 0 };
 
     #[inline(always)]
-    fn draw_part<L: Ledger>(&self, vram: &mut Vram, span: &Span, part: Part, steps: &mut Steps<L>) {
-        let lanes = collect_plain(vram, span, &self.hues, self.shifts, part, steps);
-        store_part(vram, span, part, lanes, steps);
+    fn draw_part<L: Ledger>(&self, vram: &mut Vram, part: &Part, steps: &mut Steps<L>) {
+        let lanes = collect_plain(vram, &self.hues, self.shifts, part, steps);
+        store_part(vram, part, lanes, steps);
     }
 
     ghost can = { λ c s m serves. serves.can };

@@ -4,7 +4,7 @@ use Rattle.span_lanes.specs.declared.block.Block.{Block}
 use Rattle.prim_draw.specs.Pattern.{Pattern}
 use Rattle.prim_draw.specs.Rows.{DrawsRun}
 use Rattle.prim_draw.specs.Triangles.{run_cells}
-use Rattle.prim_draw.proofs.RowLemmas.{rows_next, rows_start}
+use Rattle.prim_draw.proofs.RowLemmas.{rows_next}
 use Rattle.prim_draw.proofs.row_pen.draw_rows.Goals as goal
 
 pub loop-j-preserved : goal.loop-j-preserved

@@ -1,6 +1,6 @@
-use Rattle.std.proofs.Common.{ℕ, ◌≡◌, ◌+◌, length}
+use Rattle.std.proofs.Common.{ℕ, ◌≡◌, ◌+◌}
 use Rattle.prim_draw.specs.Rows.{DrawsRows}
-use Rattle.prim_draw.specs.declared.triangles.Run.{Run}
+use Rattle.span_lanes.specs.declared.span.Run.{Run}
 use Rattle.prim_draw.proofs.row_pen.draw_rows.Given as goal
 
 abbrev pub invariant-loop-j : goal.invariant-loop-j

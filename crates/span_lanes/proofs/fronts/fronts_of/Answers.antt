@@ -9,10 +9,10 @@ unfolding front_of
 returns-clause-fronts g c j lt = elim c.if-texture.branch [
   | then-texture w ↦ rw (w.result-is, w.if-texture.true) refl
   | else-texture w ↦
-      let span = c.args.span.now in
+      let span = c.args.part.now.span.now in
       let t = c.args.texture.now in
       let lane : j < 16 = omega (arith, c.requires.part.few) in
-      let x : ℕ = span.x + c.args.part.first + j in
+      let x : ℕ = span.x + c.args.part.now.first + j in
       let again = c.requires.shifts.value j lane
       ∙ shift_again (span.brush.dither && not t.raw) span.x x span.y j (omega (arith, c.requires.part.cut)) in
       let colors = w.colors.ensures in

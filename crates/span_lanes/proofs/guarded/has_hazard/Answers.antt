@@ -6,8 +6,8 @@ use Rattle.span_lanes.proofs.guarded.has_hazard.Goals as goal
 
 pub returns-then-not-plan-clause-free : goal.returns-then-not-plan-clause-free
 returns-then-not-plan-clause-free c none hazard =
-    let span = c.args.span.now in
-    let part = c.args.part in
+    let span = c.args.part.now.span.now in
+    let part = c.args.part.now in
     let t = c.args.plan.now.texture in
     let cells = cells_same span.paint t span.x span.y part.first _ _ part.k part.k c.requires.at (omega arith) in
     let known = rw (c.requires.plan.texture, cells) at hazard in
@@ -16,17 +16,19 @@ returns-then-not-plan-clause-free c none hazard =
 pub returns-then-not-plan-clause-value : goal.returns-then-not-plan-clause-value
 unfolding has_hazard
 returns-then-not-plan-clause-value c =
-    let span = c.args.span.now in
-    let part = c.args.part in
+    let span = c.args.part.now.span.now in
+    let part = c.args.part.now in
     let t = c.args.plan.now.texture in
     let cells = cells_same span.paint t span.x span.y part.first _ _ part.k part.k c.requires.at (omega arith) in
     rw (c.requires.plan.texture, cells) c.reads_itself.ensures.value
 
 pub returns-else-not-plan-clause-free : goal.returns-else-not-plan-clause-free
 returns-else-not-plan-clause-free c none hazard =
-    (c.requires.plan.apart (cc c.if-not-plan.false)).free c.args.part.first c.args.part.k c.requires.part.within hazard
+    (c.requires.plan.apart (cc c.if-not-plan.false)).free c.args.part.now.first c.args.part.now.k
+    c.requires.part.within hazard
 
 pub returns-else-not-plan-clause-value : goal.returns-else-not-plan-clause-value
 returns-else-not-plan-clause-value c =
-    rw c.if-not-plan.false (sym (apart_free c.args.span.now c.args.plan.now.texture c.args.part.first c.args.part.k
+    rw c.if-not-plan.false (sym (apart_free c.args.part.now.span.now c.args.plan.now.texture c.args.part.now.first
+    c.args.part.now.k
     (c.requires.plan.apart (cc c.if-not-plan.false)) c.requires.part.within c.requires.plan.texture))

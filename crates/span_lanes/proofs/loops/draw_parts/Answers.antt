@@ -10,7 +10,7 @@ loop-c-init g c = record {
 
 pub loop-c-preserved : goal.loop-c-preserved
 loop-c-preserved g c = record {
-  drawn = parts_next c.args.span.now c.loop-c.c _ _ _ _ _ _ _ _ c.loop-c.invariant.drawn (omega arith) (omega arith)
+  drawn = parts_next c.loop-c.c _ _ _ _ _ _ _ _ c.loop-c.invariant.drawn (omega arith) (omega arith)
       (omega arith)
       c.draw_part.ensures.drawn;
   serves = c.draw_part.ensures.serves;
@@ -20,7 +20,7 @@ pub returns-then-rest-clause-drawn : goal.returns-then-rest-clause-drawn
 returns-then-rest-clause-drawn g c =
     let can = g.met.C.Chunks.can _ _ _ c.requires in
     parts_all c.args.span.now (c.loop-c.c + 1) _ _ _ _ _
-    (parts_next c.args.span.now c.loop-c.c _ _ _ _ _ _ _ _ c.loop-c.invariant.drawn (omega arith) (omega arith)
+    (parts_next c.loop-c.c _ _ _ _ _ _ _ _ c.loop-c.invariant.drawn (omega arith) (omega arith)
     (omega arith)
     c.draw_part-then-rest.ensures.drawn)
     (omega arith) can.span.some
@@ -29,7 +29,7 @@ pub returns-then-rest-gt0-clause-drawn : goal.returns-then-rest-gt0-clause-drawn
 returns-then-rest-gt0-clause-drawn g c =
     let can = g.met.C.Chunks.can _ _ _ c.requires in
     parts_all c.args.span.now (c.loop-c.c + 1) _ _ _ _ _
-    (parts_next c.args.span.now c.loop-c.c _ _ _ _ _ _ _ _ c.loop-c.invariant.drawn (omega arith) (omega arith)
+    (parts_next c.loop-c.c _ _ _ _ _ _ _ _ c.loop-c.invariant.drawn (omega arith) (omega arith)
     (omega arith)
     c.draw_part-then-rest-gt0.ensures.drawn)
     (omega arith) can.span.some

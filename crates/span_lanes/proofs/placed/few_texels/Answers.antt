@@ -9,5 +9,5 @@ read_few-requires-clause-page g c = rw c.requires.can.sample.texture at c.requir
 
 pub returns-clause-texels : goal.returns-clause-texels
 returns-clause-texels g c =
-    texels_here c.args.span.now c.args.texture.now c.args.part.first c.args.part.k _ _ c.args.vram.now _
+    texels_here c.args.part.now c.args.texture.now _ _ c.args.vram.now _
     c.coordinates-at.ensures c.read_few.ensures.long c.read_few.ensures.value

@@ -11,22 +11,22 @@ use Rattle.span_lanes.proofs.plain.collect_plain.Goals as goal
 pub returns-clause-lanes : goal.returns-clause-lanes
 returns-clause-lanes g c = record {
   lane = λ j lt.
-      let span = c.args.span.now in
+      let span = c.args.part.now.span.now in
       let in_lanes : j < 16 = omega arith in
-      let x : ℕ = span.x + c.args.part.first + j in
-      let same_x : span.x + (c.args.part.first + j) ≡ x = omega arith in
-      let place : 1024 * span.y + (span.x + c.args.part.first + j)
-      ≡ 1024 * span.y + (span.x + c.args.part.first) + j = omega arith in
-      let cell : ℕ = get_or c.args.vram.now (1024 * span.y + (span.x + c.args.part.first) + j) 0 in
+      let x : ℕ = span.x + c.args.part.now.first + j in
+      let same_x : span.x + (c.args.part.now.first + j) ≡ x = omega arith in
+      let place : 1024 * span.y + (span.x + c.args.part.now.first + j)
+      ≡ 1024 * span.y + (span.x + c.args.part.now.first) + j = omega arith in
+      let cell : ℕ = get_or c.args.vram.now (1024 * span.y + (span.x + c.args.part.now.first) + j) 0 in
       let back : DoesFor span.brush cell (get_or c.back_of-back.result j 0) = c.back_of-back.ensures.value j lt in
-      let here : get_or c.args.vram.now (1024 * span.y + (span.x + c.args.part.first + j)) 0
+      let here : get_or c.args.vram.now (1024 * span.y + (span.x + c.args.part.now.first + j)) 0
       ≡ cell = ap (λ (k : ℕ). get_or c.args.vram.now k 0) place in
       let color : ℕ = paint_color span.paint x span.y in
-      let hue = rw same_x at (c.requires.tones.colors c.args.part.first j in_lanes (omega arith)) in
+      let hue = rw same_x at (c.requires.tones.colors c.args.part.now.first j in_lanes (omega arith)) in
       let again = c.requires.tones.offsets.value j in_lanes ∙ shift_again span.brush.dither span.x x span.y j
       (omega (arith, c.requires.part.cut)) in
       plain_lane span.brush cell _ _ _ _ _ _
-      (shade_plain span (c.args.part.first + j) x c.args.vram.now c.requires.tones.plain (omega arith)
+      (shade_plain span (c.args.part.now.first + j) x c.args.vram.now c.requires.tones.plain (omega arith)
       ∙ ap (flat_pixel span.brush color (shift_of span.brush.dither x span.y)) here
       ∙ flat_back span.brush color (shift_of span.brush.dither x span.y) cell _ back
       ∙ plain_is span.brush color _ _ _ _ (rw (hue, again) at (c.hue_tones-tones.ensures.value j in_lanes))
@@ -36,4 +36,4 @@ returns-clause-lanes g c = record {
 
 pub hue_tones-tones-requires-clause-none : goal.hue_tones-tones-requires-clause-none
 hue_tones-tones-requires-clause-none g c none i lt = c.requires.tones.offsets.value i lt
-    ∙ no_shift c.args.span.now.brush.dither (c.args.span.now.x + i) c.args.span.now.y none
+    ∙ no_shift c.args.part.now.span.now.brush.dither (c.args.part.now.span.now.x + i) c.args.part.now.span.now.y none

@@ -4,9 +4,9 @@ use Rattle.span_lanes.proofs.store.store_part.Goals as goal
 
 pub returns-clause-cells : goal.returns-clause-cells
 returns-clause-cells g c =
-    let part = c.args.part in
+    let part = c.args.part.now in
     chunk_law _ _ _ _ _ _
-    (span_blind c.args.span.now part.first part.k c.args.vram.now c.requires.can.span c.requires.part.within
+    (span_blind c.args.part.now.span.now part.first part.k c.args.vram.now c.requires.can.span c.requires.part.within
     c.requires.free)
     c.requires.lanes c.store16.ensures.cells
 

@@ -8,7 +8,8 @@ draw_rows-requires-clause-block g c = tri_block _ _ _ c.rows_of.ensures c.requir
 
 pub draw_rows-requires-clause-can : goal.draw_rows-requires-clause-can
 draw_rows-requires-clause-can g c y run gives = (
-  tri_can_draw _ _ _ c.rows_of.ensures (height_of c.args.vram.now) (solid_coat c.args.self.now) y run c.requires.can gives,
+  tri_can_draw _ _ _ c.rows_of.ensures (height_of c.args.vram.now) (solid_coat c.args.self.now) y run c.requires.can
+      gives,
   tt,
 )
 

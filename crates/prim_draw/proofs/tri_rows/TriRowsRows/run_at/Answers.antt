@@ -7,7 +7,7 @@ use Rattle.prim_draw.specs.Boxes.{block_of, row_box}
 use Rattle.prim_draw.specs.Rows.{LiesInBlock}
 use Rattle.prim_draw.specs.Triangles.{draws, row_inside}
 use Rattle.prim_draw.specs.Walks.{IsRowOf}
-use Rattle.prim_draw.specs.declared.triangles.Run.{Run}
+use Rattle.span_lanes.specs.declared.span.Run.{Run}
 use Rattle.prim_draw.proofs.WalkLemmas.{IsBoxOf, at_row, box_is, row_none, row_span}
 use Rattle.prim_draw.proofs.RowLemmas.{IsFound, filtered, first_in, found, last_in, none_found}
 use Rattle.prim_draw.proofs.tri_rows.TriRowsRows.run_at.Goals as goal

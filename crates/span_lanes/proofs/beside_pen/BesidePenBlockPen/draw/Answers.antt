@@ -1,4 +1,3 @@
-use Rattle.span_lanes.specs.Pen.{ink_of}
 use Rattle.span_lanes.proofs.SheetLemmas.{can_draw_row}
 use Rattle.span_lanes.proofs.PartLemmas.{draws_cells}
 use Rattle.span_lanes.proofs.beside_pen.BesidePenBlockPen.draw.Goals as goal
@@ -13,4 +12,4 @@ draw_beside_row-requires-clause-can g c =
 pub returns-clause-drawn : goal.returns-clause-drawn
 returns-clause-drawn g c =
     rw (← c.self.view_is)
-    (draws_cells (ink_of c.self.inside.span) c.args.x c.args.y c.args.n _ _ c.draw_beside_row.ensures.drawn)
+    (draws_cells _ _ _ c.draw_beside_row.ensures.drawn)

@@ -4,8 +4,8 @@ use Rattle.span_lanes.proofs.guarded.PlanChunks.draw_part.Goals as goal
 
 pub draw_guarded-requires-clause-at : goal.draw_guarded-requires-clause-at
 draw_guarded-requires-clause-at g c =
-    let span = c.args.span.now in
-    let part = c.args.part in
+    let span = c.args.part.now.span.now in
+    let part = c.args.part.now in
     let at = c.track_lanes-at.ensures in
     coordinates_here span.paint span.x span.y span.n part.first part.k c.args.self.now.track _ _
     c.requires.serves.1.track c.requires.part.within c.requires.part.few at.across at.down at.u at.v

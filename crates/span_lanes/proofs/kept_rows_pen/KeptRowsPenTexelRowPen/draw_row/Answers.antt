@@ -1,4 +1,3 @@
-use Rattle.span_lanes.specs.TexelRows.{texel_ink}
 use Rattle.span_lanes.proofs.PartLemmas.{draws_cells}
 use Rattle.span_lanes.proofs.kept_rows_pen.KeptRowsPenTexelRowPen.draw_row.Goals as goal
 
@@ -9,5 +8,5 @@ pub returns-clause-drawn : goal.returns-clause-drawn
 returns-clause-drawn g c =
     let rows = c.self.inside.rows in
     rw (← c.self.view_is)
-    (draws_cells (texel_ink rows c.args.v) rows.block.x c.args.y rows.block.w _ _
+    (draws_cells _ _ _
     (rw c.span-span.ensures at c.draw_strip.ensures.drawn))

@@ -1,8 +1,7 @@
 use Rattle.span_lanes.proofs.PartLemmas.{draws_cells}
-use Rattle.span_lanes.specs.Pen.{ink_of}
 use Rattle.span_lanes.proofs.pen.Pen.draw.Goals as goal
 
 pub returns-clause-drawn : goal.returns-clause-drawn
 returns-clause-drawn g c =
     rw (← c.self.view_is)
-    (draws_cells (ink_of c.self.inside.span) c.args.x c.args.y c.args.n _ _ c.draw_ready.ensures.drawn)
+    (draws_cells _ _ _ c.draw_ready.ensures.drawn)

@@ -6,7 +6,7 @@ returns c =
     let red = c.lanes.ensures in
     let green = c.lanes-2.ensures in
     let blue = c.lanes-3.ensures in
-    colors_of c.args.span.now c.args.part c.args.self.now (record { red = _; green = _; blue = _ }) c.requires.span
+    colors_of c.args.part.now c.args.self.now (record { red = _; green = _; blue = _ }) c.requires.span
     c.requires.part c.requires.suits (record { long = red.long; bytes = red.bytes })
     (record { long = green.long; bytes = green.bytes }) (record { long = blue.long; bytes = blue.bytes })
     red.value green.value blue.value

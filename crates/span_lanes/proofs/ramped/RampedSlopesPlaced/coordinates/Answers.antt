@@ -5,5 +5,5 @@ pub returns : goal.returns
 returns c =
     let us = c.lanes.ensures in
     let vs = c.lanes-2.ensures in
-    coordinates_of c.args.span.now c.args.part c.args.self.now _ _ c.requires.span c.requires.part c.requires.places
+    coordinates_of c.args.part.now c.args.self.now _ _ c.requires.span c.requires.part c.requires.places
     (record { long = us.long; bytes = us.bytes }) (record { long = vs.long; bytes = vs.bytes }) us.value vs.value

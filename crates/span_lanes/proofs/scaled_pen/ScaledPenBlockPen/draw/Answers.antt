@@ -4,10 +4,10 @@ use Rattle.span_lanes.proofs.scaled_pen.ScaledPenBlockPen.draw.Goals as goal
 
 pub draw_scaled-requires-clause-palette : goal.draw_scaled-requires-clause-palette
 draw_scaled-requires-clause-palette g c =
-    c.self.invariant.0.is.apart.palette (ink_span (ink_of c.self.inside.span) c.args.x c.args.y c.args.n)
+    c.self.invariant.0.is.apart.palette (ink_span (ink_of c.self.inside.span) c.args.run.x c.args.y c.args.run.n)
     (rw (← c.self.view_is) at c.requires.block)
 
 pub returns-clause-drawn : goal.returns-clause-drawn
 returns-clause-drawn g c =
     rw (← c.self.view_is)
-    (draws_cells (ink_of c.self.inside.span) c.args.x c.args.y c.args.n _ _ c.draw_scaled.ensures.drawn)
+    (draws_cells _ _ _ c.draw_scaled.ensures.drawn)

@@ -13,9 +13,9 @@ returns-clause-texels g c = record {
   value = λ j lt.
       let lane : j < 16 = omega arith in
       let s = c.args.self.now.stretch in
-      let column : s.u + c.args.part.first + j ≡ s.u + (c.args.part.first + j) = omega arith in
+      let column : s.u + c.args.part.now.first + j ≡ s.u + (c.args.part.now.first + j) = omega arith in
       let position = rw column at (c.sixteen_octets-index.ensures.value j lane) in
-      eight_texel c.args._span.now c.args.texture.now s _ (c.args.part.first + j) _ c.args.vram.now
+      eight_texel c.args.part.now.span.now c.args.texture.now s _ (c.args.part.now.first + j) _ c.args.vram.now
       c.requires.finds.0 c.requires.finds.1 (omega arith) (omega arith)
       (rw position at (c.gather_entries.ensures.value j lt));
 }

@@ -17,10 +17,10 @@ returns-clause-indexes g c = record {
   entry = λ j lt.
       let lane : j < 16 = omega arith in
       let s = c.args.self.now in
-      let part = c.args.part in
+      let part = c.args.part.now in
       let column : s.u + part.first + j ≡ s.u + (part.first + j) = omega arith in
       let position = rw column at (c.sixteen_indexes.ensures.value j lane) in
-      four_texel c.args._span.now c.args.texture.now s _ (part.first + j) _ c.args.vram.now c.requires.finds
+      four_texel c.args.part.now.span.now c.args.texture.now s _ (part.first + j) _ c.args.vram.now c.requires.finds
       c.requires.depth (omega arith) (omega arith)
       (ap (λ (i : ℕ). at_cell c.args.vram.now (clut_place c.args.texture.now.clut i)) position);
 }

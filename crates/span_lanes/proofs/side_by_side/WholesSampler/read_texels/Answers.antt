@@ -7,9 +7,10 @@ returns-clause-texels g c = record {
   long = c.load16.ensures.lanes.count;
   value = λ j lt.
       let s = c.args.self.now.stretch in
-      let place : 1024 * s.y + (c.args.texture.now.page.x + s.u + c.args.part.first) + j
-      ≡ 1024 * s.y + (c.args.texture.now.page.x + (s.u + (c.args.part.first + j))) = omega arith in
-      whole_texel c.args._span.now c.args.texture.now s _ (c.args.part.first + j) _ c.args.vram.now c.requires.finds.0
+      let place : 1024 * s.y + (c.args.texture.now.page.x + s.u + c.args.part.now.first) + j
+      ≡ 1024 * s.y + (c.args.texture.now.page.x + (s.u + (c.args.part.now.first + j))) = omega arith in
+      whole_texel c.args.part.now.span.now c.args.texture.now s _ (c.args.part.now.first + j) _ c.args.vram.now
+      c.requires.finds.0
       c.requires.finds.1 (omega arith) (omega arith)
       (c.load16.ensures.lanes.cells j lt ∙ ap (λ (k : ℕ). get_or c.args.vram.now k 0) place);
 }

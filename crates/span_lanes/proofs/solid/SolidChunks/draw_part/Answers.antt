@@ -7,8 +7,8 @@ use Rattle.span_lanes.proofs.solid.SolidChunks.draw_part.Goals as goal
 
 pub returns-clause-drawn : goal.returns-clause-drawn
 returns-clause-drawn g c =
-    let span = c.args.span.now in
-    let part = c.args.part in
+    let span = c.args.part.now.span.now in
+    let part = c.args.part.now in
     let solid = c.requires.serves.solid in
     let h = c.args.self.now.h in
     record {

@@ -6,33 +6,41 @@ use Rattle.span_lanes.proofs.PartLemmas.{sample_stays}
 use Rattle.span_lanes.proofs.texels.KeptChunks.draw_part.Goals as goal
 
 pub draw_fronts-requires-clause-free : goal.draw_fronts-requires-clause-free
-draw_fronts-requires-clause-free g c = c.requires.serves.suits.apart.free c.args.part.first c.args.part.k c.requires.part.within
+draw_fronts-requires-clause-free g c =
+    let part = c.args.part.now in
+    c.requires.serves.suits.apart.free part.first part.k c.requires.part.within
 
-pub draw_fronts-requires-clause-texels : goal.draw_fronts-requires-clause-texels
-draw_fronts-requires-clause-texels g c = record {
-  long = c.drawn_at-drawn.ensures.long.0;
-  value = λ j lt.
-      let lane : j < 16 = omega arith in
-      c.drawn_at-drawn.ensures.texels j lane
-      ∙ c.requires.serves.entries.entry _ (c.read_indexes-index.ensures.indexes.low j lane)
-      ∙ c.read_indexes-index.ensures.indexes.entry j lt;
-}
-
-pub draw_fronts-requires-clause-front : goal.draw_fronts-requires-clause-front
-draw_fronts-requires-clause-front g c j lt =
-    let span = c.args.span.now in
-    let x : ℕ = span.x + c.args.part.first + j in
-    let lane : j < 16 = omega arith in
-    let same_x : span.x + (c.args.part.first + j) ≡ x = omega arith in
-    let hue = rw same_x at (c.requires.serves.hue c.args.part.first j lane (omega arith)) in
-    rw (← hue, no_shift (span.brush.dither && not c.args.self.now.texture.raw) x span.y c.requires.serves.suits.even)
-    (c.drawn_at-drawn.ensures.fronts j lane)
+pub draw_fronts-requires-clause-drawn : goal.draw_fronts-requires-clause-drawn
+draw_fronts-requires-clause-drawn g c =
+    let part = c.args.part.now in
+    let span = part.span.now in
+    record {
+      texels = record {
+        long = c.drawn_at-drawn.ensures.long.0;
+        value = λ j lt.
+            let lane : j < 16 = omega arith in
+            c.drawn_at-drawn.ensures.texels j lane
+            ∙ c.requires.serves.entries.entry _ (c.read_indexes-index.ensures.indexes.low j lane)
+            ∙ c.read_indexes-index.ensures.indexes.entry j lt;
+      };
+      long = c.drawn_at-drawn.ensures.long.1;
+      front = λ j lt.
+          let x : ℕ = span.x + part.first + j in
+          let lane : j < 16 = omega arith in
+          let same_x : span.x + (part.first + j) ≡ x = omega arith in
+          let hue = rw same_x at (c.requires.serves.hue part.first j lane (omega arith)) in
+          let even = c.requires.serves.suits.even in
+          rw (← hue, no_shift (span.brush.dither && not c.args.self.now.texture.raw) x span.y even)
+          (c.drawn_at-drawn.ensures.fronts j lane);
+    }
 
 pub returns-clause-drawn : goal.returns-clause-drawn
 returns-clause-drawn g c =
-    let cost = (rw c.requires.serves.suits.depth at
-    (apart_cost c.args.span.now c.args.self.now.texture c.args.part.first c.args.part.k c.requires.serves.suits.apart
-    c.requires.part.within c.requires.serves.sample.texture)) in
+    let part = c.args.part.now in
+    let suits = c.requires.serves.suits in
+    let cost = (rw suits.depth at
+    (apart_cost part.span.now c.args.self.now.texture part.first part.k suits.apart c.requires.part.within
+    c.requires.serves.sample.texture)) in
     record {
       cells = c.draw_fronts.ensures.cells;
       long = c.draw_fronts.ensures.others.count;
@@ -42,6 +50,7 @@ returns-clause-drawn g c =
 pub returns-clause-serves : goal.returns-clause-serves
 returns-clause-serves g c =
     let is = c.requires.serves in
+    let part = c.args.part.now in
     record {
       sample = sample_stays is.sample c.draw_fronts.ensures.others.count;
       suits = is.suits;
@@ -49,6 +58,6 @@ returns-clause-serves g c =
       hue = is.hue;
       raw = is.raw;
       colored = is.colored;
-      entries = swatches_kept c.args.self.now.texture (c.args.span.now.x + c.args.part.first) c.args.span.now.y
-          c.args.part.k _ _ _ c.draw_fronts.ensures.others (omega arith) is.suits.row is.entries;
+      entries = swatches_kept c.args.self.now.texture (part.span.now.x + part.first) part.span.now.y part.k _ _ _
+          c.draw_fronts.ensures.others (omega arith) is.suits.row is.entries;
     }

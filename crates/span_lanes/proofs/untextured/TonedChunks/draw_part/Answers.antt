@@ -12,7 +12,7 @@ returns-clause-drawn g c = record {
   long = c.store_part.ensures.others.count;
   cost = omega (
     arith,
-    plain_cost c.args.span.now c.args.part.first c.args.part.k c.requires.serves.plain,
+    plain_cost c.args.part.now.span.now c.args.part.now.first c.args.part.now.k c.requires.serves.plain,
     c.collect_plain-lanes.ensures.cost,
     c.store_part.ensures.cost,
   );
