@@ -1,13 +1,12 @@
 // A capture is played to its end.
-ghost use Rattle.std.specs.Prelude.{◌≡◌, ◌≤◌, ◌+◌, None, map, OnOk, OnErr, IfErr};
+ghost use Rattle.std.specs.Prelude.{◌≡◌, ◌≤◌, None, map, OnOk, OnErr, IfErr};
 ghost use Rattle.dev_io.specs.Device.{Rose};
-ghost use Rattle.gpu_capture.specs.Reader.{IsReadFault, work_left};
+ghost use Rattle.gpu_capture.specs.Reader.{IsReadFault};
 ghost use Rattle.gpu_capture.specs.Words.{TakesWords, StopsBehind};
 ghost use Rattle.event_play.specs.Causes.{MayReadFault, MayWriteFault, IsEnding};
 ghost use Rattle.event_play.specs.Course.{at_end};
-ghost use Rattle.event_play.specs.Lines.{IsGathered};
-ghost use Rattle.event_play.specs.PlayedWords.{AreUnwatched};
 ghost use Rattle.event_play.specs.Playing.{EndsPlay};
+ghost use Rattle.event_play.specs.Reading.{NoMoreLeft, SuitMode};
 ghost use Rattle.event_play.specs.Replay.{Tale, script_of, script_behind, from_state, raised};
 ghost use Rattle.event_play.specs.RigState.{Stands, StandsFor};
 ghost use Rattle.event_play.specs.Step.{Machine};
@@ -146,12 +145,10 @@ fn read_words<S: Source>(
     block: &mut WordBlock,
 ) -> Result<(), Stop>
     requires { reader.old.stop ≡ None }
-    ensures version { reader.new.progress.version ≡ reader.old.progress.version }
-    ensures few { IsGathered mode → reader.new.progress.place ≤ reader.old.progress.place + 2048 }
-    ensures unwatched { AreUnwatched mode block.new }
+    ensures suit { SuitMode mode reader.old.progress reader.new.progress block.new }
+    ensures left { NoMoreLeft reader.old.progress reader.new.progress }
     ensures takes { OnOk result (TakesWords reader.old.progress reader.new.progress
         (S.left source.old) (S.left source.new) block.new) }
-    ensures forward { work_left reader.new.progress ≤ work_left reader.old.progress }
     ensures runs_on { OnOk result (reader.new.stop ≡ None) }
     ensures stop { IfErr result (λ stop. StopsBehind reader.old.progress reader.new.progress
         (S.left source.old) (S.left source.new) block.new stop) }
