@@ -3,7 +3,7 @@ use Rattle.std.proofs.Common.{◌≡◌, ◌≤◌, ◌+◌, ◌++◌, ℕ, List
 use Rattle.std.proofs.Common.{append_assoc, ◌<◌, append-nil, arith, inl, inr, subst}
 use Rattle.gathered_out.specs.Pieces.{Piece}
 use Rattle.gathered_out.proofs.Gathers.{Gathers, gathers_none, gathers_written}
-use Rattle.gathered_out.specs.Puts.{IsWritten}
+use Rattle.gathered_out.specs.Puts.{IsWritten, holding}
 use Rattle.gpu_capture.specs.Capture.{limit}
 use Rattle.gpu_capture.specs.Written.{spelled}
 use Rattle.gpu_capture.specs.declared.event.Event.{Event}
@@ -11,7 +11,7 @@ use Rattle.gpu_capture.specs.declared.progress.Progress.{Progress}
 use Rattle.gpu_capture.proofs.Taken.{taken_count}
 use Rattle.event_play.specs.Replay.{Tale}
 use Rattle.event_play.specs.RigState.{RigState}
-use Rattle.event_play.specs.Streams.{Streams, sink_with, streams}
+use Rattle.event_play.specs.Streams.{Streams, streams}
 use Rattle.capture_flat.specs.Passing.{AreNeeded}
 use Rattle.event_play.specs.Pausing.{Pauses, most_behind}
 use Rattle.capture_cut.specs.Came.{Came, GoesOn, Reached, unheld}
@@ -158,7 +158,7 @@ pub record Paused (cut : CutAt) (before now : Streams) (rig : RigState) (p : Pro
 pub pauses_on : (cut : CutAt) (before now : Streams) (rig : RigState) (p : Progress) (draft : Draft)
     (pieces : List Piece) (since at count : ℕ) (held : Option (List ℕ))
     → Comes cut before now rig p draft since count
-    → Pauses p.place since (sink_with now.held draft.gathered) (sink_with held pieces) at
+    → Pauses p.place since (holding now.held draft.gathered) (holding held pieces) at
     → Paused cut before (streams now.left held now.heard now.steps) rig p (with_pieces draft pieces) at count
 pauses_on cut before now rig p draft pieces since at count held came (inl on) =
     let e = on.0 in

@@ -1,8 +1,8 @@
 -- How far cutting a capture has come, between its steps.
 use Rattle.std.specs.Prelude.{◌≡◌, ◌≤◌, ◌<◌, ◌⊎◌, ℕ, List, ◌++◌, ◌+◌, ◌^◌, Option, None, Result, Ok, Err, length}
 use Rattle.dev_io.specs.Device.{prepended, appended, AppendsPart}
-use Rattle.gathered_out.specs.Pieces.{Piece}
-use Rattle.gathered_out.specs.Puts.{BreaksPut, BreaksWriting, IsPut, IsWritten}
+use Rattle.gathered_out.specs.Pieces.{Piece, piece}
+use Rattle.gathered_out.specs.Puts.{BreaksPut, BreaksWriting, IsPut, IsWritten, holding}
 use Rattle.gpu_capture.specs.Capture.{capture, then_events, limit}
 use Rattle.gpu_capture.specs.Reader.{IsReadFault, capture_from, work_left}
 use Rattle.gpu_capture.specs.Written.{spelled, spelled_end, AllowsAll}
@@ -134,7 +134,8 @@ writing draft held = record { draft = draft; held = held }
 
 -- the record of the event of this number was put behind the file so far, with room for an End record
 pub record PutsRecord (number : ℕ) (event : Event) (before now : Writing) : Type 0 where
-  pub put : IsPut number (spelled event) before.held now.held before.draft.gathered now.draft.gathered
+  pub put : IsPut (piece number (spelled event)) (holding before.held before.draft.gathered)
+      (holding now.held now.draft.gathered)
   pub size_is : now.draft.size ≡ before.draft.size + length (spelled event)
   pub fits : now.draft.size + 4 ≤ limit
 
@@ -150,7 +151,7 @@ EndsRecord number event before now ending =
     ((limit < before.draft.size + length (spelled event) + 4)
     × EndsTooLong number before.draft.gathered before.held now ending)
     ⊎ ((before.draft.size + length (spelled event) + 4 ≤ limit) × (lacking : ℕ) × (ending ≡ WriteFailed lacking)
-    × BreaksPut number (spelled event) before.held now before.draft.gathered lacking)
+    × BreaksPut (piece number (spelled event)) (holding before.held before.draft.gathered) now lacking)
 
 -- how a stop of the reader ends it, where the next event would have this number
 abbrev pub EndsAt : (number : ℕ) → Stop → (before now : Option (List ℕ)) → CutEnding → Type 0

@@ -1,6 +1,6 @@
 // The two memories of a state, word by word.
 ghost use Rattle.std.specs.Prelude.{◌≡◌, ◌≤◌, ◌<◌, ◌+◌, ◌*◌, ◌^◌, ℕ, length, take, drop, slice_index, OnOk};
-ghost use Rattle.dev_io.specs.Device.{Writes};
+ghost use Rattle.dev_io.specs.Device.{Writes, side};
 ghost use Rattle.gpu_capture.specs.Written.{word_bytes};
 ghost use Rattle.ot_clear_dma.specs.Ram.{memory_words};
 ghost use Rattle.picture_out.specs.Dump.{dump_cost};
@@ -19,7 +19,7 @@ pub(crate) fn write_cells<K: Sink, L: Ledger>(
     out: &mut K,
     steps: &mut Steps<L>,
 ) -> Result<(), Failed>
-    ensures writes { Writes K.held K.faults out.old out.new (bytes_of (cell_words vram.now)) result }
+    ensures writes { Writes (side K.held K.faults) out.old out.new (bytes_of (cell_words vram.now)) result }
     ensures cells { OnOk result (AreCells vram.now) }
     ensures cost { steps.new ≤ steps.old + dump_cost vram.now }
 {
@@ -32,7 +32,7 @@ pub(crate) fn write_cells<K: Sink, L: Ledger>(
 
 /// Writes main memory, 512 words to a call of the sink.
 pub(crate) fn write_ram<K: Sink>(ram: &Ram, out: &mut K) -> Result<(), Failed>
-    ensures { Writes K.held K.faults out.old out.new (bytes_of ram.now) result }
+    ensures { Writes (side K.held K.faults) out.old out.new (bytes_of ram.now) result }
 {
     for i in 0..1024 {
         let words = ram_words(ram, 512 * i);
@@ -111,7 +111,7 @@ fn ram_words(ram: &Ram, first: u32) -> [u32; 512]
 
 // Writes words by one call of the sink, the low byte of each first.
 fn write_words<K: Sink>(out: &mut K, words: &[u32; 512]) -> Result<(), Failed>
-    ensures { Writes K.held K.faults out.old out.new (bytes_of words.now) result }
+    ensures { Writes (side K.held K.faults) out.old out.new (bytes_of words.now) result }
 {
     let mut bytes = [0u8; 2048];
     for i in 0..512 {

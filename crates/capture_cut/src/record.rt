@@ -1,6 +1,7 @@
 // The record of an event that is not played.
 ghost use Rattle.std.specs.Prelude.{◌≡◌, ◌≤◌, length};
-ghost use Rattle.gathered_out.specs.Puts.{Puts};
+ghost use Rattle.gathered_out.specs.Pieces.{piece};
+ghost use Rattle.gathered_out.specs.Puts.{Puts, sink_state};
 ghost use Rattle.gpu_capture.specs.Record.{IsEvent};
 ghost use Rattle.gpu_capture.specs.Written.{spelled, Allows};
 
@@ -68,7 +69,8 @@ pub(crate) fn put_bytes<K: Sink>(
     event: &Event,
 ) -> Result<(), u64>
     requires { IsEvent event.now }
-    ensures { Puts K.held K.faults number (spelled event.now) out.old out.new gathered.old gathered.new result }
+    ensures { Puts (piece number (spelled event.now))
+        (sink_state K.held K.faults out.old gathered.old) (sink_state K.held K.faults out.new gathered.new) result }
 {
     gathered.put(number, record_bytes(event).as_slice(), out)
 }

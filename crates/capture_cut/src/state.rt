@@ -1,6 +1,6 @@
 // The state of a machine is written.
 ghost use Rattle.std.specs.Prelude.{◌≡◌, ◌≤◌, ◌<◌, ◌+◌, ◌*◌, ◌^◌, ◌++◌, length, OnOk};
-ghost use Rattle.dev_io.specs.Device.{Writes};
+ghost use Rattle.dev_io.specs.Device.{Writes, side};
 ghost use Rattle.gp0_words.specs.Next.{IsPending};
 ghost use Rattle.gp1_status.specs.Registers.{KeepsWidths};
 ghost use Rattle.picture_out.specs.Dump.{dump_cost};
@@ -25,7 +25,7 @@ pub fn write_state<K: Sink, L: Ledger>(
     out: &mut K,
     steps: &mut Steps<L>,
 ) -> Result<(), Failed>
-    ensures writes { Writes K.held K.faults out.old out.new (rig_bytes rig.now) result }
+    ensures writes { Writes (side K.held K.faults) out.old out.new (rig_bytes rig.now) result }
     ensures cells { OnOk result (AreCells rig.now.gpu.parts.m) }
     ensures cost { steps.new ≤ steps.old + dump_cost rig.now.gpu.parts.m }
 {
@@ -44,7 +44,8 @@ pub(crate) fn state_size(rig: &Rig) -> u32
 // Writes the head, and a state but for its memories.
 fn write_front<K: Sink>(outline: &Outline, out: &mut K) -> Result<(), Failed>
     requires { IsPending outline.now.pending }
-    ensures { Writes K.held K.faults out.old out.new (snapshot_head ++ bytes_of (outline_words outline.now)) result }
+    ensures { Writes (side K.held K.faults) out.old out.new
+        (snapshot_head ++ bytes_of (outline_words outline.now)) result }
 {
     write_head(out)?;
     write_outline(out, outline)
@@ -56,7 +57,7 @@ fn write_memories<K: Sink, L: Ledger>(
     out: &mut K,
     steps: &mut Steps<L>,
 ) -> Result<(), Failed>
-    ensures writes { Writes K.held K.faults out.old out.new
+    ensures writes { Writes (side K.held K.faults) out.old out.new
         (bytes_of (cell_words rig.now.gpu.parts.m) ++ bytes_of rig.now.ram) result }
     ensures cells { OnOk result (AreCells rig.now.gpu.parts.m) }
     ensures cost { steps.new ≤ steps.old + dump_cost rig.now.gpu.parts.m }

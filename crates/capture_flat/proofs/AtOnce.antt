@@ -4,7 +4,7 @@ use Rattle.std.proofs.Common.{IfErr}
 use Rattle.std.proofs.Common.{◌^◌, None, length, refl, ap, sym, subst, ◌∙◌, append_assoc, append-nil, arith}
 use Rattle.dev_io.proofs.Parts.{taken_on}
 use Rattle.gathered_out.specs.Pieces.{Piece}
-use Rattle.gathered_out.specs.Puts.{BreaksWriting}
+use Rattle.gathered_out.specs.Puts.{BreaksWriting, holding}
 use Rattle.gathered_out.proofs.Gathers.{gathers_more, gathers_off}
 use Rattle.gpu_capture.specs.Capture.{capture, limit}
 use Rattle.gpu_capture.specs.Reader.{AreNeeded as ReaderNeeds, Takes, capture_from, work_left, standing}
@@ -23,7 +23,7 @@ use Rattle.event_play.specs.PlayedWords.{after_words}
 use Rattle.event_play.specs.Replay.{Tale, Script, from_state, raised}
 use Rattle.event_play.specs.RigState.{RigState, Stands as RigStands}
 use Rattle.event_play.specs.Step.{Machine}
-use Rattle.event_play.specs.Streams.{Outlets, Streams, sink_with, streams, without_sink}
+use Rattle.event_play.specs.Streams.{Outlets, Streams, streams, without_sink}
 use Rattle.event_play.specs.Told.{told_notes}
 use Rattle.event_play.proofs.Following.{ReadsTo, read_words}
 use Rattle.event_play.proofs.InARow.{words_are}
@@ -85,7 +85,7 @@ pub pieces_out : (first : Tale) (version : ℕ) (before : Streams) (left held no
     (gathered pieces new : List Piece) (since : ℕ)
     → Passes first version before (streams left held heard steps) rig p
     (record { file = file; gathered = gathered ++ pieces }) since
-    → ArePut pieces (sink_with held gathered) (sink_with now new)
+    → ArePut pieces (holding held gathered) (holding now new)
     → Passes first version before (streams left now heard steps) rig p (record { file = file; gathered = new }) since
 pieces_out first version before left held now heard steps rig p file gathered pieces new since was put = record {
   taken = was.taken;
@@ -144,7 +144,7 @@ pub event_goes : (start : Tale) (version : ℕ) (before : Streams) (left_mid lef
     → version ≡ new.version
     → 1 ≤ new.version → (is last : Draft) (at : ℕ) (held : Option (List ℕ))
     → PassesEvent was.tale given (stage draft mid was_rig) (stage is now rig) → last.file ≡ is.file
-    → Pauses new.place since (sink_with now.held is.gathered) (sink_with held last.gathered) at
+    → Pauses new.place since (holding now.held is.gathered) (holding held last.gathered) at
     → GoesOn start version before (streams left held now.heard now.steps) rig new last at
 event_goes start version before left_mid left mid now was_rig rig old new draft since was near given takes same known is
     last at held passed file pauses = record {
@@ -271,8 +271,8 @@ module _ (start : Tale) (version : ℕ) (before : Streams) (left held : Option (
 
   module _ (is : Draft) (now : Option (List ℕ)) (file : is.file ≡ longer draft.file (8 * length words)) where
     abbrev Puts : {Value : Type 0} → Result Value ℕ → Type 0
-    Puts result = PutsPieces (record_pieces was_rig.played words) (sink_with held draft.gathered)
-        (sink_with now is.gathered) result
+    Puts result = PutsPieces (record_pieces was_rig.played words) (holding held draft.gathered)
+        (holding now is.gathered) result
 
     -- all of them were
     pub words_went : {Value : Type 0} (after : Option (List ℕ)) (v : Value) → Puts {Value = Value} (Ok v)
@@ -290,7 +290,7 @@ module _ (start : Tale) (version : ℕ) (before : Streams) (left held : Option (
     pub words_go : {Value : Type 0} (after : Option (List ℕ)) (v : Value) → Puts {Value = Value} (Ok v)
         → TakesWords (standing p left) (standing q after) words
         → (last : Draft) (at : ℕ) (written : Option (List ℕ)) → last.file ≡ is.file
-        → Pauses q.place since (sink_with now is.gathered) (sink_with written last.gathered) at
+        → Pauses q.place since (holding now is.gathered) (holding written last.gathered) at
         → GoesOn start version before (streams after written heard_now steps_now) rig q last at
     words_go after v puts takes last at written same_file pauses = record {
       paused = pauses_on first version before (streams after now heard_now steps_now) rig q is last since at written

@@ -6,6 +6,7 @@ use Rattle.dev_io.specs.Device.{appended}
 use Rattle.dev_io.proofs.Appended.{appended-nil}
 use Rattle.dev_io.proofs.Parts.{prepended-nil}
 use Rattle.gathered_out.specs.Pieces.{Piece}
+use Rattle.gathered_out.specs.Puts.{holding}
 use Rattle.gathered_out.proofs.Gathers.{Gathers, gathers_none, gathers_written}
 use Rattle.gpu_capture.proofs.Taken.{taken_count}
 use Rattle.gpu_capture.specs.Reader.{Takes, StopsAt, IsStart, standing}
@@ -17,7 +18,7 @@ use Rattle.event_play.specs.Pausing.{Pauses}
 use Rattle.event_play.specs.Replay.{Tale, from_state, raised, tall_version}
 use Rattle.event_play.specs.RigState.{RigState, StandsFor}
 use Rattle.event_play.specs.Step.{Machine}
-use Rattle.event_play.specs.Streams.{Streams, sink_with, streams}
+use Rattle.event_play.specs.Streams.{Streams, streams}
 use Rattle.event_play.proofs.Firsts.{IsFirst, from_first, raised_first}
 use Rattle.capture_flat.specs.Out.{begun}
 use Rattle.capture_flat.specs.declared.file.Draft.{Draft}
@@ -154,7 +155,7 @@ pub record Paused (first : Tale) (version : ℕ) (before now : Streams) (rig : R
 paused_on : (first : Tale) (version : ℕ) (before now : Streams) (rig : RigState) (progress : Progress)
     (draft : Draft) (since at : ℕ) (new : List Piece) (held : Option (List ℕ)) → 1 ≤ progress.version
     → Passes first version before now rig progress draft since
-    → Pauses progress.place since (sink_with now.held draft.gathered) (sink_with held new) at
+    → Pauses progress.place since (holding now.held draft.gathered) (holding held new) at
     → Paused first version before (streams now.left held now.heard now.steps) rig progress
     (record { file = draft.file; gathered = new }) at
 paused_on first version before now rig progress draft since at new held known was (inl on) = record {
@@ -201,7 +202,7 @@ paused_on first version before now rig progress draft since at new held known wa
 pub pauses_on : (first : Tale) (version : ℕ) (before now : Streams) (rig : RigState) (progress : Progress)
     (draft is : Draft) (since at : ℕ) (held : Option (List ℕ)) → 1 ≤ progress.version → is.file ≡ draft.file
     → Passes first version before now rig progress draft since
-    → Pauses progress.place since (sink_with now.held draft.gathered) (sink_with held is.gathered) at
+    → Pauses progress.place since (holding now.held draft.gathered) (holding held is.gathered) at
     → Paused first version before (streams now.left held now.heard now.steps) rig progress is at
 pauses_on first version before now rig progress draft is since at held known file was pauses =
     let on = paused_on first version before now rig progress draft since at is.gathered held known was pauses in

@@ -12,7 +12,8 @@ use Rattle.gpu_capture.specs.declared.event.Event.{Event}
 use Rattle.gpu_capture.specs.declared.progress.Progress.{Progress}
 use Rattle.gpu_capture.proofs.Taken.{few_at_first, few_at_once, taken_count}
 use Rattle.gpu_capture.proofs.Versions.{version_from}
-use Rattle.gathered_out.specs.Puts.{BreaksPut, BreaksWriting, IsPut, IsWritten}
+use Rattle.gathered_out.specs.Pieces.{piece}
+use Rattle.gathered_out.specs.Puts.{BreaksPut, BreaksWriting, IsPut, IsWritten, holding}
 use Rattle.gathered_out.proofs.Gathers.{BreaksDue, Gathers, breaks_put, gathers_more, gathers_off, gathers_on}
 use Rattle.gathered_out.proofs.Gathers.{gathers_written}
 use Rattle.gpu_taps.specs.Tally.{Reading}
@@ -283,10 +284,9 @@ module _ (start : Tale) (version : ℕ) (before : Streams) (left_mid left : Opti
       → Passes first version before (beside left now) rig new is since
   passes_on is passes =
       let due = due_at version was.tale given in
-      let P : List ℕ → Type 0 = λ bs. IsPut (next_number was.tale.played) bs mid.held now.held draft.gathered
-      is.gathered in
-      let put : IsPut (next_number was.tale.played) due mid.held now.held draft.gathered is.gathered =
-      subst P due_same passes.put in
+      let P : List ℕ → Type 0 = λ bs. IsPut (piece (next_number was.tale.played) bs) (holding mid.held draft.gathered)
+      (holding now.held is.gathered) in
+      let put : P due = subst P due_same passes.put in
       let long = length-append (begun version was.tale.played was.flat) due in
       let e = ap length after_it in
       let adds : is.file.size ≡ draft.file.size + length due = passes.size_is
@@ -440,8 +440,8 @@ module _ (start : Tale) (version : ℕ) (before : Streams) (left_mid left : Opti
       → EndsFlat start before (beside left now) rig (WriteFailed lacking)
   put_lacks is lacking lacks =
       let due = due_at version was.tale given in
-      let P : List ℕ → Type 0 = λ bs. BreaksPut (next_number was.tale.played) bs mid.held now.held draft.gathered
-      lacking in
+      let P : List ℕ → Type 0 = λ bs. BreaksPut (piece (next_number was.tale.played) bs)
+      (holding mid.held draft.gathered) now.held lacking in
       let size : length (due_at draft.file.version was.tale given) ≡ length due = ap length due_same in
       let fits = lacks.fits in
       let length_now = whole_length lacks.plays in

@@ -1,7 +1,7 @@
 -- One event that is played and written.
 use Rattle.std.proofs.Common.{◌≡◌, ◌<◌, ◌≤◌, ◌+◌, ◌++◌, ℕ, List, Option, Result, Ok, Err, length, refl, ap, sym, ◌∙◌}
-use Rattle.gathered_out.specs.Pieces.{Piece}
-use Rattle.gathered_out.specs.Puts.{BreaksPut, IsPut}
+use Rattle.gathered_out.specs.Pieces.{piece}
+use Rattle.gathered_out.specs.Puts.{BreaksPut, Holding, IsPut}
 use Rattle.gpu_capture.specs.Capture.{limit}
 use Rattle.gpu_capture.specs.Written.{AllowsAll}
 use Rattle.gpu_capture.specs.declared.event.Event.{Event}
@@ -129,10 +129,10 @@ pub not_long : (size bytes : ℕ) (xs ys : List ℕ) → bytes ≡ length xs →
 not_long size bytes xs ys count same few = rw (← same, ← count) few
 
 -- the same bytes under the same number
-pub put_same : (n m : ℕ) (xs ys : List ℕ) (before now : Option (List ℕ)) (old new : List Piece) → n ≡ m → xs ≡ ys
-    → IsPut n xs before now old new → IsPut m ys before now old new
-put_same n m xs ys before now old new number same put = rw (← number, ← same) put
+pub put_same : (n m : ℕ) (xs ys : List ℕ) (before now : Holding) → n ≡ m → xs ≡ ys
+    → IsPut (piece n xs) before now → IsPut (piece m ys) before now
+put_same n m xs ys before now number same put = rw (← number, ← same) put
 
-pub breaks_same : (n m : ℕ) (xs ys : List ℕ) (before now : Option (List ℕ)) (old : List Piece) (lacking : ℕ) → n ≡ m
-    → xs ≡ ys → BreaksPut n xs before now old lacking → BreaksPut m ys before now old lacking
-breaks_same n m xs ys before now old lacking number same put = rw (← number, ← same) put
+pub breaks_same : (n m : ℕ) (xs ys : List ℕ) (before : Holding) (now : Option (List ℕ)) (lacking : ℕ) → n ≡ m
+    → xs ≡ ys → BreaksPut (piece n xs) before now lacking → BreaksPut (piece m ys) before now lacking
+breaks_same n m xs ys before now lacking number same put = rw (← number, ← same) put

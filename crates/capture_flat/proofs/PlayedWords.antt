@@ -3,7 +3,7 @@ use Rattle.std.proofs.Common.{◌≡◌, ◌≤◌, ◌+◌, ◌*◌, ◌++◌, 
 use Rattle.std.proofs.Common.{sym, subst, ◌∙◌, append_assoc, append-nil, option_to_list, ◌==◌, false, arith}
 use Rattle.std.proofs.Common.{length-append}
 use Rattle.gathered_out.specs.Pieces.{Piece, piece}
-use Rattle.gathered_out.specs.Puts.{ArePieces, IsPut}
+use Rattle.gathered_out.specs.Puts.{ArePieces, IsPut, holding}
 use Rattle.gathered_out.proofs.Gathers.{Gathers, gathers_on}
 use Rattle.gpu_capture.specs.Capture.{capture, limit}
 use Rattle.gpu_capture.specs.Reading.{AreNeeded}
@@ -121,7 +121,8 @@ one_piece number word = record { numbers = (refl, tt); bytes_are = refl }
 
 -- pieces that are gathered behind others are put
 put_gathered : (number : ℕ) (bytes : List ℕ) (held : Option (List ℕ)) (gathered parts : List Piece)
-    → ArePieces number bytes parts → IsPut number bytes held held gathered (gathered ++ parts)
+    → ArePieces number bytes parts
+    → IsPut (piece number bytes) (holding held gathered) (holding held (gathered ++ parts))
 put_gathered number bytes held gathered parts are = record {
   parts = parts;
   are = are;

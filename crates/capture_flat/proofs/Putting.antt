@@ -4,12 +4,11 @@ use Rattle.std.proofs.Common.{slice_index, ap, sym, ◌∙◌}
 use Rattle.std.proofs.Common.{append_assoc, subst}
 use Rattle.std.proofs.lemmas.List.{drop_more}
 use Rattle.gathered_out.specs.Pieces.{AreOut, Piece, piece}
-use Rattle.gathered_out.specs.Puts.{BreaksWriting}
+use Rattle.gathered_out.specs.Puts.{BreaksWriting, Holding}
 use Rattle.gpu_capture.specs.Written.{spelled}
 use Rattle.gpu_capture.specs.declared.event.Event.TheVariants.{Gp0}
 use Rattle.event_play.specs.Listing.{ArePut, PutsPieces}
 use Rattle.event_play.specs.Replay.{next_number}
-use Rattle.event_play.specs.Streams.{SinkState}
 use Rattle.event_play.proofs.Listed.{breaks_more, put_on, put_piece}
 use Rattle.capture_flat.specs.Records.{record_pieces}
 
@@ -25,7 +24,7 @@ pieces_on all done number after words i bytes lt at is are =
     (record_pieces (next_number number) (drop (i + 1) words))))
 
 -- the writing broke off among some pieces, and so among these and others behind them
-pub fails_more : {Value : Type 0} (before now : SinkState) (ps qs all : List Piece) (lacking : ℕ) → all ≡ ps ++ qs
+pub fails_more : {Value : Type 0} (before now : Holding) (ps qs all : List Piece) (lacking : ℕ) → all ≡ ps ++ qs
     → PutsPieces {Value = Value} ps before now (Err lacking) → PutsPieces {Value = Value} all before now (Err lacking)
 fails_more before now ps qs all lacking are fails =
     let P : List Piece → Type 0 = λ all. BreaksWriting before.held now.held all lacking in
@@ -37,7 +36,7 @@ fails_more before now ps qs all lacking are fails =
     }
 
 -- one more was put
-pub put_more : (before mid now : SinkState) (done : List Piece) (p : Piece) → ArePut done before mid
+pub put_more : (before mid now : Holding) (done : List Piece) (p : Piece) → ArePut done before mid
     → ((base : Option (List ℕ)) (all : List Piece) → AreOut base all mid.held mid.gathered
     → AreOut base (all ++ p ∷ []) now.held now.gathered)
     → ArePut (done ++ p ∷ []) before now

@@ -1,8 +1,8 @@
 -- One event that is played and written, and what is due behind the last one (our own rule).
 use Rattle.std.specs.Prelude.{◌≡◌, ◌≤◌, ◌<◌, ◌⊎◌, ℕ, List, ◌++◌, ◌+◌, Option, length}
 use Rattle.dev_io.specs.Device.{appended, AppendsPart}
-use Rattle.gathered_out.specs.Pieces.{Piece}
-use Rattle.gathered_out.specs.Puts.{BreaksPut, BreaksWriting, IsPut, IsWritten}
+use Rattle.gathered_out.specs.Pieces.{Piece, piece}
+use Rattle.gathered_out.specs.Puts.{BreaksPut, BreaksWriting, IsPut, IsWritten, holding}
 use Rattle.gpu_capture.specs.Capture.{limit}
 use Rattle.gpu_capture.specs.Written.{spelled_end, AllowsAll}
 use Rattle.gpu_capture.specs.declared.event.Event.{Event}
@@ -43,8 +43,8 @@ due_on before t event = due_at before.draft.file.version t event
 -- it was played, and its records were put, with room for an End record behind them
 pub record PassesEvent (t : Tale) (event : Event) (before now : Stage) : Type 0 where
   pub plays : PlaysFlat t event before.out now.out now.rig
-  pub put : IsPut (next_number t.played) (due_on before t event) before.out.held now.out.held before.draft.gathered
-      now.draft.gathered
+  pub put : IsPut (piece (next_number t.played) (due_on before t event))
+      (holding before.out.held before.draft.gathered) (holding now.out.held now.draft.gathered)
   pub version : now.draft.file.version ≡ before.draft.file.version
   pub size_is : now.draft.file.size ≡ before.draft.file.size + length (due_on before t event)
   pub fits : now.draft.file.size + 4 ≤ limit
@@ -59,8 +59,8 @@ pub record IsTooLong (t : Tale) (event : Event) (before now : Stage) : Type 0 wh
 -- it was played, and its records, for all of which there was room, could not be put
 pub record LacksPut (t : Tale) (event : Event) (before now : Stage) (lacking : ℕ) : Type 0 where
   pub plays : PlaysFlat t event before.out now.out now.rig
-  pub breaks : BreaksPut (next_number t.played) (due_on before t event) before.out.held now.out.held
-      before.draft.gathered lacking
+  pub breaks : BreaksPut (piece (next_number t.played) (due_on before t event))
+      (holding before.out.held before.draft.gathered) now.out.held lacking
   pub fits : before.draft.file.size + length (due_on before t event) + 4 ≤ limit
 
 -- how an event ends it: at its number, but for a write that fails

@@ -1,6 +1,7 @@
 // Words of an open record are played at once, an event each, and their flat records gathered.
 ghost use Rattle.std.specs.Prelude.{◌≡◌, ◌≤◌, ◌<◌, ◌+◌, ◌*◌, ◌^◌, length, map, OnErr};
 ghost use Rattle.dev_io.specs.Device.{Rose};
+ghost use Rattle.gathered_out.specs.Puts.{holding};
 ghost use Rattle.gpu_capture.specs.Words.{word_events};
 ghost use Rattle.gpu_capture.specs.Written.{AllowsAll};
 ghost use Rattle.event_play.specs.Listing.{PutsPieces};
@@ -9,7 +10,7 @@ ghost use Rattle.event_play.specs.PlayedWords.{after_words};
 ghost use Rattle.event_play.specs.Replay.{from_state};
 ghost use Rattle.event_play.specs.RigState.{Stands};
 ghost use Rattle.event_play.specs.Step.{Machine};
-ghost use Rattle.event_play.specs.Streams.{sink_with, without_sink};
+ghost use Rattle.event_play.specs.Streams.{without_sink};
 ghost use Rattle.capture_flat.specs.Records.{longer, record_pieces};
 
 use crate::allowed::slice_allowed;
@@ -59,7 +60,7 @@ pub(crate) fn pass_words<K: Sink, T: Listener, L: Ledger>(
         (without_sink (map T.heard taps.new.items) steps.new) rig.new }
     ensures allowed { AllowsAll 2 (word_events words.now) }
     ensures puts { PutsPieces (record_pieces rig.old.played words.now)
-        (sink_with (K.held out.old) draft.old.gathered) (sink_with (K.held out.new) draft.new.gathered) result }
+        (holding (K.held out.old) draft.old.gathered) (holding (K.held out.new) draft.new.gathered) result }
     ensures file { draft.new.file ≡ longer draft.old.file (8 * length words.now) }
     ensures cause { OnErr result (Rose (K.faults out.old) (K.faults out.new)) }
     ensures faults { K.faults out.old ≤ K.faults out.new }
@@ -80,7 +81,7 @@ fn put_words<K: Sink>(
     out: &mut K,
 ) -> Result<(), u64>
     ensures puts { PutsPieces (record_pieces played words.now)
-        (sink_with (K.held out.old) gathered.old) (sink_with (K.held out.new) gathered.new) result }
+        (holding (K.held out.old) gathered.old) (holding (K.held out.new) gathered.new) result }
     ensures cause { OnErr result (Rose (K.faults out.old) (K.faults out.new)) }
     ensures faults { K.faults out.old ≤ K.faults out.new }
 {

@@ -1,6 +1,7 @@
 // Events are played, and their flat records gathered.
 ghost use Rattle.std.specs.Prelude.{◌≡◌, ◌≤◌, ℕ, ◌+◌, ◌^◌, ◌++◌, length, map, OnOk, IfErr};
-ghost use Rattle.gathered_out.specs.Puts.{Puts};
+ghost use Rattle.gathered_out.specs.Pieces.{piece};
+ghost use Rattle.gathered_out.specs.Puts.{Puts, sink_state};
 ghost use Rattle.gpu_capture.specs.Capture.{head_of};
 ghost use Rattle.event_play.specs.Replay.{Tale, next_number};
 ghost use Rattle.event_play.specs.RigState.{StandsFor};
@@ -102,9 +103,10 @@ fn put_due<K: Sink>(
 ) -> Result<(), u64>
     requires version { draft.old.file.version ≤ 3 }
     requires work { IsWork work }
-    ensures puts { Puts K.held K.faults (next_number played)
-        (head_due draft.old.file.version played ++ spell (flat_work ram.now work)) out.old out.new
-        draft.old.gathered draft.new.gathered result }
+    ensures puts { Puts
+        (piece (next_number played) (head_due draft.old.file.version played ++ spell (flat_work ram.now work)))
+        (sink_state K.held K.faults out.old draft.old.gathered)
+        (sink_state K.held K.faults out.new draft.new.gathered) result }
     ensures file { draft.new.file ≡ draft.old.file }
 {
     let number = played.saturating_add(1);
@@ -131,8 +133,8 @@ fn put_head<K: Sink>(
     played: u64,
 ) -> Result<(), u64>
     requires { version ≤ 3 }
-    ensures { Puts K.held K.faults (next_number played) (head_due version played) out.old out.new gathered.old
-        gathered.new result }
+    ensures { Puts (piece (next_number played) (head_due version played))
+        (sink_state K.held K.faults out.old gathered.old) (sink_state K.held K.faults out.new gathered.new) result }
 {
     if played == 0 {
         gathered.put(1, &head(version), out)

@@ -1,6 +1,7 @@
 // The records of what a work does at the ports, each of them gathered under the number of the event.
 ghost use Rattle.std.specs.Prelude.{[], ◌∷◌, replicate};
-ghost use Rattle.gathered_out.specs.Puts.{Puts};
+ghost use Rattle.gathered_out.specs.Pieces.{piece};
+ghost use Rattle.gathered_out.specs.Puts.{Puts, sink_state};
 ghost use Rattle.gpu_capture.specs.declared.event.Event.TheVariants.{Skip};
 ghost use Rattle.gpu_capture.specs.Record.{IsEvent};
 ghost use Rattle.event_play.specs.Work.{IsWork};
@@ -23,8 +24,8 @@ pub(crate) fn spell_work<K: Sink>(
     work: Work,
 ) -> Result<(), u64>
     requires { IsWork work }
-    ensures { Puts K.held K.faults number (spell (flat_work ram.now work)) out.old out.new gathered.old gathered.new
-        result }
+    ensures { Puts (piece number (spell (flat_work ram.now work)))
+        (sink_state K.held K.faults out.old gathered.old) (sink_state K.held K.faults out.new gathered.new) result }
 {
     match work {
         Work::Feed { words, .. } => spell_words(number, gathered, out, WordCursor::new(ram, words)),
@@ -48,7 +49,8 @@ fn spell_one<K: Sink>(
     event: Event,
 ) -> Result<(), u64>
     requires { IsEvent event }
-    ensures { Puts K.held K.faults number (spell (event ∷ [])) out.old out.new gathered.old gathered.new result }
+    ensures { Puts (piece number (spell (event ∷ [])))
+        (sink_state K.held K.faults out.old gathered.old) (sink_state K.held K.faults out.new gathered.new) result }
 {
     gathered.put(number, record_bytes(&event).as_slice(), out)
 }
@@ -60,7 +62,8 @@ fn spell_skips<K: Sink>(
     out: &mut K,
     n: u32,
 ) -> Result<(), u64>
-    ensures { Puts K.held K.faults number (spell (replicate n Skip)) out.old out.new gathered.old gathered.new result }
+    ensures { Puts (piece number (spell (replicate n Skip)))
+        (sink_state K.held K.faults out.old gathered.old) (sink_state K.held K.faults out.new gathered.new) result }
 {
     for i in 0..n {
         let _ = i;
@@ -79,7 +82,8 @@ fn spell_words<K: Sink>(
     out: &mut K,
     words: WordCursor,
 ) -> Result<(), u64>
-    ensures { Puts K.held K.faults number (spell_words words.entry) out.old out.new gathered.old gathered.new result }
+    ensures { Puts (piece number (spell_words words.entry))
+        (sink_state K.held K.faults out.old gathered.old) (sink_state K.held K.faults out.new gathered.new) result }
 {
     let mut left = words;
     'words: while let Some(word) = left.next() {

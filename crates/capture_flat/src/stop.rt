@@ -1,6 +1,6 @@
 // A flat capture ends, behind what is gathered for it.
 ghost use Rattle.std.specs.Prelude.{◌≤◌, ◌⊎◌};
-ghost use Rattle.dev_io.specs.Device.{Rose, Writes};
+ghost use Rattle.dev_io.specs.Device.{Rose, Writes, side};
 ghost use Rattle.gpu_capture.specs.Reader.{IsReadFault};
 ghost use Rattle.event_play.specs.Replay.{next_number};
 ghost use Rattle.capture_flat.specs.OneEvent.{Closes, EndsBehind, EndsReading, StopsAs, end_due, writing};
@@ -77,7 +77,7 @@ fn finish<K: Sink>(stop: Stop, version: u8, played: u64, out: &mut K) -> FlatEnd
 // Writes what is due behind the last event.
 fn write_last<K: Sink>(out: &mut K, version: u8, played: u64) -> Result<(), Failed>
     requires { version ≤ 3 }
-    ensures { Writes K.held K.faults out.old out.new (end_due version played) result }
+    ensures { Writes (side K.held K.faults) out.old out.new (end_due version played) result }
 {
     write_head(out, version, played)?;
     write_end(out)
@@ -86,7 +86,7 @@ fn write_last<K: Sink>(out: &mut K, version: u8, played: u64) -> Result<(), Fail
 // Writes the head, if no event was played.
 fn write_head<K: Sink>(out: &mut K, version: u8, played: u64) -> Result<(), Failed>
     requires { version ≤ 3 }
-    ensures { Writes K.held K.faults out.old out.new (head_due version played) result }
+    ensures { Writes (side K.held K.faults) out.old out.new (head_due version played) result }
 {
     if played == 0 {
         write_start(out, version.max(2))

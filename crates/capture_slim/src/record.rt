@@ -1,7 +1,7 @@
 // Records of events that stay, one after another.
 ghost use Rattle.std.specs.Prelude.{◌≡◌, ◌≤◌, ◌<◌, ◌+◌, ◌*◌, ◌^◌, ◌++◌, ◌∷◌, [], List, ℕ, Option, Some, length, IfErr};
 ghost use Rattle.std.specs.Prelude.{OnOk};
-ghost use Rattle.dev_io.specs.Device.{Writes};
+ghost use Rattle.dev_io.specs.Device.{Writes, side};
 ghost use Rattle.gpu_capture.specs.Capture.{IsVersion};
 ghost use Rattle.gpu_capture.specs.Written.{spelled, spelled_end};
 ghost use Rattle.gpu_capture.specs.declared.event.Event.{Event as SpecEvent};
@@ -25,7 +25,7 @@ const DUE_MOST: usize = 16;
 // Writes the head, where it is due.
 fn write_head<K: Sink>(out: &mut K, file: SlimFile) -> Result<(), Failed>
     requires { IsVersion file.version }
-    ensures { Writes K.held K.faults out.old out.new (head_at file) result }
+    ensures { Writes (side K.held K.faults) out.old out.new (head_at file) result }
 {
     if file.size == 0 {
         write_start(out, file.version)
@@ -86,7 +86,7 @@ fn due_bytes(file: SlimFile, event: &Event) -> ArrayVec<u8, DUE_MOST>
 /// Writes the End record, with the head where that is due.
 pub(crate) fn write_last<K: Sink>(out: &mut K, file: SlimFile) -> Result<(), Failed>
     requires version { IsVersion file.version }
-    ensures { Writes K.held K.faults out.old out.new (head_at file ++ spelled_end) result }
+    ensures { Writes (side K.held K.faults) out.old out.new (head_at file ++ spelled_end) result }
 {
     write_head(out, file)?;
     write_end(out)

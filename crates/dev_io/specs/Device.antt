@@ -39,11 +39,19 @@ pub record AppendsPart (before now : Option (List ℕ)) (piece : List ℕ) : Typ
   pub part : count < length piece
   pub held : now ≡ appended before (take count piece)
 
--- What a call that writes these bytes does to a sink, seen by the bytes that it holds and its count of faults: Ok
--- where all of them were appended, and else a proper prefix, and the count rose.
-pub record Writes {Value Error Sink : Type 0} (held : Sink → Option (List ℕ)) (failures : Sink → ℕ) (before now : Sink)
-    (bytes : List ℕ) (result : Result Value Error) : Type 0 where
-  pub ok : OnOk result (held now ≡ appended (held before) bytes)
-  pub failed : OnErr result (AppendsPart (held before) (held now) bytes)
-  pub cause : OnErr result (Rose (failures before) (failures now))
-  pub faults : failures before ≤ failures now
+-- what a sink tells of itself: the bytes that it holds (None where they are not told), and its count of faults
+pub record SinkSide : Type 0 where
+  pub held : Option (List ℕ)
+  pub faults : ℕ
+
+abbrev pub side : {Sink : Type 0} → (held : Sink → Option (List ℕ)) → (faults : Sink → ℕ) → Sink → SinkSide
+side held faults sink = record { held = held sink; faults = faults sink }
+
+-- What a call that writes these bytes does to a sink, seen by what it tells: Ok where all of them were appended, and
+-- else a proper prefix, and the count rose.
+pub record Writes {Value Error Sink : Type 0} (told : Sink → SinkSide) (before now : Sink) (bytes : List ℕ)
+    (result : Result Value Error) : Type 0 where
+  pub ok : OnOk result ((told now).held ≡ appended (told before).held bytes)
+  pub failed : OnErr result (AppendsPart (told before).held (told now).held bytes)
+  pub cause : OnErr result (Rose (told before).faults (told now).faults)
+  pub faults : (told before).faults ≤ (told now).faults

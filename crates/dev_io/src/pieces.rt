@@ -1,6 +1,6 @@
 // Pieces that are written whole, one after another.
 ghost use Rattle.std.specs.Prelude.{◌≡◌, ◌≤◌, ◌<◌, flat_map, length, IfOk, IfSome, OnErr};
-ghost use Rattle.dev_io.specs.Device.{Accepts, Rose, Writes};
+ghost use Rattle.dev_io.specs.Device.{Accepts, Rose, Writes, side};
 
 use crate::device::{Failed, Sink};
 use arrayvec::ArrayVec;
@@ -11,7 +11,7 @@ const GATHERED: usize = 128;
 /// Writes the whole piece. After a failure a proper prefix of it was appended, so an empty piece never fails.
 #[tactic(auto, using(crate::proofs::Appended::write_steps))]
 pub fn write_all<K: Sink>(sink: &mut K, piece: &[u8]) -> Result<(), Failed>
-    ensures { Writes K.held K.faults sink.old sink.new piece.now result }
+    ensures { Writes (side K.held K.faults) sink.old sink.new piece.now result }
 {
     let mut at = 0;
     while at < piece.len() {
@@ -34,7 +34,7 @@ fn give_some<K: Sink>(sink: &mut K, rest: &[u8]) -> Result<usize, Failed>
 
 /// Writes the pieces, one after another. Where they are few bytes together, the sink is called for all of them at once.
 pub fn write_pieces<K: Sink>(sink: &mut K, pieces: &[&[u8]]) -> Result<(), Failed>
-    ensures { Writes K.held K.faults sink.old sink.new (flat_map (λ piece. piece.now) pieces.now) result }
+    ensures { Writes (side K.held K.faults) sink.old sink.new (flat_map (λ piece. piece.now) pieces.now) result }
 {
     match gather(pieces) {
         Some(gathered) => write_all(sink, gathered.as_slice()),
@@ -55,7 +55,7 @@ fn gather(pieces: &[&[u8]]) -> Option<ArrayVec<u8, GATHERED>>
 
 /// Writes the pieces, one after another, each by itself.
 fn write_each<K: Sink>(sink: &mut K, pieces: &[&[u8]]) -> Result<(), Failed>
-    ensures { Writes K.held K.faults sink.old sink.new (flat_map (λ piece. piece.now) pieces.now) result }
+    ensures { Writes (side K.held K.faults) sink.old sink.new (flat_map (λ piece. piece.now) pieces.now) result }
 {
     for piece in pieces {
         write_all(sink, piece)?;

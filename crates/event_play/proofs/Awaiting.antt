@@ -6,6 +6,7 @@ use Rattle.dev_io.specs.Device.{prepended, IsAtEnd}
 use Rattle.dev_io.proofs.Appended.{appended-nil}
 use Rattle.dev_io.proofs.Parts.{taken_on}
 use Rattle.gathered_out.specs.Pieces.{Piece}
+use Rattle.gathered_out.specs.Puts.{holding}
 use Rattle.gathered_out.proofs.Gathers.{Gathers, gathers_more, gathers_none, gathers_written}
 use Rattle.gpu_capture.specs.Capture.{Captured, ended, then_events, records, capture}
 use Rattle.gpu_capture.proofs.Steps.{split}
@@ -26,7 +27,7 @@ use Rattle.event_play.specs.Replay.{played_behind, script_behind, script_from, s
 use Rattle.event_play.specs.Replay.{next_number, ending_of}
 use Rattle.event_play.specs.RigState.{RigState, StandsFor}
 use Rattle.event_play.specs.Step.{Machine}
-use Rattle.event_play.specs.Streams.{Streams, sink_with, streams}
+use Rattle.event_play.specs.Streams.{Streams, streams}
 use Rattle.event_play.specs.Told.{told_notes}
 use Rattle.event_play.specs.declared.ending.Mode.{Mode}
 use Rattle.event_play.proofs.Grows.{lines-none, lines_cost-none, cost_grows}
@@ -361,7 +362,7 @@ pub record Paused (mode : Mode) (script : List ℕ → Script) (before now : Str
 pub pauses_on : (mode : Mode) (script : List ℕ → Script) (before now : Streams) (gathered new : List Piece)
     (since at : ℕ) (rig : RigState) (p : Progress) (held : Option (List ℕ))
     → Reaches mode script before now gathered rig (GoesOn mode script since p) → 1 ≤ p.version
-    → Pauses p.place since (sink_with now.held gathered) (sink_with held new) at
+    → Pauses p.place since (holding now.held gathered) (holding held new) at
     → Paused mode script before (record now { held = held }) new at rig p
 pauses_on mode script before now gathered new since at rig p held was started (inl on) = record {
   reached = rw (on.0, on.2, on.3) was;

@@ -3,7 +3,7 @@ use Rattle.std.proofs.Common.{◌≡◌, ◌≤◌, ◌⊎◌, inl, inr, ℕ, �
 use Rattle.std.proofs.Common.{option_to_list}
 use Rattle.std.proofs.Common.{flat_map, refl, ap, sym, subst, ◌∙◌, append_assoc, append-nil, arith}
 use Rattle.std.proofs.lemmas.List.Sums.{fold-append}
-use Rattle.gathered_out.specs.Pieces.{Piece}
+use Rattle.gathered_out.specs.Pieces.{Piece, piece}
 use Rattle.gathered_out.proofs.Puts.{HasPut, put_fails, put_none, put_on, puts_all}
 use Rattle.gp0_packets.specs.declared.note.Note.{Note}
 use Rattle.gpu_core.specs.Cost.{gp0_cost}
@@ -15,7 +15,7 @@ use Rattle.packet_text.specs.Line.{listed}
 use Rattle.event_play.specs.Fed.{fed, fed_notes, fed_cost}
 use Rattle.event_play.specs.Feeding.{Feeds, StopsFeeding, FeedsWords, drawing, fed_lines, fed_lines_cost, in_event}
 use Rattle.event_play.specs.Lines.{IsGathered, lines_while, lines_cost}
-use Rattle.event_play.specs.Streams.{Outlets}
+use Rattle.event_play.specs.Streams.{Outlets, sink_of}
 use Rattle.event_play.specs.Strokes.{Stroke, stroke_of, fed_strokes, seen_cell, change_of}
 use Rattle.event_play.specs.Told.{told_notes}
 use Rattle.event_play.specs.declared.ending.Mode.{Mode}
@@ -146,7 +146,7 @@ quiet_feeds mode number word note before now was gpu not held faults gathered st
   ok = λ s is. word_feeds mode s number word note before now gpu (stands s is) (noted s is) told (cost s is);
   failed = λ s is. tt;
   puts = λ s is.
-      puts_none number (fed_lines mode s number (word ∷ [])) before now tt
+      puts_none number (fed_lines mode s number (word ∷ [])) (sink_of before) (sink_of now) tt
       (while_quiet mode (fed_notes s number (word ∷ [])) (fed_strokes s number (word ∷ [])) not) held faults gathered;
   kept = inr gathered;
   gathers = tt;
@@ -252,8 +252,8 @@ feeds_same mode s number words xs before now gpu are feeds =
 -- these words were fed since the drawing processor kept this, and their lines put
 pub record AreFed (mode : Mode) (number : ℕ) (words : List ℕ) (before now : Outlets) (was gpu : Kept) : Type 0 where
   pub feeds : (s : State) → kept_of s ≡ was → Feeds (in_event number mode) s words before (drawing now gpu)
-  pub put : (s : State) → kept_of s ≡ was → HasPut (λ (at : Outlets). at.held) (λ (at : Outlets). at.faults) number
-      (fed_lines mode s number words) before now before.gathered now.gathered
+  pub put : (s : State) → kept_of s ≡ was → HasPut (piece number (fed_lines mode s number words))
+      (sink_of before) (sink_of now)
   pub kept : IsGathered mode ⊎ (now.gathered ≡ before.gathered)
   pub faults : before.faults ≤ now.faults
 
@@ -261,8 +261,7 @@ pub fed_none : (mode : Mode) (number : ℕ) (at : Outlets) (gpu : Kept) → AreF
 fed_none mode number at gpu = record {
   feeds = λ s is. feeds_none mode s number at gpu is;
   put = λ s is.
-      rw (lines-none mode)
-      (put_none (λ (at : Outlets). at.held) (λ (at : Outlets). at.faults) number at at.gathered);
+      rw (lines-none mode) (put_none number (sink_of at));
   kept = inr refl;
   faults = omega arith;
 }
@@ -277,8 +276,7 @@ words_fed mode number words xs before now was gpu v are all = record {
   failed = λ s is. tt;
   puts = λ s is.
       rw are
-      (puts_all (λ (at : Outlets). at.held) (λ (at : Outlets). at.faults) number before now before.gathered now.gathered
-      (fed_lines mode s number xs) v (all.put s is));
+      (puts_all (piece number (fed_lines mode s number xs)) (sink_of before) (sink_of now) v (all.put s is));
   kept = all.kept;
   gathers = tt;
   cause = tt;
@@ -305,9 +303,8 @@ module _ {Value : Type 0} (mode : Mode) (number : ℕ) (xs ys : List ℕ) (befor
     put = λ s is.
         let so_far = first.feeds s is in
         rw (fed_lines-append mode s number xs ys)
-        (put_on (λ (at : Outlets). at.held) (λ (at : Outlets). at.faults) number before mid now before.gathered
-        mid.gathered now.gathered (fed_lines mode s number xs) (fed_lines mode (fed s xs) number ys) v
-        (first.put s is) (next.puts (fed s xs) so_far.stands));
+        (put_on number (sink_of before) (sink_of mid) (sink_of now) (fed_lines mode s number xs)
+        (fed_lines mode (fed s xs) number ys) v (first.put s is) (next.puts (fed s xs) so_far.stands));
     kept = kept_on mode before.gathered mid.gathered now.gathered first.kept next.kept;
     faults = let a = first.faults in let b = next.faults in omega (arith, a, b);
   }
@@ -331,8 +328,8 @@ module _ {Value : Type 0} (mode : Mode) (number : ℕ) (xs ys : List ℕ) (befor
         ap (fed_lines mode s number) are ∙ fed_lines-append mode s number (xs ++ ys) zs
         ∙ ap (λ bs. bs ++ c) (fed_lines-append mode s number xs ys) ∙ append_assoc a b c in
         rw all
-        (put_fails (λ (at : Outlets). at.held) (λ (at : Outlets). at.faults) number before mid now before.gathered
-        mid.gathered now.gathered now.gathered a b c e (first.put s is) (next.puts (fed s xs) so_far.stands));
+        (put_fails number (sink_of before) (sink_of mid) (sink_of now) a b c e (first.put s is)
+        (next.puts (fed s xs) so_far.stands));
     kept = kept_on mode before.gathered mid.gathered now.gathered first.kept next.kept;
     gathers = next.gathers;
     cause = let a = first.faults in let b = next.cause in omega (arith, a, b);

@@ -3,6 +3,7 @@ use Rattle.std.proofs.Common.{◌≡◌, ◌≤◌, ◌<◌, inl, inr, ℕ, ◌+
 use Rattle.std.proofs.Common.{refl, ap, sym, ◌∙◌, append_assoc, append-nil, take, arith}
 use Rattle.dev_io.proofs.Parts.{taken_on}
 use Rattle.gathered_out.specs.Pieces.{Piece}
+use Rattle.gathered_out.specs.Puts.{holding}
 use Rattle.gathered_out.proofs.Gathers.{Gathers, gathers_more}
 use Rattle.gp0_packets.specs.declared.note.Note.{Note}
 use Rattle.gpu_capture.specs.Capture.{Captured, ended, then_events}
@@ -23,7 +24,7 @@ use Rattle.event_play.specs.PlayedWords.{after_word, after_words, word_notes, Is
 use Rattle.event_play.specs.Playing.{AreAllNeeded, IsShort, Follows, plays}
 use Rattle.event_play.specs.Replay.{Tale, Script, replayed}
 use Rattle.event_play.specs.RigState.{RigState}
-use Rattle.event_play.specs.Streams.{Outlets, Streams, sink_with, streams, without_sink}
+use Rattle.event_play.specs.Streams.{Outlets, Streams, streams, without_sink}
 use Rattle.event_play.specs.declared.ending.Mode.{Mode}
 use Rattle.event_play.specs.declared.ending.Mode.TheVariants.{Vram, Shot, Report, Frames, Sums, Pixel}
 use Rattle.event_play.specs.declared.ending.Mode.TheVariants.{List as Listing, Play as Words}
@@ -280,7 +281,7 @@ pub lines_out : (mode : Mode) (script : List ℕ → Script) (before : Streams) 
     (heard : List Reading) (steps : ℕ) (gathered pieces new : List Piece) (rig : RigState)
     (Says : Tale → List ℕ → List ℕ → List Event → Type 0)
     → Reaches mode script before (streams left held heard steps) (gathered ++ pieces) rig Says
-    → ArePut pieces (sink_with held gathered) (sink_with now new) → MayGather mode new
+    → ArePut pieces (holding held gathered) (holding now new) → MayGather mode new
     → Reaches mode script before (streams left now heard steps) new rig Says
 lines_out mode script before left held now heard steps gathered pieces new rig Says reached put free = record {
   taken = reached.taken;

@@ -7,7 +7,7 @@ use Rattle.std.proofs.lemmas.Grind.{flat_map-append}
 use Rattle.std.proofs.lemmas.List.{map-append}
 use Rattle.std.proofs.lemmas.List.Elements.{filter-append}
 use Rattle.gathered_out.specs.Pieces.{AreOut, BreaksOff, Piece, piece}
-use Rattle.gathered_out.specs.Puts.{ArePieces, BreaksWriting, IsPut}
+use Rattle.gathered_out.specs.Puts.{ArePieces, BreaksWriting, Holding, IsPut, holding}
 use Rattle.gathered_out.proofs.Gathers.{Gathers, gathers_on}
 use Rattle.gp0_packets.specs.declared.note.Note.{Note}
 use Rattle.gp0_words.specs.declared.item.Item.{Item}
@@ -25,7 +25,6 @@ use Rattle.event_play.specs.Out.{lines_of}
 use Rattle.event_play.specs.PlayedWords.{after_word, after_words, word_notes}
 use Rattle.event_play.specs.Playing.{Follows, reads}
 use Rattle.event_play.specs.Replay.{Tale, Script, next_number}
-use Rattle.event_play.specs.Streams.{SinkState}
 use Rattle.event_play.specs.declared.ending.Mode.TheVariants.{List as Listing}
 use Rattle.event_play.proofs.AtOnce.{same_numbers, word_is}
 use Rattle.event_play.proofs.Following.{follows_on, needed_on}
@@ -59,7 +58,7 @@ listed_pieces-append xs ys =
 -- ---- pieces that are put
 
 -- these were put, and then others were put or not
-pub put_on : {Value : Type 0} (before mid now : SinkState) (ps qs : List Piece) (result : Result Value ℕ)
+pub put_on : {Value : Type 0} (before mid now : Holding) (ps qs : List Piece) (result : Result Value ℕ)
     → ArePut ps before mid → PutsPieces qs mid now result → PutsPieces (ps ++ qs) before now result
 put_on {Value = Value} before mid now ps qs result first then = record {
   ok = ok result then.ok;
@@ -89,7 +88,7 @@ put_on {Value = Value} before mid now ps qs result first then = record {
     failed (Err lacking) breaks = record { off = λ base all out. breaks.off base all (both base all out) }
 
 -- none were put
-pub none_put : (at : SinkState) → ArePut [] at at
+pub none_put : (at : Holding) → ArePut [] at at
 none_put at = record { out = λ base all out. rw (append-nil at.gathered) at out }
 
 -- the writing broke off, and more pieces are due
@@ -111,7 +110,7 @@ breaks_more before now ps qs lacking breaks = record {
 }
 
 -- one piece was put, as the call that puts it says
-pub put_piece : {Value : Type 0} (p : Piece) (before now : SinkState) (result : Result Value ℕ)
+pub put_piece : {Value : Type 0} (p : Piece) (before now : Holding) (result : Result Value ℕ)
     → ((base : Option (List ℕ)) (all : List Piece) → AreOut base all before.held before.gathered
     → OnOk result (AreOut base (all ++ p ∷ []) now.held now.gathered))
     → ((base : Option (List ℕ)) (all : List Piece) → AreOut base all before.held before.gathered
@@ -147,7 +146,7 @@ pieces_on t xs ys all given both gives =
     ∙ ap listed_pieces (sym (word_notes-append t xs ys)) ∙ ap (λ words. listed_pieces (word_notes t words)) both
 
 -- where the writing broke off among those of the first words, it did among those of all
-pub fails_on : {Value : Type 0} (before now : SinkState) (t : Tale) (xs ys all : List ℕ) (lacking : ℕ) → xs ++ ys ≡ all
+pub fails_on : {Value : Type 0} (before now : Holding) (t : Tale) (xs ys all : List ℕ) (lacking : ℕ) → xs ++ ys ≡ all
     → PutsPieces {Value = Value} (listed_pieces (word_notes t xs)) before now (Err lacking)
     → PutsPieces {Value = Value} (listed_pieces (word_notes t all)) before now (Err lacking)
 fails_on before now t xs ys all lacking both fails =
@@ -187,7 +186,8 @@ word_pieces s event word = item_pieces s.parts.regs event (new_item s.words word
 
 -- pieces that are gathered behind others are put
 put_gathered : (number : ℕ) (bytes : List ℕ) (held : Option (List ℕ)) (gathered parts : List Piece)
-    → ArePieces number bytes parts → IsPut number bytes held held gathered (gathered ++ parts)
+    → ArePieces number bytes parts
+    → IsPut (piece number bytes) (holding held gathered) (holding held (gathered ++ parts))
 put_gathered number bytes held gathered parts are = record {
   parts = parts;
   are = are;

@@ -2,9 +2,9 @@
 use Rattle.std.proofs.Common.{◌≡◌, ◌≤◌, ◌⊎◌, inl, inr, ◌+◌, ℕ, List, [], ◌∷◌, ◌++◌, Option, None, Ok, option_to_list}
 use Rattle.std.proofs.Common.{refl, ap, subst, ◌∙◌, append-nil, sym, arith}
 use Rattle.dev_io.specs.Device.{appended, AppendsPart}
-use Rattle.gathered_out.specs.Pieces.{Piece}
+use Rattle.gathered_out.specs.Pieces.{Piece, piece}
 use Rattle.dev_io.proofs.Appended.{appended-nil}
-use Rattle.gathered_out.specs.Puts.{BreaksPut, IsPut}
+use Rattle.gathered_out.specs.Puts.{BreaksPut, IsPut, holding}
 use Rattle.gp0_packets.specs.declared.note.Note.{Note}
 use Rattle.gpu_capture.specs.declared.event.Event.{Event}
 use Rattle.gpu_core.specs.Kept.{Kept, kept_of}
@@ -78,7 +78,7 @@ still_free mode old new (inr same) (inr none) = inr (same ∙ none)
 -- no line of a word leaves the sink as it was where nothing is gathered
 unwritten : (mode : Mode) (number : ℕ) (bytes : List ℕ) (before now : Option (List ℕ)) (old new : List Piece)
     → WritesBehind mode → IsGathered mode ⊎ (new ≡ old) → MayGather mode old → bytes ≡ []
-    → IsPut number bytes before now old new → now ≡ before
+    → IsPut (piece number bytes) (holding before old) (holding now new) → now ≡ before
 unwritten mode number bytes before now old new behind (inl is) free none put = absurd (never_both mode behind is)
 unwritten mode number bytes before now old new behind (inr same) (inl is) none put =
     absurd (never_both mode behind is)
@@ -93,8 +93,8 @@ module _ (mode : Mode) (was mid rig : RigState) (t : Tale) (counted : ℕ) (even
     (does : (s : State) → kept_of s ≡ was.gpu → (shown ≡ (done (machine_of was s) counted asked).shown)
     × Does (in_event counted mode) (machine_of was s) asked before (setting now rig))
     (put : (s : State) → kept_of s ≡ was.gpu
-    → IsPut counted (work_lines (in_event counted mode) (machine_of was s) asked).bytes before.held now.held
-    before.gathered now.gathered)
+    → IsPut (work_lines (in_event counted mode) (machine_of was s) asked) (holding before.held before.gathered)
+    (holding now.held now.gathered))
     (kept : IsGathered mode ⊎ (now.gathered ≡ before.gathered)) (free : MayGather mode before.gathered) where
   -- behind what is due behind the event
   abbrev written : Outlets
@@ -149,9 +149,10 @@ module _ (mode : Mode) (was mid rig : RigState) (t : Tale) (counted : ℕ) (even
   asked_are = rw (stands.state.ram, stands.state.running, ← is) refl
 
   -- those of its words were put
-  words_put : IsPut counted (lines_while mode did.step.notes strokes) before.held now.held before.gathered now.gathered
+  words_put : IsPut (piece counted (lines_while mode did.step.notes strokes)) (holding before.held before.gathered)
+      (holding now.held now.gathered)
   words_put =
-      put_at counted counted _ _ before.held now.held before.gathered now.gathered refl
+      put_at counted counted _ _ (holding before.held before.gathered) (holding now.held now.gathered) refl
       (ap (fed_lines mode t.state.gpu counted) asked_are
       ∙ ap (λ notes. lines_while mode notes strokes) (sym did.asked_notes))
       (put t.state.gpu stands.state.gpu)
@@ -176,7 +177,8 @@ module _ (mode : Mode) (was mid rig : RigState) (t : Tale) (counted : ℕ) (even
     at = did.at;
     step = by_tale did.at did.step;
     played = number;
-    put = put_at counted (next_number t.played) _ _ before.held held before.gathered now.gathered number lines_are
+    put = put_at counted (next_number t.played) _ _ (holding before.held before.gathered) (holding held now.gathered)
+        number lines_are
         (put_both counted (lines_while mode did.step.notes strokes) (lines_behind mode words frames) before.held
         now.held held before.gathered now.gathered now.gathered words_put
         (put_behind mode counted words frames now.held held now.gathered free_behind wrote));
@@ -210,8 +212,8 @@ module _ (mode : Mode) (was mid rig : RigState) (t : Tale) (counted : ℕ) (even
 pub feeds_part : (mode : Mode) (was rig : RigState) (t : Tale) (counted : ℕ) (event : Event) (asked : Work)
     (before now : Outlets) (lacking : ℕ) → Ok asked ≡ work_of was.ram was.running event → StandsFor was t
     → counted ≡ next_number t.played → IsGathered mode
-    → BreaksPut counted (work_lines (in_event counted mode) (machine_of was t.state.gpu) asked).bytes before.held
-    now.held before.gathered lacking
+    → BreaksPut (work_lines (in_event counted mode) (machine_of was t.state.gpu) asked)
+    (holding before.held before.gathered) now.held lacking
     → Stops (in_event counted mode) (machine_of was t.state.gpu) asked before (setting now rig)
     → rig.played ≡ was.played
     → FeedsPart mode (coming t event) before (setting now rig) lacking
@@ -225,7 +227,8 @@ feeds_part mode was rig t counted event asked before now lacking is stands numbe
     now_at in
     record {
       gathers = gathers;
-      breaks = breaks_at counted (next_number t.played) _ _ before.held now.held before.gathered lacking number
+      breaks = breaks_at counted (next_number t.played) _ _ (holding before.held before.gathered) now.held lacking
+          number
           (ap (λ n. fed_lines mode t.state.gpu n (asked_words was.ram (Ok asked))) number
           ∙ ap (fed_lines mode t.state.gpu (next_number t.played)) asked_are)
           breaks;

@@ -4,47 +4,34 @@ use Rattle.std.proofs.Common.{◌∙◌, append-nil, arith}
 use Rattle.dev_io.specs.Device.{appended}
 use Rattle.dev_io.proofs.Appended.{appended-appended, appended-nil}
 use Rattle.gathered_out.specs.Pieces.{Piece, bytes_of, piece}
-use Rattle.gathered_out.specs.Puts.{BreaksPut, IsPut}
+use Rattle.gathered_out.specs.Puts.{BreaksPut, Holding, IsPut, Puts, SinkState, holding, sink_state}
 use Rattle.gathered_out.proofs.Pieces.{bytes_append}
 use Rattle.gathered_out.proofs.Puts.{put_on}
-use Rattle.gpu_taps.specs.Tally.{Reading}
 use Rattle.event_play.specs.Frames.{Frame}
 use Rattle.event_play.specs.Lines.{IsGathered, MayGather, WritesBehind, lines_behind}
-use Rattle.event_play.specs.Streams.{Outlets, PutsLine, PutsLines, SinkState, with_sink}
 use Rattle.event_play.specs.declared.ending.Mode.{Mode}
 use Rattle.event_play.specs.declared.ending.Mode.TheVariants.{Vram, Shot, Report, Frames, Sums, Pixel}
 use Rattle.event_play.specs.declared.ending.Mode.TheVariants.{List as Listing, Play as Words}
 
--- what a call puts into a sink, by what playing works on
-pub lines_put : {Value : Type 0} (number : ℕ) (bytes : List ℕ) (was is : SinkState) (heard heard_now : List Reading)
-    (steps steps_now : ℕ) (result : Result Value ℕ) → PutsLine (piece number bytes) was is result
-    → PutsLines (piece number bytes) (with_sink was heard steps) (with_sink is heard_now steps_now) result
-lines_put number bytes was is heard heard_now steps steps_now result puts =
-    record { ok = puts.ok; failed = puts.failed; cause = puts.cause; faults = puts.faults }
-
 -- the same bytes
-pub puts_same : {Value : Type 0} (number : ℕ) (xs ys : List ℕ) (before now : Outlets) (result : Result Value ℕ)
-    → xs ≡ ys → PutsLines (piece number xs) before now result → PutsLines (piece number ys) before now result
+pub puts_same : {Value : Type 0} (number : ℕ) (xs ys : List ℕ) (before now : SinkState) (result : Result Value ℕ)
+    → xs ≡ ys → Puts (piece number xs) before now result → Puts (piece number ys) before now result
 puts_same number xs ys before now result same puts = rw (← same) puts
 
-put_same : (number : ℕ) (xs ys : List ℕ) (before now : Option (List ℕ)) (old new : List Piece) → xs ≡ ys
-    → IsPut number xs before now old new → IsPut number ys before now old new
-put_same number xs ys before now old new same put = rw (← same) put
+pub put_at : (n m : ℕ) (xs ys : List ℕ) (before now : Holding) → n ≡ m → xs ≡ ys
+    → IsPut (piece n xs) before now → IsPut (piece m ys) before now
+put_at n m xs ys before now number same put = rw (← number, ← same) put
 
-pub put_at : (n m : ℕ) (xs ys : List ℕ) (before now : Option (List ℕ)) (old new : List Piece) → n ≡ m → xs ≡ ys
-    → IsPut n xs before now old new → IsPut m ys before now old new
-put_at n m xs ys before now old new number same put = rw (← number, ← same) put
-
-pub breaks_at : (n m : ℕ) (xs ys : List ℕ) (before now : Option (List ℕ)) (old : List Piece) (lacking : ℕ) → n ≡ m
-    → xs ≡ ys → BreaksPut n xs before now old lacking → BreaksPut m ys before now old lacking
-breaks_at n m xs ys before now old lacking number same put = rw (← number, ← same) put
+pub breaks_at : (n m : ℕ) (xs ys : List ℕ) (before : Holding) (now : Option (List ℕ)) (lacking : ℕ) → n ≡ m → xs ≡ ys
+    → BreaksPut (piece n xs) before now lacking → BreaksPut (piece m ys) before now lacking
+breaks_at n m xs ys before now lacking number same put = rw (← number, ← same) put
 
 -- ---- no bytes
 
 -- nothing was put
-pub puts_none : {Value : Type 0} (number : ℕ) (bytes : List ℕ) (before now : Outlets) (v : Value) → bytes ≡ []
+pub puts_none : {Value : Type 0} (number : ℕ) (bytes : List ℕ) (before now : SinkState) (v : Value) → bytes ≡ []
     → now.held ≡ before.held → now.faults ≡ before.faults → now.gathered ≡ before.gathered
-    → PutsLines {Value = Value} (piece number bytes) before now (Ok v)
+    → Puts {Value = Value} (piece number bytes) before now (Ok v)
 puts_none number bytes before now v none held faults gathered = record {
   ok = unput number bytes before.held now.held before.gathered now.gathered none held gathered;
   failed = tt;
@@ -53,7 +40,7 @@ puts_none number bytes before now v none held faults gathered = record {
 }
   where
     unput : (number : ℕ) (bytes : List ℕ) (before now : Option (List ℕ)) (old new : List Piece) → bytes ≡ []
-        → now ≡ before → new ≡ old → IsPut number bytes before now old new
+        → now ≡ before → new ≡ old → IsPut (piece number bytes) (holding before old) (holding now new)
     unput number bytes before now old new none held gathered =
         rw (none, held, gathered) (record {
           parts = [];
@@ -88,7 +75,7 @@ never_both (Sums at) behind is = is
 
 -- bytes that are written where nothing is gathered
 pub put_through : (number : ℕ) (bytes : List ℕ) (before now : Option (List ℕ)) → now ≡ appended before bytes
-    → IsPut number bytes before now [] []
+    → IsPut (piece number bytes) (holding before []) (holding now [])
 put_through number bytes before now wrote = record {
   parts = piece number bytes ∷ [];
   are = record { numbers = (refl, tt); bytes_are = append-nil bytes };
@@ -106,7 +93,7 @@ put_through number bytes before now wrote = record {
 }
 
 put_unchanged : (number : ℕ) (bytes : List ℕ) (before now : Option (List ℕ)) (gathered : List Piece) → bytes ≡ []
-    → now ≡ appended before bytes → IsPut number bytes before now gathered gathered
+    → now ≡ appended before bytes → IsPut (piece number bytes) (holding before gathered) (holding now gathered)
 put_unchanged number bytes before now gathered none wrote = record {
   parts = [];
   are = record { numbers = tt; bytes_are = sym none };
@@ -118,7 +105,7 @@ put_unchanged number bytes before now gathered none wrote = record {
 -- what is due behind an event was written
 pub put_behind : (mode : Mode) (number : ℕ) (shown : List ℕ) (frames : List Frame) (before now : Option (List ℕ))
     (gathered : List Piece) → MayGather mode gathered → now ≡ appended before (lines_behind mode shown frames)
-    → IsPut number (lines_behind mode shown frames) before now gathered gathered
+    → IsPut (piece number (lines_behind mode shown frames)) (holding before gathered) (holding now gathered)
 put_behind mode number shown frames before now gathered (inl is) wrote =
     put_unchanged number (lines_behind mode shown frames) before now gathered (behind_none mode shown frames is) wrote
 put_behind mode number shown frames before now gathered (inr none) wrote =
@@ -126,18 +113,19 @@ put_behind mode number shown frames before now gathered (inr none) wrote =
 
 -- bytes were put, and then others
 pub put_both : (number : ℕ) (xs ys : List ℕ) (before mid now : Option (List ℕ)) (old between new : List Piece)
-    → IsPut number xs before mid old between → IsPut number ys mid now between new
-    → IsPut number (xs ++ ys) before now old new
+    → IsPut (piece number xs) (holding before old) (holding mid between)
+    → IsPut (piece number ys) (holding mid between) (holding now new)
+    → IsPut (piece number (xs ++ ys)) (holding before old) (holding now new)
 put_both number xs ys before mid now old between new first last =
-    let held : Option (List ℕ) → Option (List ℕ) = λ h. h in
-    let none : Option (List ℕ) → ℕ = λ h. 0 in
-    let on = put_on {Value = ℕ} held none number before mid now old between new xs ys 0
+    let state : Option (List ℕ) → List Piece → SinkState = sink_state (λ held. held) (λ held. 0) in
+    let on = put_on {Value = ℕ} number (state before old) (state mid between) (state now new) xs ys 0
     (record { put = first; faults = omega arith })
     (record { ok = last; failed = tt; cause = tt; faults = omega arith }) in
     on.put
 
 -- where nothing may be gathered, no bytes put leave the sink as it was
-pub held_same : (number : ℕ) (before now : Option (List ℕ)) → IsPut number [] before now [] [] → now ≡ before
+pub held_same : (number : ℕ) (before now : Option (List ℕ))
+    → IsPut (piece number []) (holding before []) (holding now []) → now ≡ before
 held_same number before now put =
     let out = put.out before [] (record { written = []; are = refl; stands = sym (appended-nil before) }) in
     let all : put.parts ≡ out.written = out.are ∙ append-nil out.written in

@@ -4,8 +4,8 @@ use Rattle.std.proofs.Common.{option_to_list, refl, ap, sym, subst, ◌∙◌, a
 use Rattle.std.proofs.Common.{length, length-append}
 use Rattle.dev_io.specs.Device.{appended, AppendsPart}
 use Rattle.dev_io.proofs.Appended.{appended-nil}
-use Rattle.gathered_out.specs.Pieces.{AreOut, Piece, bytes_of}
-use Rattle.gathered_out.specs.Puts.{BreaksWriting, IsPut}
+use Rattle.gathered_out.specs.Pieces.{AreOut, Piece, bytes_of, piece}
+use Rattle.gathered_out.specs.Puts.{BreaksWriting, IsPut, holding}
 use Rattle.gathered_out.proofs.Gathers.{BreaksDue, Gathers, breaks_put, gathers_more, gathers_off}
 use Rattle.gathered_out.proofs.Gathers.{gathers_on, gathers_written}
 use Rattle.gp0_packets.specs.declared.note.Note.{Note}
@@ -139,7 +139,8 @@ module _ (mode : Mode) (script : List ℕ → Script) (before : Streams) (left :
   -- what was due so far, and what is due for the event
   put_on : (next : Tale) (due : List ℕ) → after_event reached.tale event ≡ Ok next
       → lines_of mode next ≡ lines_of mode reached.tale ++ due
-      → IsPut (next_number reached.tale.played) due mid.held now.held mid.gathered now.gathered
+      → IsPut (piece (next_number reached.tale.played) due) (holding mid.held mid.gathered)
+      (holding now.held now.gathered)
       → Gathers (WasDue mode script (reached.events ++ event ∷ []) reached.flushed reached.taken) before.held
       (lines_of mode next) now.held now.gathered
   put_on next due is lines put =

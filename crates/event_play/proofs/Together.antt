@@ -1,6 +1,7 @@
 -- Words of GP0 that are played at once, with the lines that are put for them, or where one can't be put.
 use Rattle.std.proofs.Common.{◌≡◌, ◌≤◌, ◌<◌, ◌+◌, ◌++◌, inr, ℕ, List, Option, Result, Ok, Err, OnOk, IfErr, refl}
 use Rattle.gathered_out.specs.Pieces.{Piece}
+use Rattle.gathered_out.specs.Puts.{holding}
 use Rattle.gpu_capture.specs.Reader.{standing}
 use Rattle.gpu_capture.specs.Words.{TakesWords, StopsBehind}
 use Rattle.gpu_capture.specs.declared.event.Stop.{Stop}
@@ -12,7 +13,7 @@ use Rattle.event_play.specs.PlayedWords.{IsTold, AreUnwatched, after_words, word
 use Rattle.event_play.specs.Playing.{EndsPlay, plays}
 use Rattle.event_play.specs.Replay.{Tale, Script}
 use Rattle.event_play.specs.RigState.{RigState}
-use Rattle.event_play.specs.Streams.{Outlets, Streams, gathering, outlets, sink_with, streams, without_sink}
+use Rattle.event_play.specs.Streams.{Outlets, Streams, gathering, outlets, streams, without_sink}
 use Rattle.event_play.specs.declared.ending.Ending.TheVariants.{WriteFailed}
 use Rattle.event_play.specs.declared.ending.Mode.{Mode}
 use Rattle.event_play.proofs.Awaiting.{Answers, Awaits, GoesOn, Reaches, few_more, stops}
@@ -37,11 +38,11 @@ module _ (mode : Mode) (script : List ℕ → Script) (before : Streams) (left a
   abbrev pub PutsWords : {Value : Type 0} → (now : Option (List ℕ)) → (new : List Piece) → Result Value ℕ → Type 0
   PutsWords now new result = (t : Tale) (first : Outlets)
       → IsTold t first (without_sink heard steps) was.gpu was.played
-      → PutsPieces (pieces_for mode (word_notes t words)) (sink_with held gathered) (sink_with now new) result
+      → PutsPieces (pieces_for mode (word_notes t words)) (holding held gathered) (holding now new) result
 
   its_pieces : {Value : Type 0} (now : Option (List ℕ)) (new : List Piece) (result : Result Value ℕ)
       → PutsWords {Value = Value} now new result
-      → PutsPieces pieces (sink_with held gathered) (sink_with now new) result
+      → PutsPieces pieces (holding held gathered) (holding now new) result
   its_pieces now new result puts =
       puts reached.tale _ (told_before mode script before left held heard steps gathered since was p reached)
 

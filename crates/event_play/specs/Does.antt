@@ -2,6 +2,7 @@
 use Rattle.std.specs.Prelude.{◌≡◌, ◌≤◌, ◌⊎◌, ℕ, ◌+◌, List, [], Option, Result, Ok, IfOk, OnErr}
 use Rattle.dev_io.specs.Device.{Rose}
 use Rattle.gathered_out.specs.Pieces.{Piece}
+use Rattle.gathered_out.specs.Puts.{Puts}
 use Rattle.gpu_core.specs.Kept.{kept_of}
 use Rattle.gpu_core.specs.Machine.{State}
 use Rattle.event_play.specs.Feeding.{StopsFeeding, drawing, due_lines}
@@ -9,7 +10,7 @@ use Rattle.event_play.specs.Lines.{IsGathered, lines_cost}
 use Rattle.event_play.specs.RigState.{Stands, machine_of}
 use Rattle.event_play.specs.Setting.{Setting}
 use Rattle.event_play.specs.Step.{Machine, done, work_cost, asked_words}
-use Rattle.event_play.specs.Streams.{Outlets, PutsLines}
+use Rattle.event_play.specs.Streams.{Outlets, sink_of}
 use Rattle.event_play.specs.Strokes.{Stroke, fed_strokes}
 use Rattle.event_play.specs.Told.{told_notes}
 use Rattle.event_play.specs.declared.ending.Within.{Within}
@@ -54,4 +55,4 @@ pub record Performs (within : Within) (asked : Work) (before now : Setting) (res
 -- and what it puts, by the same states
 abbrev pub PutsWork : Within → Work → (before now : Setting) → Result (Option ℕ) ℕ → Type 0
 PutsWork within asked before now result = (s : State) → kept_of s ≡ before.rig.gpu
-    → PutsLines (work_lines within (machine_of before.rig s) asked) before.out now.out result
+    → Puts (work_lines within (machine_of before.rig s) asked) (sink_of before.out) (sink_of now.out) result

@@ -1,7 +1,8 @@
 -- One event that is played, and what is due behind the last one.
 use Rattle.std.specs.Prelude.{◌≡◌, ◌≤◌, ◌⊎◌, Bool, ℕ, ◌+◌, List, Option, Result, Err, OnOk, IfErr, option_to_list}
 use Rattle.std.specs.Prelude.{true, false}
-use Rattle.gathered_out.specs.Puts.{BreaksPut, BreaksWriting, IsPut, IsWritten}
+use Rattle.gathered_out.specs.Pieces.{piece}
+use Rattle.gathered_out.specs.Puts.{BreaksPut, BreaksWriting, IsPut, IsWritten, holding}
 use Rattle.dev_io.specs.Device.{Rose, appended, AppendsPart}
 use Rattle.gpu_capture.specs.declared.event.Event.{Event}
 use Rattle.gpu_capture.specs.declared.event.Stop.{Stop}
@@ -9,7 +10,7 @@ use Rattle.gpu_capture.specs.declared.event.Stop.TheVariants.{End}
 use Rattle.gpu_core.specs.Machine.{State}
 use Rattle.gpu_taps.specs.Tally.{Reading}
 use Rattle.event_play.specs.Causes.{MayReadFault, MayWriteFault, IsEnding}
-use Rattle.event_play.specs.Feeding.{StopsFeeding, drawing, fed_lines, in_event}
+use Rattle.event_play.specs.Feeding.{StopsFeeding, drawing, due_lines, in_event}
 use Rattle.event_play.specs.Frames.{frames_behind}
 use Rattle.event_play.specs.Lines.{IsGathered, MayGather, WritesBehind, lines_for, lines_cost}
 use Rattle.event_play.specs.Out.{final_bytes, final_cost, lacks_picture}
@@ -58,8 +59,8 @@ pub record PlaysEvent (mode : Mode) (comes : Coming) (before : Outlets) (now : S
   pub at : ℕ
   pub step : HasStepped comes.tale.state (numbered (number_in comes) comes.event) shown before (by_steps at now)
   pub played : now.rig.played ≡ number_in comes
-  pub put : IsPut (number_in comes) (event_lines mode comes (showing step.machine shown step.notes)) before.held
-      now.out.held before.gathered now.out.gathered
+  pub put : IsPut (piece (number_in comes) (event_lines mode comes (showing step.machine shown step.notes)))
+      (holding before.held before.gathered) (holding now.out.held now.out.gathered)
   pub free : MayGather mode now.out.gathered
   pub spent : now.out.steps ≤ at + event_lines_cost mode comes step.machine
 
@@ -78,9 +79,8 @@ pub record ShowsPart (mode : Mode) (comes : Coming) (before : Outlets) (now : Se
 -- rig is as it was
 pub record FeedsPart (mode : Mode) (comes : Coming) (before : Outlets) (now : Setting) (lacking : ℕ) : Type 0 where
   pub gathers : IsGathered mode
-  pub breaks : BreaksPut (number_in comes)
-      (fed_lines mode comes.tale.state.gpu (number_in comes) (event_words comes.tale.state comes.event)) before.held
-      now.out.held before.gathered lacking
+  pub breaks : BreaksPut (due_lines (in_event (number_in comes) mode) comes.tale.state.gpu
+      (event_words comes.tale.state comes.event)) (holding before.held before.gathered) now.out.held lacking
   pub feeding : StopsFeeding (in_event (number_in comes) mode) comes.tale.state.gpu
       (event_words comes.tale.state comes.event) before (drawing now.out now.rig.gpu)
   pub ram : comes.tale.state.ram ≡ now.rig.ram

@@ -4,9 +4,10 @@ use Rattle.dev_io.specs.Device.{Rose}
 use Rattle.gpu_core.specs.Kept.{Kept, kept_of}
 use Rattle.gpu_core.specs.Machine.{State}
 use Rattle.gathered_out.specs.Pieces.{Piece, piece}
+use Rattle.gathered_out.specs.Puts.{Puts}
 use Rattle.event_play.specs.Fed.{fed, fed_notes, fed_cost}
 use Rattle.event_play.specs.Lines.{IsGathered, lines_while, lines_cost}
-use Rattle.event_play.specs.Streams.{Outlets, PutsLines}
+use Rattle.event_play.specs.Streams.{Outlets, sink_of}
 use Rattle.event_play.specs.Strokes.{fed_strokes}
 use Rattle.event_play.specs.Told.{told_notes}
 use Rattle.event_play.specs.declared.ending.Mode.{Mode}
@@ -58,7 +59,8 @@ pub record FeedsWords {Value : Type 0} (within : Within) (words : List ℕ) (bef
     (result : Result Value ℕ) : Type 0 where
   pub ok : (s : State) → kept_of s ≡ before.gpu → OnOk result (Feeds within s words before.out now)
   pub failed : (s : State) → kept_of s ≡ before.gpu → OnErr result (StopsFeeding within s words before.out now)
-  pub puts : (s : State) → kept_of s ≡ before.gpu → PutsLines (due_lines within s words) before.out now.out result
+  pub puts : (s : State) → kept_of s ≡ before.gpu
+      → Puts (due_lines within s words) (sink_of before.out) (sink_of now.out) result
   pub kept : IsGathered within.mode ⊎ (now.out.gathered ≡ before.out.gathered)
   pub gathers : OnErr result (IsGathered within.mode)
   pub cause : OnErr result (Rose before.out.faults now.out.faults)

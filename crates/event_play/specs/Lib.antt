@@ -18,6 +18,7 @@ pub mod OwnWords
 pub mod Pausing
 pub mod Playing
 pub mod Ports
+pub mod Reading
 pub mod Replay
 pub mod RigState
 pub mod Setting

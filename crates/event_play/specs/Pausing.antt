@@ -1,8 +1,7 @@
 -- Pieces that are gathered while a capture is read (our own rule).
 use Rattle.std.specs.Prelude.{◌≡◌, ◌<◌, ◌⊎◌, ◌+◌, ℕ, List, [], Option}
 use Rattle.gathered_out.specs.Pieces.{Piece}
-use Rattle.gathered_out.specs.Puts.{BreaksWriting, IsWritten}
-use Rattle.event_play.specs.Streams.{SinkState}
+use Rattle.gathered_out.specs.Puts.{BreaksWriting, Holding, IsWritten}
 use Rattle.event_play.specs.declared.ending.Ending.{Ending}
 use Rattle.event_play.specs.declared.ending.Ending.TheVariants.{WriteFailed}
 
@@ -12,7 +11,7 @@ most_behind = 4112
 
 -- Where the reader stands at this place and all was last written at another, gathering goes on for few bytes more, or
 -- all is written here.
-abbrev pub Pauses : (place since : ℕ) → (before now : SinkState) → (at : ℕ) → Type 0
+abbrev pub Pauses : (place since : ℕ) → (before now : Holding) → (at : ℕ) → Type 0
 Pauses place since before now at =
     ((at ≡ since) × (place < since + 4096) × (now.gathered ≡ before.gathered) × (now.held ≡ before.held))
     ⊎ ((at ≡ place) × (now.gathered ≡ []) × IsWritten before.held now.held before.gathered)

@@ -1,7 +1,7 @@
 -- What playing works on besides its rig.
-use Rattle.std.specs.Prelude.{ℕ, List, [], Option, None, Result}
+use Rattle.std.specs.Prelude.{ℕ, List, [], Option, None}
 use Rattle.gathered_out.specs.Pieces.{Piece}
-use Rattle.gathered_out.specs.Puts.{Puts}
+use Rattle.gathered_out.specs.Puts.{SinkState}
 use Rattle.gpu_taps.specs.Tally.{Reading}
 
 -- the bytes that the sink holds (None where they are not told), how often it failed, what is gathered for it, what the
@@ -22,31 +22,12 @@ outlets held faults heard steps =
 abbrev pub gathering : List Piece → Outlets → Outlets
 gathering pieces at = record at { gathered = pieces }
 
--- what a call that puts bytes, due at the event of their number, does to the sink and to what is gathered for it
-abbrev pub PutsLines : {Value : Type 0} → (due : Piece) → (before now : Outlets) → Result Value ℕ → Type 0
-PutsLines due before now result =
-    Puts (λ (at : Outlets). at.held) (λ (at : Outlets). at.faults) due.number due.bytes before now before.gathered
-    now.gathered result
+-- the sink and what is gathered for it, and these with what the taps say, and the store steps
+abbrev pub sink_of : Outlets → SinkState
+sink_of at = record { held = at.held; faults = at.faults; gathered = at.gathered }
 
--- ---- a sink and what is gathered for it, alone
-
-pub record SinkState : Type 0 where
-  pub held : Option (List ℕ)
-  pub faults : ℕ
-  pub gathered : List Piece
-
-abbrev pub sink_with : (held : Option (List ℕ)) (gathered : List Piece) → SinkState
-sink_with held gathered = record { held = held; faults = 0; gathered = gathered }
-
--- with what the taps say, and the store steps
 abbrev pub with_sink : SinkState → (heard : List Reading) (steps : ℕ) → Outlets
 with_sink at heard steps = gathering at.gathered (outlets at.held at.faults heard steps)
-
--- what a call that puts one line does to them
-abbrev pub PutsLine : {Value : Type 0} → (line : Piece) → (before now : SinkState) → Result Value ℕ → Type 0
-PutsLine line before now result =
-    Puts (λ (at : SinkState). at.held) (λ (at : SinkState). at.faults) line.number line.bytes before now
-    before.gathered now.gathered result
 
 -- those of a call that writes nothing
 abbrev pub without_sink : (heard : List Reading) (steps : ℕ) → Outlets

@@ -1,6 +1,6 @@
 // The pictures that are shown one after another, and their sums.
 ghost use Rattle.std.specs.Prelude.{◌≡◌, ◌≤◌, ◌+◌, ◌++◌, flat_map};
-ghost use Rattle.dev_io.specs.Device.{Writes};
+ghost use Rattle.dev_io.specs.Device.{Writes, side};
 ghost use Rattle.picture_out.specs.Dump.{dump_cost};
 ghost use Rattle.event_play.specs.Frames.{is_moment, frames_behind, frame_bytes, frame_sum, frame_cost, vram_sum};
 ghost use Rattle.event_play.specs.Frames.{picture_at, sum_at, frames_cost, bytes_at_end, cost_at_end};
@@ -31,7 +31,7 @@ pub(crate) fn write_frames<K: Sink, L: Ledger>(
     out: &mut K,
     steps: &mut Steps<L>,
 ) -> Result<(), Failed>
-    ensures writes { Writes K.held K.faults out.old out.new
+    ensures writes { Writes (side K.held K.faults) out.old out.new
         (flat_map (picture_at at) (frames_behind played.event played.number gpu.now.parts)) result }
     ensures cost { steps.new ≤ steps.old + frames_cost at (frames_behind played.event played.number gpu.now.parts) }
 {
@@ -49,7 +49,7 @@ pub(crate) fn write_sums<K: Sink, L: Ledger>(
     out: &mut K,
     steps: &mut Steps<L>,
 ) -> Result<(), Failed>
-    ensures writes { Writes K.held K.faults out.old out.new
+    ensures writes { Writes (side K.held K.faults) out.old out.new
         (flat_map (sum_at at) (frames_behind played.event played.number gpu.now.parts)) result }
     ensures cost { steps.new ≤ steps.old + frames_cost at (frames_behind played.event played.number gpu.now.parts) }
 {
@@ -77,7 +77,8 @@ pub(crate) fn write_last_frame<K: Sink, L: Ledger>(
     out: &mut K,
     steps: &mut Steps<L>,
 ) -> Result<(), Failed>
-    ensures writes { Writes K.held K.faults out.old out.new (bytes_at_end at (frame_bytes gpu.now.parts)) result }
+    ensures writes { Writes (side K.held K.faults) out.old out.new
+        (bytes_at_end at (frame_bytes gpu.now.parts)) result }
     ensures cost { steps.new ≤ steps.old + cost_at_end at (frame_cost gpu.now.parts) }
 {
     match at {
@@ -94,7 +95,7 @@ pub(crate) fn write_last_sums<K: Sink, L: Ledger>(
     out: &mut K,
     steps: &mut Steps<L>,
 ) -> Result<(), Failed>
-    ensures writes { Writes K.held K.faults out.old out.new
+    ensures writes { Writes (side K.held K.faults) out.old out.new
         (bytes_at_end at (frame_sum number gpu.now.parts) ++ vram_sum gpu.now.parts.m) result }
     ensures cost { steps.new ≤ steps.old + (cost_at_end at (frame_cost gpu.now.parts) + dump_cost gpu.now.parts.m) }
 {
@@ -110,7 +111,7 @@ fn write_last_sum<K: Sink, L: Ledger>(
     out: &mut K,
     steps: &mut Steps<L>,
 ) -> Result<(), Failed>
-    ensures writes { Writes K.held K.faults out.old out.new
+    ensures writes { Writes (side K.held K.faults) out.old out.new
         (bytes_at_end at (frame_sum number gpu.now.parts)) result }
     ensures cost { steps.new ≤ steps.old + cost_at_end at (frame_cost gpu.now.parts) }
 {
@@ -127,7 +128,7 @@ fn write_memory_sum<K: Sink, L: Ledger>(
     out: &mut K,
     steps: &mut Steps<L>,
 ) -> Result<(), Failed>
-    ensures writes { Writes K.held K.faults out.old out.new (vram_sum gpu.now.parts.m) result }
+    ensures writes { Writes (side K.held K.faults) out.old out.new (vram_sum gpu.now.parts.m) result }
     ensures cost { steps.new ≤ steps.old + dump_cost gpu.now.parts.m }
 {
     let digest = vram_sum(gpu.vram(), steps);
@@ -141,7 +142,7 @@ fn write_frame<K: Sink, L: Ledger>(
     out: &mut K,
     steps: &mut Steps<L>,
 ) -> Result<(), Failed>
-    ensures writes { Writes K.held K.faults out.old out.new (frame_bytes gpu.now.parts) result }
+    ensures writes { Writes (side K.held K.faults) out.old out.new (frame_bytes gpu.now.parts) result }
     ensures cost { steps.new ≤ steps.old + frame_cost gpu.now.parts }
 {
     if shape(gpu.regs()).is_none() {
@@ -158,7 +159,7 @@ fn write_sum<K: Sink, L: Ledger>(
     out: &mut K,
     steps: &mut Steps<L>,
 ) -> Result<(), Failed>
-    ensures writes { Writes K.held K.faults out.old out.new (frame_sum number gpu.now.parts) result }
+    ensures writes { Writes (side K.held K.faults) out.old out.new (frame_sum number gpu.now.parts) result }
     ensures cost { steps.new ≤ steps.old + frame_cost gpu.now.parts }
 {
     match shape(gpu.regs()) {

@@ -1,6 +1,6 @@
 // What is written behind an event, and behind the last one.
 ghost use Rattle.std.specs.Prelude.{◌≡◌, ◌≤◌, ◌+◌, [], false, map, flat_map, option_to_list, OnErr};
-ghost use Rattle.dev_io.specs.Device.{Rose, Writes};
+ghost use Rattle.dev_io.specs.Device.{Rose, Writes, side};
 ghost use Rattle.gpu_core.specs.Kept.{kept_of};
 ghost use Rattle.gpu_core.specs.Machine.{State};
 ghost use Rattle.packet_text.specs.Line.{word_line};
@@ -28,7 +28,7 @@ pub(crate) fn write_behind<K: Sink, L: Ledger>(
     mode: Mode,
     steps: &mut Steps<L>,
 ) -> Result<(), Failed>
-    ensures writes { Writes K.held K.faults out.old out.new
+    ensures writes { Writes (side K.held K.faults) out.old out.new
         (lines_behind mode (option_to_list played.shown)
         (frames_behind played.event played.number gpu.now.parts)) result }
     ensures mode { OnErr result (WritesBehind mode) }
@@ -45,7 +45,7 @@ pub(crate) fn write_behind<K: Sink, L: Ledger>(
 
 // Writes the line of a word that an event shows.
 fn write_shown<K: Sink>(shown: Option<u32>, out: &mut K) -> Result<(), Failed>
-    ensures { Writes K.held K.faults out.old out.new (flat_map word_line (option_to_list shown)) result }
+    ensures { Writes (side K.held K.faults) out.old out.new (flat_map word_line (option_to_list shown)) result }
 {
     match shown {
         Some(word) => write_word(out, word),
@@ -74,7 +74,7 @@ pub(crate) fn write_finals<K: Sink, T: Listener, L: Ledger>(
 ) -> Result<(), Failed>
     requires { lacks_picture within.mode gpu.now.parts.regs ≡ false }
     ensures writes { (s : State) → kept_of s ≡ gpu.now →
-        Writes K.held K.faults out.old out.new
+        Writes (side K.held K.faults) out.old out.new
         (final_bytes within.mode (map T.heard taps.now.items) within.number s) result }
     ensures cause { OnErr result (Rose (K.faults out.old) (K.faults out.new)) }
     ensures faults { K.faults out.old ≤ K.faults out.new }
@@ -94,7 +94,7 @@ pub(crate) fn write_finals<K: Sink, T: Listener, L: Ledger>(
 
 /// Writes the line of each tap of the list, in order.
 pub fn write_report<K: Sink, T: Listener>(out: &mut K, taps: &Vec<T>) -> Result<(), Failed>
-    ensures { Writes K.held K.faults out.old out.new (flat_map tap_line (map T.heard taps.now.items)) result }
+    ensures { Writes (side K.held K.faults) out.old out.new (flat_map tap_line (map T.heard taps.now.items)) result }
 {
     for i in 0..taps.len() {
         write_tap(out, &taps[i])?;

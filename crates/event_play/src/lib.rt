@@ -9,6 +9,7 @@ mod fault;
 mod feed;
 mod film;
 mod finals;
+mod judge;
 pub mod laws;
 mod listing;
 mod outlet;

@@ -2,12 +2,13 @@
 // playing works on.
 ghost use Rattle.std.specs.Prelude.{◌≡◌, ◌≤◌, ◌<◌, length, take, map, option_to_list, IfSome, OnErr};
 ghost use Rattle.dev_io.specs.Device.{Rose};
+ghost use Rattle.gathered_out.specs.Puts.{holding};
 ghost use Rattle.gpu_core.specs.Feeds.{but_pixels};
 ghost use Rattle.event_play.specs.Lines.{MayGather};
 ghost use Rattle.event_play.specs.Listing.{PutsPieces, listed_pieces, pieces_for};
 ghost use Rattle.event_play.specs.PlayedWords.{IsTold, after_words, number_behind, word_notes};
 ghost use Rattle.event_play.specs.Replay.{Tale};
-ghost use Rattle.event_play.specs.Streams.{Outlets, sink_with, without_sink};
+ghost use Rattle.event_play.specs.Streams.{Outlets, without_sink};
 
 use crate::ending::Mode;
 use crate::feed::feed_events;
@@ -40,7 +41,7 @@ impl Rig {
         ensures puts { (t : Tale) (first : Outlets)
             → IsTold t first (without_sink (map T.heard taps.old.items) steps.old) self.old.gpu self.old.played
             → PutsPieces (pieces_for mode (word_notes t words.now))
-            (sink_with (K.held out.old) lines.old) (sink_with (K.held out.new) lines.new) result }
+            (holding (K.held out.old) lines.old) (holding (K.held out.new) lines.new) result }
         ensures free { MayGather mode lines.old → MayGather mode lines.new }
         ensures ram { self.new.ram ≡ self.old.ram }
         ensures running { self.new.running ≡ self.old.running }
@@ -81,8 +82,8 @@ fn list_events<K: Sink, T: Listener, L: Ledger>(
     ensures puts { (t : Tale) (first : Outlets)
         → IsTold t first (without_sink (map T.heard taps.old.items) steps.old) gpu.old played.old
         → PutsPieces (listed_pieces (word_notes t words.now))
-        (sink_with (K.held lines.old.out.now) lines.old.gathered.now)
-        (sink_with (K.held lines.new.out.now) lines.new.gathered.now) result }
+        (holding (K.held lines.old.out.now) lines.old.gathered.now)
+        (holding (K.held lines.new.out.now) lines.new.gathered.now) result }
     ensures cause { OnErr result (Rose (K.faults lines.old.out.now) (K.faults lines.new.out.now)) }
     ensures faults { K.faults lines.old.out.now ≤ K.faults lines.new.out.now }
     ensures gathered { lines.new.gathered.ghost_name ≡ lines.old.gathered.ghost_name }

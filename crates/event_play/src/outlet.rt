@@ -2,9 +2,9 @@
 ghost use Rattle.std.specs.Prelude.{◌≡◌, ◌≤◌, flat_map, length, option_to_list, IfSome, OnErr};
 ghost use Rattle.dev_io.specs.Device.{Rose};
 ghost use Rattle.gathered_out.specs.Pieces.{piece};
+ghost use Rattle.gathered_out.specs.Puts.{Puts, SinkState, holding};
 ghost use Rattle.packet_text.specs.Line.{change_line, listed, note_line};
 ghost use Rattle.event_play.specs.Listing.{PutsPieces, listed_pieces};
-ghost use Rattle.event_play.specs.Streams.{PutsLine, SinkState, sink_with};
 ghost use Rattle.event_play.specs.Strokes.{change_of};
 
 use dev_io::Sink;
@@ -24,7 +24,7 @@ pub(crate) trait Outlet {
     /// whose lines lack a byte.
     fn put(&mut self, number: u64, line: &[u8]) -> Result<(), u64>
         requires { length line.now ≤ 4096 }
-        ensures puts { PutsLine (piece number line.now) (state self.old) (state self.new) result }
+        ensures puts { Puts (piece number line.now) (state self.old) (state self.new) result }
         ensures same { same self.old self.new };
 
     ghost same_at_first: { (x : Self) → same x x };
@@ -41,8 +41,9 @@ pub(crate) struct Lines<'a, K: Sink> {
 
 impl<'a, K: Sink> Outlet for Lines<'a, K> {
     ghost use Rattle.std.proofs.Common.{◌≡◌, ◌∙◌, refl};
+    ghost use Rattle.gathered_out.specs.Puts.{sink_state};
 
-    ghost state = { λ s. record { held = K.held s.out.now; faults = K.faults s.out.now; gathered = s.gathered.now } };
+    ghost state = { λ s. sink_state K.held K.faults s.out.now s.gathered.now };
 
     ghost same = { λ s t. (s.gathered.ghost_name ≡ t.gathered.ghost_name) × (s.out.ghost_name ≡ t.out.ghost_name) };
 
@@ -83,7 +84,7 @@ pub(crate) fn put_changed<O: Outlet>(
     after: u16,
     lines: &mut O,
 ) -> Result<(), u64>
-    ensures puts { PutsLine (piece number (change_of note.now before after))
+    ensures puts { Puts (piece number (change_of note.now before after))
         (O.state lines.old) (O.state lines.new) result }
     ensures same { O.same lines.old lines.new }
 {
@@ -100,7 +101,7 @@ pub(crate) fn put_listed<O: Outlet>(
     lines: &mut O,
 ) -> Result<(), u64>
     requires { IfSome note.now (λ note. note.class ≤ 9) }
-    ensures puts { PutsLine (piece number (flat_map listed (option_to_list note.now)))
+    ensures puts { Puts (piece number (flat_map listed (option_to_list note.now)))
         (O.state lines.old) (O.state lines.new) result }
     ensures same { O.same lines.old lines.new }
 {
@@ -114,8 +115,8 @@ pub(crate) fn put_listed<O: Outlet>(
 pub(crate) fn put_noted<K: Sink>(note: &Option<Note>, lines: &mut Lines<K>) -> Result<(), u64>
     requires { IfSome note.now (λ note. note.class ≤ 9) }
     ensures puts { PutsPieces (listed_pieces (option_to_list note.now))
-        (sink_with (K.held lines.old.out.now) lines.old.gathered.now)
-        (sink_with (K.held lines.new.out.now) lines.new.gathered.now) result }
+        (holding (K.held lines.old.out.now) lines.old.gathered.now)
+        (holding (K.held lines.new.out.now) lines.new.gathered.now) result }
     ensures cause { OnErr result (Rose (K.faults lines.old.out.now) (K.faults lines.new.out.now)) }
     ensures faults { K.faults lines.old.out.now ≤ K.faults lines.new.out.now }
     ensures gathered { lines.new.gathered.ghost_name ≡ lines.old.gathered.ghost_name }
@@ -134,7 +135,7 @@ pub(crate) fn put_noted<K: Sink>(note: &Option<Note>, lines: &mut Lines<K>) -> R
 // Puts the line of a note.
 fn put_note<O: Outlet>(number: u64, note: &Note, lines: &mut O) -> Result<(), u64>
     requires { note.now.class ≤ 9 }
-    ensures puts { PutsLine (piece number (note_line note.now)) (O.state lines.old) (O.state lines.new) result }
+    ensures puts { Puts (piece number (note_line note.now)) (O.state lines.old) (O.state lines.new) result }
     ensures same { O.same lines.old lines.new }
 {
     lines.put(number, note_text(note).as_slice())
@@ -148,7 +149,7 @@ fn put_change<O: Outlet>(
     after: u16,
     lines: &mut O,
 ) -> Result<(), u64>
-    ensures puts { PutsLine (piece number (change_line note.now before after))
+    ensures puts { Puts (piece number (change_line note.now before after))
         (O.state lines.old) (O.state lines.new) result }
     ensures same { O.same lines.old lines.new }
 {

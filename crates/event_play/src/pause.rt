@@ -1,10 +1,9 @@
 // Lines that are gathered are written where the reading may pause, and before an ending.
 ghost use Rattle.std.specs.Prelude.{◌≤◌, ◌<◌, ◌+◌, ◌⊎◌, IfErr, IfOk, OnErr};
 ghost use Rattle.dev_io.specs.Device.{Rose};
-ghost use Rattle.gathered_out.specs.Puts.{BreaksWriting};
+ghost use Rattle.gathered_out.specs.Puts.{BreaksWriting, holding};
 ghost use Rattle.event_play.specs.Causes.{MayReadFault, MayWriteFault, IsEnding};
 ghost use Rattle.event_play.specs.Pausing.{EndsBehind, Pauses};
-ghost use Rattle.event_play.specs.Streams.{sink_with};
 
 use crate::ending::Ending;
 use dev_io::{Sink, Source};
@@ -21,7 +20,7 @@ pub fn write_at_pause<S: Source, K: Sink>(
     out: &mut K,
 ) -> Result<u32, u64>
     ensures ok { IfOk result (Pauses reader.now.progress.place since
-        (sink_with (K.held out.old) gathered.old) (sink_with (K.held out.new) gathered.new)) }
+        (holding (K.held out.old) gathered.old) (holding (K.held out.new) gathered.new)) }
     ensures failed { IfErr result (BreaksWriting (K.held out.old) (K.held out.new) gathered.old) }
     ensures cause { OnErr result (Rose (K.faults out.old) (K.faults out.new)) }
     ensures faults { K.faults out.old ≤ K.faults out.new }
@@ -48,7 +47,7 @@ pub(crate) fn write_before_words<K: Sink>(
     out: &mut K,
 ) -> Result<u32, u64>
     ensures ok { IfOk result (Pauses reader.now.progress.place since
-        (sink_with (K.held out.old) gathered.old) (sink_with (K.held out.new) gathered.new)) }
+        (holding (K.held out.old) gathered.old) (holding (K.held out.new) gathered.new)) }
     ensures near { IfOk result (λ at. reader.now.progress.place < at + 2048) }
     ensures failed { IfErr result (BreaksWriting (K.held out.old) (K.held out.new) gathered.old) }
     ensures cause { OnErr result (Rose (K.faults out.old) (K.faults out.new)) }

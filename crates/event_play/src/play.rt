@@ -1,13 +1,12 @@
 // A capture is played to its end.
-ghost use Rattle.std.specs.Prelude.{◌≡◌, ◌≤◌, ◌+◌, None, map, OnOk, OnErr, IfErr};
+ghost use Rattle.std.specs.Prelude.{◌≡◌, ◌≤◌, None, map, OnOk, IfErr};
 ghost use Rattle.dev_io.specs.Device.{Rose};
 ghost use Rattle.gpu_capture.specs.Reader.{CountsFaults, standing};
 ghost use Rattle.gpu_capture.specs.Words.{TakesWords, StopsBehind, GoesOn};
 ghost use Rattle.event_play.specs.Causes.{MayReadFault, MayWriteFault, IsEnding};
 ghost use Rattle.event_play.specs.Course.{at_end};
-ghost use Rattle.event_play.specs.Lines.{IsGathered};
-ghost use Rattle.event_play.specs.PlayedWords.{AreUnwatched};
 ghost use Rattle.event_play.specs.Playing.{EndsPlay};
+ghost use Rattle.event_play.specs.Reading.{SuitMode};
 ghost use Rattle.event_play.specs.Replay.{Tale, script_of, script_behind, from_state, raised};
 ghost use Rattle.event_play.specs.RigState.{Stands, StandsFor};
 ghost use Rattle.event_play.specs.Step.{Machine};
@@ -147,8 +146,7 @@ fn read_words<S: Source>(
 ) -> Result<(), Stop>
     requires { reader.old.stop ≡ None }
     ensures goes_on { GoesOn reader.old.progress reader.new.progress }
-    ensures few { IsGathered mode → reader.new.progress.place ≤ reader.old.progress.place + 2048 }
-    ensures unwatched { AreUnwatched mode block.new }
+    ensures suit { SuitMode mode reader.old.progress reader.new.progress block.new }
     ensures takes { OnOk result (TakesWords (standing reader.old.progress (S.left source.old))
         (standing reader.new.progress (S.left source.new)) block.new) }
     ensures runs_on { OnOk result (reader.new.stop ≡ None) }

@@ -4,8 +4,8 @@ use Rattle.std.proofs.Common.{subst, inl, inr}
 use Rattle.dev_io.specs.Device.{AppendsPart, appended}
 use Rattle.dev_io.proofs.Appended.{appended-appended, appended-nil}
 use Rattle.dev_io.proofs.Parts.{part_after}
-use Rattle.gathered_out.specs.Pieces.{AreOut, Piece, bytes_of}
-use Rattle.gathered_out.specs.Puts.{AreNumbered, ArePieces, IsPut, BreaksPut, IsWritten, BreaksWriting}
+use Rattle.gathered_out.specs.Pieces.{AreOut, Piece, bytes_of, piece}
+use Rattle.gathered_out.specs.Puts.{AreNumbered, ArePieces, BreaksPut, BreaksWriting, IsPut, IsWritten, holding}
 use Rattle.gathered_out.proofs.Pieces.{bytes_append, none_gathered}
 
 -- a piece among others is a part of what is due at an event, behind what was due before and the front of it
@@ -173,7 +173,8 @@ module _ (Due More : ℕ → List ℕ → List ℕ → Type 0) (base : Option (L
     | inr last ↦ part_here parts whole last.0 broken later are last.1 last.2
   ]
 
-  pub gathers_on : (now : Option (List ℕ)) (new : List Piece) → IsPut number due held now gathered new
+  pub gathers_on : (now : Option (List ℕ)) (new : List Piece)
+      → IsPut (piece number due) (holding held gathered) (holding now new)
       → Gathers More base (all ++ due) now new
   gathers_on now new put = record {
     mid = so_far.mid;
@@ -188,7 +189,8 @@ module _ (Due More : ℕ → List ℕ → List ℕ → Type 0) (base : Option (L
   }
 
   -- it could not be put
-  pub breaks_put : (now : Option (List ℕ)) (lacking : ℕ) → BreaksPut number due held now gathered lacking
+  pub breaks_put : (now : Option (List ℕ)) (lacking : ℕ)
+      → BreaksPut (piece number due) (holding held gathered) now lacking
       → BreaksDue More base now lacking
   breaks_put now lacking put =
       let off = put.off so_far.mid so_far.pieces so_far.out in

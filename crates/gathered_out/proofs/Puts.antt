@@ -3,7 +3,7 @@ use Rattle.std.proofs.Common.{◌≡◌, ◌≤◌, ◌++◌, List, [], ◌∷�
 use Rattle.std.proofs.Common.{append_assoc, ap, sym, ◌∙◌, arith, append-nil}
 use Rattle.dev_io.specs.Device.{Rose}
 use Rattle.gathered_out.specs.Pieces.{AreOut, BreaksOff, Piece, bytes_of, piece}
-use Rattle.gathered_out.specs.Puts.{AreNumbered, ArePieces, IsPut, BreaksPut, Puts}
+use Rattle.gathered_out.specs.Puts.{AreNumbered, ArePieces, BreaksPut, IsPut, Puts, SinkState, holding}
 use Rattle.gathered_out.proofs.Pieces.{breaks_more, bytes_append}
 
 -- ---- pieces of one number
@@ -33,27 +33,26 @@ off_same base now ps qs lacking same off = rw (← same) off
 
 -- ---- one piece
 
-pub put_one : {Value Sink : Type 0} (held : Sink → Option (List ℕ)) (failures : Sink → ℕ) (number : ℕ)
-    (bytes : List ℕ) (before now : Sink) (old new : List Piece) (result : Result Value ℕ)
-    → ((base : Option (List ℕ)) (pieces : List Piece) → AreOut base pieces (held before) old
-    → OnOk result (AreOut base (pieces ++ piece number bytes ∷ []) (held now) new))
-    → ((base : Option (List ℕ)) (pieces : List Piece) → AreOut base pieces (held before) old
-    → IfErr result (BreaksOff pieces base (held now)))
-    → OnErr result (Rose (failures before) (failures now)) → failures before ≤ failures now
-    → Puts held failures number bytes before now old new result
-put_one held failures number bytes before now old new (Ok v) ok failed cause faults = record {
+pub put_one : {Value : Type 0} (number : ℕ) (bytes : List ℕ) (before now : SinkState) (result : Result Value ℕ)
+    → ((base : Option (List ℕ)) (pieces : List Piece) → AreOut base pieces before.held before.gathered
+    → OnOk result (AreOut base (pieces ++ piece number bytes ∷ []) now.held now.gathered))
+    → ((base : Option (List ℕ)) (pieces : List Piece) → AreOut base pieces before.held before.gathered
+    → IfErr result (BreaksOff pieces base now.held))
+    → OnErr result (Rose before.faults now.faults) → before.faults ≤ now.faults
+    → Puts (piece number bytes) before now result
+put_one number bytes before now (Ok v) ok failed cause faults = record {
   ok = record { parts = piece number bytes ∷ []; are = are_one number bytes; out = ok };
   failed = tt;
   cause = tt;
   faults = faults;
 }
-put_one held failures number bytes before now old new (Err e) ok failed cause faults = record {
+put_one number bytes before now (Err e) ok failed cause faults = record {
   ok = tt;
   failed = record {
     parts = piece number bytes ∷ [];
     are = are_one number bytes;
     off = λ base pieces out.
-        breaks_more base (held now) pieces (piece number bytes ∷ []) e (failed base pieces out);
+        breaks_more base now.held pieces (piece number bytes ∷ []) e (failed base pieces out);
   };
   cause = cause;
   faults = faults;
@@ -62,37 +61,33 @@ put_one held failures number bytes before now old new (Err e) ok failed cause fa
 -- ---- bytes that were put
 
 -- these bytes were put since a sink and what is gathered were as they were before
-pub record HasPut {Sink : Type 0} (held : Sink → Option (List ℕ)) (failures : Sink → ℕ) (number : ℕ) (bytes : List ℕ)
-    (before now : Sink) (old new : List Piece) : Type 0 where
-  pub put : IsPut number bytes (held before) (held now) old new
-  pub faults : failures before ≤ failures now
+pub record HasPut (due : Piece) (before now : SinkState) : Type 0 where
+  pub put : IsPut due (holding before.held before.gathered) (holding now.held now.gathered)
+  pub faults : before.faults ≤ now.faults
 
-pub put_none : {Sink : Type 0} (held : Sink → Option (List ℕ)) (failures : Sink → ℕ) (number : ℕ) (sink : Sink)
-    (gathered : List Piece) → HasPut held failures number [] sink sink gathered gathered
-put_none held failures number sink gathered = record {
+pub put_none : (number : ℕ) (at : SinkState) → HasPut (piece number []) at at
+put_none number at = record {
   put = record {
     parts = [];
     are = record { numbers = tt; bytes_are = refl };
-    out = λ base pieces out. out_same base (held sink) pieces (pieces ++ []) gathered (sym (append-nil pieces)) out;
+    out = λ base pieces out. out_same base at.held pieces (pieces ++ []) at.gathered (sym (append-nil pieces)) out;
   };
   faults = omega arith;
 }
 
 -- a call more that put all of its bytes
-pub put_on : {Value Sink : Type 0} (held : Sink → Option (List ℕ)) (failures : Sink → ℕ) (number : ℕ)
-    (before mid now : Sink) (old between new : List Piece) (xs ys : List ℕ) (v : Value)
-    → HasPut held failures number xs before mid old between
-    → Puts {Value = Value} held failures number ys mid now between new (Ok v)
-    → HasPut held failures number (xs ++ ys) before now old new
-put_on held failures number before mid now old between new xs ys v first next =
-    let last : IsPut number ys (held mid) (held now) between new = next.ok in
+pub put_on : {Value : Type 0} (number : ℕ) (before mid now : SinkState) (xs ys : List ℕ) (v : Value)
+    → HasPut (piece number xs) before mid → Puts {Value = Value} (piece number ys) mid now (Ok v)
+    → HasPut (piece number (xs ++ ys)) before now
+put_on number before mid now xs ys v first next =
+    let last : IsPut (piece number ys) (holding mid.held mid.gathered) (holding now.held now.gathered) = next.ok in
     record {
       put = record {
         parts = first.put.parts ++ last.parts;
         are = are_both number xs ys first.put.parts last.parts first.put.are last.are;
         out = λ base pieces out.
-            out_same base (held now) ((pieces ++ first.put.parts) ++ last.parts)
-            (pieces ++ (first.put.parts ++ last.parts)) new
+            out_same base now.held ((pieces ++ first.put.parts) ++ last.parts)
+            (pieces ++ (first.put.parts ++ last.parts)) now.gathered
             (append_assoc pieces first.put.parts last.parts)
             (last.out base (pieces ++ first.put.parts) (first.put.out base pieces out));
       };
@@ -100,14 +95,12 @@ put_on held failures number before mid now old between new xs ys v first next =
     }
 
 -- a call more that failed, of bytes behind which others were to come
-pub put_fails : {Value Other Sink : Type 0} (held : Sink → Option (List ℕ)) (failures : Sink → ℕ) (number : ℕ)
-    (before mid now : Sink) (old between new last_new : List Piece) (xs ys zs : List ℕ) (e : ℕ)
-    → HasPut held failures number xs before mid old between
-    → Puts {Value = Value} held failures number ys mid now between new (Err e)
-    → Puts {Value = Other} held failures number (xs ++ (ys ++ zs)) before now old last_new (Err e)
-put_fails held failures number before mid now old between new last_new xs ys zs e first next =
+pub put_fails : {Value Other : Type 0} (number : ℕ) (before mid now : SinkState) (xs ys zs : List ℕ) (e : ℕ)
+    → HasPut (piece number xs) before mid → Puts {Value = Value} (piece number ys) mid now (Err e)
+    → Puts {Value = Other} (piece number (xs ++ (ys ++ zs))) before now (Err e)
+put_fails number before mid now xs ys zs e first next =
     let rest : List Piece = piece number zs ∷ [] in
-    let last : BreaksPut number ys (held mid) (held now) between e = next.failed in
+    let last : BreaksPut (piece number ys) (holding mid.held mid.gathered) now.held e = next.failed in
     record {
       ok = tt;
       failed = record {
@@ -119,8 +112,8 @@ put_fails held failures number before mid now old between new last_new xs ys zs 
             ≡ pieces ++ (first.put.parts ++ (last.parts ++ rest)) =
             append_assoc (pieces ++ first.put.parts) last.parts rest
             ∙ append_assoc pieces first.put.parts (last.parts ++ rest) in
-            off_same base (held now) _ _ e same
-            (breaks_more base (held now) ((pieces ++ first.put.parts) ++ last.parts) rest e
+            off_same base now.held _ _ e same
+            (breaks_more base now.held ((pieces ++ first.put.parts) ++ last.parts) rest e
             (last.off base (pieces ++ first.put.parts) (first.put.out base pieces out)));
       };
       cause = let a = first.faults in let b = next.cause in omega (arith, a, b);
@@ -128,29 +121,21 @@ put_fails held failures number before mid now old between new last_new xs ys zs 
     }
 
 -- all was put
-pub puts_all : {Value Sink : Type 0} (held : Sink → Option (List ℕ)) (failures : Sink → ℕ) (number : ℕ)
-    (before now : Sink) (old new : List Piece) (xs : List ℕ) (v : Value)
-    → HasPut held failures number xs before now old new
-    → Puts {Value = Value} held failures number xs before now old new (Ok v)
-puts_all held failures number before now old new xs v done =
-    record { ok = done.put; failed = tt; cause = tt; faults = done.faults }
+pub puts_all : {Value : Type 0} (due : Piece) (before now : SinkState) (v : Value) → HasPut due before now
+    → Puts {Value = Value} due before now (Ok v)
+puts_all due before now v done = record { ok = done.put; failed = tt; cause = tt; faults = done.faults }
 
 -- a call more that is the last one
-pub puts_on : {Value Sink : Type 0} (held : Sink → Option (List ℕ)) (failures : Sink → ℕ) (number : ℕ)
-    (before mid now : Sink) (old between new : List Piece) (xs ys : List ℕ) (result : Result Value ℕ)
-    → HasPut held failures number xs before mid old between
-    → Puts held failures number ys mid now between new result
-    → Puts held failures number (xs ++ ys) before now old new result
-puts_on held failures number before mid now old between new xs ys (Ok v) first next =
-    puts_all held failures number before now old new (xs ++ ys) v
-    (put_on held failures number before mid now old between new xs ys v first next)
-puts_on held failures number before mid now old between new xs ys (Err e) first next =
-    let on = put_fails held failures number before mid now old between new new xs ys [] e first next in
+pub puts_on : {Value : Type 0} (number : ℕ) (before mid now : SinkState) (xs ys : List ℕ) (result : Result Value ℕ)
+    → HasPut (piece number xs) before mid → Puts (piece number ys) mid now result
+    → Puts (piece number (xs ++ ys)) before now result
+puts_on number before mid now xs ys (Ok v) first next =
+    puts_all (piece number (xs ++ ys)) before now v (put_on number before mid now xs ys v first next)
+puts_on number before mid now xs ys (Err e) first next =
+    let on = put_fails number before mid now xs ys [] e first next in
     rw (← append-nil ys) on
 
 -- the first call of several put all of its bytes
-pub put_first : {Value Sink : Type 0} (held : Sink → Option (List ℕ)) (failures : Sink → ℕ) (number : ℕ)
-    (before now : Sink) (old new : List Piece) (xs : List ℕ) (v : Value)
-    → Puts {Value = Value} held failures number xs before now old new (Ok v)
-    → HasPut held failures number xs before now old new
-put_first held failures number before now old new xs v next = record { put = next.ok; faults = next.faults }
+pub put_first : {Value : Type 0} (due : Piece) (before now : SinkState) (v : Value)
+    → Puts {Value = Value} due before now (Ok v) → HasPut due before now
+put_first due before now v next = record { put = next.ok; faults = next.faults }

@@ -12,29 +12,44 @@ pub record ArePieces (number : ℕ) (bytes : List ℕ) (pieces : List Piece) : T
   pub numbers : AreNumbered number pieces
   pub bytes_are : bytes_of pieces ≡ bytes
 
--- These bytes, due at the event of this number, were put: behind all pieces before them they are out or gathered.
-pub record IsPut (number : ℕ) (bytes : List ℕ) (before now : Option (List ℕ)) (old new : List Piece) : Type 0 where
+-- what a sink holds (None where it is not told), and the pieces that are gathered for it
+pub record Holding : Type 0 where
+  pub held : Option (List ℕ)
+  pub gathered : List Piece
+
+abbrev pub holding : Option (List ℕ) → List Piece → Holding
+holding held gathered = record { held = held; gathered = gathered }
+
+-- These bytes, due at their event, were put: behind all pieces before them they are out or gathered.
+pub record IsPut (due : Piece) (before now : Holding) : Type 0 where
   pub parts : List Piece
-  pub are : ArePieces number bytes parts
-  pub out : (base : Option (List ℕ)) (pieces : List Piece) → AreOut base pieces before old
-      → AreOut base (pieces ++ parts) now new
+  pub are : ArePieces due.number due.bytes parts
+  pub out : (base : Option (List ℕ)) (pieces : List Piece) → AreOut base pieces before.held before.gathered
+      → AreOut base (pieces ++ parts) now.held now.gathered
 
 -- They could not be put: the writing broke off among them and the pieces before them.
-pub record BreaksPut (number : ℕ) (bytes : List ℕ) (before now : Option (List ℕ)) (old : List Piece)
-    (lacking : ℕ) : Type 0 where
+pub record BreaksPut (due : Piece) (before : Holding) (now : Option (List ℕ)) (lacking : ℕ) : Type 0 where
   pub parts : List Piece
-  pub are : ArePieces number bytes parts
-  pub off : (base : Option (List ℕ)) (pieces : List Piece) → AreOut base pieces before old
+  pub are : ArePieces due.number due.bytes parts
+  pub off : (base : Option (List ℕ)) (pieces : List Piece) → AreOut base pieces before.held before.gathered
       → BreaksOff (pieces ++ parts) base now lacking
 
--- What a call that puts these bytes does to a sink and to what is gathered for it: after a failure its count of faults
--- rose.
-pub record Puts {Value Sink : Type 0} (held : Sink → Option (List ℕ)) (failures : Sink → ℕ) (number : ℕ)
-    (bytes : List ℕ) (before now : Sink) (old new : List Piece) (result : Result Value ℕ) : Type 0 where
-  pub ok : OnOk result (IsPut number bytes (held before) (held now) old new)
-  pub failed : IfErr result (BreaksPut number bytes (held before) (held now) old)
-  pub cause : OnErr result (Rose (failures before) (failures now))
-  pub faults : failures before ≤ failures now
+-- a sink, and what is gathered for it
+pub record SinkState : Type 0 where
+  pub held : Option (List ℕ)
+  pub faults : ℕ
+  pub gathered : List Piece
+
+abbrev pub sink_state : {Sink : Type 0} → (held : Sink → Option (List ℕ)) → (faults : Sink → ℕ) → Sink → List Piece
+    → SinkState
+sink_state held faults sink gathered = record { held = held sink; faults = faults sink; gathered = gathered }
+
+-- What a call that puts these bytes, due at their event, does to them: after a failure the count of faults rose.
+pub record Puts {Value : Type 0} (due : Piece) (before now : SinkState) (result : Result Value ℕ) : Type 0 where
+  pub ok : OnOk result (IsPut due (holding before.held before.gathered) (holding now.held now.gathered))
+  pub failed : IfErr result (BreaksPut due (holding before.held before.gathered) now.held)
+  pub cause : OnErr result (Rose before.faults now.faults)
+  pub faults : before.faults ≤ now.faults
 
 -- All that was gathered was written.
 pub record IsWritten (before now : Option (List ℕ)) (old : List Piece) : Type 0 where

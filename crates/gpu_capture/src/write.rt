@@ -1,6 +1,6 @@
 // Captures are written: a head, a record for each event, and an End record.
 ghost use Rattle.std.specs.Prelude.{◌≡◌, ◌≤◌, ◌<◌, ◌^◌, length, flat_map};
-ghost use Rattle.dev_io.specs.Device.{Writes};
+ghost use Rattle.dev_io.specs.Device.{Writes, side};
 ghost use Rattle.gpu_capture.specs.Capture.{IsVersion, head_of};
 ghost use Rattle.gpu_capture.specs.Record.{IsEvent};
 ghost use Rattle.gpu_capture.specs.Written.{spelled, spelled_end, word_bytes, tag_of};
@@ -56,7 +56,7 @@ pub fn word_record(word: u32) -> [u8; 8]
 /// Writes the head of a capture of this version. After a failure a proper part of it was written.
 pub fn write_start<K: Sink>(sink: &mut K, version: u8) -> Result<(), Failed>
     requires { IsVersion version }
-    ensures { Writes K.held K.faults sink.old sink.new (head_of version) result }
+    ensures { Writes (side K.held K.faults) sink.old sink.new (head_of version) result }
 {
     write_all(sink, &head_bytes(version))
 }
@@ -65,14 +65,14 @@ pub fn write_start<K: Sink>(sink: &mut K, version: u8) -> Result<(), Failed>
 /// written.
 pub fn write_event<K: Sink>(sink: &mut K, event: &Event) -> Result<(), Failed>
     requires { IsEvent event.now }
-    ensures { Writes K.held K.faults sink.old sink.new (spelled event.now) result }
+    ensures { Writes (side K.held K.faults) sink.old sink.new (spelled event.now) result }
 {
     write_all(sink, record_bytes(event).as_slice())
 }
 
 /// Writes an End record. After a failure a proper part of it was written.
 pub fn write_end<K: Sink>(sink: &mut K) -> Result<(), Failed>
-    ensures { Writes K.held K.faults sink.old sink.new spelled_end result }
+    ensures { Writes (side K.held K.faults) sink.old sink.new spelled_end result }
 {
     write_all(sink, &bytes(tag(0, 0)))
 }

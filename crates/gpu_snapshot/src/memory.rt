@@ -1,5 +1,5 @@
 // Main memory, read word by word.
-ghost use Rattle.std.specs.Prelude.{◌≡◌, ◌≤◌, ◌<◌, ◌+◌, ◌*◌, ◌^◌, length, OnOk, IfErr};
+ghost use Rattle.std.specs.Prelude.{◌≡◌, ◌<◌, ◌+◌, ◌*◌, ◌^◌, length, OnOk, IfErr};
 ghost use Rattle.gpu_snapshot.specs.Memories.{HasCause, LacksWords, TakesWords};
 
 use dev_io::Source;

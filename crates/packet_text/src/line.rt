@@ -1,6 +1,6 @@
 // The lines of words, of the status and of notes.
 ghost use Rattle.std.specs.Prelude.{◌≡◌, ◌≤◌, None, Some, length};
-ghost use Rattle.dev_io.specs.Device.{Writes};
+ghost use Rattle.dev_io.specs.Device.{Writes, side};
 ghost use Rattle.packet_text.specs.Line.{word_line, status_line, note_name, note_line, change_line};
 
 use crate::number::{cell_digits, decimal_text, hex_digits, signed_text};
@@ -13,7 +13,7 @@ use px_num::{Box2, bits};
 /// Writes the line of a word that was read: its eight hexadecimal digits.
 #[tactic(auto, unfolding(crate::specs::Line::word_line))]
 pub fn write_word<K: Sink>(out: &mut K, word: u32) -> Result<(), Failed>
-    ensures { Writes K.held K.faults out.old out.new (word_line word) result }
+    ensures { Writes (side K.held K.faults) out.old out.new (word_line word) result }
 {
     write_pieces(out, &[&hex_digits(word), b"\n"])
 }
@@ -21,7 +21,7 @@ pub fn write_word<K: Sink>(out: &mut K, word: u32) -> Result<(), Failed>
 /// Writes the status line: `status ` and eight hexadecimal digits.
 #[tactic(auto, unfolding(crate::specs::Line::status_line))]
 pub fn write_status<K: Sink>(out: &mut K, word: u32) -> Result<(), Failed>
-    ensures { Writes K.held K.faults out.old out.new (status_line word) result }
+    ensures { Writes (side K.held K.faults) out.old out.new (status_line word) result }
 {
     write_pieces(out, &[b"status ", &hex_digits(word), b"\n"])
 }
@@ -58,7 +58,7 @@ pub fn change_text(note: &Note, before: u16, after: u16) -> LineText
 /// Writes the line of a note.
 pub fn write_note<K: Sink>(out: &mut K, note: &Note) -> Result<(), Failed>
     requires { note.now.class ≤ 9 }
-    ensures { Writes K.held K.faults out.old out.new (note_line note.now) result }
+    ensures { Writes (side K.held K.faults) out.old out.new (note_line note.now) result }
 {
     write_all(out, note_text(note).as_slice())
 }
@@ -70,7 +70,7 @@ pub fn write_change<K: Sink>(
     before: u16,
     after: u16,
 ) -> Result<(), Failed>
-    ensures { Writes K.held K.faults out.old out.new (change_line note.now before after) result }
+    ensures { Writes (side K.held K.faults) out.old out.new (change_line note.now before after) result }
 {
     write_all(out, change_text(note, before, after).as_slice())
 }

@@ -1,6 +1,6 @@
 // The lines of digests.
 ghost use Rattle.std.specs.Prelude.{◌≡◌};
-ghost use Rattle.dev_io.specs.Device.{Writes};
+ghost use Rattle.dev_io.specs.Device.{Writes, side};
 ghost use Rattle.hex.specs.Hex.{encode_lower};
 ghost use Rattle.packet_text.specs.Sums.{frame_sum_line, vram_sum_line};
 
@@ -18,7 +18,7 @@ pub fn write_frame_sum<K: Sink>(
     shape: (u16, u16),
     digest: &[u8; 32],
 ) -> Result<(), Failed>
-    ensures { Writes K.held K.faults out.old out.new (frame_sum_line event shape digest.now) result }
+    ensures { Writes (side K.held K.faults) out.old out.new (frame_sum_line event shape digest.now) result }
 {
     let mut of_event = Buffer::new();
     let event = decimal_text(&mut of_event, event);
@@ -36,7 +36,7 @@ pub fn write_frame_sum<K: Sink>(
 /// Writes the line of the digest of video memory: `vram ` and 64 hexadecimal digits.
 #[tactic(auto, unfolding(crate::specs::Sums::vram_sum_line))]
 pub fn write_vram_sum<K: Sink>(out: &mut K, digest: &[u8; 32]) -> Result<(), Failed>
-    ensures { Writes K.held K.faults out.old out.new (vram_sum_line digest.now) result }
+    ensures { Writes (side K.held K.faults) out.old out.new (vram_sum_line digest.now) result }
 {
     write_pieces(out, &[b"vram ", &digest_digits(digest), b"\n"])
 }

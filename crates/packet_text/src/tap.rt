@@ -1,6 +1,6 @@
 // The lines of taps and sums.
 ghost use Rattle.std.specs.Prelude.{◌++◌, codes, decimal};
-ghost use Rattle.dev_io.specs.Device.{Writes};
+ghost use Rattle.dev_io.specs.Device.{Writes, side};
 ghost use Rattle.packet_text.specs.Tap.{number_text, numbers_text, tap_line, sum_line, item_line, item_lines};
 ghost use Rattle.packet_text.specs.Tap.{last_numbers, last_lines};
 
@@ -14,7 +14,7 @@ const LAST_ITEMS: u32 = 8;
 
 /// Writes the line of a tap: `tap`, its kind, and each of its numbers in decimal.
 pub fn write_tap<K: Sink, T: Listener>(out: &mut K, tap: &T) -> Result<(), Failed>
-    ensures { Writes K.held K.faults out.old out.new (tap_line (T.heard tap.now)) result }
+    ensures { Writes (side K.held K.faults) out.old out.new (tap_line (T.heard tap.now)) result }
 {
     write_kind(out, tap.kind())?;
     write_numbers(out, tap)?;
@@ -24,7 +24,7 @@ pub fn write_tap<K: Sink, T: Listener>(out: &mut K, tap: &T) -> Result<(), Faile
 /// Writes the line of a sum: `sum` and the number in decimal.
 #[tactic(auto, unfolding(crate::specs::Tap::sum_line))]
 pub fn write_sum<K: Sink>(out: &mut K, sum: u64) -> Result<(), Failed>
-    ensures { Writes K.held K.faults out.old out.new (sum_line sum) result }
+    ensures { Writes (side K.held K.faults) out.old out.new (sum_line sum) result }
 {
     let mut buffer = Buffer::new();
     let digits = decimal_text(&mut buffer, sum);
@@ -35,7 +35,7 @@ pub fn write_sum<K: Sink>(out: &mut K, sum: u64) -> Result<(), Failed>
 /// item in decimal. Of a tap of another kind nothing is written.
 #[tactic(auto, unfolding(crate::specs::Tap::last_lines))]
 pub fn write_last<K: Sink, T: Listener>(out: &mut K, tap: &T) -> Result<(), Failed>
-    ensures { Writes K.held K.faults out.old out.new (last_lines (T.heard tap.now)) result }
+    ensures { Writes (side K.held K.faults) out.old out.new (last_lines (T.heard tap.now)) result }
 {
     if tap.kind() == 1 {
         write_items(out, tap)
@@ -46,7 +46,8 @@ pub fn write_last<K: Sink, T: Listener>(out: &mut K, tap: &T) -> Result<(), Fail
 
 // The lines of the last items.
 fn write_items<K: Sink, T: Listener>(out: &mut K, tap: &T) -> Result<(), Failed>
-    ensures { Writes K.held K.faults out.old out.new (item_lines (last_numbers (T.heard tap.now).numbers)) result }
+    ensures { Writes (side K.held K.faults) out.old out.new
+        (item_lines (last_numbers (T.heard tap.now).numbers)) result }
 {
     let items = tap.len() / 3;
     for item in items.saturating_sub(LAST_ITEMS)..items {
@@ -61,7 +62,7 @@ fn write_items<K: Sink, T: Listener>(out: &mut K, tap: &T) -> Result<(), Failed>
 // The line of an item.
 #[tactic(auto, unfolding(crate::specs::Tap::item_line))]
 fn write_item<K: Sink>(out: &mut K, event: u64, class: u64, head: u64) -> Result<(), Failed>
-    ensures { Writes K.held K.faults out.old out.new (item_line event class head) result }
+    ensures { Writes (side K.held K.faults) out.old out.new (item_line event class head) result }
 {
     let mut of_event = Buffer::new();
     let event = decimal_text(&mut of_event, event);
@@ -77,7 +78,7 @@ fn write_item<K: Sink>(out: &mut K, event: u64, class: u64, head: u64) -> Result
 
 // The kind of a tap.
 fn write_kind<K: Sink>(out: &mut K, kind: u8) -> Result<(), Failed>
-    ensures { Writes K.held K.faults out.old out.new (codes "tap " ++ decimal kind) result }
+    ensures { Writes (side K.held K.faults) out.old out.new (codes "tap " ++ decimal kind) result }
 {
     let mut buffer = Buffer::new();
     let digits = decimal_text(&mut buffer, kind as u64);
@@ -86,7 +87,7 @@ fn write_kind<K: Sink>(out: &mut K, kind: u8) -> Result<(), Failed>
 
 // The numbers of a tap, each after a space.
 fn write_numbers<K: Sink, T: Listener>(out: &mut K, tap: &T) -> Result<(), Failed>
-    ensures { Writes K.held K.faults out.old out.new (numbers_text (T.heard tap.now).numbers) result }
+    ensures { Writes (side K.held K.faults) out.old out.new (numbers_text (T.heard tap.now).numbers) result }
 {
     for i in 0..tap.len() {
         write_number(out, tap.number(i))?;
@@ -96,7 +97,7 @@ fn write_numbers<K: Sink, T: Listener>(out: &mut K, tap: &T) -> Result<(), Faile
 
 // A number after a space.
 fn write_number<K: Sink>(out: &mut K, number: u64) -> Result<(), Failed>
-    ensures { Writes K.held K.faults out.old out.new (number_text number) result }
+    ensures { Writes (side K.held K.faults) out.old out.new (number_text number) result }
 {
     let mut buffer = Buffer::new();
     let digits = decimal_text(&mut buffer, number);

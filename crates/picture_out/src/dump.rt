@@ -1,6 +1,6 @@
 // The bytes of video memory.
 ghost use Rattle.std.specs.Prelude.{◌≡◌, ◌<◌, ◌≤◌, ◌+◌, ◌*◌, length, slice_range, OnOk};
-ghost use Rattle.dev_io.specs.Device.{Writes};
+ghost use Rattle.dev_io.specs.Device.{Writes, side};
 ghost use Rattle.vram_store.specs.Vram.{height_of};
 ghost use Rattle.picture_out.specs.Dump.{dump, dump_cost};
 
@@ -16,7 +16,7 @@ pub fn write_vram<K: Sink, L: Ledger>(
     out: &mut K,
     steps: &mut Steps<L>,
 ) -> Result<(), Failed>
-    ensures writes { Writes K.held K.faults out.old out.new (dump vram.now) result }
+    ensures writes { Writes (side K.held K.faults) out.old out.new (dump vram.now) result }
     ensures cost { OnOk result (steps.new ≡ steps.old + dump_cost vram.now) }
     ensures cost_at_most { steps.new ≤ steps.old + dump_cost vram.now }
 {

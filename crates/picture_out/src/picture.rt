@@ -1,6 +1,6 @@
 // The shown picture as PPM.
 ghost use Rattle.std.specs.Prelude.{◌≡◌, ◌≤◌, ◌+◌, ◌*◌, take, decimal, IsSome, OnOk};
-ghost use Rattle.dev_io.specs.Device.{Writes};
+ghost use Rattle.dev_io.specs.Device.{Writes, side};
 ghost use Rattle.gp1_status.specs.Shape.{shape_of};
 ghost use Rattle.picture_out.specs.Picture.{display_of, pixels_from, picture_head, pixel_count, picture_of, picture};
 ghost use Rattle.picture_out.specs.Picture.{cells_of_pixel, picture_cost};
@@ -45,7 +45,7 @@ pub fn write_ppm<K: Sink, L: Ledger>(
     steps: &mut Steps<L>,
 ) -> Result<(), Failed>
     requires { IsSome (shape_of regs.now) }
-    ensures writes { Writes K.held K.faults out.old out.new (picture vram.now regs.now) result }
+    ensures writes { Writes (side K.held K.faults) out.old out.new (picture vram.now regs.now) result }
     ensures cost { OnOk result (steps.new ≡ steps.old + picture_cost regs.now) }
     ensures cost_at_most { steps.new ≤ steps.old + picture_cost regs.now }
 {
@@ -77,7 +77,7 @@ fn write_picture<K: Sink, L: Ledger>(
     out: &mut K,
     steps: &mut Steps<L>,
 ) -> Result<(), Failed>
-    ensures writes { Writes K.held K.faults out.old out.new (picture_of vram.now shown) result }
+    ensures writes { Writes (side K.held K.faults) out.old out.new (picture_of vram.now shown) result }
     ensures cost { OnOk result (steps.new ≡ steps.old + pixel_count shown * cells_of_pixel shown) }
     ensures cost_at_most { steps.new ≤ steps.old + pixel_count shown * cells_of_pixel shown }
 {
@@ -87,7 +87,7 @@ fn write_picture<K: Sink, L: Ledger>(
 
 #[tactic(auto, unfolding(crate::specs::Picture::picture_head))]
 fn write_head<K: Sink>(shown: DisplayArea, out: &mut K) -> Result<(), Failed>
-    ensures { Writes K.held K.faults out.old out.new (picture_head shown) result }
+    ensures { Writes (side K.held K.faults) out.old out.new (picture_head shown) result }
 {
     let mut of_width = Buffer::new();
     let width = decimal_text(&mut of_width, shown.width);
@@ -110,7 +110,8 @@ fn write_pixels<K: Sink, L: Ledger>(
     out: &mut K,
     steps: &mut Steps<L>,
 ) -> Result<(), Failed>
-    ensures writes { Writes K.held K.faults out.old out.new (pixels_from vram.now shown 0 (pixel_count shown)) result }
+    ensures writes { Writes (side K.held K.faults) out.old out.new
+        (pixels_from vram.now shown 0 (pixel_count shown)) result }
     ensures cost { OnOk result (steps.new ≡ steps.old + pixel_count shown * cells_of_pixel shown) }
     ensures cost_at_most { steps.new ≤ steps.old + pixel_count shown * cells_of_pixel shown }
 {

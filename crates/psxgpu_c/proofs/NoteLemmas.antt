@@ -10,7 +10,7 @@ use Rattle.event_play.specs.Replay.{Tale, from_state, next_number}
 use Rattle.event_play.specs.RigState.{RigState, Stands, StandsFor}
 use Rattle.event_play.specs.Step.{Machine}
 use Rattle.gpu_core.specs.Machine.{gp0_note}
-use Rattle.psxgpu_c.specs.Notes.{HasNoted, first_notes, noted_at}
+use Rattle.psxgpu_c.specs.Notes.{HasNoted, first_notes, noted_at, noting}
 
 -- the first n words were taken, and what is told of them stands in front
 pub record HasNotedFirst (t : Tale) (words : List ℕ) (n : ℕ) (rig : RigState) (before now : List ItemNote) (count : ℕ)
@@ -60,7 +60,7 @@ noted_more t words n rig next before mid now count more note lt h goes tells is_
 
 pub noted_all : (t : Tale) (words : List ℕ) (n : ℕ) (rig : RigState) (before now : List ItemNote) (count : ℕ)
     → n ≡ length words → count ≤ length before
-    → HasNotedFirst t words n rig before now count → HasNoted t words rig before now count
+    → HasNotedFirst t words n rig before now count → HasNoted t words before (noting rig now) count
 noted_all t words n rig before now count is fits h =
     let all : take n words ≡ words = take_all n words (omega (arith, is)) in
     let due : first_notes t words n ≡ first_notes t words (length words) = ap (λ k. first_notes t words k) is in

@@ -46,33 +46,31 @@ first_notes t words (suc n) =
     first_notes t words n
     ++ noted_at n (gp0_note before.state.gpu (next_number before.played) (slice_index words n))
 
+-- what is held, a rig or what a handle holds, and the caller's notes
+pub record Noting (Held : Type 0) : Type 0 where
+  pub held : Held
+  pub notes : List ItemNote
+
+abbrev pub noting : {Held : Type 0} → Held → List ItemNote → Noting Held
+noting held notes = record { held = held; notes = notes }
+
 -- these words were taken behind a tale, and what is told of them, so many items, stands in front
-pub record HasNoted (t : Tale) (words : List ℕ) (rig : RigState) (before now : List ItemNote) (count : ℕ)
+pub record HasNoted (t : Tale) (words : List ℕ) (before : List ItemNote) (now : Noting RigState) (count : ℕ)
     : Type 0 where
-  pub stands : StandsFor rig (after_words t words)
-  pub front : StandsInFront (first_notes t words (length words)) before now
+  pub stands : StandsFor now.held (after_words t words)
+  pub front : StandsInFront (first_notes t words (length words)) before now.notes
   pub is_count : count ≡ length (first_notes t words (length words))
 
 -- The same behind each machine for which the rig stood; or there is too little room, less than a note for each word,
 -- and nothing changed.
-abbrev pub TakesNoted : (words : List ℕ) → (was rig : RigState) → (before now : List ItemNote) → Result ℕ Refusal
-    → Type 0
-TakesNoted words was rig before now (Ok count) =
-    (s : Machine) → Stands was s → HasNoted (from_state s was.played) words rig before now count
-TakesNoted words was rig before now (Err refusal.NoRoom) =
-    (length before < length words) × (rig ≡ was) × (now ≡ before)
-TakesNoted words was rig before now (Err other) = ⊥
-
--- what a handle holds, and the caller's notes
-pub record Noting : Type 0 where
-  pub held : Option RigState
-  pub notes : List ItemNote
-
-abbrev pub noting : Option RigState → List ItemNote → Noting
-noting held notes = record { held = held; notes = notes }
+abbrev pub TakesNoted : (words : List ℕ) → (before now : Noting RigState) → Result ℕ Refusal → Type 0
+TakesNoted words before now (Ok count) = (s : Machine) → Stands before.held s
+    → HasNoted (from_state s before.held.played) words before.notes now count
+TakesNoted words before now (Err refusal.NoRoom) = (length before.notes < length words) × (now ≡ before)
+TakesNoted words before now (Err other) = ⊥
 
 -- the same of a handle
-abbrev pub TakesHeld : (words : List ℕ) → (before now : Noting) → Result ℕ Refusal → Type 0
+abbrev pub TakesHeld : (words : List ℕ) → (before now : Noting (Option RigState)) → Result ℕ Refusal → Type 0
 TakesHeld words before now answer = WhereHeld before.held now.held
-    (λ was rig. TakesNoted words was rig before.notes now.notes answer)
+    (λ was rig. TakesNoted words (noting was before.notes) (noting rig now.notes) answer)
     ((answer ≡ Err refusal.Closed) × (now.notes ≡ before.notes))

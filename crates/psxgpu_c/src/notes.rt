@@ -61,7 +61,7 @@ fn take_noted(
     words: &[u32],
     notes: &mut [ItemNote],
 ) -> Result<usize, Refusal>
-    ensures { TakesNoted words.now rig.old rig.new notes.old notes.new result }
+    ensures { TakesNoted words.now (noting rig.old notes.old) (noting rig.new notes.new) result }
 {
     if notes.len() < words.len() {
         return Err(Refusal::NoRoom);
@@ -82,7 +82,7 @@ fn take_told<L: Ledger>(
     requires some { 0 < blank.parts }
     requires room { length words.now ≤ length notes.old }
     ensures { (s : Machine) → Stands rig.old s
-        → HasNoted (from_state s rig.old.played) words.now rig.new notes.old notes.new result }
+        → HasNoted (from_state s rig.old.played) words.now notes.old (noting rig.new notes.new) result }
 {
     let mut steps = Steps::<L>::new(blank);
     let mut taps: Vec<Box<dyn Tap>> = Vec::new(alloc);

@@ -1,6 +1,6 @@
 -- What a run works on: a source, and two sinks of which one is for faults.
 use Rattle.std.specs.Prelude.{◌≡◌, ◌⊎◌, ℕ, List, Option}
-use Rattle.dev_io.specs.Device.{appended, AppendsPart, Rose}
+use Rattle.dev_io.specs.Device.{AppendsPart, Rose, SinkSide, appended}
 use Rattle.event_play.specs.declared.ending.Ending.{Ending}
 use Rattle.event_play.specs.declared.ending.Ending.TheVariants.{Done, WriteFailed}
 
@@ -9,16 +9,8 @@ pub record SourceSide : Type 0 where
   pub left : Option (List ℕ)
   pub faults : ℕ
 
--- a sink: the bytes held (None where they are not told), and how often it failed
-pub record SinkSide : Type 0 where
-  pub held : Option (List ℕ)
-  pub faults : ℕ
-
 abbrev pub source_side : Option (List ℕ) → ℕ → SourceSide
 source_side left faults = record { left = left; faults = faults }
-
-abbrev pub sink_side : Option (List ℕ) → ℕ → SinkSide
-sink_side held faults = record { held = held; faults = faults }
 
 -- all of it, and the store steps
 pub record Outside : Type 0 where

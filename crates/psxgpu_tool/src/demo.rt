@@ -1,6 +1,6 @@
 // A demo: packets of the program's own are played, and what they did is told.
 ghost use Rattle.std.specs.Prelude.{◌≡◌, ◌≤◌, ◌<◌, ◌+◌, ◌++◌, [], ◌∷◌, ℕ, List, map};
-ghost use Rattle.dev_io.specs.Device.{Writes};
+ghost use Rattle.dev_io.specs.Device.{Writes, side};
 ghost use Rattle.event_play.specs.Replay.{Tale, next_number};
 ghost use Rattle.event_play.specs.Streams.{Outlets, without_sink};
 ghost use Rattle.gpu_core.specs.Kept.{kept_of};
@@ -8,7 +8,7 @@ ghost use Rattle.gpu_core.specs.Machine.{State};
 ghost use Rattle.psxgpu_tool.specs.Demo.{demo_words};
 ghost use Rattle.psxgpu_tool.specs.DemoOut.{demo_bytes, cells_cost};
 ghost use Rattle.px_num.specs.Height.{short_height};
-ghost use Rattle.psxgpu_tool.specs.Outside.{sink_side, EndsTelling};
+ghost use Rattle.psxgpu_tool.specs.Outside.{EndsTelling};
 ghost use Rattle.psxgpu_tool.specs.Words.{HavePlayed};
 
 use crate::generator::Generator;
@@ -51,7 +51,7 @@ pub fn tell_demo<K: Sink, T: Listener, L: Ledger>(
 ) -> Ending
     ensures ends { (s : State) → kept_of s ≡ rig.now.gpu →
         EndsTelling (demo_bytes (map T.heard taps.now.items) s) (next_number rig.now.played)
-        (sink_side (K.held out.old) (K.faults out.old)) (sink_side (K.held out.new) (K.faults out.new)) result }
+        (side K.held K.faults out.old) (side K.held K.faults out.new) result }
     ensures cost { rig.now.gpu.parts.regs.height ≡ short_height → steps.new ≤ steps.old + cells_cost }
 {
     match write_demo(rig, out, taps, steps) {
@@ -70,7 +70,7 @@ fn write_demo<K: Sink, T: Listener, L: Ledger>(
     steps: &mut Steps<L>,
 ) -> Result<(), Failed>
     ensures writes { (s : State) → kept_of s ≡ rig.now.gpu →
-        Writes K.held K.faults out.old out.new (demo_bytes (map T.heard taps.now.items) s) result }
+        Writes (side K.held K.faults) out.old out.new (demo_bytes (map T.heard taps.now.items) s) result }
     ensures cost { rig.now.gpu.parts.regs.height ≡ short_height → steps.new ≤ steps.old + cells_cost }
 {
     let gpu = rig.gpu();

@@ -1,9 +1,9 @@
 // How a run ends: its exit status, and what is said of a fault.
 ghost use Rattle.std.specs.Prelude.{◌≡◌, flat_map, map, ℕ, List, []};
-ghost use Rattle.dev_io.specs.Device.{Writes};
+ghost use Rattle.dev_io.specs.Device.{Writes, side};
 ghost use Rattle.packet_text.specs.Tap.{last_lines};
 ghost use Rattle.psxgpu_tool.specs.Line.{last_items, told};
-ghost use Rattle.psxgpu_tool.specs.Outside.{sink_side, Says};
+ghost use Rattle.psxgpu_tool.specs.Outside.{Says};
 
 use dev_io::{Failed, Sink, write_all};
 use gpu_taps::Listener;
@@ -24,17 +24,16 @@ pub trait Ended: Copy {
 
     /// Writes the line.
     fn write_line<E: Sink>(self, err: &mut E) -> Result<(), Failed>
-        ensures { Writes E.held E.faults err.old err.new (line self) result };
+        ensures { Writes (side E.held E.faults) err.old err.new (line self) result };
 }
 
 /// Says why a run ended so, if that is a fault, and answers its exit status. What becomes of the text changes nothing
 /// else.
 pub fn end<N: Ended, E: Sink, T: Listener>(err: &mut E, ending: N, taps: &Vec<T>) -> u8
     ensures status { result ≡ N.exit ending }
-    ensures says { Says (sink_side (E.held err.old) (E.faults err.old)) (sink_side (E.held err.new) (E.faults err.new))
+    ensures says { Says (side E.held E.faults err.old) (side E.held E.faults err.new)
         (told (N.line ending) (N.exit ending) (map T.heard taps.now.items)) }
-    ensures silent { result ≡ 0 → sink_side (E.held err.new) (E.faults err.new)
-        ≡ sink_side (E.held err.old) (E.faults err.old) }
+    ensures silent { result ≡ 0 → side E.held E.faults err.new ≡ side E.held E.faults err.old }
 {
     let status = ending.status();
     if status != 0 {
@@ -49,7 +48,7 @@ fn write_told<N: Ended, E: Sink, T: Listener>(
     ending: N,
     taps: &Vec<T>,
 ) -> Result<(), Failed>
-    ensures { Writes E.held E.faults err.old err.new
+    ensures { Writes (side E.held E.faults) err.old err.new
         (told (N.line ending) (N.exit ending) (map T.heard taps.now.items)) result }
 {
     ending.write_line(err)?;
@@ -62,7 +61,7 @@ fn write_last_items<E: Sink, T: Listener>(
     status: u8,
     taps: &Vec<T>,
 ) -> Result<(), Failed>
-    ensures { Writes E.held E.faults err.old err.new (last_items status (map T.heard taps.now.items)) result }
+    ensures { Writes (side E.held E.faults) err.old err.new (last_items status (map T.heard taps.now.items)) result }
 {
     if status == 2 {
         write_lasts(err, taps)
@@ -72,7 +71,7 @@ fn write_last_items<E: Sink, T: Listener>(
 }
 
 fn write_lasts<E: Sink, T: Listener>(err: &mut E, taps: &Vec<T>) -> Result<(), Failed>
-    ensures { Writes E.held E.faults err.old err.new (flat_map last_lines (map T.heard taps.now.items)) result }
+    ensures { Writes (side E.held E.faults) err.old err.new (flat_map last_lines (map T.heard taps.now.items)) result }
 {
     for i in 0..taps.len() {
         write_last(err, &taps[i])?;
@@ -82,8 +81,7 @@ fn write_lasts<E: Sink, T: Listener>(err: &mut E, taps: &Vec<T>) -> Result<(), F
 
 /// Writes a line. What becomes of it changes nothing else.
 pub fn tell<E: Sink>(err: &mut E, line: &[u8])
-    ensures { Says (sink_side (E.held err.old) (E.faults err.old))
-        (sink_side (E.held err.new) (E.faults err.new)) line.now }
+    ensures { Says (side E.held E.faults err.old) (side E.held E.faults err.new) line.now }
 {
     let _ = write_all(err, line);
 }

@@ -1,5 +1,5 @@
 // The lines of refusals.
-ghost use Rattle.dev_io.specs.Device.{Writes};
+ghost use Rattle.dev_io.specs.Device.{Writes, side};
 ghost use Rattle.psxgpu_tool.specs.Line.{event_line, place_line, word_line, too_long_line, list_loop_line};
 ghost use Rattle.psxgpu_tool.specs.Line.{fault_line, stop_line};
 
@@ -11,7 +11,7 @@ use packet_text::{address_digits, decimal_text, hex_digits};
 
 /// Writes the line of a stop of the reader, where this event was due.
 pub(crate) fn write_stop<E: Sink>(err: &mut E, event: u64, stop: Stop) -> Result<(), Failed>
-    ensures { Writes E.held E.faults err.old err.new (stop_line event stop) result }
+    ensures { Writes (side E.held E.faults) err.old err.new (stop_line event stop) result }
 {
     match stop {
         Stop::NotCapture { byte } => write_place(err, b"not-capture", event, byte),
@@ -25,7 +25,7 @@ pub(crate) fn write_stop<E: Sink>(err: &mut E, event: u64, stop: Stop) -> Result
 
 /// Writes the line of an event that is refused.
 pub(crate) fn write_fault<E: Sink>(err: &mut E, event: u64, fault: EventFault) -> Result<(), Failed>
-    ensures { Writes E.held E.faults err.old err.new (fault_line event fault) result }
+    ensures { Writes (side E.held E.faults) err.old err.new (fault_line event fault) result }
 {
     match fault {
         EventFault::BadDma => write_event(err, b"bad-dma", event),
@@ -37,7 +37,7 @@ pub(crate) fn write_fault<E: Sink>(err: &mut E, event: u64, fault: EventFault) -
 /// Writes the line of a cause at an event.
 #[tactic(auto, unfolding(crate::specs::Line::event_line))]
 pub(crate) fn write_event<E: Sink>(err: &mut E, name: &[u8], event: u64) -> Result<(), Failed>
-    ensures { Writes E.held E.faults err.old err.new (event_line name.now event) result }
+    ensures { Writes (side E.held E.faults) err.old err.new (event_line name.now event) result }
 {
     let mut number = Buffer::new();
     let n = decimal_text(&mut number, event);
@@ -46,7 +46,7 @@ pub(crate) fn write_event<E: Sink>(err: &mut E, name: &[u8], event: u64) -> Resu
 
 #[tactic(auto, unfolding(crate::specs::Line::place_line))]
 fn write_place<E: Sink>(err: &mut E, name: &[u8], event: u64, byte: u32) -> Result<(), Failed>
-    ensures { Writes E.held E.faults err.old err.new (place_line name.now event byte) result }
+    ensures { Writes (side E.held E.faults) err.old err.new (place_line name.now event byte) result }
 {
     let mut number = Buffer::new();
     let n = decimal_text(&mut number, event);
@@ -67,7 +67,7 @@ pub(crate) fn write_word<E: Sink>(
     byte: u32,
     word: u32,
 ) -> Result<(), Failed>
-    ensures { Writes E.held E.faults err.old err.new (word_line name.now event byte word) result }
+    ensures { Writes (side E.held E.faults) err.old err.new (word_line name.now event byte word) result }
 {
     let mut number = Buffer::new();
     let n = decimal_text(&mut number, event);
@@ -92,7 +92,7 @@ pub(crate) fn write_word<E: Sink>(
 
 #[tactic(auto, unfolding(crate::specs::Line::too_long_line))]
 fn write_too_long<E: Sink>(err: &mut E, event: u64, words: u64) -> Result<(), Failed>
-    ensures { Writes E.held E.faults err.old err.new (too_long_line event words) result }
+    ensures { Writes (side E.held E.faults) err.old err.new (too_long_line event words) result }
 {
     let mut number = Buffer::new();
     let n = decimal_text(&mut number, event);
@@ -106,7 +106,7 @@ fn write_too_long<E: Sink>(err: &mut E, event: u64, words: u64) -> Result<(), Fa
 
 #[tactic(auto, unfolding(crate::specs::Line::list_loop_line))]
 fn write_list_loop<E: Sink>(err: &mut E, event: u64, node: u32) -> Result<(), Failed>
-    ensures { Writes E.held E.faults err.old err.new (list_loop_line event node) result }
+    ensures { Writes (side E.held E.faults) err.old err.new (list_loop_line event node) result }
 {
     let mut number = Buffer::new();
     let n = decimal_text(&mut number, event);

@@ -1,8 +1,9 @@
 // The whole run of the program.
 ghost use Rattle.std.specs.Prelude.{◌≡◌, map};
+ghost use Rattle.dev_io.specs.Device.{side};
 ghost use Rattle.psxgpu_tool.specs.Command.{IsCommand};
 ghost use Rattle.psxgpu_tool.specs.Line.{memory_line};
-ghost use Rattle.psxgpu_tool.specs.Outside.{outside, source_side, sink_side, Says, EndsTelling};
+ghost use Rattle.psxgpu_tool.specs.Outside.{outside, source_side, Says, EndsTelling};
 ghost use Rattle.psxgpu_tool.specs.Run.{CommandRun, Runs};
 
 use crate::command::{Command, read_command};
@@ -35,9 +36,9 @@ pub fn run<S: Source, K: Sink, E: Sink, L: Ledger>(
 ) -> u8
     ensures { Runs words.now (map ⟦<Box<dyn Tap> as Listener>⟧.heard taps.items)
         (outside (source_side (S.left source.old) (S.faults source.old))
-        (sink_side (K.held out.old) (K.faults out.old)) (sink_side (E.held err.old) (E.faults err.old)) steps.old)
+        (side K.held K.faults out.old) (side E.held E.faults err.old) steps.old)
         (outside (source_side (S.left source.new) (S.faults source.new))
-        (sink_side (K.held out.new) (K.faults out.new)) (sink_side (E.held err.new) (E.faults err.new)) steps.new)
+        (side K.held K.faults out.new) (side E.held E.faults err.new) steps.new)
         result }
 {
     match read_command(words) {
@@ -62,9 +63,9 @@ fn run_command<S: Source, K: Sink, E: Sink, L: Ledger>(
     requires { IsCommand command }
     ensures { CommandRun command (map ⟦<Box<dyn Tap> as Listener>⟧.heard taps.items)
         (outside (source_side (S.left source.old) (S.faults source.old))
-        (sink_side (K.held out.old) (K.faults out.old)) (sink_side (E.held err.old) (E.faults err.old)) steps.old)
+        (side K.held K.faults out.old) (side E.held E.faults err.old) steps.old)
         (outside (source_side (S.left source.new) (S.faults source.new))
-        (sink_side (K.held out.new) (K.faults out.new)) (sink_side (E.held err.new) (E.faults err.new)) steps.new)
+        (side K.held K.faults out.new) (side E.held E.faults err.new) steps.new)
         result }
 {
     match command {
@@ -111,8 +112,7 @@ fn run_command<S: Source, K: Sink, E: Sink, L: Ledger>(
 
 /// Writes a text to out.
 fn tell_text<K: Sink>(text: &[u8], out: &mut K) -> Ending
-    ensures { EndsTelling text.now 1 (sink_side (K.held out.old) (K.faults out.old))
-        (sink_side (K.held out.new) (K.faults out.new)) result }
+    ensures { EndsTelling text.now 1 (side K.held K.faults out.old) (side K.held K.faults out.new) result }
 {
     match write_all(out, text) {
         Ok(()) => Ending::Done,
@@ -123,8 +123,7 @@ fn tell_text<K: Sink>(text: &[u8], out: &mut K) -> Ending
 /// Says that memory ran out, and answers the status of that.
 fn tell_no_memory<E: Sink>(err: &mut E) -> u8
     ensures status { result ≡ 5 }
-    ensures says { Says (sink_side (E.held err.old) (E.faults err.old))
-        (sink_side (E.held err.new) (E.faults err.new)) memory_line }
+    ensures says { Says (side E.held E.faults err.old) (side E.held E.faults err.new) memory_line }
 {
     tell(err, b"psxgpu: memory\n");
     5

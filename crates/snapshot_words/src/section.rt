@@ -1,5 +1,5 @@
 // The parts of a state, and which words may stand in each.
-ghost use Rattle.std.specs.Prelude.{◌≡◌, ◌≤◌, ◌<◌, ◌+◌, ◌*◌, ◌==◌, length, slice_index};
+ghost use Rattle.std.specs.Prelude.{◌≡◌, ◌≤◌, ◌<◌, ◌*◌, ◌==◌, length, slice_index};
 ghost use Rattle.gp0_words.specs.Kinds.{is_set, is_end};
 ghost use Rattle.snapshot_words.specs.Sections.{
   allows,

@@ -1,6 +1,6 @@
 // A state but for its memories, written as words.
 ghost use Rattle.std.specs.Prelude.{◌≡◌, ◌≤◌, ◌<◌, ◌+◌, ◌*◌, ◌++◌, ◌∷◌, None, length};
-ghost use Rattle.dev_io.specs.Device.{Writes};
+ghost use Rattle.dev_io.specs.Device.{Writes, side};
 ghost use Rattle.gp0_words.specs.Next.{IsPending};
 ghost use Rattle.snapshot_words.specs.Outline.{snapshot_head, outline_words, bytes_of};
 ghost use Rattle.snapshot_words.specs.Values.{front_words, job_words, load_words, pending_words};
@@ -19,7 +19,7 @@ pub const SNAPSHOT_HEAD: [u8; 8] = *b"PSXGPUS1";
 
 /// Writes the head of a snapshot. After a failure a proper part of it was written.
 pub fn write_head<K: Sink>(sink: &mut K) -> Result<(), Failed>
-    ensures { Writes K.held K.faults sink.old sink.new snapshot_head result }
+    ensures { Writes (side K.held K.faults) sink.old sink.new snapshot_head result }
 {
     write_all(sink, &SNAPSHOT_HEAD)
 }
@@ -28,7 +28,7 @@ pub fn write_head<K: Sink>(sink: &mut K) -> Result<(), Failed>
 /// it was written.
 pub fn write_outline<K: Sink>(sink: &mut K, outline: &Outline) -> Result<(), Failed>
     requires { IsPending outline.now.pending }
-    ensures { Writes K.held K.faults sink.old sink.new (bytes_of (outline_words outline.now)) result }
+    ensures { Writes (side K.held K.faults) sink.old sink.new (bytes_of (outline_words outline.now)) result }
 {
     let words = gather(outline);
     let bytes = bytes_in(words.as_slice());

@@ -12,7 +12,7 @@ returns-in_err-write_words-clause-writes g c =
     let p = err_from_is_err_and c.from_residual.result c.from_residual.ensures.1 in
     let piece = ap bytes_of c.row_words-words.ensures.words in
     rw (p.1, p.2)
-    (underway_fails _ _ _ _ _ _ (bytes_of c.row_words-words.result)
+    (underway_fails _ _ _ _ _ (bytes_of c.row_words-words.result)
     (bytes_of (cell_words (drop (1024 * (c.loop-y.y + 1)) c.args.vram.now))) _ _ c.loop-y.invariant.underway
     (rw piece (rows_split c.args.vram.now (1024 * c.loop-y.y) (1024 * (c.loop-y.y + 1)) (omega arith)
     (omega (arith, c.height-y-end.ensures.cells, c.loop-y-test.true))))
@@ -22,7 +22,7 @@ pub loop-y-preserved : goal.loop-y-preserved
 loop-y-preserved g c =
     let piece = ap bytes_of c.row_words-words.ensures.words in
     record {
-      underway = underway_on _ _ _ _ _ _ (bytes_of c.row_words-words.result) _ _ _ c.loop-y.invariant.underway
+      underway = underway_on _ _ _ _ _ (bytes_of c.row_words-words.result) _ _ _ c.loop-y.invariant.underway
           (rw piece (rows_split c.args.vram.now (1024 * c.loop-y.y) (1024 * (c.loop-y.y + 1)) (omega arith)
           (omega (arith, c.height-y-end.ensures.cells, c.loop-y-test.true))))
           c.in_ok-write_words.ensures;
@@ -33,7 +33,7 @@ loop-y-preserved g c =
 
 pub returns-clause-writes : goal.returns-clause-writes
 returns-clause-writes g c =
-    underway_end _ _ _ _ _ _ _ c.loop-y.invariant.underway
+    underway_end _ _ _ _ _ _ c.loop-y.invariant.underway
     (rows_end c.args.vram.now (1024 * c.loop-y.y)
     (omega (arith, c.height-y-end.ensures.cells, c.loop-y-test.false)))
 

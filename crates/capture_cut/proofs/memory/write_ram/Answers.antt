@@ -10,7 +10,7 @@ returns-in_err-write_words g c =
     let p = err_from_is_err_and c.from_residual.result c.from_residual.ensures.1 in
     let piece = ap bytes_of c.ram_words-words.ensures.words in
     rw (p.1, p.2)
-    (underway_fails _ _ _ _ _ _ (bytes_of c.ram_words-words.result)
+    (underway_fails _ _ _ _ _ (bytes_of c.ram_words-words.result)
     (bytes_of (drop (512 * (c.loop-i.i + 1)) c.args.ram.now)) _ _ c.loop-i.invariant.underway
     (rw piece (words_split c.args.ram.now (512 * c.loop-i.i) 512 (512 * (c.loop-i.i + 1)) (omega arith)))
     c.in_err-write_words.ensures)
@@ -19,7 +19,7 @@ pub loop-i-preserved : goal.loop-i-preserved
 loop-i-preserved g c =
     let piece = ap bytes_of c.ram_words-words.ensures.words in
     record {
-      underway = underway_on _ _ _ _ _ _ (bytes_of c.ram_words-words.result) _ _ _ c.loop-i.invariant.underway
+      underway = underway_on _ _ _ _ _ (bytes_of c.ram_words-words.result) _ _ _ c.loop-i.invariant.underway
           (rw piece (words_split c.args.ram.now (512 * c.loop-i.i) 512 (512 * (c.loop-i.i + 1)) (omega arith)))
           c.in_ok-write_words.ensures;
       long = λ some. c.ram_words-words.ensures.long;
@@ -28,5 +28,5 @@ loop-i-preserved g c =
 pub returns : goal.returns
 returns g c =
     let long = c.loop-i.invariant.long (omega (arith, c.loop-i-test.false)) in
-    underway_end _ _ _ _ _ _ _ c.loop-i.invariant.underway
+    underway_end _ _ _ _ _ _ c.loop-i.invariant.underway
     (words_end c.args.ram.now (512 * c.loop-i.i) (omega (arith, long, c.loop-i-test.false)))

@@ -1,4 +1,5 @@
 use Rattle.std.proofs.Common.{◌≡◌, ◌<◌, ◌*◌, drop, length}
+use Rattle.dev_io.specs.Device.{side}
 use Rattle.dev_io.proofs.Writing.{IsUnderway}
 use Rattle.ot_clear_dma.specs.Ram.{memory_words}
 use Rattle.snapshot_words.specs.Outline.{bytes_of}
@@ -6,7 +7,7 @@ use Rattle.capture_cut.proofs.memory.write_ram.Given as goal
 
 abbrev pub invariant-loop-i : goal.invariant-loop-i
 invariant-loop-i g l = record {
-  underway : IsUnderway g.K.Sink.held g.K.Sink.faults l.initial.out l.out (bytes_of (drop (512 * l.i) l.ram))
+  underway : IsUnderway (side g.K.Sink.held g.K.Sink.faults) l.initial.out l.out (bytes_of (drop (512 * l.i) l.ram))
       (bytes_of l.ram);
   long : 0 < l.i → length l.ram ≡ memory_words;
 }

@@ -11,7 +11,7 @@ returns-in_err-write_cells-clause-writes g c =
     let cells : c.vram.result.now ≡ c.args.rig.now.gpu.parts.m =
     c.vram.ensures ∙ ap (λ (k : Kept). k.parts.m) c.gpu.ensures in
     rw (p.1, p.2, ← cells)
-    (fails_on _ _ _ _ _ [] _ _ _ (wrote_none _ _ _) c.in_err-write_cells.ensures.writes)
+    (fails_on _ _ _ _ [] _ _ _ (wrote_none _ _) c.in_err-write_cells.ensures.writes)
 
 pub returns-clause-writes : goal.returns-clause-writes
 returns-clause-writes g c =
@@ -19,7 +19,7 @@ returns-clause-writes g c =
     let cells : c.vram.result.now ≡ c.args.rig.now.gpu.parts.m =
     c.vram.ensures ∙ ap (λ (k : Kept). k.parts.m) c.gpu.ensures in
     rw (← cells, ← c.ram.ensures)
-    (writes_on _ _ _ _ _ _ _ _ (record { bytes = first.ok; faults = first.faults }) c.write_ram.ensures)
+    (writes_on _ _ _ _ _ _ _ (record { bytes = first.ok; faults = first.faults }) c.write_ram.ensures)
 
 pub returns-clause-cells : goal.returns-clause-cells
 returns-clause-cells g c =

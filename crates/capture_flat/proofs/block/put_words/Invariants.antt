@@ -1,7 +1,7 @@
 use Rattle.std.proofs.Common.{◌≡◌, ◌≤◌, ◌++◌, List, drop}
 use Rattle.gathered_out.specs.Pieces.{Piece}
+use Rattle.gathered_out.specs.Puts.{holding}
 use Rattle.event_play.specs.Listing.{ArePut}
-use Rattle.event_play.specs.Streams.{sink_with}
 use Rattle.capture_flat.specs.Records.{record_pieces}
 use Rattle.capture_flat.proofs.block.put_words.Given as goal
 
@@ -9,6 +9,6 @@ abbrev pub invariant-loop-word : goal.invariant-loop-word
 invariant-loop-word g l = record {
   done : List Piece;
   are : record_pieces l.played l.words ≡ done ++ record_pieces l.number (drop l.word-index l.words);
-  put : ArePut done (sink_with (g.K.Sink.held l.fn.out) l.fn.gathered) (sink_with (g.K.Sink.held l.out) l.gathered);
+  put : ArePut done (holding (g.K.Sink.held l.fn.out) l.fn.gathered) (holding (g.K.Sink.held l.out) l.gathered);
   faults : g.K.Sink.faults l.fn.out ≤ g.K.Sink.faults l.out;
 }

@@ -47,7 +47,7 @@ returns-in-Ok-put_due-clause-ok g c = λ t e.
     let number = ap next_number (c.played-played.ensures ∙ sym e.played) in
     record {
       plays = plays;
-      put = put_same _ _ _ _ _ _ _ _ number due c.in-Ok-put_due.ensures.puts.ok;
+      put = put_same _ _ _ _ _ _ number due c.in-Ok-put_due.ensures.puts.ok;
       version = ap (λ (f : FlatFile). f.version) c.in-Ok-put_due.ensures.file;
       size_is = due_length _ _ _ _ (c.due_size.ensures.value c.args.draft.now.file.version) due;
       fits = omega arith;
@@ -67,6 +67,6 @@ returns-in-Err-put_due-clause-ends g c = λ t e.
     let number = ap next_number (c.played-played.ensures ∙ sym e.played) in
     record {
       plays = plays;
-      breaks = breaks_same _ _ _ _ _ _ _ _ number due c.in-Err-put_due.ensures.puts.failed;
+      breaks = breaks_same _ _ _ _ _ _ _ number due c.in-Err-put_due.ensures.puts.failed;
       fits = not_long _ _ _ _ (c.due_size.ensures.value c.args.draft.now.file.version) due (omega arith);
     }

@@ -1,9 +1,12 @@
 use Rattle.std.proofs.Common.{replicate}
+use Rattle.gathered_out.specs.Pieces.{piece}
+use Rattle.gathered_out.specs.Puts.{sink_state}
 use Rattle.gathered_out.proofs.Puts.{HasPut}
 use Rattle.gpu_capture.specs.declared.event.Event.TheVariants.{Skip}
 use Rattle.capture_flat.specs.Out.{spell}
 use Rattle.capture_flat.proofs.spell.spell_skips.Given as goal
 
 abbrev pub invariant-loop-i : goal.invariant-loop-i
-invariant-loop-i g l = HasPut g.K.Sink.held g.K.Sink.faults l.number (spell (replicate l.i Skip)) l.initial.out l.out
-    l.initial.gathered l.gathered
+invariant-loop-i g l = HasPut (piece l.number (spell (replicate l.i Skip)))
+    (sink_state g.K.Sink.held g.K.Sink.faults l.initial.out l.initial.gathered)
+    (sink_state g.K.Sink.held g.K.Sink.faults l.out l.gathered)

@@ -1,4 +1,6 @@
 use Rattle.std.proofs.Common.{◌≡◌, ◌++◌, List, length, map}
+use Rattle.gathered_out.specs.Pieces.{piece}
+use Rattle.gathered_out.specs.Puts.{sink_state}
 use Rattle.gathered_out.proofs.Puts.{HasPut}
 use Rattle.gpu_capture.specs.declared.event.Event.{Event}
 use Rattle.gpu_capture.specs.declared.event.Event.TheVariants.{Gp0}
@@ -9,7 +11,8 @@ abbrev pub invariant-words : goal.invariant-words
 invariant-words g l = record {
   done : List Event;
   are : map Gp0 l.fn.words ≡ done ++ map Gp0 l.left;
-  put : HasPut g.K.Sink.held g.K.Sink.faults l.number (spell done) l.initial.out l.out l.initial.gathered l.gathered;
+  put : HasPut (piece l.number (spell done)) (sink_state g.K.Sink.held g.K.Sink.faults l.initial.out l.initial.gathered)
+      (sink_state g.K.Sink.held g.K.Sink.faults l.out l.gathered);
 }
 
 abbrev pub decreases-words : goal.decreases-words

@@ -1,7 +1,7 @@
 use Rattle.std.proofs.Common.{inl, arith}
 use Rattle.std.proofs.lemmas.Result.{on_ok_weaker, on_err_weaker}
 use Rattle.event_play.proofs.Feeds.{watched_feeds, watched_lines, watched_stops}
-use Rattle.event_play.proofs.Putting.{lines_put, puts_same}
+use Rattle.event_play.proofs.Putting.{puts_same}
 use Rattle.event_play.proofs.feed.feed_watched.Goals as goal
 
 pub returns-clause-feeds : goal.returns-clause-feeds
@@ -24,7 +24,7 @@ returns-clause-feeds g c =
           puts_same _ _ _ _ _ c.put_changed.result
           (watched_lines c.args.watch.cell s c.args.watch.number c.args.watch.word c.gp0-note.result _ _ _ _ e
           (fed.feed s e) (fed.note s e) c.seen_cell-before.ensures.value c.seen_cell-after.ensures.value)
-          (lines_put _ _ _ _ _ _ _ _ c.put_changed.result c.put_changed.ensures.puts);
+          c.put_changed.ensures.puts;
       kept = inl tt;
       gathers = on_err_weaker c.put_changed.result (λ part. tt) c.put_changed.ensures.puts.cause;
       cause = c.put_changed.ensures.puts.cause;

@@ -2,7 +2,7 @@ use Rattle.std.proofs.Common.{inl, refl, rules}
 use Rattle.std.proofs.lemmas.Result.{on_ok_weaker, on_err_weaker}
 use Rattle.event_play.specs.Lines.{IsGathered}
 use Rattle.event_play.proofs.Feeds.{quiet_feeds, word_feeds, word_lines, word_stops}
-use Rattle.event_play.proofs.Putting.{lines_put, puts_same}
+use Rattle.event_play.proofs.Putting.{puts_same}
 use Rattle.event_play.proofs.feed.feed_word.Goals as goal
 
 pub returns-in-List-clause-feeds : goal.returns-in-List-clause-feeds
@@ -22,7 +22,7 @@ returns-in-List-clause-feeds g c =
       puts = λ s e.
           puts_same _ _ _ _ _ c.put_listed.result
           (word_lines s c.args.within.number c.args.word c.gp0-note.result (fed.note s e))
-          (lines_put _ _ _ _ _ _ _ _ c.put_listed.result c.put_listed.ensures.puts);
+          c.put_listed.ensures.puts;
       kept = inl tt;
       gathers = on_err_weaker c.put_listed.result (λ part. tt) c.put_listed.ensures.puts.cause;
       cause = c.put_listed.ensures.puts.cause;

@@ -4,6 +4,6 @@ use Rattle.event_play.proofs.film.write_last_sums.Goals as goal
 
 pub returns-clause-writes : goal.returns-clause-writes
 returns-clause-writes g c =
-    let first = underway_on _ _ _ _ _ _ _ _ _ _ (underway_start _ _ _ _) refl
+    let first = underway_on _ _ _ _ _ _ _ _ _ (underway_start _ _ _) refl
     c.in_ok-write_last_sum.ensures.writes in
-    underway_last _ _ _ _ _ _ _ _ first c.write_memory_sum.ensures.writes
+    underway_last _ _ _ _ _ _ _ first c.write_memory_sum.ensures.writes

@@ -1,9 +1,9 @@
 use Rattle.std.proofs.Common.{◌+◌, ◌-◌, List, Ok, Err, option_to_list, take, drop, length, length-drop}
 use Rattle.std.proofs.Common.{◌∙◌, subst, arith}
 use Rattle.gathered_out.specs.Pieces.{Piece}
+use Rattle.gathered_out.specs.Puts.{holding}
 use Rattle.event_play.specs.Listing.{ArePut, PutsPieces, listed_pieces}
 use Rattle.event_play.specs.PlayedWords.{after_words, word_notes}
-use Rattle.event_play.specs.Streams.{sink_with}
 use Rattle.event_play.proofs.AtOnce.{rest_both, taken_both, told_first, told_on}
 use Rattle.event_play.proofs.Listed.{fails_on, pieces_on, put_on}
 use Rattle.event_play.proofs.listing.list_events.Goals as goal
@@ -30,8 +30,8 @@ returns-in-Err-clause-puts g c = λ t first told.
     let le = c.words.invariant.within in
     let within = c.feed_noted-fed.ensures.within in
     let before = c.words.invariant.told t first told in
-    let was = sink_with (g.K.Sink.held c.args.lines.now.out.now) c.args.lines.now.gathered.now in
-    let now = sink_with (g.K.Sink.held c.put_noted.new.lines.out.now) c.put_noted.new.lines.gathered.now in
+    let was = holding (g.K.Sink.held c.args.lines.now.out.now) c.args.lines.now.gathered.now in
+    let now = holding (g.K.Sink.held c.put_noted.new.lines.out.now) c.put_noted.new.lines.gathered.now in
     let P : List Piece → Type 0 = λ pieces. PutsPieces {Value = Unit {0}} pieces was now (Err c.in-Err.lacking) in
     fails_on was now t (take (at + count) words) _ words c.in-Err.lacking
     (rest_both words (at + count) (let long = length-drop at words in omega (arith, le, within, long)))
@@ -58,8 +58,8 @@ words-preserved g c =
           (c.words.invariant.told t first told));
       puts = λ t first told.
           let before = c.words.invariant.told t first told in
-          let was = sink_with (g.K.Sink.held c.args.lines.now.out.now) c.args.lines.now.gathered.now in
-          let now = sink_with (g.K.Sink.held c.put_noted.new.lines.out.now) c.put_noted.new.lines.gathered.now in
+          let was = holding (g.K.Sink.held c.args.lines.now.out.now) c.args.lines.now.gathered.now in
+          let now = holding (g.K.Sink.held c.put_noted.new.lines.out.now) c.put_noted.new.lines.gathered.now in
           let P : List Piece → Type 0 = λ pieces. ArePut pieces was now in
           subst P
           (pieces_on t (take at words) (take count (take (length words - at) (drop at words)))

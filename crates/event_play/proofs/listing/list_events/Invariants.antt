@@ -1,8 +1,9 @@
 use Rattle.std.proofs.Common.{◌≡◌, ◌≤◌, ◌-◌, length, map, take}
+use Rattle.gathered_out.specs.Puts.{holding}
 use Rattle.event_play.specs.Listing.{ArePut, listed_pieces}
 use Rattle.event_play.specs.PlayedWords.{IsTold, after_words, word_notes}
 use Rattle.event_play.specs.Replay.{Tale}
-use Rattle.event_play.specs.Streams.{Outlets, sink_with, without_sink}
+use Rattle.event_play.specs.Streams.{Outlets, without_sink}
 use Rattle.event_play.proofs.listing.list_events.Given as goal
 
 abbrev pub invariant-words : goal.invariant-words
@@ -17,8 +18,8 @@ invariant-words g l = record {
       → IsTold t first (without_sink (map g.T.Listener.heard l.initial.taps.items) l.initial.steps) l.initial.gpu
       l.initial.played
       → ArePut (listed_pieces (word_notes t (take l.at l.words)))
-      (sink_with (g.K.Sink.held l.initial.lines.out.now) l.initial.lines.gathered.now)
-      (sink_with (g.K.Sink.held l.lines.out.now) l.lines.gathered.now);
+      (holding (g.K.Sink.held l.initial.lines.out.now) l.initial.lines.gathered.now)
+      (holding (g.K.Sink.held l.lines.out.now) l.lines.gathered.now);
   faults : g.K.Sink.faults l.initial.lines.out.now ≤ g.K.Sink.faults l.lines.out.now;
   gathered : l.lines.gathered.ghost_name ≡ l.initial.lines.gathered.ghost_name;
   out : l.lines.out.ghost_name ≡ l.initial.lines.out.ghost_name;

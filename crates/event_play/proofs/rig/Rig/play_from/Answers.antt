@@ -61,9 +61,9 @@ returns-in-Err-play_words-clause-ends g c = λ s e.
     (g.K.Sink.held c.write_before_words.new.out) played started c.in-Ok-write_before_words.ensures.ok in
     let read = c.read_words-read.ensures in
     words_fail _ _ _ _ _ _ _ _ _ _ _ _ _ _ _ _ _
-    paused.reached read.unwatched c.play_words.ensures.ram c.play_words.ensures.running
+    paused.reached read.suit.unwatched c.play_words.ensures.ram c.play_words.ensures.running
     (rw c.as_slice.ensures at c.play_words.ensures.told) (rw read.goes_on.version started)
-    (λ is. let few = read.few is in let near = c.in-Ok-write_before_words.ensures.near in omega (arith, few, near))
+    (λ is. let few = read.suit.few is in let near = c.in-Ok-write_before_words.ensures.near in omega (arith, few, near))
     (g.K.Sink.held c.play_words.new.out) c.play_words.new.lines c.in-Err-play_words.event c.read_words-read.result
     (rw c.as_slice.ensures at c.in-Err-play_words.ensures.puts) read.takes read.stop
     (from_small s c.args.self.now.played c.args.reader.now.progress)
@@ -78,9 +78,9 @@ returns-in-Err-read-clause-ends g c = λ s e.
     (g.K.Sink.held c.write_before_words.new.out) played started c.in-Ok-write_before_words.ensures.ok in
     let read = c.read_words-read.ensures in
     let stopped = words_stop _ _ _ _ _ _ _ _ _ _ _ _ _ _ _ _ _
-    paused.reached read.unwatched c.play_words.ensures.ram c.play_words.ensures.running
+    paused.reached read.suit.unwatched c.play_words.ensures.ram c.play_words.ensures.running
     (rw c.as_slice.ensures at c.play_words.ensures.told) (rw read.goes_on.version started)
-    (λ is. let few = read.few is in let near = c.in-Ok-write_before_words.ensures.near in omega (arith, few, near))
+    (λ is. let few = read.suit.few is in let near = c.in-Ok-write_before_words.ensures.near in omega (arith, few, near))
     (g.K.Sink.held c.play_words.new.out) c.play_words.new.lines c.in_default-play_words.field-0 c.in-Err-read.stop
     (rw c.as_slice.ensures at c.in_default-play_words.ensures.puts) (c.play_words.ensures.free paused.reached.free)
     c.in-Err-read.ensures.stop in
@@ -103,9 +103,9 @@ returns-in-Err-write_at_pause-clause-ends g c = λ s e.
     let read = c.read_words-read.ensures in
     pause_ends _ _ _ _ _ _ _ _ (g.K.Sink.held c.write_at_pause.new.out) c.in-Err-write_at_pause.event
     (words_went _ _ _ _ _ _ _ _ _ _ _ _ _ _ _ _ _
-    paused.reached read.unwatched c.play_words.ensures.ram c.play_words.ensures.running
+    paused.reached read.suit.unwatched c.play_words.ensures.ram c.play_words.ensures.running
     (rw c.as_slice.ensures at c.play_words.ensures.told) (rw read.goes_on.version started)
-    (λ is. let few = read.few is in let near = c.in-Ok-write_before_words.ensures.near in omega (arith, few, near))
+    (λ is. let few = read.suit.few is in let near = c.in-Ok-write_before_words.ensures.near in omega (arith, few, near))
     (g.K.Sink.held c.play_words.new.out) c.play_words.new.lines c.in_default-play_words.field-0
     (rw c.as_slice.ensures at c.in_default-play_words.ensures.puts) (c.play_words.ensures.free paused.reached.free)
     c.in_default-read.ensures.takes)
@@ -128,9 +128,9 @@ events-preserved g c =
           (g.K.Sink.held c.write_before_words.new.out) played started c.in-Ok-write_before_words.ensures.ok in
           let read = c.read_words-read.ensures in
           let went = words_went _ _ _ _ _ _ _ _ _ _ _ _ _ _ _ _ _
-          paused.reached read.unwatched c.play_words.ensures.ram c.play_words.ensures.running
+          paused.reached read.suit.unwatched c.play_words.ensures.ram c.play_words.ensures.running
           (rw c.as_slice.ensures at c.play_words.ensures.told) (rw read.goes_on.version started)
-          (λ is. let few = read.few is in let near = c.in-Ok-write_before_words.ensures.near in
+          (λ is. let few = read.suit.few is in let near = c.in-Ok-write_before_words.ensures.near in
           omega (arith, few, near))
           (g.K.Sink.held c.play_words.new.out) c.play_words.new.lines c.in_default-play_words.field-0
           (rw c.as_slice.ensures at c.in_default-play_words.ensures.puts)

@@ -1,6 +1,6 @@
 use Rattle.std.proofs.Common.{◌≡◌, decimal, arith, ap, sym, ◌∙◌}
 use Rattle.std.proofs.lemmas.Fmt.{parse-decimal}
-use Rattle.psxgpu_tool.proofs.command.place_of.Goals as goal
+use Rattle.psxgpu_tool.proofs.spelled.place_of.Goals as goal
 
 pub returns-else-is_place : goal.returns-else-is_place
 returns-else-is_place c = λ n few is.

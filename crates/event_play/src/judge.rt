@@ -1,0 +1,187 @@
+// What an event asks of the machine, or why it is refused. Nothing is changed before that is known.
+ghost use Rattle.std.specs.Prelude.{◌≡◌, ◌≤◌, ◌-◌, ◌^◌, Option, IfOk, IfSome};
+ghost use Rattle.ot_clear_dma.specs.Ram.{memory_words};
+ghost use Rattle.list_dma.specs.Plans.{plan_of, begun, IsRun, IsWordAddress};
+ghost use Rattle.event_play.specs.Block.{address_in, IsBlock};
+ghost use Rattle.event_play.specs.Work.{work_of, move_work, fault_of, clear_work, start_work, begin_work, turn_work};
+ghost use Rattle.event_play.specs.Work.{words_left, list_left, IsWork};
+
+use crate::block::{Block, address_in};
+use crate::fault::EventFault;
+use crate::work::{Words, Work};
+use gpu_capture::Event;
+use list_dma::{DmaFault, Plan, Run, Walk, block_plan, next_node, start_run};
+use ot_clear_dma::Ram;
+
+/// What an event asks for, or its fault. A list is walked to its end here, before any of it is fed.
+pub(crate) fn judge(
+    event: &Event,
+    walk: &mut Walk,
+    ram: &Ram,
+    running: Run,
+) -> Result<Work, EventFault>
+    requires { IsRun running }
+    ensures value { result ≡ work_of ram.now running event.now }
+    ensures bounds { IfOk result IsWork }
+{
+    match *event {
+        Event::Ram { address, word } => Ok(Work::Put { address, word }),
+        Event::Gp0 { word } => Ok(Work::Feed {
+            words: Words::One { word },
+            next: running,
+        }),
+        Event::Gp1 { word } => Ok(Work::Control { word }),
+        Event::Read => Ok(Work::Read),
+        Event::Skip => Ok(Work::Skip),
+        Event::Stat => Ok(Work::Stat),
+        Event::Dma {
+            channel,
+            madr,
+            bcr,
+            chcr,
+        } => {
+            if channel == 6 {
+                Ok(clear(madr, bcr, chcr))
+            } else {
+                start(walk, ram, madr, bcr, chcr)
+            }
+        }
+        Event::Begin { madr, bcr, chcr } => begin(madr, bcr, chcr),
+        Event::Turn => Ok(turn(ram, running)),
+    }
+}
+
+// A start of channel 6.
+fn clear(madr: u32, bcr: u32, chcr: u32) -> Work
+    ensures value { result ≡ clear_work madr bcr chcr }
+    ensures bounds { IsWork result }
+{
+    if chcr >> 24 & 1 == 0 {
+        return Work::Nothing;
+    }
+    let field = bcr & 0xffff;
+    Work::Clear {
+        madr,
+        n: if field == 0 { 0x1_0000 } else { field },
+    }
+}
+
+// A start of channel 2 that moves all at once.
+fn start(walk: &mut Walk, ram: &Ram, madr: u32, bcr: u32, chcr: u32) -> Result<Work, EventFault>
+    ensures value { result ≡ start_work ram.now madr (plan_of bcr chcr) }
+    ensures bounds { IfOk result IsWork }
+{
+    match block_plan(bcr, chcr) {
+        Err(why) => Err(fault_of(why)),
+        Ok(Plan::Idle) => Ok(Work::Nothing),
+        Ok(Plan::Words { n, back, to_ram }) => {
+            let block = Block { at: madr, n, back };
+            Ok(move_words(block, to_ram, Run::Idle))
+        }
+        Ok(Plan::List) => match walk.check(ram, madr) {
+            Ok(_) => Ok(Work::Feed {
+                words: Words::List { start: madr },
+                next: Run::Idle,
+            }),
+            Err(refused) => Err(EventFault::ListLoop { node: refused.node }),
+        },
+    }
+}
+
+// A start of channel 2 that moves nothing yet.
+fn begin(madr: u32, bcr: u32, chcr: u32) -> Result<Work, EventFault>
+    ensures value { result ≡ begin_work (begun madr bcr chcr (plan_of bcr chcr)) }
+    ensures bounds { IfOk result IsWork }
+{
+    match start_run(madr, bcr, chcr) {
+        Err(why) => Err(fault_of(why)),
+        Ok(None) => Ok(Work::Nothing),
+        Ok(Some(next)) => Ok(Work::Begin { next }),
+    }
+}
+
+// A turn of the running transfer.
+fn turn(ram: &Ram, running: Run) -> Work
+    requires { IsRun running }
+    ensures value { result ≡ turn_work ram.now running }
+    ensures bounds { IsWork result }
+{
+    match running {
+        Run::Idle => Work::Nothing,
+        Run::Words {
+            at,
+            left,
+            block,
+            back,
+            to_ram,
+        } => {
+            let n = block.min(left);
+            let turn = Block { at, n, back };
+            let next = words_left(address_in(turn, n), left - n, block, back, to_ram);
+            move_words(turn, to_ram, next)
+        }
+        Run::List { node } => Work::Feed {
+            words: Words::Node { node },
+            next: list_left(next_node(ram, node)),
+        },
+    }
+}
+
+// Words that go one way or the other.
+fn move_words(block: Block, to_ram: bool, next: Run) -> Work
+    requires size { IsBlock block }
+    requires next { IsRun next }
+    ensures value { result ≡ move_work block to_ram next }
+    ensures bounds { IsWork result }
+{
+    if to_ram {
+        Work::Take { block, next }
+    } else {
+        Work::Feed {
+            words: Words::Block { block },
+            next,
+        }
+    }
+}
+
+// What is left of a transfer of words.
+fn words_left(at: u32, left: u32, block: u32, back: bool, to_ram: bool) -> Run
+    requires at { IsWordAddress at }
+    requires left { left ≤ memory_words }
+    requires block { (1 ≤ block) × (block ≤ 2 ^ 16) }
+    ensures value { result ≡ words_left at left block back to_ram }
+    ensures bounds { IsRun result }
+{
+    if left == 0 {
+        Run::Idle
+    } else {
+        Run::Words {
+            at,
+            left,
+            block,
+            back,
+            to_ram,
+        }
+    }
+}
+
+// What is left of a list from a node on.
+fn list_left(node: Option<u32>) -> Run
+    requires { IfSome node IsWordAddress }
+    ensures value { result ≡ list_left node }
+    ensures bounds { IsRun result }
+{
+    match node {
+        None => Run::Idle,
+        Some(node) => Run::List { node },
+    }
+}
+
+fn fault_of(why: DmaFault) -> EventFault
+    ensures { result ≡ fault_of why }
+{
+    match why {
+        DmaFault::Bad => EventFault::BadDma,
+        DmaFault::TooLong { words } => EventFault::DmaTooLong { words },
+    }
+}
