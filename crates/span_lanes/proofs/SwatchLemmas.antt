@@ -10,7 +10,8 @@ use Rattle.span_lanes.specs.declared.span.Paint.{Paint}
 use Rattle.texel_lanes.specs.declared.table.Table.{Table}
 use Rattle.texel_lanes.specs.Texture.{at_cell}
 use Rattle.span_lanes.specs.Shade.{texture_of}
-use Rattle.span_lanes.specs.Swatches.{AreColored, AreEntries, AreFresh, AreSwatches, IsKept, IsPalette, IsPaletteOf}
+use Rattle.span_lanes.specs.Swatches.{AreColored, AreEntries, AreFresh, AreSwatches, HasPalette, IsKept, IsPalette, IsPaletteOf}
+use Rattle.span_lanes.specs.Swatches.{IsUnder}
 use Rattle.span_lanes.specs.Swatches.{entries_of}
 use Rattle.texel_lanes.specs.Table.{entries_in, entry_at}
 use Rattle.span_lanes.proofs.BlindLemmas.{same_cell}
@@ -44,6 +45,11 @@ palette_is t m color s colored entries raw color_is = record {
   raw = raw;
   color = color_is;
 }
+
+pub palette_kept : (t : Texture) (m : List ℕ) (color : ℕ) (last : Option Swatches) → IfSome last AreColored
+    → IfSome last (λ s. AreEntries t m s.entries) → IsUnder last t.raw color → HasPalette t m color last
+palette_kept t m color None colored entries under = absurd under
+palette_kept t m color (Some s) colored entries under = palette_is t m color s colored entries under.0 under.1
 
 -- ---- a palette that a pen shows, and keeps as a table
 

@@ -1,6 +1,6 @@
 -- A palette of sixteen entries as it is drawn.
 use Rattle.std.specs.Prelude.{ℕ, ◌≡◌, ◌≢◌, ◌&&◌, not, false, pos, List, slice_index}
-use Rattle.std.specs.Prelude.{Option, None, Some, IfSome}
+use Rattle.std.specs.Prelude.{Bool, Option, None, Some, IfSome}
 use Rattle.px_num.specs.Lanes.{EachLane}
 use Rattle.texture_page.specs.Page.{clut_place}
 use Rattle.texel_lanes.specs.declared.texture.Texture.{Texture}
@@ -55,6 +55,16 @@ pub record IsPalette (t : Texture) (m : List ℕ) (tint : ℕ) (s : Swatches) : 
   pub swatches : AreSwatches t m s
   pub raw : s.raw ≡ t.raw
   pub color : s.color ≡ tint
+
+-- one is kept
+abbrev pub HasPalette : Texture → (m : List ℕ) → (tint : ℕ) → Option Swatches → Type 0
+HasPalette t m tint None = ⊥
+HasPalette t m tint (Some s) = IsPalette t m tint s
+
+-- what is kept is under this colour, or as it is
+abbrev pub IsUnder : Option Swatches → (raw : Bool) → (color : ℕ) → Type 0
+IsUnder None raw color = ⊥
+IsUnder (Some s) raw color = (s.raw ≡ raw) × (s.color ≡ color)
 
 -- a span whose palette of sixteen entries can be coloured once for all its cells
 pub record SuitsPalette (span : Span) (t : Texture) : Type 0 where

@@ -9,7 +9,7 @@ use crate::Span;
 use crate::hues::Hues;
 use crate::loops::draw_parts;
 use crate::plan::Plan;
-use crate::swatches::{Swatches, suits, swatches_of};
+use crate::swatches::{Swatches, keep_palette, suits};
 use crate::texels::Kept;
 use std::sync::ledger::Ledger;
 use vram_store::{Steps, Vram};
@@ -32,13 +32,15 @@ fn draw_swatches<L: Ledger>(
     ensures drawn { DrawsSpan span.now 0 (at_stage vram.old steps.old) (at_stage vram.new steps.new) }
     ensures last { IsKept span.now.paint vram.new last.new }
 {
-    let swatches = swatches_of(vram, &plan.texture, color, last, steps);
-    let kept = Kept {
-        texture: plan.texture,
-        sampler: &plan.track,
-        swatches,
-    };
-    draw_parts(vram, span, &kept, steps);
+    keep_palette(vram, &plan.texture, color, last, steps);
+    if let Some(swatches) = &*last {
+        let kept = Kept {
+            texture: plan.texture,
+            sampler: &plan.track,
+            swatches,
+        };
+        draw_parts(vram, span, &kept, steps);
+    }
 }
 
 // A span, by what suits it.

@@ -13,7 +13,7 @@ use crate::ramped::RampedSlopes;
 use crate::sampler::Found;
 use crate::shading::shading_of;
 use crate::strip::suits_strip;
-use crate::swatches::{Swatches, swatches_of};
+use crate::swatches::{Swatches, keep_palette};
 use crate::texels::{Kept, Shaded};
 use crate::{Span, Texture};
 use std::sync::ledger::Ledger;
@@ -58,13 +58,15 @@ fn draw_kept<L: Ledger>(
     ensures drawn { DrawsSpan span.now 0 (at_stage vram.old steps.old) (at_stage vram.new steps.new) }
     ensures last { IsKept span.now.paint vram.new last.new }
 {
-    let swatches = swatches_of(vram, found.texture, color, last, steps);
-    let kept = Kept {
-        texture: *found.texture,
-        sampler: found.sampler,
-        swatches,
-    };
-    draw_parts(vram, span, &kept, steps);
+    keep_palette(vram, found.texture, color, last, steps);
+    if let Some(swatches) = &*last {
+        let kept = Kept {
+            texture: *found.texture,
+            sampler: found.sampler,
+            swatches,
+        };
+        draw_parts(vram, span, &kept, steps);
+    }
 }
 
 // A row of a triangle of one colour.

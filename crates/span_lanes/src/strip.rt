@@ -17,7 +17,7 @@ use crate::shading::has_even_palette;
 use crate::sheet::Sheet;
 use crate::stretch::{Stretch, place_row};
 use crate::stretched::known;
-use crate::swatches::{Swatches, swatches_of};
+use crate::swatches::{Swatches, keep_palette};
 use crate::texels::Kept;
 use crate::{Span, Texture};
 use std::sync::ledger::Ledger;
@@ -37,10 +37,10 @@ pub(crate) fn suits_strip(span: &Span, texture: &Texture) -> bool
 #[inline(always)]
 fn draw_by_raw<L: Ledger>(vram: &mut Vram, span: &Span, kept: &Kept<Stretch>, steps: &mut Steps<L>)
     requires { CanKeep span.now kept.now.texture (IsStretch span.now kept.now.texture kept.now.sampler)
-        kept.now.swatches vram.old }
+        kept.now.swatches.now vram.old }
     ensures drawn { DrawsSpan span.now 1 (at_stage vram.old steps.old) (at_stage vram.new steps.new) }
     ensures kept { CanKeep span.now kept.now.texture (IsStretch span.now kept.now.texture kept.now.sampler)
-        kept.now.swatches vram.new }
+        kept.now.swatches.now vram.new }
 {
     if kept.texture.raw {
         let texture = known(&kept.texture, true);
@@ -69,13 +69,15 @@ pub(crate) fn draw_strip<L: Ledger>(
     ensures drawn { DrawsSpan span.now 0 (at_stage vram.old steps.old) (at_stage vram.new steps.new) }
     ensures last { IsKept span.now.paint vram.new last.new }
 {
-    let swatches = swatches_of(vram, found.texture, color, last, steps);
-    let kept = Kept {
-        texture: *found.texture,
-        sampler: *found.sampler,
-        swatches,
-    };
-    draw_by_raw(vram, span, &kept, steps);
+    keep_palette(vram, found.texture, color, last, steps);
+    if let Some(swatches) = &*last {
+        let kept = Kept {
+            texture: *found.texture,
+            sampler: *found.sampler,
+            swatches,
+        };
+        draw_by_raw(vram, span, &kept, steps);
+    }
 }
 
 // A row of a triangle of which it is known that it suits, and that pixels are stored as they are.
@@ -96,11 +98,13 @@ pub(crate) fn draw_plain_strip<L: Ledger>(
     ensures last { IsKept span.now.paint vram.new last.new }
 {
     let stretch = place_row(span, sheet);
-    let swatches = swatches_of(vram, &sheet.texture, color, last, steps);
-    let kept = Kept {
-        texture: sheet.texture,
-        sampler: stretch,
-        swatches,
-    };
-    draw_parts(vram, &plain(span), &kept, steps);
+    keep_palette(vram, &sheet.texture, color, last, steps);
+    if let Some(swatches) = &*last {
+        let kept = Kept {
+            texture: sheet.texture,
+            sampler: stretch,
+            swatches,
+        };
+        draw_parts(vram, &plain(span), &kept, steps);
+    }
 }

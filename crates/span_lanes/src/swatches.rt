@@ -1,10 +1,10 @@
 // Textures of four bits under one colour, whose palette is read and coloured once a primitive.
-ghost use Rattle.std.specs.Prelude.{◌≡◌, ◌≤◌, ◌<◌, ◌+◌, IfSome, IsTrue, Some, pos};
+ghost use Rattle.std.specs.Prelude.{◌≡◌, ◌≤◌, ◌<◌, ◌+◌, IfSome, IsTrue, pos};
 ghost use Rattle.std.specs.Prelude.{length, slice_index};
 ghost use Rattle.px_num.specs.Lanes.{EachLane, AreBytes};
 ghost use Rattle.span_lanes.specs.Plan.{IsPlan};
 ghost use Rattle.span_lanes.specs.Shade.{front_of};
-ghost use Rattle.span_lanes.specs.Swatches.{AreColored, AreEntries, IsPalette, SuitsPalette};
+ghost use Rattle.span_lanes.specs.Swatches.{AreColored, AreEntries, HasPalette, IsUnder, SuitsPalette};
 ghost use Rattle.texel_lanes.specs.Table.{entry_at};
 
 use crate::fronts::even_fronts;
@@ -49,31 +49,35 @@ fn colored(raw: bool, color: u32, entries: u16x16) -> Swatches
     }
 }
 
-// The palette of a texture under a colour, which is kept from then on: it is read and coloured, unless it is kept under
-// this colour.
+// Whether what is kept is a palette under this colour, or as it is.
 #[inline(always)]
-#[tactic(auto, using(crate::proofs::SwatchLemmas::palette_is))]
-pub(crate) fn swatches_of<L: Ledger>(
+fn is_under(last: &Option<Swatches>, raw: bool, color: u32) -> bool
+    ensures { IsTrue result → IsUnder last.now raw color }
+{
+    match last {
+        None => false,
+        Some(kept) => kept.raw == raw && kept.color == color,
+    }
+}
+
+// Keeps the palette of a texture under a colour: it is read and coloured, unless it is kept so.
+#[inline(always)]
+#[tactic(auto, using(crate::proofs::SwatchLemmas::palette_is, crate::proofs::SwatchLemmas::palette_kept))]
+pub(crate) fn keep_palette<L: Ledger>(
     vram: &Vram,
     texture: &Texture,
     color: u32,
     last: &mut Option<Swatches>,
     steps: &mut Steps<L>,
-) -> Swatches
+)
     requires colored { IfSome last.old AreColored }
     requires fresh { IfSome last.old (λ s. AreEntries texture.now vram.now s.entries) }
-    ensures palette { IsPalette texture.now vram.now color result }
-    ensures kept { last.new ≡ Some result }
+    ensures palette { HasPalette texture.now vram.now color last.new }
     ensures cost { steps.new ≤ steps.old + 1 }
 {
-    match *last {
-        Some(kept) if kept.raw == texture.raw && kept.color == color => kept,
-        _ => {
-            let entries = sixteen_entries(vram, texture.clut, steps);
-            let swatches = colored(texture.raw, color, entries);
-            *last = Some(swatches);
-            swatches
-        }
+    if !is_under(last, texture.raw, color) {
+        let entries = sixteen_entries(vram, texture.clut, steps);
+        *last = Some(colored(texture.raw, color, entries));
     }
 }
 

@@ -26,10 +26,10 @@ pub(crate) struct Shaded<S> {
 
 // Texels of four bits, whose palette was read and coloured before.
 #[derive(Clone, Copy)]
-pub(crate) struct Kept<S> {
+pub(crate) struct Kept<'a, S> {
     pub(crate) texture: Texture,
     pub(crate) sampler: S,
-    pub(crate) swatches: Swatches,
+    pub(crate) swatches: &'a Swatches,
 }
 
 impl<S: Sampler> Chunks for Raw<S> {
@@ -71,10 +71,10 @@ impl<S: Sampler> Chunks for Shaded<S> {
     ghost can = { λ c s m serves. serves.0.sample.can };
 }
 
-impl<S: Indexed> Chunks for Kept<S> {
+impl<S: Indexed> Chunks for Kept<'_, S> {
     ghost use Rattle.span_lanes.specs.Kept.{CanKeep};
 
-    ghost serves = { λ c s m. CanKeep s c.texture (S.finds c.sampler s c.texture) c.swatches m };
+    ghost serves = { λ c s m. CanKeep s c.texture (S.finds c.sampler s c.texture) c.swatches.now m };
 
     // The palette's entries are not read again.
     ghost spared = { λ c. 1 };
@@ -82,7 +82,7 @@ impl<S: Indexed> Chunks for Kept<S> {
     #[inline(always)]
     fn draw_part<L: Ledger>(&self, vram: &mut Vram, part: &Part, steps: &mut Steps<L>) {
         let index = self.sampler.read_indexes(vram, &self.texture, part, steps);
-        let drawn = drawn_at(&self.swatches, self.texture.raw, index);
+        let drawn = drawn_at(self.swatches, self.texture.raw, index);
         draw_fronts(vram, &self.texture, drawn, part, steps);
     }
 
