@@ -3,7 +3,7 @@ ghost use Rattle.span_lanes.specs.TexelRows.{KeepsPalette};
 
 use crate::TexelRows;
 use crate::sampler::Found;
-use crate::strip::draw_strip;
+use crate::strip::draw_known_strip;
 use crate::swatches::Swatches;
 use crate::texel_row_pen::TexelRowPen;
 use std::marker::Model;
@@ -57,6 +57,6 @@ impl TexelRowPen for KeptRowsPen {
             texture: &self.rows.texture,
             sampler: &stretch,
         };
-        draw_strip(vram, &span, &found, self.rows.color, &mut self.last, steps);
+        draw_known_strip(vram, &span, &found, self.rows.color, &mut self.last, steps);
     }
 }

@@ -80,6 +80,35 @@ pub(crate) fn draw_strip<L: Ledger>(
     }
 }
 
+// The same where it is known how texels and pixels are drawn, so that there is one loop.
+#[inline(always)]
+pub(crate) fn draw_known_strip<L: Ledger>(
+    vram: &mut Vram,
+    span: &Span,
+    found: &Found<Stretch>,
+    color: u32,
+    last: &mut Option<Swatches>,
+    steps: &mut Steps<L>,
+)
+    requires sample { CanSample span.now found.now.texture.now vram.old }
+    requires hue { AreHues span.now.paint span.now.x span.now.y span.now.n (One color) }
+    requires stretch { IsStretch span.now found.now.texture.now found.now.sampler.now }
+    requires suits { SuitsPalette span.now found.now.texture.now }
+    requires last { IsKept span.now.paint vram.old last.old }
+    ensures drawn { DrawsSpan span.now 0 (at_stage vram.old steps.old) (at_stage vram.new steps.new) }
+    ensures last { IsKept span.now.paint vram.new last.new }
+{
+    keep_palette(vram, found.texture, color, last, steps);
+    if let Some(swatches) = &*last {
+        let kept = Kept {
+            texture: *found.texture,
+            sampler: *found.sampler,
+            swatches,
+        };
+        draw_parts(vram, span, &kept, steps);
+    }
+}
+
 // A row of a triangle of which it is known that it suits, and that pixels are stored as they are.
 #[inline(always)]
 pub(crate) fn draw_plain_strip<L: Ledger>(
