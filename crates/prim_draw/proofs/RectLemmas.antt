@@ -1,5 +1,5 @@
 -- Rows of a rectangle.
-use Rattle.std.proofs.Common.{◌≡◌, ◌≤◌, ℕ, ◌+◌, pos, ◌-ℤ◌, unsigned_abs, List, Option, None, Some, Bool, true, false}
+use Rattle.std.proofs.Common.{◌≡◌, ◌≤◌, ◌<◌, ℕ, ◌+◌, ◌-◌, pos, ◌-ℤ◌, unsigned_abs, List, Option, None, Some, Bool, true, false}
 use Rattle.std.proofs.Common.{refl, sym, ap, ◌∙◌, subst, arith}
 use Rattle.std.proofs.lemmas.Int.{ints}
 use Rattle.vram_store.specs.Vram.{height_of}
@@ -18,7 +18,9 @@ use Rattle.prim_draw.specs.Pattern.{even}
 use Rattle.prim_draw.specs.Rectangles.{paint_from, tile_paint}
 use Rattle.prim_draw.specs.Rows.{CanDraw, DrawsRun, run_span}
 use Rattle.prim_draw.proofs.RowLemmas.{run_drawn}
-use Rattle.prim_draw.specs.Tiled.{AreTexelsOf, CanTile, IsWholeRow, texels_of, tiled_pattern}
+use Rattle.prim_draw.specs.Rectangles.{IsPartOf}
+use Rattle.prim_draw.specs.declared.tiled.FirstRow.{FirstRow}
+use Rattle.prim_draw.specs.Tiled.{AreTexelsOf, CanTile, IsFirstRow, IsWholeRow, texels_of, tiled_pattern}
 use Rattle.prim_draw.specs.declared.rectangles.Tile.{Tile}
 use Rattle.prim_draw.specs.declared.tiled.Tiled.{Tiled}
 use Rattle.span_lanes.specs.declared.span.Run.{Run}
@@ -45,6 +47,31 @@ free : (tile : Tile) (texture : Option Texture) (column row x y n : ℕ)
     → HasInside (paint_from tile texture column row) x y n
 free tile None column row x y n = tt
 free tile (Some texture) column row x y n = tt
+
+-- the row of a texel, some rows down from some rows down
+row_further : (v : ℕ) (falls : Bool) (rows j : ℕ) → rows + j ≤ 1023
+    → row_u (row_u v falls rows) falls j ≡ row_u v falls (rows + j)
+unfolding row_u
+row_further v true rows j le = omega arith
+row_further v false rows j le = omega arith
+
+-- the row of the page whose texels a row of a block has
+pub texel_row_is : (tiled : Tiled) (first : FirstRow) (y v : ℕ) → IsPartOf tiled.extent.now tiled.block.now
+    → IsFirstRow tiled first → tiled.block.now.y ≤ y → y < tiled.block.now.y + tiled.block.now.h
+    → v ≡ row_u first.v first.falls (y - first.y)
+    → v ≡ row_u tiled.tile.now.v tiled.tile.now.flip_y (unsigned_abs (pos y -ℤ tiled.extent.now.top))
+texel_row_is tiled first y v part is above below v_is =
+    let b = tiled.block.now in
+    let top = tiled.extent.now.top in
+    let before : ℕ = unsigned_abs (pos b.y -ℤ top) in
+    let near : before + (y - b.y) ≤ 1023 = omega (arith, ints, part.top, part.bottom, above, below) in
+    let row : before + (y - b.y) ≡ unsigned_abs (pos y -ℤ top) = omega (arith, ints, part.top, above) in
+    v_is
+    ∙ ap (λ k. row_u first.v first.falls (y - k)) is.y
+    ∙ ap (λ k. row_u first.v k (y - b.y)) is.falls
+    ∙ ap (λ k. row_u k tiled.tile.now.flip_y (y - b.y)) is.v
+    ∙ row_further tiled.tile.now.v tiled.tile.now.flip_y before (y - b.y) near
+    ∙ ap (row_u tiled.tile.now.v tiled.tile.now.flip_y) row
 
 -- without a texture it is one colour
 pub flat_pattern : (tiled : Tiled) → tiled.tile.now.texture ≡ None

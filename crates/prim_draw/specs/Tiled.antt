@@ -11,6 +11,7 @@ use Rattle.prim_draw.specs.Boxes.{block_row}
 use Rattle.prim_draw.specs.Pattern.{Pattern}
 use Rattle.prim_draw.specs.Rectangles.{IsExtent, IsPartOf, IsTile, pattern_of}
 use Rattle.prim_draw.specs.Rows.{DrawsRows}
+use Rattle.prim_draw.specs.declared.tiled.FirstRow.{FirstRow}
 use Rattle.prim_draw.specs.declared.tiled.Tiled.{Tiled}
 use Rattle.span_lanes.specs.declared.span.Run.{Run}
 
@@ -51,11 +52,17 @@ pub record AreTexelsOf (tiled : Tiled) (rows : TexelRows) : Type 0 where
   pub texture : tiled.tile.now.texture ≡ Some rows.texture
   pub are : rows ≡ texels_of tiled rows.texture
 
+-- the row of the page whose texels the first row of the block has
+pub record IsFirstRow (tiled : Tiled) (first : FirstRow) : Type 0 where
+  pub y : first.y ≡ tiled.block.now.y
+  pub v : first.v ≡ row_u tiled.tile.now.v tiled.tile.now.flip_y
+      (unsigned_abs (pos tiled.block.now.y -ℤ tiled.extent.now.top))
+  pub falls : first.falls ≡ tiled.tile.now.flip_y
+
 -- a pen is ready for them in video memory
-pub record IsReadyFor (tiled : Tiled) (laid : Laid) (m : List ℕ) : Type 0 where
-  pub extent : IsExtent tiled.extent.now
+pub record IsReadyFor (tiled : Tiled) (first : FirstRow) (laid : Laid) (m : List ℕ) : Type 0 where
   pub part : IsPartOf tiled.extent.now tiled.block.now
-  pub small : IsBlock 1024 tiled.block.now
+  pub first_is : IsFirstRow tiled first
   pub rows : AreTexelsOf tiled laid.rows
   pub fresh : IsLaidFresh laid m
 

@@ -1,11 +1,11 @@
 // Rectangles in a block of their cells.
-ghost use Rattle.std.specs.Prelude.{◌≡◌, ◌≤◌, ◌<◌, ◌+◌, ◌-ℤ◌, Some, None, pos, unsigned_abs, true, false};
+ghost use Rattle.std.specs.Prelude.{◌≡◌, ◌≤◌, ◌<◌, ◌+◌, ◌-◌, Some, None, true, false};
 ghost use Rattle.vram_store.specs.Vram.{height_of};
 ghost use Rattle.span_lanes.specs.Frame.{IsBlock};
 ghost use Rattle.span_lanes.specs.Shade.{row_u};
 ghost use Rattle.span_lanes.specs.TexelRows.{IsLaidFresh, KeepsPalette};
 ghost use Rattle.prim_draw.specs.Rectangles.{IsExtent, IsPartOf};
-ghost use Rattle.prim_draw.specs.Tiled.{AreTexelsOf, CanTile, DrawsTiled, IsReadyFor, texels_of};
+ghost use Rattle.prim_draw.specs.Tiled.{AreTexelsOf, CanTile, DrawsTiled, IsFirstRow, IsReadyFor, texels_of};
 
 use crate::rectangles::{Extent, Tile};
 use crate::row_pen::{RowPen, draw_rows};
@@ -27,10 +27,31 @@ pub(crate) struct Tiled<'a> {
     pub(crate) block: &'a Block,
 }
 
+// The row of the page whose texels the first row of a block has, and whether it falls from row to row.
+#[derive(Clone, Copy)]
+struct FirstRow {
+    y: u16,
+    v: u8,
+    falls: bool,
+}
+
+impl FirstRow {
+    // The row of the page whose texels row y of the block has.
+    #[inline(always)]
+    fn texel_row(&self, y: u16) -> u8
+        requires below { self.now.y ≤ y }
+        requires near { y ≤ self.now.y + 1023 }
+        ensures { result ≡ row_u self.now.v self.now.falls (y - self.now.y) }
+    {
+        row_u(self.v, self.falls, y - self.y)
+    }
+}
+
 /// What draws the rows of texels.
 #[derive(Drop)]
 struct InTile<'a, P> {
     tiled: Tiled<'a>,
+    first: FirstRow,
     pen: P,
 }
 
@@ -41,7 +62,7 @@ impl<P: TexelRowPen> RowPen for InTile<'_, P> {
 
     ghost reaches = { λ rows. IsWholeRow rows.tiled.block.now };
 
-    ghost ready = { λ rows. IsReadyFor rows.tiled (P.laid rows.pen) };
+    ghost ready = { λ rows. IsReadyFor rows.tiled rows.first (P.laid rows.pen) };
 
     #[inline(always)]
     fn draw_run<L: Ledger>(
@@ -52,25 +73,27 @@ impl<P: TexelRowPen> RowPen for InTile<'_, P> {
         steps: &mut Steps<L>,
     ) {
         if let Some(_) = found {
-            let v = self.tiled.texel_row(y);
+            let v = self.first.texel_row(y);
             self.pen.draw_row(vram, y, v, steps);
         }
     }
 }
 
 impl Tiled<'_> {
-    // The row of the page whose texels row y of the block has.
+    // The first row of the block, and its texels.
     #[inline(always)]
-    fn texel_row(&self, y: u16) -> u8
+    fn first_row(&self) -> FirstRow
         requires extent { IsExtent self.now.extent.now }
         requires part { IsPartOf self.now.extent.now self.now.block.now }
-        requires top { self.now.block.now.y ≤ y }
-        requires bottom { y < self.now.block.now.y + self.now.block.now.h }
-        ensures { result ≡ row_u self.now.tile.now.v self.now.tile.now.flip_y
-            (unsigned_abs (pos y -ℤ self.now.extent.now.top)) }
+        requires small { IsBlock 1024 self.now.block.now }
+        ensures { IsFirstRow self.now result }
     {
-        let row = (y as i32 - self.extent.top) as u16;
-        row_u(self.tile.v, self.tile.flip_y, row)
+        let row = (self.block.y as i32 - self.extent.top) as u16;
+        FirstRow {
+            y: self.block.y,
+            v: row_u(self.tile.v, self.tile.flip_y, row),
+            falls: self.tile.flip_y,
+        }
     }
 
     // The texels of the block, row by row.
@@ -102,12 +125,16 @@ impl Tiled<'_> {
             (record { m = vram.old; steps = steps.old }) (record { m = vram.new; steps = steps.new }) }
     {
         let mut rows = BlockRows { block: *self.block };
-        let mut pen = InTile { tiled: *self, pen };
+        let mut pen = InTile {
+            tiled: *self,
+            first: self.first_row(),
+            pen,
+        };
         draw_rows(vram, &mut rows, &mut pen, steps);
     }
 
-    // Texels whose palette is coloured once, by whether pixels are stored as they are.
-    #[inline(always)]
+    // Texels whose palette is coloured once, by whether they are drawn as they are, and pixels stored as they are.
+    #[inline(never)]
     fn draw_kept<L: Ledger>(&self, rows: &TexelRows, vram: &mut Vram, steps: &mut Steps<L>)
         requires can { CanTile (height_of vram.old) self.now }
         requires rows { AreTexelsOf self.now rows.now }
@@ -115,26 +142,21 @@ impl Tiled<'_> {
         ensures { DrawsTiled self.now
             (record { m = vram.old; steps = steps.old }) (record { m = vram.new; steps = steps.new }) }
     {
-        if rows.is_plain() {
-            self.draw_by(KeptRowsPen::new(&rows.known_plain()), vram, steps);
-        } else {
-            self.draw_by(KeptRowsPen::new(rows), vram, steps);
-        }
-    }
-
-    // The same, by whether the texels are drawn as they are.
-    #[inline(never)]
-    fn draw_kept_by_raw<L: Ledger>(&self, rows: &TexelRows, vram: &mut Vram, steps: &mut Steps<L>)
-        requires can { CanTile (height_of vram.old) self.now }
-        requires rows { AreTexelsOf self.now rows.now }
-        requires keeps { KeepsPalette rows.now }
-        ensures { DrawsTiled self.now
-            (record { m = vram.old; steps = steps.old }) (record { m = vram.new; steps = steps.new }) }
-    {
+        let plain = rows.is_plain();
         if rows.texture.raw {
-            self.draw_kept(&rows.known_raw(true), vram, steps);
+            let rows = rows.known_raw(true);
+            if plain {
+                self.draw_by(KeptRowsPen::new(&rows.known_plain()), vram, steps);
+            } else {
+                self.draw_by(KeptRowsPen::new(&rows), vram, steps);
+            }
         } else {
-            self.draw_kept(&rows.known_raw(false), vram, steps);
+            let rows = rows.known_raw(false);
+            if plain {
+                self.draw_by(KeptRowsPen::new(&rows.known_plain()), vram, steps);
+            } else {
+                self.draw_by(KeptRowsPen::new(&rows), vram, steps);
+            }
         }
     }
 
@@ -175,7 +197,7 @@ impl Tiled<'_> {
         };
         let rows = self.texels(texture);
         if rows.keeps_palette() {
-            self.draw_kept_by_raw(&rows, vram, steps)
+            self.draw_kept(&rows, vram, steps)
         } else {
             self.draw_each(&rows, vram, steps)
         }
