@@ -19,7 +19,7 @@ use Rattle.prim_draw.specs.Rectangles.{paint_from, tile_paint}
 use Rattle.prim_draw.specs.Rows.{CanDraw, DrawsRun, run_span}
 use Rattle.prim_draw.proofs.RowLemmas.{run_drawn}
 use Rattle.prim_draw.specs.Rectangles.{IsPartOf}
-use Rattle.prim_draw.specs.declared.tiled.FirstRow.{FirstRow}
+use Rattle.prim_draw.specs.declared.in_tile.FirstRow.{FirstRow}
 use Rattle.prim_draw.specs.Tiled.{AreTexelsOf, CanTile, IsFirstRow, IsWholeRow, texels_of, tiled_pattern}
 use Rattle.prim_draw.specs.declared.rectangles.Tile.{Tile}
 use Rattle.prim_draw.specs.declared.tiled.Tiled.{Tiled}
@@ -92,8 +92,7 @@ module _ (tiled : Tiled) (y : ℕ) (run : Run) (whole : IsWholeRow tiled.block.n
         span = record {
           some = omega (arith, whole.count, can.small.columns);
           in_row = omega (arith, whole.first, whole.count, can.small.right);
-          mask = can.tile.mask;
-          mode = can.tile.mode;
+          brush = can.tile.brush;
           texture = rw texture can.tile.texture;
           inside = free tile tile.texture column row run.x y run.n;
         };

@@ -12,7 +12,7 @@ use Rattle.prim_draw.specs.Pattern.{Pattern, even}
 use Rattle.prim_draw.specs.Rows.{CanDraw, DrawsRows, LiesInBlock}
 use Rattle.prim_draw.specs.Triangles.{IsRun, row_inside}
 use Rattle.prim_draw.specs.Walks.{AreRowsIn, StandAt}
-use Rattle.prim_draw.specs.declared.coat.Coat.{Coat}
+use Rattle.span_lanes.specs.declared.span.Coat.{Coat}
 use Rattle.prim_draw.specs.declared.tri_rows.TriRows.{TriRows}
 use Rattle.span_lanes.specs.declared.span.Run.{Run}
 use Rattle.prim_draw.proofs.WalkLemmas.{box_is}
@@ -26,8 +26,7 @@ can_draw height coat t clip y run can is lies =
       span = record {
         some = is.some;
         in_row = is.in_row;
-        mask = can.is_coat.mask;
-        mode = can.is_coat.mode;
+        brush = can.is_coat.brush;
         texture = can.is_coat.texture;
         inside = can.fits.inside run.x y run.n is.inside;
       };

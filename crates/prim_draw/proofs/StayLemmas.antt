@@ -29,7 +29,7 @@ use Rattle.gp1_status.specs.Drawing.{drawing_area}
 use Rattle.prim_draw.specs.Settings.{brush_in}
 use Rattle.prim_draw.specs.Triangles.{draws, drawn_inside, drawn_polygon, drawn_triangle}
 use Rattle.prim_draw.specs.Triangles.{triangle_box, triangle_coat, upper_half, lower_half}
-use Rattle.prim_draw.specs.declared.coat.Coat.{Coat}
+use Rattle.span_lanes.specs.declared.span.Coat.{Coat}
 use Rattle.prim_draw.specs.declared.rectangles.Extent.{Extent}
 use Rattle.prim_draw.specs.declared.rectangles.Tile.{Tile}
 use Rattle.prim_draw.specs.declared.style.Style.{Style}

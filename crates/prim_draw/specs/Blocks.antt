@@ -11,7 +11,7 @@ use Rattle.prim_draw.specs.Boxes.{IsOnScreen, LiesIn, block_of}
 use Rattle.prim_draw.specs.Triangles.{FitsTriangle, IsCoat}
 use Rattle.prim_draw.specs.Walks.{DrawsTriangle}
 use Rattle.prim_draw.specs.declared.blocks.Blocked.{Blocked}
-use Rattle.prim_draw.specs.declared.coat.Coat.{Coat}
+use Rattle.span_lanes.specs.declared.span.Coat.{Coat}
 
 -- the rows of a triangle in a box can be drawn with a coat, in video memory of a height
 pub record CanDrawRows (height : ℕ) (coat : Coat) (t : Corners) (clip : Box2) : Type 0 where

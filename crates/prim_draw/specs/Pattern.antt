@@ -6,7 +6,7 @@ use Rattle.span_lanes.specs.Shade.{paint_pixel}
 use Rattle.span_lanes.specs.declared.span.Brush.{Brush}
 use Rattle.span_lanes.specs.declared.span.Paint.{Paint}
 use Rattle.span_lanes.specs.declared.span.Span.{Span}
-use Rattle.prim_draw.specs.declared.coat.Coat.{Coat}
+use Rattle.span_lanes.specs.declared.span.Coat.{Coat}
 
 -- the paint of cells of a row, by the first of them, and how the pixels come to the cells
 pub record Pattern : Type 0 where

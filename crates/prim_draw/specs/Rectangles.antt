@@ -1,5 +1,5 @@
 -- Rectangles, cell by cell (psx-spx, "GPU Render Rectangle Commands"; that flips count modulo 256 is our own rule).
-use Rattle.std.specs.Prelude.{ℕ, ◌≤◌, ◌≤ℤ◌, negsuc, ◌==◌, ◌+◌, List, Option, None, Some, IfSome, ◌<◌, Bool, false, ◌||◌}
+use Rattle.std.specs.Prelude.{ℕ, ◌≤◌, ◌≤ℤ◌, negsuc, ◌==◌, ◌+◌, List, Option, None, Some, IfSome, Bool, false, ◌||◌}
 use Rattle.std.specs.Prelude.{if◌then◌else◌, unsigned_abs, ℤ, pos, ◌+ℤ◌, ◌-ℤ◌}
 use Rattle.px_num.specs.declared.shape.Box2.{Box2}
 use Rattle.px_num.specs.declared.shape.Cell.{Cell}
@@ -8,8 +8,8 @@ use Rattle.gp1_status.specs.Registers.{Registers}
 use Rattle.span_lanes.specs.declared.span.Paint.{Paint}
 use Rattle.span_lanes.specs.declared.span.Paint.TheVariants.{Flat, TexturedRow}
 use Rattle.texel_lanes.specs.declared.texture.Texture.{Texture}
-use Rattle.texel_lanes.specs.Texture.{IsTexture}
-use Rattle.span_lanes.specs.Shade.{row_u}
+use Rattle.texel_lanes.specs.Texture.{HasPage, IsTexture}
+use Rattle.span_lanes.specs.Shade.{IsBrush, row_u}
 use Rattle.prim_draw.specs.Boxes.{block_of, cells_of, clipped}
 use Rattle.prim_draw.specs.Pattern.{Pattern, painted_cells}
 use Rattle.prim_draw.specs.Settings.{brush_in, texture_in}
@@ -88,10 +88,9 @@ pub record IsPartOf (e : Extent) (b : Block) : Type 0 where
 
 -- what video memory of a height can be drawn with
 pub record IsTile (height : ℕ) (tile : Tile) : Type 0 where
-  pub mask : tile.brush.mask ≤ 3
-  pub mode : tile.brush.mode ≤ 3
+  pub brush : IsBrush tile.brush
   pub texture : IfSome tile.texture IsTexture
-  pub page : IfSome tile.texture (λ texture. texture.page.y + 255 < height)
+  pub page : IfSome tile.texture (HasPage height)
 
 -- all cells of a box, in scan order
 abbrev pub drawn_all : Tile → Extent → Option Box2 → List ℕ → List ℕ

@@ -3,23 +3,18 @@ use Rattle.std.specs.Prelude.{ℕ, ◌+◌, ◌<◌, ◌≤◌, ◌≡◌, List,
 use Rattle.px_num.specs.declared.shape.Cell.{Cell}
 use Rattle.span_lanes.specs.Cells.{Stage}
 use Rattle.span_lanes.specs.Frame.{IsInBlock}
-use Rattle.span_lanes.specs.Pen.{Ink}
 use Rattle.span_lanes.specs.Shade.{IsSpan, LiesIn, paint_pixel}
 use Rattle.span_lanes.specs.declared.block.Block.{Block}
 use Rattle.span_lanes.specs.declared.span.Span.{Span}
 use Rattle.prim_draw.specs.Boxes.{cells_down}
 use Rattle.prim_draw.specs.Costs.{cost_down, side_by_side}
-use Rattle.prim_draw.specs.Pattern.{Pattern, even, painted_cells, span_from}
+use Rattle.prim_draw.specs.Pattern.{Pattern, painted_cells, span_from}
 use Rattle.prim_draw.specs.Triangles.{run_cells}
 use Rattle.span_lanes.specs.declared.span.Run.{Run}
 
 -- cells of row y that lie in a block
 abbrev pub LiesInBlock : Block → ℕ → Run → Type 0
 LiesInBlock b y run = IsInBlock b run.x y run.n
-
--- what a pen draws with
-abbrev pub pattern_of_ink : Ink → Pattern
-pattern_of_ink ink = even (record { paint = ink.paint; brush = ink.brush })
 
 -- a run of cells of row y
 abbrev pub run_span : Pattern → ℕ → Run → Span

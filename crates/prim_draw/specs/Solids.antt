@@ -4,7 +4,7 @@ use Rattle.span_lanes.specs.Lanes.{IsSolid}
 use Rattle.span_lanes.specs.declared.span.Brush.{Brush}
 use Rattle.span_lanes.specs.declared.span.Paint.{Paint}
 use Rattle.span_lanes.specs.declared.span.Paint.TheVariants.{Flat}
-use Rattle.prim_draw.specs.declared.coat.Coat.{Coat}
+use Rattle.span_lanes.specs.declared.span.Coat.{Coat}
 use Rattle.prim_draw.specs.declared.solid.Solid.{Solid}
 
 abbrev pub flat_coat : (color : ℕ) → Brush → Coat

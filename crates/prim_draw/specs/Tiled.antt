@@ -11,7 +11,7 @@ use Rattle.prim_draw.specs.Boxes.{block_row}
 use Rattle.prim_draw.specs.Pattern.{Pattern}
 use Rattle.prim_draw.specs.Rectangles.{IsExtent, IsPartOf, IsTile, pattern_of}
 use Rattle.prim_draw.specs.Rows.{DrawsRows}
-use Rattle.prim_draw.specs.declared.tiled.FirstRow.{FirstRow}
+use Rattle.prim_draw.specs.declared.in_tile.FirstRow.{FirstRow}
 use Rattle.prim_draw.specs.declared.tiled.Tiled.{Tiled}
 use Rattle.span_lanes.specs.declared.span.Run.{Run}
 

@@ -1,5 +1,5 @@
 -- Triangles and quads, cell by cell (psx-spx, "GPU Render Polygon Commands"; which cells, is our own rule).
-use Rattle.std.specs.Prelude.{ℕ, ◌≡◌, ◌<◌, ◌≤◌, ◌+◌, List, [], Option, None, Some, Bool, IfSome, ◌||◌, if◌then◌else◌}
+use Rattle.std.specs.Prelude.{ℕ, ◌≡◌, ◌≤◌, ◌+◌, List, [], Option, None, Some, Bool, IfSome, ◌||◌, if◌then◌else◌}
 use Rattle.std.specs.Prelude.{pos}
 use Rattle.std.specs.List.{filter}
 use Rattle.px_num.specs.declared.shape.Box2.{Box2}
@@ -11,14 +11,14 @@ use Rattle.edge_walk.specs.Triangle.{Corners, corners, is_drawn, is_inside}
 use Rattle.span_lanes.specs.declared.span.Brush.{Brush}
 use Rattle.span_lanes.specs.declared.span.Paint.{Paint}
 use Rattle.span_lanes.specs.declared.span.Paint.TheVariants.{Flat, Shaded, TexturedTri}
-use Rattle.texel_lanes.specs.Texture.{IsTexture}
-use Rattle.span_lanes.specs.Shade.{AreInside, HasInside, paint_pixel, texture_of}
+use Rattle.texel_lanes.specs.Texture.{HasPage, IsTexture}
+use Rattle.span_lanes.specs.Shade.{AreInside, HasInside, IsBrush, paint_pixel, texture_of}
 use Rattle.span_lanes.specs.Cells.{row_cells}
 use Rattle.prim_draw.specs.Boxes.{block_of, cells_of, clipped}
 use Rattle.prim_draw.specs.Pattern.{even, painted_cells}
 use Rattle.prim_draw.specs.Settings.{brush_in, placed, texture_in}
 use Rattle.span_lanes.specs.declared.block.Block.{Block}
-use Rattle.prim_draw.specs.declared.coat.Coat.{Coat}
+use Rattle.span_lanes.specs.declared.span.Coat.{Coat}
 use Rattle.prim_draw.specs.declared.polygon.Polygon.{Polygon}
 use Rattle.prim_draw.specs.declared.style.Style.{Style}
 use Rattle.span_lanes.specs.declared.span.Run.{Run}
@@ -95,8 +95,7 @@ pub record IsAlike (paint : Paint) : Type 0 where
 
 -- what video memory of a height can be drawn with
 pub record IsCoat (height : ℕ) (coat : Coat) : Type 0 where
-  pub mask : coat.brush.mask ≤ 3
-  pub mode : coat.brush.mode ≤ 3
+  pub brush : IsBrush coat.brush
   pub texture : IfSome (texture_of coat.paint) IsTexture
   pub alike : IsAlike coat.paint
-  pub page : IfSome (texture_of coat.paint) (λ texture. texture.page.y + 255 < height)
+  pub page : IfSome (texture_of coat.paint) (HasPage height)

@@ -9,7 +9,7 @@ use Rattle.prim_draw.specs.Boxes.{IsOnScreen, block_of}
 use Rattle.prim_draw.specs.Pattern.{even}
 use Rattle.prim_draw.specs.Rows.{DrawsRows, Figure}
 use Rattle.prim_draw.specs.Triangles.{row_inside}
-use Rattle.prim_draw.specs.declared.coat.Coat.{Coat}
+use Rattle.span_lanes.specs.declared.span.Coat.{Coat}
 use Rattle.prim_draw.specs.declared.tri_rows.TriRows.{TriRows}
 
 -- a walk stands at a row of a triangle in a box of video memory

@@ -2,20 +2,19 @@
 ghost use Rattle.std.specs.Prelude.{IfSome};
 ghost use Rattle.vram_store.specs.Vram.{height_of};
 ghost use Rattle.span_lanes.specs.Shade.{texture_of};
-ghost use Rattle.span_lanes.specs.declared.block_pen.Way.TheVariants.{Beside, Mixed, Scaled, Strip};
+ghost use Rattle.span_lanes.specs.declared.block_pen.Way.TheVariants.{Beside, Kept, Mixed, Scaled};
 ghost use Rattle.texel_lanes.specs.Texture.{IsTexture};
 ghost use Rattle.prim_draw.specs.Blocks.{CanDrawBlocked, CanDrawRows, DrawsBlocked, IsBlocked};
 ghost use Rattle.prim_draw.specs.Boxes.{IsOnScreen};
 ghost use Rattle.prim_draw.specs.Walks.{DrawsTriangle};
 
 use crate::boxes::block_of;
-use crate::coat::Coat;
 use crate::row_pen::{RowPen, draw_rows};
 use crate::tri_rows::rows_of;
 use edge_walk::Tri;
 use px_num::Box2;
 use span_lanes::{
-    BesidePen, BlockPen, Brush, MixedPen, Paint, Pen, Run, ScaledPen, StripPen, Texture, Way,
+    BesidePen, BlockPen, Brush, Coat, KeptPen, MixedPen, Paint, Pen, Run, ScaledPen, Texture, Way,
     way_in,
 };
 use std::sync::ledger::Ledger;
@@ -29,9 +28,10 @@ struct InBlock<P> {
 
 impl<P: BlockPen> RowPen for InBlock<P> {
     ghost use Rattle.span_lanes.specs.Pen.{IsFresh};
-    ghost use Rattle.prim_draw.specs.Rows.{LiesInBlock, pattern_of_ink};
+    ghost use Rattle.prim_draw.specs.Pattern.{even};
+    ghost use Rattle.prim_draw.specs.Rows.{LiesInBlock};
 
-    ghost pattern = { λ rows. pattern_of_ink (P.framed rows.pen).loaded.ink };
+    ghost pattern = { λ rows. even (P.framed rows.pen).loaded.coat };
 
     ghost reaches = { λ rows. LiesInBlock (P.framed rows.pen).block };
 
@@ -66,14 +66,14 @@ struct Blocked<'a> {
 // Each way has a function of its own, so that room is made for its pen alone.
 impl Blocked<'_> {
     #[inline(always)]
-    fn strips<L: Ledger>(&self, color: u32, vram: &mut Vram, steps: &mut Steps<L>)
-        requires { CanDrawBlocked (height_of vram.old) self.now (Strip color) }
+    fn kept<L: Ledger>(&self, color: u32, vram: &mut Vram, steps: &mut Steps<L>)
+        requires { CanDrawBlocked (height_of vram.old) self.now (Kept color) }
         ensures { DrawsBlocked self.now
             (record { m = vram.old; steps = steps.old }) (record { m = vram.new; steps = steps.new }) }
     {
         let block = block_of(self.clip);
         let mut pen = InBlock {
-            pen: StripPen::new(self.own, self.texture, self.brush, &block, color),
+            pen: KeptPen::new(self.own, self.texture, self.brush, &block, color),
         };
         draw_rows(vram, &mut rows_of(self.tri, self.clip), &mut pen, steps);
     }
@@ -124,7 +124,7 @@ impl Blocked<'_> {
             (record { m = vram.old; steps = steps.old }) (record { m = vram.new; steps = steps.new }) }
     {
         match self.way {
-            Way::Strip { color } => self.strips(color, vram, steps),
+            Way::Kept { color } => self.kept(color, vram, steps),
             Way::Beside => self.beside(vram, steps),
             Way::Scaled { color } => self.scaled(color, vram, steps),
             Way::Mixed => self.mixed(vram, steps),
@@ -132,55 +132,53 @@ impl Blocked<'_> {
     }
 }
 
-impl Coat {
-    // How the rows of a triangle in a box are drawn, if they are in a block that is known to lie apart.
-    #[inline(always)]
-    fn blocked<'a>(&'a self, tri: &'a Tri, clip: &'a Box2) -> Option<Blocked<'a>>
-        requires small { IsOnScreen 1024 clip.now }
-        requires texture { IfSome (texture_of self.now.paint) IsTexture }
-        ensures { IfSome result (IsBlocked self.now tri.now clip.now) }
-    {
-        let Paint::TexturedTri { tri: own, texture } = &self.paint else {
-            return None;
-        };
-        let way = way_in(own, texture, &self.brush, &block_of(clip))?;
-        Some(Blocked {
-            tri,
-            clip,
-            own,
-            texture,
-            brush: &self.brush,
-            way,
-        })
-    }
+// How the rows of a triangle in a box are drawn, if they are in a block that is known to lie apart.
+#[inline(always)]
+fn blocked_rows<'a>(coat: &'a Coat, tri: &'a Tri, clip: &'a Box2) -> Option<Blocked<'a>>
+    requires small { IsOnScreen 1024 clip.now }
+    requires texture { IfSome (texture_of coat.now.paint) IsTexture }
+    ensures { IfSome result (IsBlocked coat.now tri.now clip.now) }
+{
+    let Paint::TexturedTri { tri: own, texture } = &coat.paint else {
+        return None;
+    };
+    let way = way_in(own, texture, &coat.brush, &block_of(clip))?;
+    Some(Blocked {
+        tri,
+        clip,
+        own,
+        texture,
+        brush: &coat.brush,
+        way,
+    })
+}
 
-    // The rows of a triangle that has no texture, or no block that is known to lie apart.
-    #[inline(always)]
-    fn draw_open<L: Ledger>(&self, vram: &mut Vram, tri: &Tri, clip: &Box2, steps: &mut Steps<L>)
-        requires { CanDrawRows (height_of vram.old) self.now tri.now clip.now }
-        ensures { DrawsTriangle self.now tri.now clip.now
-            (record { m = vram.old; steps = steps.old }) (record { m = vram.new; steps = steps.new }) }
-    {
-        let mut pen = Pen::new(&self.paint, &self.brush);
-        draw_rows(vram, &mut rows_of(tri, clip), &mut pen, steps);
-    }
+// The rows of a triangle that has no texture, or no block that is known to lie apart.
+#[inline(always)]
+fn draw_open<L: Ledger>(coat: &Coat, vram: &mut Vram, tri: &Tri, clip: &Box2, steps: &mut Steps<L>)
+    requires { CanDrawRows (height_of vram.old) coat.now tri.now clip.now }
+    ensures { DrawsTriangle coat.now tri.now clip.now
+        (record { m = vram.old; steps = steps.old }) (record { m = vram.new; steps = steps.new }) }
+{
+    let mut pen = Pen::new(coat);
+    draw_rows(vram, &mut rows_of(tri, clip), &mut pen, steps);
+}
 
-    /// Draws the cells of a box that are inside of a triangle.
-    #[inline(always)]
-    pub(crate) fn draw_rows<L: Ledger>(
-        &self,
-        vram: &mut Vram,
-        tri: &Tri,
-        clip: &Box2,
-        steps: &mut Steps<L>,
-    )
-        requires { CanDrawRows (height_of vram.old) self.now tri.now clip.now }
-        ensures { DrawsTriangle self.now tri.now clip.now
-            (record { m = vram.old; steps = steps.old }) (record { m = vram.new; steps = steps.new }) }
-    {
-        match self.blocked(tri, clip) {
-            Some(found) => found.draw(vram, steps),
-            None => self.draw_open(vram, tri, clip, steps),
-        }
+/// Draws the cells of a box that are inside of a triangle.
+#[inline(always)]
+pub(crate) fn draw_coated<L: Ledger>(
+    coat: &Coat,
+    vram: &mut Vram,
+    tri: &Tri,
+    clip: &Box2,
+    steps: &mut Steps<L>,
+)
+    requires { CanDrawRows (height_of vram.old) coat.now tri.now clip.now }
+    ensures { DrawsTriangle coat.now tri.now clip.now
+        (record { m = vram.old; steps = steps.old }) (record { m = vram.new; steps = steps.new }) }
+{
+    match blocked_rows(coat, tri, clip) {
+        Some(found) => found.draw(vram, steps),
+        None => draw_open(coat, vram, tri, clip, steps),
     }
 }

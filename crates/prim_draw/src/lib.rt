@@ -8,8 +8,8 @@
 mod area;
 mod blocks;
 mod boxes;
-mod coat;
 mod corners;
+mod in_tile;
 pub mod laws;
 mod lines;
 mod point;

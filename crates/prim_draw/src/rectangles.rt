@@ -1,7 +1,7 @@
 // Rectangles by rows.
 ghost use Rattle.std.specs.Prelude.{◌≡◌, ◌≤◌, ◌<◌, ◌+◌, ◌*◌, IfSome, length};
 ghost use Rattle.gp0_packets.specs.Ranges.{IsPlace};
-ghost use Rattle.texel_lanes.specs.Texture.{IsTexture};
+ghost use Rattle.texel_lanes.specs.Texture.{HasPage, IsTexture};
 ghost use Rattle.prim_draw.specs.Boxes.{IsOnScreen, block_of};
 ghost use Rattle.prim_draw.specs.Costs.{rectangle_cost};
 ghost use Rattle.prim_draw.specs.Rectangles.{cells_box, drawn_rectangle, extent_at, optional_texture, rectangle_box};
@@ -99,7 +99,7 @@ pub(crate) fn rectangle_box(regs: &Regs, extent: &Extent) -> Option<Box2>
 fn optional_texture(regs: &Regs, textured: bool, clut: u16, raw: bool) -> Option<Texture>
     ensures value { result ≡ optional_texture regs.now textured clut raw }
     ensures is { IfSome result IsTexture }
-    ensures in_height { IfSome result (λ texture. texture.page.y + 255 < regs.now.height) }
+    ensures in_height { IfSome result (HasPage regs.now.height) }
 {
     if textured {
         Some(texture_in(regs, clut, raw))

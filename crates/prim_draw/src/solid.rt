@@ -2,6 +2,7 @@
 ghost use Rattle.std.specs.Prelude.{ℕ, ◌≡◌, ◌≤◌, IfSome};
 ghost use Rattle.edge_walk.specs.Triangle.{Corners};
 ghost use Rattle.vram_store.specs.Vram.{height_of};
+ghost use Rattle.span_lanes.specs.Shade.{IsBrush};
 ghost use Rattle.prim_draw.specs.Blocks.{CanDrawRows};
 ghost use Rattle.prim_draw.specs.Walks.{DrawsTriangle};
 ghost use Rattle.prim_draw.specs.Triangles.{IsCoat, triangle_coat};
@@ -48,8 +49,7 @@ pub(crate) fn solid_in(regs: &Regs, style: &Style) -> Option<Solid>
 // A colour and a brush, where each cell becomes the same halfword.
 #[inline(always)]
 fn solid_flat(color: u32, brush: &Brush) -> Option<Solid>
-    requires mask { brush.now.mask ≤ 3 }
-    requires mode { brush.now.mode ≤ 3 }
+    requires is { IsBrush brush.now }
     ensures even { IfSome result IsEven }
     ensures coat { (height : ℕ) → IfSome result (λ solid. IsCoat height (solid_coat solid)) }
     ensures value { IfSome result (λ solid. solid_coat solid ≡ flat_coat color brush.now) }

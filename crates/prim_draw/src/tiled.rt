@@ -7,11 +7,12 @@ ghost use Rattle.span_lanes.specs.TexelRows.{IsLaidFresh, KeepsPalette};
 ghost use Rattle.prim_draw.specs.Rectangles.{IsExtent, IsPartOf};
 ghost use Rattle.prim_draw.specs.Tiled.{AreTexelsOf, CanTile, DrawsTiled, IsFirstRow, IsReadyFor, texels_of};
 
+use crate::in_tile::{FirstRow, InTile};
 use crate::rectangles::{Extent, Tile};
-use crate::row_pen::{RowPen, draw_rows};
+use crate::row_pen::draw_rows;
 use crate::rows::BlockRows;
 use span_lanes::{
-    Block, EachRowPen, KeptRowsPen, Paint, Pen, Run, TexelRowPen, TexelRows, Texture, row_u,
+    Block, Coat, EachRowPen, KeptRowsPen, Paint, Pen, TexelRowPen, TexelRows, Texture, row_u,
 };
 use std::sync::ledger::Ledger;
 use vram_store::{Steps, Vram};
@@ -25,58 +26,6 @@ pub(crate) struct Tiled<'a> {
     pub(crate) extent: &'a Extent,
     /// Those that are drawn.
     pub(crate) block: &'a Block,
-}
-
-// The row of the page whose texels the first row of a block has, and whether it falls from row to row.
-#[derive(Clone, Copy)]
-struct FirstRow {
-    y: u16,
-    v: u8,
-    falls: bool,
-}
-
-impl FirstRow {
-    // The row of the page whose texels row y of the block has.
-    #[inline(always)]
-    fn texel_row(&self, y: u16) -> u8
-        requires below { self.now.y ≤ y }
-        requires near { y ≤ self.now.y + 1023 }
-        ensures { result ≡ row_u self.now.v self.now.falls (y - self.now.y) }
-    {
-        row_u(self.v, self.falls, y - self.y)
-    }
-}
-
-/// What draws the rows of texels.
-#[derive(Drop)]
-struct InTile<'a, P> {
-    tiled: Tiled<'a>,
-    first: FirstRow,
-    pen: P,
-}
-
-impl<P: TexelRowPen> RowPen for InTile<'_, P> {
-    ghost use Rattle.prim_draw.specs.Tiled.{IsWholeRow, tiled_pattern};
-
-    ghost pattern = { λ rows. tiled_pattern rows.tiled };
-
-    ghost reaches = { λ rows. IsWholeRow rows.tiled.block.now };
-
-    ghost ready = { λ rows. IsReadyFor rows.tiled rows.first (P.laid rows.pen) };
-
-    #[inline(always)]
-    fn draw_run<L: Ledger>(
-        &mut self,
-        vram: &mut Vram,
-        found: Option<Run>,
-        y: u16,
-        steps: &mut Steps<L>,
-    ) {
-        if let Some(_) = found {
-            let v = self.first.texel_row(y);
-            self.pen.draw_row(vram, y, v, steps);
-        }
-    }
 }
 
 impl Tiled<'_> {
@@ -178,11 +127,14 @@ impl Tiled<'_> {
         ensures { DrawsTiled self.now
             (record { m = vram.old; steps = steps.old }) (record { m = vram.new; steps = steps.new }) }
     {
-        let paint = Paint::Flat {
-            color: self.tile.color,
+        let coat = Coat {
+            paint: Paint::Flat {
+                color: self.tile.color,
+            },
+            brush: self.tile.brush,
         };
         let mut rows = BlockRows { block: *self.block };
-        let mut pen = Pen::new(&paint, &self.tile.brush);
+        let mut pen = Pen::new(&coat);
         draw_rows(vram, &mut rows, &mut pen, steps);
     }
 

@@ -2,7 +2,7 @@
 ghost use Rattle.std.specs.Prelude.{◌≡◌, ◌≤◌, ◌<◌, ◌+◌, ◌*◌, IfSome, length, true, ◌||◌};
 ghost use Rattle.edge_walk.specs.Extent.{bounding_box};
 ghost use Rattle.edge_walk.specs.Triangle.{is_drawn};
-ghost use Rattle.texel_lanes.specs.Texture.{IsTexture};
+ghost use Rattle.texel_lanes.specs.Texture.{HasPage, IsTexture};
 ghost use Rattle.span_lanes.specs.Shade.{texture_of};
 ghost use Rattle.prim_draw.specs.Boxes.{IsOnScreen, LiesIn};
 ghost use Rattle.prim_draw.specs.Costs.{triangle_cost};
@@ -11,8 +11,8 @@ ghost use Rattle.prim_draw.specs.Triangles.{triangle_box, triangle_coat, triangl
 ghost use Rattle.prim_draw.specs.Triangles.{IsCoat};
 ghost use Rattle.prim_draw.specs.Walks.{DrawsTriangle};
 
+use crate::blocks::draw_coated;
 use crate::boxes::clipped;
-use crate::coat::Coat;
 use crate::corners::Corners;
 use crate::row_pen::RowPen;
 use crate::settings::{brush_in, texture_in};
@@ -21,15 +21,15 @@ use crate::style::Style;
 use edge_walk::Tri;
 use gp1_status::Regs;
 use px_num::Box2;
-use span_lanes::{Paint, Pen, Run};
+use span_lanes::{Coat, Paint, Pen, Run};
 use std::sync::ledger::Ledger;
 use vram_store::{Steps, Vram};
 
 impl RowPen for Pen {
     ghost use Rattle.span_lanes.specs.Pen.{IsFresh};
-    ghost use Rattle.prim_draw.specs.Rows.{pattern_of_ink};
+    ghost use Rattle.prim_draw.specs.Pattern.{even};
 
-    ghost pattern = { λ pen. pattern_of_ink pen.ink };
+    ghost pattern = { λ pen. even pen.coat };
 
     ghost reaches = { λ pen y run. Unit {0} };
 
@@ -55,7 +55,7 @@ fn paint_of(regs: &Regs, style: &Style, tri: &Tri) -> Paint
     ensures fits { FitsTriangle tri.now result }
     ensures alike { IsAlike result }
     ensures texture { IfSome (texture_of result) IsTexture }
-    ensures page { IfSome (texture_of result) (λ texture. texture.page.y + 255 < regs.now.height) }
+    ensures page { IfSome (texture_of result) (HasPage regs.now.height) }
 {
     if style.textured {
         Paint::TexturedTri {
@@ -111,7 +111,7 @@ fn draw_inside<L: Ledger>(
 {
     match solid_in(regs, style) {
         Some(solid) => solid.draw_rows(vram, tri, clip, steps),
-        None => coat_of(regs, style, tri).draw_rows(vram, tri, clip, steps),
+        None => draw_coated(&coat_of(regs, style, tri), vram, tri, clip, steps),
     }
 }
 

@@ -1,5 +1,5 @@
 -- Spans that lie apart from their texels and from their palette.
-use Rattle.std.proofs.Common.{◌≡◌, ◌≢◌, ◌<◌, ◌≤◌, ℕ, None, Some, Bool, true, false, cond, eqb, ◌+◌, ◌-◌, ◌*◌, ◌/◌, ◌%◌}
+use Rattle.std.proofs.Common.{◌≡◌, ◌≢◌, ◌<◌, ◌≤◌, ℕ, None, Some, Bool, true, false, cond, eqb, ◌+◌, ◌-◌, ◌*◌, ◌/◌}
 use Rattle.std.proofs.Common.{◌⊎◌, inl, inr, map, refl, ◌∙◌, arith}
 use Rattle.std.specs.Option.{MatchOption}
 use Rattle.std.specs.List.{range_with_len}
@@ -12,7 +12,7 @@ use Rattle.texture_page.specs.Page.{texel_place, column, windowed}
 use Rattle.overlap_guard.specs.Hazard.{WrittenBefore, cell_at, HasTexelHazard, HasStripHazard}
 use Rattle.texel_lanes.specs.declared.texture.Texture.{Texture}
 use Rattle.span_lanes.specs.declared.span.Span.{Span}
-use Rattle.texel_lanes.specs.Texture.{IsTexture}
+use Rattle.texel_lanes.specs.Texture.{IsTexture, clut_row}
 use Rattle.span_lanes.specs.Shade.{IsSpan, texture_of}
 use Rattle.span_lanes.specs.Guard.{paint_texel, paint_texels, target, clut_strip, page_width, IsApart, LiesBeside}
 
@@ -51,7 +51,7 @@ StripHazard four eight clut to n = MatchOption
     (cond four (Some (clut_strip clut 16)) (cond eight (Some (clut_strip clut 256)) None)) ⊥
     (λ strip. HasStripHazard strip to n)
 
-strip_off : (four eight : Bool) (clut y : ℕ) (to : Cell) (n : ℕ) → clut / 64 % 512 ≢ y → to.y ≡ y
+strip_off : (four eight : Bool) (clut y : ℕ) (to : Cell) (n : ℕ) → clut_row clut ≢ y → to.y ≡ y
     → StripHazard four eight clut to n → ⊥
 strip_off true eight clut y to n off row h = off (h.2.2.1 ∙ row)
 strip_off false true clut y to n off row h = off (h.2.2.1 ∙ row)
@@ -63,14 +63,14 @@ no_strip false false clut to n e f h = h
 no_strip true eight clut to n e f h = absurd (cc)
 no_strip false true clut to n e f h = absurd (cc)
 
-strip_apart : (depth clut y : ℕ) (to : Cell) (n : ℕ) → (2 ≤ depth) ⊎ (clut / 64 % 512 ≢ y) → to.y ≡ y
+strip_apart : (depth clut y : ℕ) (to : Cell) (n : ℕ) → (2 ≤ depth) ⊎ (clut_row clut ≢ y) → to.y ≡ y
     → StripHazard (eqb depth 0) (eqb depth 1) clut to n → ⊥
 strip_apart depth clut y to n (inl deep) row h = no_strip (eqb depth 0) (eqb depth 1) clut to n
     (grind (arith, nat_tests)) (grind (arith, nat_tests)) h
 strip_apart depth clut y to n (inr off) row h = strip_off (eqb depth 0) (eqb depth 1) clut y to n off row h
 
 pub span_apart : (span : Span) (t : Texture) → IsSpan span → IsTexture t → texture_of span.paint ≡ Some t
-    → LiesBeside t span.x span.y span.n → (2 ≤ t.page.depth) ⊎ (t.clut / 64 % 512 ≢ span.y) → IsApart span
+    → LiesBeside t span.x span.y span.n → (2 ≤ t.page.depth) ⊎ (clut_row t.clut ≢ span.y) → IsApart span
 unfolding paint_texels
 span_apart span t is texture of_paint beside off = record {
   free = λ first n within h. elim (rw of_paint at h) [

@@ -12,7 +12,7 @@ use Rattle.texel_lanes.specs.declared.texture.Texture.{Texture}
 use Rattle.span_lanes.specs.declared.span.Paint.TheVariants.{TexturedRow, TexturedTri}
 use Rattle.span_lanes.specs.declared.span.Span.{Span}
 use Rattle.span_lanes.specs.Paints.{paint_u, paint_v}
-use Rattle.texel_lanes.specs.Texture.{at_cell, texel}
+use Rattle.texel_lanes.specs.Texture.{at_cell, clut_row, texel}
 use Rattle.span_lanes.specs.Shade.{row_u, attribute_in, AreInside, IsSpan}
 use Rattle.span_lanes.specs.Stretch.{IsRising, IsStretch}
 use Rattle.span_lanes.proofs.TintLemmas.{first_cell}
@@ -44,7 +44,7 @@ whole_texel span t s x i h m is deep lt at read =
 pub four_texel : (span : Span) (t : Texture) (s : Stretch) (x i e : ℕ) (m : List ℕ) → IsStretch span t s
     → t.page.depth ≡ 0 → i < span.n → x ≡ span.x + i
     → e ≡ get_or m
-    (1024 * (t.clut / 64 % 512) +
+    (1024 * clut_row t.clut +
     (t.clut % 64 * 16 + index_in 0 (s.u + i) (get_or m (1024 * s.y + (t.page.x + (s.u + i) / 4)) 0)) % 1024) 0
     → e ≡ texel t (paint_u span.paint x span.y i) (paint_v span.paint x span.y i) m
 four_texel span t s x i e m is four lt at entry =

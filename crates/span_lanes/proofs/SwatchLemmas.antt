@@ -1,5 +1,5 @@
 -- A palette that is drawn by its entries.
-use Rattle.std.proofs.Common.{◌≡◌, ◌≢◌, ◌≤◌, ◌<◌, ℕ, List, ◌+◌, ◌*◌, ◌/◌, ◌%◌, sym, ◌∙◌, arith, Option, None, Some}
+use Rattle.std.proofs.Common.{◌≡◌, ◌≢◌, ◌≤◌, ◌<◌, ℕ, List, ◌+◌, ◌*◌, sym, ◌∙◌, arith, Option, None, Some}
 use Rattle.std.proofs.lemmas.List.FromFn.{get_or-map-range_with_len}
 use Rattle.std.specs.Prelude.{IfSome, slice_index}
 use Rattle.texture_page.specs.Page.{clut_place}
@@ -8,7 +8,7 @@ use Rattle.texel_lanes.specs.declared.texture.Texture.{Texture}
 use Rattle.span_lanes.specs.declared.swatches.Swatches.{Swatches}
 use Rattle.span_lanes.specs.declared.span.Paint.{Paint}
 use Rattle.texel_lanes.specs.declared.table.Table.{Table}
-use Rattle.texel_lanes.specs.Texture.{at_cell}
+use Rattle.texel_lanes.specs.Texture.{at_cell, clut_row}
 use Rattle.span_lanes.specs.Shade.{texture_of}
 use Rattle.span_lanes.specs.Swatches.{AreColored, AreEntries, AreFresh, AreSwatches, HasPalette, IsKept, IsPalette, IsPaletteOf}
 use Rattle.span_lanes.specs.Swatches.{IsUnder}
@@ -18,7 +18,7 @@ use Rattle.span_lanes.proofs.BlindLemmas.{same_cell}
 
 -- cells of another row leave it as it is
 pub swatches_kept : (t : Texture) (x y k : ℕ) (m now : List ℕ) (swatches : Swatches)
-    → AgreesApart (1024 * y + x) k m now → x + k ≤ 1024 → t.clut / 64 % 512 ≢ y
+    → AgreesApart (1024 * y + x) k m now → x + k ≤ 1024 → clut_row t.clut ≢ y
     → AreSwatches t m swatches → AreSwatches t now swatches
 swatches_kept t x y k m now swatches agree room other is = record {
   entries = is.entries;

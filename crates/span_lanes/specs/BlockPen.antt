@@ -6,7 +6,7 @@ use Rattle.texel_lanes.specs.Texture.{IsTexture}
 use Rattle.texel_lanes.specs.declared.texture.Texture.{Texture}
 use Rattle.span_lanes.specs.declared.block.Block.{Block}
 use Rattle.span_lanes.specs.declared.block_pen.Way.{Way}
-use Rattle.span_lanes.specs.declared.block_pen.Way.TheVariants.{Strip, Beside, Scaled, Mixed}
+use Rattle.span_lanes.specs.declared.block_pen.Way.TheVariants.{Kept, Beside, Scaled, Mixed}
 use Rattle.span_lanes.specs.declared.ramped.Mix.{Mix}
 use Rattle.span_lanes.specs.declared.ramped.RampedSlopes.{RampedSlopes}
 use Rattle.span_lanes.specs.declared.sheet.Sheet.{Sheet}
@@ -15,7 +15,7 @@ use Rattle.span_lanes.specs.declared.span.Span.{Span}
 use Rattle.span_lanes.specs.declared.swatches.Swatches.{Swatches}
 use Rattle.span_lanes.specs.declared.tint.Tint.TheVariants.{Plain}
 use Rattle.span_lanes.specs.Frame.{Framed, IsBlockApart}
-use Rattle.span_lanes.specs.Pen.{IsTint, IsTintOf, ink_of, loaded_of}
+use Rattle.span_lanes.specs.Pen.{IsTint, IsTintOf, coat_of, loaded_of}
 use Rattle.span_lanes.specs.Ramped.{AreSlopesOf, IsMixOf}
 use Rattle.span_lanes.specs.Shade.{texture_of}
 use Rattle.span_lanes.specs.Sheet.{IsSheetOf}
@@ -44,7 +44,7 @@ pub record IsPlain (tri : Corners) (t : Texture) (brush : Brush) (color : ℕ) :
 
 -- rows of a triangle may be drawn in a way
 abbrev pub IsWay : Corners → Texture → Brush → Way → Type 0
-IsWay tri t brush (Strip color) = IsBeside tri t × IsPlain tri t brush color
+IsWay tri t brush (Kept color) = IsBeside tri t × IsPlain tri t brush color
 IsWay tri t brush Beside = IsBeside tri t
 IsWay tri t brush (Scaled color) = IsTintOf tri (Plain color)
 IsWay tri t brush Mixed = Unit {0}
@@ -62,8 +62,8 @@ pub record IsInApart (span : Span) (t : Texture) (b : Block) : Type 0 where
   pub apart : IsBlockApart b t
 
 -- the palette is coloured once
-pub record IsStripPen (span : Span) (sheet : Sheet) (color : ℕ) (b : Block) (last : Option Swatches) : Type 0 where
-  pub ready : IsSheetOf (ink_of span) sheet
+pub record IsKeptPen (span : Span) (sheet : Sheet) (color : ℕ) (b : Block) (last : Option Swatches) : Type 0 where
+  pub ready : IsSheetOf (coat_of span) sheet
   pub apart : IsBlockApart b sheet.texture
   pub beside : IsBeside sheet.tri sheet.texture
   pub plain : IsPlain sheet.tri sheet.texture sheet.brush color
@@ -71,7 +71,7 @@ pub record IsStripPen (span : Span) (sheet : Sheet) (color : ℕ) (b : Block) (l
 
 -- texels stand side by side
 pub record IsBesidePen (span : Span) (sheet : Sheet) (b : Block) (last : Option Swatches) : Type 0 where
-  pub ready : IsSheetOf (ink_of span) sheet
+  pub ready : IsSheetOf (coat_of span) sheet
   pub apart : IsBlockApart b sheet.texture
   pub beside : IsBeside sheet.tri sheet.texture
   pub colored : IfSome last AreColored

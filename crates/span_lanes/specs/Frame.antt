@@ -36,4 +36,4 @@ pub record Framed : Type 0 where
 
 -- one that has seen no palette
 abbrev pub framed_in : Paint → Brush → Block → Framed
-framed_in paint brush block = record { loaded = new_pen paint brush; block = block }
+framed_in paint brush block = record { loaded = new_pen (record { paint = paint; brush = brush }); block = block }

@@ -4,6 +4,7 @@ use Rattle.edge_walk.specs.Plane.{IsPlane}
 use Rattle.edge_walk.specs.Triangle.{Corners, is_inside}
 use Rattle.span_lanes.specs.declared.slopes.Slopes.{Slopes}
 use Rattle.span_lanes.specs.declared.span.Brush.{Brush}
+use Rattle.span_lanes.specs.declared.span.Coat.{Coat}
 use Rattle.span_lanes.specs.declared.span.Paint.{Paint}
 use Rattle.span_lanes.specs.declared.span.Paint.TheVariants.{Flat, Shaded, TexturedTri, TexturedRow}
 use Rattle.span_lanes.specs.declared.span.Span.{Span}
@@ -16,20 +17,16 @@ use Rattle.span_lanes.specs.Lanes.{IsSolid}
 use Rattle.span_lanes.specs.Shade.{color_in, shade_at}
 use Rattle.span_lanes.specs.Swatches.{AreFresh, entries_of}
 
-pub record Ink : Type 0 where
-  pub paint : Paint
-  pub brush : Brush
+-- a span that is drawn with a coat
+abbrev pub coat_span : Coat → (x y n : ℕ) → Span
+coat_span coat x y n = record { x = x; y = y; n = n; paint = coat.paint; brush = coat.brush }
 
--- a span that is drawn with them
-abbrev pub ink_span : Ink → (x y n : ℕ) → Span
-ink_span ink x y n = record { x = x; y = y; n = n; paint = ink.paint; brush = ink.brush }
-
-abbrev pub ink_of : Span → Ink
-ink_of span = record { paint = span.paint; brush = span.brush }
+abbrev pub coat_of : Span → Coat
+coat_of span = record { paint = span.paint; brush = span.brush }
 
 -- what a pen draws with, and the sixteen entries of the palette that it saw, if it keeps them
 pub record Loaded : Type 0 where
-  pub ink : Ink
+  pub coat : Coat
   pub palette : Option (List ℕ)
 
 -- the cells of a span were drawn, one after another
@@ -39,12 +36,12 @@ pub record DrawsCells (s : Span) (before after : Stage) : Type 0 where
   pub cost : after.steps ≤ before.steps + span_cost s
 
 -- one that has seen no palette
-abbrev pub new_pen : Paint → Brush → Loaded
-new_pen paint brush = record { ink = record { paint = paint; brush = brush }; palette = None }
+abbrev pub new_pen : Coat → Loaded
+new_pen coat = record { coat = coat; palette = None }
 
 -- the palette that a pen keeps, if any, is the one in video memory
 abbrev pub IsFresh : Loaded → List ℕ → Type 0
-IsFresh pen m = AreFresh pen.ink.paint m pen.palette
+IsFresh pen m = AreFresh pen.coat.paint m pen.palette
 
 -- ---- what is made ready
 
@@ -74,4 +71,4 @@ HasHalfword (TexturedTri tri texture) brush solid = solid ≡ None
 HasHalfword (TexturedRow color texture u v flip) brush solid = solid ≡ None
 
 abbrev pub loaded_of : Span → Option Swatches → Loaded
-loaded_of span last = record { ink = ink_of span; palette = entries_of last }
+loaded_of span last = record { coat = coat_of span; palette = entries_of last }

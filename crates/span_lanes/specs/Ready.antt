@@ -5,19 +5,20 @@ use Rattle.span_lanes.specs.declared.ready.Ready.TheVariants.{Solid, Toned, Tri,
 use Rattle.span_lanes.specs.declared.span.Paint.TheVariants.{TexturedRow}
 use Rattle.span_lanes.specs.declared.swatches.Swatches.{Swatches}
 use Rattle.span_lanes.specs.Lanes.{IsSolid}
-use Rattle.span_lanes.specs.Pen.{Ink, IsTint, ink_span}
+use Rattle.span_lanes.specs.Pen.{IsTint, coat_span}
+use Rattle.span_lanes.specs.declared.span.Coat.{Coat}
 use Rattle.span_lanes.specs.Shade.{texture_of}
 use Rattle.span_lanes.specs.Sheet.{IsSheetOf}
 use Rattle.span_lanes.specs.Swatches.{AreColored}
 
 -- what is one for all spans of a paint and a brush
-abbrev pub IsReady : Ink → Ready → Type 0
-IsReady ink (Solid h) = (texture_of ink.paint ≡ None) × ((x y n : ℕ) → IsSolid (ink_span ink x y n) h)
-IsReady ink (Toned tint) = (texture_of ink.paint ≡ None) × IsTint ink.paint tint
-IsReady ink (Tri sheet) = IsSheetOf ink sheet
-IsReady ink (Row texture row) = ink.paint ≡ TexturedRow row.color texture row.u row.v row.flip
+abbrev pub IsReady : Coat → Ready → Type 0
+IsReady coat (Solid h) = (texture_of coat.paint ≡ None) × ((x y n : ℕ) → IsSolid (coat_span coat x y n) h)
+IsReady coat (Toned tint) = (texture_of coat.paint ≡ None) × IsTint coat.paint tint
+IsReady coat (Tri sheet) = IsSheetOf coat sheet
+IsReady coat (Row texture row) = coat.paint ≡ TexturedRow row.color texture row.u row.v row.flip
 
 -- the same with a palette under a colour, if it is kept
-pub record IsPen (ink : Ink) (made : Ready) (last : Option Swatches) : Type 0 where
-  pub ready : IsReady ink made
+pub record IsPen (coat : Coat) (made : Ready) (last : Option Swatches) : Type 0 where
+  pub ready : IsReady coat made
   pub colored : IfSome last AreColored

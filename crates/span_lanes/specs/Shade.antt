@@ -11,7 +11,7 @@ use Rattle.edge_walk.specs.Triangle.{Corners, is_inside}
 use Rattle.edge_walk.specs.Attribute.{attribute_at}
 use Rattle.span_lanes.specs.declared.span.Brush.{Brush}
 use Rattle.texel_lanes.specs.declared.texture.Texture.{Texture}
-use Rattle.texel_lanes.specs.Texture.{IsTexture, texel}
+use Rattle.texel_lanes.specs.Texture.{HasPage, IsTexture, texel}
 use Rattle.span_lanes.specs.declared.span.Paint.{Paint}
 use Rattle.span_lanes.specs.declared.span.Paint.TheVariants.{Flat, Shaded, TexturedTri, TexturedRow}
 use Rattle.span_lanes.specs.declared.span.Span.{Span}
@@ -36,19 +36,23 @@ HasInside (Shaded tri) x y n = AreInside tri x y n
 HasInside (TexturedTri tri texture) x y n = AreInside tri x y n
 HasInside (TexturedRow color texture u v flip) x y n = Unit {0}
 
--- some cells of one row, and settings such as there are
+-- settings such as there are
+pub record IsBrush (brush : Brush) : Type 0 where
+  pub mask : brush.mask ≤ 3
+  pub mode : brush.mode ≤ 3
+
+-- some cells of one row, and what they can be drawn with
 pub record IsSpan (span : Span) : Type 0 where
   pub some : 1 ≤ span.n
   pub in_row : span.x + span.n ≤ 1024
-  pub mask : span.brush.mask ≤ 3
-  pub mode : span.brush.mode ≤ 3
+  pub brush : IsBrush span.brush
   pub texture : IfSome (texture_of span.paint) IsTexture
   pub inside : HasInside span.paint span.x span.y span.n
 
 -- the row of a span and its texture page lie in video memory of a height
 pub record LiesIn (height : ℕ) (span : Span) : Type 0 where
   pub row : span.y < height
-  pub page : IfSome (texture_of span.paint) (λ texture. texture.page.y + 255 < height)
+  pub page : IfSome (texture_of span.paint) (HasPage height)
 
 -- ---- texels
 

@@ -8,7 +8,8 @@ use Rattle.span_lanes.specs.declared.span.Paint.TheVariants.{TexturedTri}
 use Rattle.span_lanes.specs.declared.span.Span.{Span}
 use Rattle.span_lanes.specs.Draws.{CanDraw}
 use Rattle.span_lanes.specs.Guard.{IsApart, IsInOtherRow}
-use Rattle.span_lanes.specs.Pen.{AreSlopes, Ink, IsTintOf, ink_of}
+use Rattle.span_lanes.specs.Pen.{AreSlopes, IsTintOf, coat_of}
+use Rattle.span_lanes.specs.declared.span.Coat.{Coat}
 
 -- the colours and the coordinates are those of the triangle
 pub record IsSheet (sheet : Sheet) : Type 0 where
@@ -16,9 +17,9 @@ pub record IsSheet (sheet : Sheet) : Type 0 where
   pub slopes : AreSlopes sheet.tri sheet.slopes
 
 -- what a paint and a brush are, made ready
-pub record IsSheetOf (ink : Ink) (sheet : Sheet) : Type 0 where
-  pub paint : ink.paint ≡ TexturedTri sheet.tri sheet.texture
-  pub brush : ink.brush ≡ sheet.brush
+pub record IsSheetOf (coat : Coat) (sheet : Sheet) : Type 0 where
+  pub paint : coat.paint ≡ TexturedTri sheet.tri sheet.texture
+  pub brush : coat.brush ≡ sheet.brush
   pub ready : IsSheet sheet
 
 -- a triangle, a texture and a brush are, made ready
@@ -31,7 +32,7 @@ pub record IsSheetFor (corners : Corners) (t : Texture) (with : Brush) (sheet : 
 -- a span of a triangle can be drawn in video memory, reads nothing that it writes, and has another row than the
 -- palette, if there is one of sixteen entries
 pub record CanDrawSheet (sheet : Sheet) (span : Span) (m : List ℕ) : Type 0 where
-  pub ready : IsSheetOf (ink_of span) sheet
+  pub ready : IsSheetOf (coat_of span) sheet
   pub can : CanDraw span m
   pub apart : IsApart span
   pub palette : IsInOtherRow sheet.texture span.y

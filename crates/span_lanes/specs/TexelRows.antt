@@ -2,7 +2,8 @@
 use Rattle.std.specs.Prelude.{ℕ, List, Option, None, IfSome, ◌≡◌, ◌≤◌, ◌+◌, ◌/◌, ◌&&◌, not, false}
 use Rattle.span_lanes.specs.Draws.{CanDraw}
 use Rattle.span_lanes.specs.Frame.{IsBlockApart, IsInBlock}
-use Rattle.span_lanes.specs.Pen.{Ink, ink_span}
+use Rattle.span_lanes.specs.Pen.{coat_span}
+use Rattle.span_lanes.specs.declared.span.Coat.{Coat}
 use Rattle.span_lanes.specs.Swatches.{AreColored, AreFresh, entries_of}
 use Rattle.span_lanes.specs.declared.span.Paint.TheVariants.{TexturedRow}
 use Rattle.span_lanes.specs.declared.span.Span.{Span}
@@ -10,13 +11,13 @@ use Rattle.span_lanes.specs.declared.swatches.Swatches.{Swatches}
 use Rattle.span_lanes.specs.declared.texel_rows.TexelRows.{TexelRows}
 
 -- what row v of the page is drawn with
-abbrev pub texel_ink : TexelRows → (v : ℕ) → Ink
-texel_ink rows v =
+abbrev pub texel_coat : TexelRows → (v : ℕ) → Coat
+texel_coat rows v =
     record { paint = TexturedRow rows.color rows.texture rows.u v rows.flip; brush = rows.brush }
 
 -- row y of the block, with the texels of row v of the page
 abbrev pub texel_span : TexelRows → (y v : ℕ) → Span
-texel_span rows y v = ink_span (texel_ink rows v) rows.block.x y rows.block.w
+texel_span rows y v = coat_span (texel_coat rows v) rows.block.x y rows.block.w
 
 -- a row of the block that can be drawn so in video memory
 pub record CanDrawTexels (rows : TexelRows) (y v : ℕ) (m : List ℕ) : Type 0 where
@@ -50,7 +51,7 @@ new_laid rows = record { rows = rows; palette = None }
 
 -- the palette that a pen keeps, if any, is the one in video memory
 abbrev pub IsLaidFresh : Laid → List ℕ → Type 0
-IsLaidFresh laid m = AreFresh (texel_ink laid.rows 0).paint m laid.palette
+IsLaidFresh laid m = AreFresh (texel_coat laid.rows 0).paint m laid.palette
 
 -- the palette can be coloured once, and what is kept was
 pub record IsKeptRowsPen (rows : TexelRows) (last : Option Swatches) : Type 0 where

@@ -17,8 +17,8 @@ use vram_store::{Steps, Vram};
 /// How the rows of a triangle are drawn that read nothing that they write: each way has its pen.
 #[derive(Clone, Copy)]
 pub enum Way {
-    /// Texels side by side, the palette coloured once, and pixels stored as they are ([`StripPen`](crate::StripPen)).
-    Strip { color: u32 },
+    /// Texels side by side, the palette coloured once, and pixels stored as they are ([`KeptPen`](crate::KeptPen)).
+    Kept { color: u32 },
     /// Texels side by side ([`BesidePen`](crate::BesidePen)).
     Beside,
     /// By the coordinates of each texel, under one colour ([`ScaledPen`](crate::ScaledPen)).
@@ -33,7 +33,7 @@ pub trait BlockPen: Drop {
     ghost use Rattle.std.specs.Prelude.{◌≡◌};
     ghost use Rattle.vram_store.specs.Vram.{height_of};
     ghost use Rattle.span_lanes.specs.Frame.{Framed, IsInBlock};
-    ghost use Rattle.span_lanes.specs.Pen.{DrawsCells, IsFresh, ink_span};
+    ghost use Rattle.span_lanes.specs.Pen.{DrawsCells, IsFresh, coat_span};
     ghost use Rattle.span_lanes.specs.Shade.{IsSpan, LiesIn};
 
     // What it draws with, and in which block.
@@ -41,14 +41,14 @@ pub trait BlockPen: Drop {
 
     /// Draws cells of row y, which lie in the block, as [`draw_span`](crate::draw_span) does.
     fn draw<L: Ledger>(&mut self, vram: &mut Vram, run: Run, y: u16, steps: &mut Steps<L>)
-        requires span { IsSpan (ink_span (framed self.old).loaded.ink run.x y run.n) }
-        requires height { LiesIn (height_of vram.old) (ink_span (framed self.old).loaded.ink run.x y run.n) }
+        requires span { IsSpan (coat_span (framed self.old).loaded.coat run.x y run.n) }
+        requires height { LiesIn (height_of vram.old) (coat_span (framed self.old).loaded.coat run.x y run.n) }
         requires block { IsInBlock (framed self.old).block run.x y run.n }
         requires fresh { IsFresh (framed self.old).loaded vram.old }
-        ensures ink { (framed self.new).loaded.ink ≡ (framed self.old).loaded.ink }
+        ensures coat { (framed self.new).loaded.coat ≡ (framed self.old).loaded.coat }
         ensures block { (framed self.new).block ≡ (framed self.old).block }
         ensures fresh { IsFresh (framed self.new).loaded vram.new }
-        ensures drawn { DrawsCells (ink_span (framed self.old).loaded.ink run.x y run.n)
+        ensures drawn { DrawsCells (coat_span (framed self.old).loaded.coat run.x y run.n)
             (record { m = vram.old; steps = steps.old }) (record { m = vram.new; steps = steps.new }) };
 }
 
@@ -75,7 +75,7 @@ pub fn way_in(tri: &Tri, texture: &Texture, brush: &Brush, block: &Block) -> Opt
     }
     let plain = has_even_palette(texture, brush) && is_plain(brush);
     Some(match (one_color(tri), is_beside(tri, texture)) {
-        (Some(color), true) if plain => Way::Strip { color },
+        (Some(color), true) if plain => Way::Kept { color },
         (_, true) => Way::Beside,
         (Some(color), false) => Way::Scaled { color },
         (None, false) => Way::Mixed,

@@ -7,12 +7,12 @@
 // - `Solid`, in `draw_ready` and `draw_solid`: all cells become one halfword, and nothing is read. [triangle flat]
 // - `Toned`, in `draw_one`: one colour that is blended, tested or dithered; its channels are known. [rectangle B+F]
 // - `Toned`, two in `draw_lines`: colours along the row, three lines a part, as it is or not. [triangle gouraud]
-// - `Kept<Stretch>`, in `StripPen::draw`: a palette coloured once, as it is; it stands in the loop over the rows.
+// - `Kept<Stretch>`, in `KeptPen::draw`: a palette coloured once, as it is; it stands in the loop over the rows.
 //   [triangle 4-bit modulated]
 // - `Kept<&RampedSlopes>` and `Shaded<&RampedSlopes>`, in `draw_scaled`: by the coordinates of each texel under one
 //   colour, apart from what is written. No line belongs to them.
 // - `Mixed`, in `draw_mixed`: the same under several. [triangle turned, gouraud, dithered, half]
-// - `Kept<Stretch>`, four in `draw_strip`: the same of other spans, raw or not, as it is or not: two look-ups or four.
+// - `Kept<Stretch>`, four in `draw_kept`: the same of other spans, raw or not, as it is or not: two look-ups or four.
 // - `Raw<Fours>`, `Raw<Eights>`, `Raw<Wholes>`, each as it is or not, in `draw_raw`: texels side by side without a
 //   colour. [triangle 15-bit raw]
 // - `Shaded` of the same three, each as it is or not, in `draw_shaded`: under colours. [rectangle 8-bit modulated]
@@ -27,13 +27,14 @@ ghost use Rattle.span_lanes.specs.Draws.{CanDraw, DrawsSpan, at_stage};
 ghost use Rattle.span_lanes.specs.Guard.{IsInOtherRow};
 ghost use Rattle.span_lanes.specs.Kept.{CanTake};
 ghost use Rattle.span_lanes.specs.declared.span.Paint.TheVariants.{TexturedRow};
-ghost use Rattle.span_lanes.specs.Pen.{IsTint, ink_of};
+ghost use Rattle.span_lanes.specs.Pen.{IsTint, coat_of};
 ghost use Rattle.span_lanes.specs.Ready.{IsReady};
 ghost use Rattle.span_lanes.specs.Sheet.{CanDrawSheet, IsSheetOf};
 ghost use Rattle.span_lanes.specs.Stretch.{IsStretch};
 ghost use Rattle.span_lanes.specs.Swatches.{IsKept};
 
 use crate::apart::is_apart;
+use crate::kept::{draw_kept, keeps_palette};
 use crate::loops::draw_parts;
 use crate::plan::{row_plan, tri_plan};
 use crate::planned::draw_planned;
@@ -44,7 +45,6 @@ use crate::sheet::Sheet;
 use crate::solid::Solid;
 use crate::stretch::{Stretch, place_row, row_stretch};
 use crate::stretched::draw_stretched;
-use crate::strip::{draw_strip, suits_strip};
 use crate::swatches::Swatches;
 use crate::tint::Tint;
 use crate::untextured::draw_untextured;
@@ -71,8 +71,8 @@ fn draw_beside<L: Ledger>(
     ensures last { IsKept span.now.paint vram.new last.new }
 {
     match tint {
-        Tint::Plain { color } if suits_strip(span, found.texture) => {
-            draw_strip(vram, span, found, *color, last, steps)
+        Tint::Plain { color } if keeps_palette(span, found.texture) => {
+            draw_kept(vram, span, found, *color, last, steps)
         }
         _ => {
             *last = None;
@@ -166,7 +166,7 @@ fn draw_tri<L: Ledger>(
     steps: &mut Steps<L>,
 )
     requires can { CanDraw span.now vram.old }
-    requires sheet { IsSheetOf (ink_of span.now) sheet.now }
+    requires sheet { IsSheetOf (coat_of span.now) sheet.now }
     requires last { IsKept span.now.paint vram.old last.old }
     ensures drawn { DrawsSpan span.now 0 (at_stage vram.old steps.old) (at_stage vram.new steps.new) }
     ensures last { IsKept span.now.paint vram.new last.new }
@@ -185,7 +185,7 @@ pub(crate) fn draw_ready<L: Ledger>(
     steps: &mut Steps<L>,
 )
     requires can { CanDraw span.now vram.old }
-    requires ready { IsReady (ink_of span.now) ready.now }
+    requires ready { IsReady (coat_of span.now) ready.now }
     requires last { IsKept span.now.paint vram.old last.old }
     ensures drawn { DrawsSpan span.now 0 (at_stage vram.old steps.old) (at_stage vram.new steps.new) }
     ensures last { IsKept span.now.paint vram.new last.new }

@@ -2,8 +2,8 @@
 ghost use Rattle.span_lanes.specs.TexelRows.{KeepsPalette};
 
 use crate::TexelRows;
+use crate::kept::draw_kept_known;
 use crate::sampler::Found;
-use crate::strip::draw_known_strip;
 use crate::swatches::Swatches;
 use crate::texel_row_pen::TexelRowPen;
 use std::marker::Model;
@@ -57,6 +57,6 @@ impl TexelRowPen for KeptRowsPen {
             texture: &self.rows.texture,
             sampler: &stretch,
         };
-        draw_known_strip(vram, &span, &found, self.rows.color, &mut self.last, steps);
+        draw_kept_known(vram, &span, &found, self.rows.color, &mut self.last, steps);
     }
 }

@@ -1,12 +1,12 @@
 // A paint made ready.
 ghost use Rattle.vram_store.specs.Vram.{height_of};
-ghost use Rattle.span_lanes.specs.Pen.{DrawsCells, ink_of};
+ghost use Rattle.span_lanes.specs.Pen.{DrawsCells, coat_of};
 ghost use Rattle.span_lanes.specs.Shade.{IsSpan, LiesIn};
 
 use crate::draw::draw_ready;
 use crate::ready::{Ready, ready_of};
 use crate::swatches::Swatches;
-use crate::{Brush, Paint, Run, Span};
+use crate::{Coat, Run, Span};
 use std::marker::Model;
 use std::sync::ledger::Ledger;
 use vram_store::{Steps, Vram};
@@ -22,36 +22,36 @@ pub struct Pen {
 }
 
 impl Model for Pen {
-    ghost use Rattle.span_lanes.specs.Pen.{ink_of, loaded_of, Loaded};
+    ghost use Rattle.span_lanes.specs.Pen.{coat_of, loaded_of, Loaded};
     ghost use Rattle.span_lanes.specs.Ready.{IsPen};
 
     ghost Value = { Loaded };
 
     ghost view = { λ pen. loaded_of pen.span pen.last };
 
-    ghost invariant = { λ pen. IsPen (ink_of pen.span) pen.ready pen.last };
+    ghost invariant = { λ pen. IsPen (coat_of pen.span) pen.ready pen.last };
 }
 
 impl Pen {
     ghost use Rattle.std.specs.Prelude.{◌≡◌};
     ghost use Rattle.vram_store.specs.Vram.{height_of};
-    ghost use Rattle.span_lanes.specs.Pen.{ink_span, new_pen, DrawsCells, IsFresh};
+    ghost use Rattle.span_lanes.specs.Pen.{coat_span, new_pen, DrawsCells, IsFresh};
     ghost use Rattle.span_lanes.specs.Shade.{IsSpan, LiesIn};
 
-    /// A paint and a brush made ready.
+    /// A coat made ready.
     #[inline(always)]
-    pub fn new(paint: &Paint, brush: &Brush) -> Pen
-        ensures { result ≡ new_pen paint.now brush.now }
+    pub fn new(coat: &Coat) -> Pen
+        ensures { result ≡ new_pen coat.now }
     {
         Pen {
             span: Span {
                 x: 0,
                 y: 0,
                 n: 0,
-                paint: *paint,
-                brush: *brush,
+                paint: coat.paint,
+                brush: coat.brush,
             },
-            ready: ready_of(paint, brush),
+            ready: ready_of(&coat.paint, &coat.brush),
             last: None,
         }
     }
@@ -60,12 +60,12 @@ impl Pen {
     #[inline(always)]
     #[tactic(auto, using(crate::proofs::SwatchLemmas::kept_of_fresh, crate::proofs::SwatchLemmas::fresh_of_kept))]
     pub fn draw<L: Ledger>(&mut self, vram: &mut Vram, run: Run, y: u16, steps: &mut Steps<L>)
-        requires span { IsSpan (ink_span self.old.ink run.x y run.n) }
-        requires height { LiesIn (height_of vram.old) (ink_span self.old.ink run.x y run.n) }
+        requires span { IsSpan (coat_span self.old.coat run.x y run.n) }
+        requires height { LiesIn (height_of vram.old) (coat_span self.old.coat run.x y run.n) }
         requires fresh { IsFresh self.old vram.old }
-        ensures ink { self.new.ink ≡ self.old.ink }
+        ensures coat { self.new.coat ≡ self.old.coat }
         ensures fresh { IsFresh self.new vram.new }
-        ensures drawn { DrawsCells (ink_span self.old.ink run.x y run.n)
+        ensures drawn { DrawsCells (coat_span self.old.coat run.x y run.n)
             (record { m = vram.old; steps = steps.old }) (record { m = vram.new; steps = steps.new }) }
     {
         self.span.x = run.x;
@@ -94,7 +94,10 @@ pub fn draw_span<L: Ledger>(vram: &mut Vram, span: &Span, steps: &mut Steps<L>)
     ensures drawn { DrawsCells span.now
         (record { m = vram.old; steps = steps.old }) (record { m = vram.new; steps = steps.new }) }
 {
-    let mut pen = Pen::new(&span.paint, &span.brush);
+    let mut pen = Pen::new(&Coat {
+        paint: span.paint,
+        brush: span.brush,
+    });
     let run = Run {
         x: span.x,
         n: span.n,

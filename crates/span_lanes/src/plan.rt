@@ -3,7 +3,7 @@ ghost use Rattle.std.specs.Prelude.{◌≡◌, Some};
 ghost use Rattle.span_lanes.specs.Shade.{IsSpan, texture_of};
 ghost use Rattle.span_lanes.specs.declared.span.Paint.TheVariants.{TexturedRow};
 ghost use Rattle.span_lanes.specs.Hues.{AreHues};
-ghost use Rattle.span_lanes.specs.Pen.{ink_of};
+ghost use Rattle.span_lanes.specs.Pen.{coat_of};
 ghost use Rattle.span_lanes.specs.Plan.{IsPlan};
 ghost use Rattle.span_lanes.specs.Sheet.{IsSheetOf};
 ghost use Rattle.span_lanes.specs.Track.{IsTrack};
@@ -62,7 +62,7 @@ pub(crate) fn row_plan(span: &Span, texture: &Texture, row: TexelRow) -> Plan
 #[inline(always)]
 pub(crate) fn tri_plan(span: &Span, sheet: &Sheet) -> Plan
     requires span { IsSpan span.now }
-    requires sheet { IsSheetOf (ink_of span.now) sheet.now }
+    requires sheet { IsSheetOf (coat_of span.now) sheet.now }
     ensures { IsPlan span.now result }
 {
     let hues = hues_of(span, &sheet.tint);

@@ -8,11 +8,11 @@ ghost use Rattle.span_lanes.specs.Ramped.{AreSlopesOf};
 ghost use Rattle.span_lanes.specs.Swatches.{IsKept, SuitsPalette};
 
 use crate::hues::Hues;
+use crate::kept::keeps_palette;
 use crate::loops::draw_parts;
 use crate::ramped::RampedSlopes;
 use crate::sampler::Found;
 use crate::shading::shading_of;
-use crate::strip::suits_strip;
 use crate::swatches::{Swatches, keep_palette};
 use crate::texels::{Kept, Shaded};
 use crate::{Span, Texture};
@@ -86,7 +86,7 @@ pub(crate) fn draw_scaled<L: Ledger>(
     ensures drawn { DrawsSpan span.now 0 (at_stage vram.old steps.old) (at_stage vram.new steps.new) }
     ensures last { IsKept span.now.paint vram.new last.new }
 {
-    if suits_strip(span, found.texture) {
+    if keeps_palette(span, found.texture) {
         draw_kept(vram, span, found, color, last, steps);
     } else {
         *last = None;

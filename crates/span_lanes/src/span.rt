@@ -1,6 +1,6 @@
 // What a span is.
 ghost use Rattle.std.specs.Prelude.{◌≡◌};
-ghost use Rattle.span_lanes.specs.Pen.{ink_of};
+ghost use Rattle.span_lanes.specs.Pen.{coat_of};
 ghost use Rattle.span_lanes.specs.declared.span.Paint.TheVariants.{TexturedTri};
 
 use edge_walk::Tri;
@@ -54,6 +54,15 @@ pub enum Paint {
     },
 }
 
+/// A paint and a brush: what the cells of a primitive are drawn with.
+#[derive(Clone, Copy)]
+pub struct Coat {
+    /// The colours or texels.
+    pub paint: Paint,
+    /// How the pixels come to the cells.
+    pub brush: Brush,
+}
+
 /// Cells of a row, side by side.
 #[derive(Clone, Copy)]
 pub struct Run {
@@ -81,7 +90,7 @@ pub struct Span {
 /// A span of a triangle that has no cells yet.
 #[inline(always)]
 pub(crate) fn no_cells(tri: &Tri, texture: &Texture, brush: &Brush) -> Span
-    ensures { ink_of result ≡ record { paint = TexturedTri tri.now texture.now; brush = brush.now } }
+    ensures { coat_of result ≡ record { paint = TexturedTri tri.now texture.now; brush = brush.now } }
 {
     Span {
         x: 0,

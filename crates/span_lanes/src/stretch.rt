@@ -4,7 +4,7 @@ ghost use Rattle.texture_page.specs.Page.{windowed};
 ghost use Rattle.span_lanes.specs.declared.span.Paint.TheVariants.{TexturedRow};
 ghost use Rattle.texel_lanes.specs.Texture.{IsTexture};
 ghost use Rattle.span_lanes.specs.Shade.{IsSpan};
-ghost use Rattle.span_lanes.specs.Pen.{ink_of};
+ghost use Rattle.span_lanes.specs.Pen.{coat_of};
 ghost use Rattle.span_lanes.specs.Sheet.{IsSheetOf};
 ghost use Rattle.span_lanes.specs.Stretch.{IsRising, IsStretch};
 ghost use Rattle.span_lanes.specs.BlockPen.{IsBeside};
@@ -95,7 +95,7 @@ pub(crate) fn row_stretch(span: &Span, texture: &Texture, row: TexelRow) -> Opti
 #[inline(always)]
 pub(crate) fn place_row(span: &Span, sheet: &Sheet) -> Stretch
     requires span { IsSpan span.now }
-    requires sheet { IsSheetOf (ink_of span.now) sheet.now }
+    requires sheet { IsSheetOf (coat_of span.now) sheet.now }
     requires beside { IsBeside sheet.now.tri sheet.now.texture }
     ensures { IsStretch span.now sheet.now.texture result }
 {

@@ -61,8 +61,8 @@ impl TexelRows {
     }
 
     /// Whether a palette of sixteen entries can be coloured once for all rows, whose texels stand side by side and
-    /// apart
-    /// from the block. [`KeptRowsPen`](crate::KeptRowsPen) draws such rows, and [`EachRowPen`](crate::EachRowPen) all.
+    /// apart from the block. [`KeptRowsPen`](crate::KeptRowsPen) draws such rows, and [`EachRowPen`](crate::EachRowPen)
+    /// all.
     pub fn keeps_palette(&self) -> bool
         requires block { IsBlock 1024 self.now.block }
         requires texture { IsTexture self.now.texture }

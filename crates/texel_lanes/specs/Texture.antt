@@ -1,5 +1,5 @@
 -- A texel as it is in video memory (psx-spx, "GPU Video Memory (VRAM)": texture bitmaps and palettes).
-use Rattle.std.specs.Prelude.{ℕ, ◌/◌, ◌%◌, List, if◌then◌else◌, nat_lt}
+use Rattle.std.specs.Prelude.{ℕ, ◌/◌, ◌%◌, ◌+◌, ◌<◌, List, if◌then◌else◌, nat_lt}
 use Rattle.px_num.specs.declared.shape.Cell.{Cell}
 use Rattle.vram_store.specs.Vram.{at}
 use Rattle.texture_page.specs.Page.{IsPage, IsWindow, texel_place, clut_place, index_at}
@@ -9,6 +9,10 @@ use Rattle.texel_lanes.specs.declared.texture.Texture.{Texture}
 pub record IsTexture (texture : Texture) : Type 0 where
   pub page : IsPage texture.page
   pub window : IsWindow texture.window
+
+-- video memory of a height has all rows of its page
+abbrev pub HasPage : (height : ℕ) → Texture → Type 0
+HasPage height texture = texture.page.y + 255 < height
 
 abbrev pub at_cell : List ℕ → Cell → ℕ
 at_cell m cell = at m cell.x cell.y

@@ -3,7 +3,7 @@ ghost use Rattle.std.specs.Prelude.{◌≡◌, IsTrue, ◌≤◌, ◌<◌, ◌+�
 ghost use Rattle.px_num.specs.Lanes.{EachLane, AreBytes};
 ghost use Rattle.vram_store.specs.Vram.{at, height_of};
 ghost use Rattle.texture_page.specs.Page.{column, index_in};
-ghost use Rattle.texel_lanes.specs.Texture.{IsTexture};
+ghost use Rattle.texel_lanes.specs.Texture.{HasPage, IsTexture};
 ghost use Rattle.texel_lanes.specs.Texels.{AreBeside, AreCoordinates, AreIndexes, AreTexels};
 
 use crate::Texture;
@@ -60,7 +60,7 @@ pub(crate) fn read_beside<L: Ledger>(
     steps: &mut Steps<L>,
 ) -> u16x16
     requires texture { IsTexture texture.now }
-    requires page { texture.now.page.y + 255 < height_of vram.now }
+    requires page { HasPage (height_of vram.now) texture.now }
     requires at { AreCoordinates at.now.us × AreCoordinates at.now.vs }
     requires depth { 2 ≤ texture.now.page.depth }
     requires beside { AreBeside texture.now at.now }
@@ -126,7 +126,7 @@ fn beside_indexes<L: Ledger>(
     steps: &mut Steps<L>,
 ) -> u8x16
     requires texture { IsTexture texture.now }
-    requires page { texture.now.page.y + 255 < height_of vram.now }
+    requires page { HasPage (height_of vram.now) texture.now }
     requires at { AreCoordinates at.now.us × AreCoordinates at.now.vs }
     requires depth { texture.now.page.depth ≡ 0 }
     requires beside { AreBeside texture.now at.now }
@@ -148,7 +148,7 @@ fn scattered_indexes<G: Gather, L: Ledger>(
     steps: &mut Steps<L>,
 ) -> u8x16
     requires texture { IsTexture texture.now }
-    requires page { texture.now.page.y + 255 < height_of vram.now }
+    requires page { HasPage (height_of vram.now) texture.now }
     requires at { AreCoordinates at.now.us × AreCoordinates at.now.vs }
     requires few { (1 ≤ k) × (k ≤ 16) }
     ensures indexes { AreIndexes texture.now at.now k vram.now result }
@@ -169,7 +169,7 @@ pub fn indexes_of<G: Gather, L: Ledger>(
     steps: &mut Steps<L>,
 ) -> u8x16
     requires texture { IsTexture texture.now }
-    requires page { texture.now.page.y + 255 < height_of vram.now }
+    requires page { HasPage (height_of vram.now) texture.now }
     requires at { AreCoordinates at.now.us × AreCoordinates at.now.vs }
     requires depth { texture.now.page.depth ≡ 0 }
     requires few { (1 ≤ k) × (k ≤ 16) }

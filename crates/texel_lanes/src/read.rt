@@ -1,7 +1,7 @@
 // Texels by their coordinates, all lanes at once.
 ghost use Rattle.std.specs.Prelude.{◌≡◌, ◌≤◌, ◌<◌, ◌+◌, ◌*◌, ℕ, length, slice_index};
 ghost use Rattle.vram_store.specs.Vram.{height_of};
-ghost use Rattle.texel_lanes.specs.Texture.{IsTexture, texel_steps};
+ghost use Rattle.texel_lanes.specs.Texture.{HasPage, IsTexture, texel_steps};
 ghost use Rattle.texel_lanes.specs.Texels.{AreCoordinates, AreTexels};
 
 use crate::Texture;
@@ -29,7 +29,7 @@ fn read_fours<G: Gather, L: Ledger>(
     steps: &mut Steps<L>,
 ) -> u16x16
     requires texture { IsTexture texture.now }
-    requires page { texture.now.page.y + 255 < height_of vram.now }
+    requires page { HasPage (height_of vram.now) texture.now }
     requires at { AreCoordinates at.now.us × AreCoordinates at.now.vs }
     requires depth { texture.now.page.depth ≡ 0 }
     requires few { (1 ≤ k) × (k ≤ 16) }
@@ -52,7 +52,7 @@ fn read_eights<G: Gather, L: Ledger>(
     steps: &mut Steps<L>,
 ) -> u16x16
     requires texture { IsTexture texture.now }
-    requires page { texture.now.page.y + 255 < height_of vram.now }
+    requires page { HasPage (height_of vram.now) texture.now }
     requires at { AreCoordinates at.now.us × AreCoordinates at.now.vs }
     requires depth { texture.now.page.depth ≡ 1 }
     requires few { (1 ≤ k) × (k ≤ 16) }
@@ -76,7 +76,7 @@ fn read_scattered<G: Gather, L: Ledger>(
     steps: &mut Steps<L>,
 ) -> u16x16
     requires texture { IsTexture texture.now }
-    requires page { texture.now.page.y + 255 < height_of vram.now }
+    requires page { HasPage (height_of vram.now) texture.now }
     requires at { AreCoordinates at.now.us × AreCoordinates at.now.vs }
     requires depth { 2 ≤ texture.now.page.depth }
     requires few { (1 ≤ k) × (k ≤ 16) }
@@ -98,7 +98,7 @@ fn read_wholes<G: Gather, L: Ledger>(
     steps: &mut Steps<L>,
 ) -> u16x16
     requires texture { IsTexture texture.now }
-    requires page { texture.now.page.y + 255 < height_of vram.now }
+    requires page { HasPage (height_of vram.now) texture.now }
     requires at { AreCoordinates at.now.us × AreCoordinates at.now.vs }
     requires depth { 2 ≤ texture.now.page.depth }
     requires few { (1 ≤ k) × (k ≤ 16) }
@@ -123,7 +123,7 @@ pub fn read_texels<G: Gather, L: Ledger>(
     steps: &mut Steps<L>,
 ) -> u16x16
     requires texture { IsTexture texture.now }
-    requires page { texture.now.page.y + 255 < height_of vram.now }
+    requires page { HasPage (height_of vram.now) texture.now }
     requires at { AreCoordinates at.now.us × AreCoordinates at.now.vs }
     requires few { (1 ≤ k) × (k ≤ 16) }
     ensures long { length result ≡ 16 }
@@ -148,7 +148,7 @@ pub fn read_few<L: Ledger>(
     steps: &mut Steps<L>,
 ) -> u16x16
     requires texture { IsTexture texture.now }
-    requires page { texture.now.page.y + 255 < height_of vram.now }
+    requires page { HasPage (height_of vram.now) texture.now }
     requires at { AreCoordinates at.now.us × AreCoordinates at.now.vs }
     requires few { (1 ≤ k) × (k ≤ 8) }
     ensures long { length result ≡ 16 }

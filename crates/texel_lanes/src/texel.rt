@@ -2,7 +2,7 @@
 ghost use Rattle.std.specs.Prelude.{◌≡◌, ◌≤◌, ◌<◌, ◌+◌};
 ghost use Rattle.px_num.specs.Height.{short_height};
 ghost use Rattle.vram_store.specs.Vram.{at, height_of};
-ghost use Rattle.texel_lanes.specs.Texture.{IsTexture, texel, texel_steps};
+ghost use Rattle.texel_lanes.specs.Texture.{HasPage, IsTexture, texel, texel_steps};
 
 use crate::Texture;
 use px_num::Cell;
@@ -31,7 +31,7 @@ pub fn read_texel<L: Ledger>(
     steps: &mut Steps<L>,
 ) -> u16
     requires texture { IsTexture texture.now }
-    requires page { texture.now.page.y + 255 < height_of vram.now }
+    requires page { HasPage (height_of vram.now) texture.now }
     ensures value { result ≡ texel texture.now u v vram.now }
     ensures cost { steps.new ≤ steps.old + texel_steps texture.now.page.depth }
 {

@@ -1,11 +1,12 @@
 use Rattle.std.proofs.Common.{refl}
-use Rattle.prim_draw.specs.Rows.{pattern_of_ink, run_span}
+use Rattle.prim_draw.specs.Pattern.{even}
+use Rattle.prim_draw.specs.Rows.{run_span}
 use Rattle.prim_draw.proofs.RowLemmas.{run_drawn}
 use Rattle.prim_draw.proofs.blocks.InBlockRowPen.draw_run.Goals as goal
 
 pub returns-in-Some-clause-drawn : goal.returns-in-Some-clause-drawn
 returns-in-Some-clause-drawn g c =
-    let p = pattern_of_ink (g.P.BlockPen.framed c.args.self.now.pen).loaded.ink in
+    let p = even (g.P.BlockPen.framed c.args.self.now.pen).loaded.coat in
     let run = c.in-Some.run' in
     rw c.in-Some.is
     (run_drawn _ p c.args.y run (run_span p c.args.y run) _ _ (rw c.in-Some.is at c.requires.run) refl

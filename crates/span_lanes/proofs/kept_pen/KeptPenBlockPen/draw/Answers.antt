@@ -1,9 +1,9 @@
 use Rattle.span_lanes.proofs.SheetLemmas.{can_draw_row}
 use Rattle.span_lanes.proofs.PartLemmas.{draws_cells}
-use Rattle.span_lanes.proofs.strip_pen.StripPenBlockPen.draw.Goals as goal
+use Rattle.span_lanes.proofs.kept_pen.KeptPenBlockPen.draw.Goals as goal
 
-pub draw_plain_strip-requires-clause-can : goal.draw_plain_strip-requires-clause-can
-draw_plain_strip-requires-clause-can g c =
+pub draw_kept_plain-requires-clause-can : goal.draw_kept_plain-requires-clause-can
+draw_kept_plain-requires-clause-can g c =
     let asked = c.requires in
     let is = c.self.view_is in
     can_draw_row _ _ _ _ c.self.invariant.ready c.self.invariant.apart (rw (← is) at asked.span)
@@ -12,4 +12,4 @@ draw_plain_strip-requires-clause-can g c =
 pub returns-clause-drawn : goal.returns-clause-drawn
 returns-clause-drawn g c =
     rw (← c.self.view_is)
-    (draws_cells _ _ _ c.draw_plain_strip.ensures.drawn)
+    (draws_cells _ _ _ c.draw_kept_plain.ensures.drawn)

@@ -1,5 +1,5 @@
 use Rattle.prim_draw.proofs.RectLemmas.{can_draw_texels, texel_row_is, texels_drawn}
-use Rattle.prim_draw.proofs.tiled.InTileRowPen.draw_run.Goals as goal
+use Rattle.prim_draw.proofs.in_tile.InTileRowPen.draw_run.Goals as goal
 
 pub texel_row-v-requires-clause-below : goal.texel_row-v-requires-clause-below
 texel_row-v-requires-clause-below g c = rw c.requires.ready.first_is.y (rw c.in-Some.is at c.requires.reaches).top

@@ -1,5 +1,5 @@
 // Rows of texels of four bits that stand side by side, whose palette is coloured once.
-ghost use Rattle.std.specs.Prelude.{IsTrue};
+ghost use Rattle.std.specs.Prelude.{◌≡◌, IsTrue};
 ghost use Rattle.span_lanes.specs.BlockPen.{IsBeside, IsPlain};
 ghost use Rattle.span_lanes.specs.Sheet.{CanDrawSheet};
 ghost use Rattle.span_lanes.specs.declared.hues.Hues.TheVariants.{One};
@@ -25,7 +25,7 @@ use vram_store::{Steps, Vram};
 
 // Whether the palette of a row of texels of four bits can be coloured once, where the row has another row's palette.
 #[inline(always)]
-pub(crate) fn suits_strip(span: &Span, texture: &Texture) -> bool
+pub(crate) fn keeps_palette(span: &Span, texture: &Texture) -> bool
     requires apart { IsApart span.now }
     requires palette { IsInOtherRow texture.now span.now.y }
     ensures { IsTrue result → SuitsPalette span.now texture.now }
@@ -51,9 +51,23 @@ fn draw_by_raw<L: Ledger>(vram: &mut Vram, span: &Span, kept: &Kept<Stretch>, st
     }
 }
 
+// Texels by the palette that is kept.
+#[inline(always)]
+fn kept_under<'a>(found: &Found<Stretch>, swatches: &'a Swatches) -> Kept<'a, Stretch>
+    ensures texture { result.texture ≡ found.now.texture.now }
+    ensures sampler { result.sampler ≡ found.now.sampler.now }
+    ensures swatches { result.swatches.now ≡ swatches.now }
+{
+    Kept {
+        texture: *found.texture,
+        sampler: *found.sampler,
+        swatches,
+    }
+}
+
 // A row of texels under a colour, whose palette is kept from then on.
 #[inline(always)]
-pub(crate) fn draw_strip<L: Ledger>(
+pub(crate) fn draw_kept<L: Ledger>(
     vram: &mut Vram,
     span: &Span,
     found: &Found<Stretch>,
@@ -71,18 +85,13 @@ pub(crate) fn draw_strip<L: Ledger>(
 {
     keep_palette(vram, found.texture, color, last, steps);
     if let Some(swatches) = &*last {
-        let kept = Kept {
-            texture: *found.texture,
-            sampler: *found.sampler,
-            swatches,
-        };
-        draw_by_raw(vram, span, &kept, steps);
+        draw_by_raw(vram, span, &kept_under(found, swatches), steps);
     }
 }
 
 // The same where it is known how texels and pixels are drawn, so that there is one loop.
 #[inline(always)]
-pub(crate) fn draw_known_strip<L: Ledger>(
+pub(crate) fn draw_kept_known<L: Ledger>(
     vram: &mut Vram,
     span: &Span,
     found: &Found<Stretch>,
@@ -100,18 +109,13 @@ pub(crate) fn draw_known_strip<L: Ledger>(
 {
     keep_palette(vram, found.texture, color, last, steps);
     if let Some(swatches) = &*last {
-        let kept = Kept {
-            texture: *found.texture,
-            sampler: *found.sampler,
-            swatches,
-        };
-        draw_parts(vram, span, &kept, steps);
+        draw_parts(vram, span, &kept_under(found, swatches), steps);
     }
 }
 
 // A row of a triangle of which it is known that it suits, and that pixels are stored as they are.
 #[inline(always)]
-pub(crate) fn draw_plain_strip<L: Ledger>(
+pub(crate) fn draw_kept_plain<L: Ledger>(
     vram: &mut Vram,
     span: &Span,
     sheet: &Sheet,
@@ -126,14 +130,9 @@ pub(crate) fn draw_plain_strip<L: Ledger>(
     ensures drawn { DrawsSpan span.now 0 (at_stage vram.old steps.old) (at_stage vram.new steps.new) }
     ensures last { IsKept span.now.paint vram.new last.new }
 {
-    let stretch = place_row(span, sheet);
-    keep_palette(vram, &sheet.texture, color, last, steps);
-    if let Some(swatches) = &*last {
-        let kept = Kept {
-            texture: sheet.texture,
-            sampler: stretch,
-            swatches,
-        };
-        draw_parts(vram, &plain(span), &kept, steps);
-    }
+    let found = Found {
+        texture: &sheet.texture,
+        sampler: &place_row(span, sheet),
+    };
+    draw_kept_known(vram, &plain(span), &found, color, last, steps);
 }

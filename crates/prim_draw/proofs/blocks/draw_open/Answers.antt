@@ -1,10 +1,10 @@
 use Rattle.std.proofs.Common.{sym, ap, subst}
 use Rattle.vram_store.specs.Vram.{height_of}
 use Rattle.span_lanes.specs.Pen.{Loaded}
-use Rattle.prim_draw.specs.Pattern.{Pattern}
-use Rattle.prim_draw.specs.Rows.{CanDraw, pattern_of_ink}
+use Rattle.prim_draw.specs.Pattern.{Pattern, even}
+use Rattle.prim_draw.specs.Rows.{CanDraw}
 use Rattle.prim_draw.proofs.RunLemmas.{tri_block, tri_can_draw, tri_drawn}
-use Rattle.prim_draw.proofs.coat.Coat.draw_open.Goals as goal
+use Rattle.prim_draw.proofs.blocks.draw_open.Goals as goal
 
 pub draw_rows-requires-clause-block : goal.draw_rows-requires-clause-block
 draw_rows-requires-clause-block g c = tri_block _ _ _ c.rows_of.ensures c.requires.small
@@ -12,8 +12,8 @@ draw_rows-requires-clause-block g c = tri_block _ _ _ c.rows_of.ensures c.requir
 pub draw_rows-requires-clause-can : goal.draw_rows-requires-clause-can
 draw_rows-requires-clause-can g c y run gives = (
   subst (λ (p : Pattern). CanDraw (height_of c.args.vram.now) p y run)
-      (sym (ap (λ (pen : Loaded). pattern_of_ink pen.ink) c.new-pen.ensures))
-      (tri_can_draw _ _ _ c.rows_of.ensures (height_of c.args.vram.now) c.args.self.now y run c.requires gives),
+      (sym (ap (λ (pen : Loaded). even pen.coat) c.new-pen.ensures))
+      (tri_can_draw _ _ _ c.rows_of.ensures (height_of c.args.vram.now) c.args.coat.now y run c.requires gives),
   tt,
 )
 

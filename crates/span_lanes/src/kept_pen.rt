@@ -1,12 +1,12 @@
 // A pen for rows of texels of four bits side by side, whose palette is coloured once.
 ghost use Rattle.span_lanes.specs.BlockPen.{Serves};
-ghost use Rattle.span_lanes.specs.declared.block_pen.Way.TheVariants.{Strip};
+ghost use Rattle.span_lanes.specs.declared.block_pen.Way.TheVariants.{Kept};
 ghost use Rattle.span_lanes.specs.declared.span.Paint.TheVariants.{TexturedTri};
 
 use crate::block_pen::BlockPen;
+use crate::kept::draw_kept_plain;
 use crate::sheet::{Sheet, sheet_under};
 use crate::span::no_cells;
-use crate::strip::draw_plain_strip;
 use crate::swatches::Swatches;
 use crate::tint::Tint;
 use crate::{Block, Brush, Run, Span, Texture};
@@ -17,7 +17,7 @@ use vram_store::{Steps, Vram};
 
 /// Texels of four bits side by side under one colour: the palette is coloured once, and pixels are stored as they are.
 #[derive(Drop)]
-pub struct StripPen {
+pub struct KeptPen {
     // the last span that was drawn; at first one of no cells
     span: Span,
     sheet: Sheet,
@@ -27,29 +27,29 @@ pub struct StripPen {
     last: Option<Swatches>,
 }
 
-impl Model for StripPen {
+impl Model for KeptPen {
     ghost use Rattle.span_lanes.specs.Frame.{Framed};
-    ghost use Rattle.span_lanes.specs.BlockPen.{IsStripPen, framed_of};
+    ghost use Rattle.span_lanes.specs.BlockPen.{IsKeptPen, framed_of};
 
     ghost Value = { Framed };
 
     ghost view = { λ pen. framed_of pen.span pen.block pen.last };
 
-    ghost invariant = { λ pen. IsStripPen pen.span pen.sheet pen.color pen.block pen.last };
+    ghost invariant = { λ pen. IsKeptPen pen.span pen.sheet pen.color pen.block pen.last };
 }
 
-impl StripPen {
+impl KeptPen {
     ghost use Rattle.std.specs.Prelude.{◌≡◌};
     ghost use Rattle.span_lanes.specs.Frame.{framed_in};
 
     /// A pen for a triangle, a texture and a brush in a block.
     #[inline(always)]
-    pub fn new(tri: &Tri, texture: &Texture, brush: &Brush, block: &Block, color: u32) -> StripPen
-        requires { Serves tri.now texture.now brush.now block.now (Strip color) }
+    pub fn new(tri: &Tri, texture: &Texture, brush: &Brush, block: &Block, color: u32) -> KeptPen
+        requires { Serves tri.now texture.now brush.now block.now (Kept color) }
         ensures { result ≡ framed_in (TexturedTri tri.now texture.now) brush.now block.now }
     {
         let divisor = tri.area_divisor();
-        StripPen {
+        KeptPen {
             span: no_cells(tri, texture, brush),
             sheet: sheet_under(tri, texture, brush, Tint::Plain { color }, &divisor),
             color,
@@ -59,7 +59,7 @@ impl StripPen {
     }
 }
 
-impl BlockPen for StripPen {
+impl BlockPen for KeptPen {
     ghost framed = { λ pen. pen };
 
     #[inline(always)]
@@ -68,7 +68,7 @@ impl BlockPen for StripPen {
         self.span.x = run.x;
         self.span.y = y;
         self.span.n = run.n;
-        draw_plain_strip(
+        draw_kept_plain(
             vram,
             &self.span,
             &self.sheet,
