@@ -158,7 +158,8 @@ fill_long m first size color =
     (λ j a. each_long (λ i cells. set cells (right first i).x (down (height_of m) first j).y color) size.w a
     (λ i b. length-set b _ color))
 
-copy_long : (m : List ℕ) (mask : ℕ) (sides : Sides) (size : Size) → length (copied_rectangle m mask sides size) ≡ length m
+copy_long : (m : List ℕ) (mask : ℕ) (sides : Sides) (size : Size)
+    → length (copied_rectangle m mask sides size) ≡ length m
 unfolding copied_rectangle
 copy_long m mask sides size =
     let from : ℕ → Cell = down (height_of m) sides.from in

@@ -68,7 +68,8 @@ pub struct Psxgpu {
 impl Psxgpu {
     /// Takes the machine out, if there is one. The handle holds none then.
     pub(crate) fn take(&mut self, alloc: Global) -> Option<Box<Rig>>
-        ensures machine { MatchOption result (self.old.held.value ≡ None) (λ rig. self.old.held.value ≡ Some rig.value) }
+        ensures machine { MatchOption result (self.old.held.value ≡ None)
+            (λ rig. self.old.held.value ≡ Some rig.value) }
         ensures empty { self.new.held.value ≡ None }
     {
         if self.mark == 0 {

@@ -1,7 +1,7 @@
 // The endings of the commands.
 ghost use Rattle.std.specs.Prelude.{◌≡◌};
-ghost use Rattle.psxgpu_tool.specs.Line.{any_line, any_status, cut_line, cut_status, ending_line, flat_line, flat_status};
-ghost use Rattle.psxgpu_tool.specs.Line.{slim_line, slim_status, status_of, status_of_stop};
+ghost use Rattle.psxgpu_tool.specs.Line.{any_line, any_status, cut_line, cut_status, ending_line};
+ghost use Rattle.psxgpu_tool.specs.Line.{flat_line, flat_status, slim_line, slim_status, status_of, status_of_stop};
 
 use crate::ending::Ended;
 use crate::line::{write_event, write_fault, write_stop, write_word};

@@ -16,8 +16,8 @@ pub struct Typed {
 }
 
 /// Takes the words apart. Words that name a command are that command over standard input, so a file of the name `marks`
-/// is typed as `./marks`. Where they name none, but those before the last name one that reads, the last is its file. `-h`,
-/// `help`, and `--help` behind a word ask for the help. All others are left as they are.
+/// is typed as `./marks`. Where they name none, but those before the last name one that reads, the last is its file.
+/// `-h`, `help`, and `--help` behind a word ask for the help. All others are left as they are.
 pub fn typed_of(alloc: Global, mut words: Vec<String>) -> Result<Typed, AllocError>
     ensures { IfOk result (λ typed. IsTyped words typed.words typed.file) }
 {
