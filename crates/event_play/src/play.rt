@@ -1,7 +1,7 @@
 // A capture is played to its end.
 ghost use Rattle.std.specs.Prelude.{◌≡◌, ◌≤◌, None, map, OnOk, IfErr};
 ghost use Rattle.dev_io.specs.Device.{Rose};
-ghost use Rattle.gpu_capture.specs.Reader.{CountsFaults, standing};
+ghost use Rattle.gpu_capture.specs.Reader.{CountsFaults, IsReadFault, standing};
 ghost use Rattle.gpu_capture.specs.Words.{TakesWords, StopsBehind, GoesOn};
 ghost use Rattle.event_play.specs.Causes.{MayReadFault, MayWriteFault, IsEnding};
 ghost use Rattle.event_play.specs.Course.{at_end};
@@ -152,7 +152,7 @@ fn read_words<S: Source>(
     ensures runs_on { OnOk result (reader.new.stop ≡ None) }
     ensures stop { IfErr result (StopsBehind (standing reader.old.progress (S.left source.old))
         (standing reader.new.progress (S.left source.new)) block.new) }
-    ensures faults { CountsFaults (S.faults source.old) (S.faults source.new) result }
+    ensures faults { CountsFaults IsReadFault (S.faults source.old) (S.faults source.new) result }
 {
     match mode {
         Mode::List => {
