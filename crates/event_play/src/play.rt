@@ -12,7 +12,8 @@ ghost use Rattle.event_play.specs.RigState.{Stands, StandsFor};
 ghost use Rattle.event_play.specs.Step.{Machine};
 ghost use Rattle.event_play.specs.Streams.{streams};
 
-use crate::ending::{Ending, Mode};
+use crate::ending::{Ending, InMode, Mode};
+use crate::listing::ModeWords;
 use crate::pause::{end_behind, write_at_pause, write_before_words};
 use crate::rig::Rig;
 use dev_io::{Sink, Source};
@@ -84,7 +85,10 @@ impl Rig {
         ensures read_faults { S.faults source.old ≤ S.faults source.new }
         ensures write_faults { K.faults out.old ≤ K.faults out.new }
     {
-        let mut block = WordBlock::new();
+        let mut words = ModeWords {
+            block: WordBlock::new(),
+            mode,
+        };
         let mut lines = Gathered::new();
         let mut next = reader.next(source);
         self.raise(reader.version());
@@ -92,28 +96,21 @@ impl Rig {
         'events: loop {
             match next {
                 Ok(event) => {
-                    if let Err(ending) = self.play_event(
-                        &event, &mut lines, out, mode, taps, steps,
-                    ) {
+                    let given = InMode { value: event, mode };
+                    if let Err(ending) = self.play_event(given, &mut lines, out, taps, steps) {
                         return end_behind(ending, &mut lines, out);
                     }
                     match write_before_words(reader, since, &mut lines, out) {
                         Ok(place) => since = place,
                         Err(event) => return Ending::WriteFailed { event },
                     }
-                    let read = read_words(reader, source, mode, &mut block);
-                    if let Err(event) = self.play_words(
-                        block.as_slice(),
-                        &mut lines,
-                        out,
-                        mode,
-                        taps,
-                        steps,
-                    ) {
+                    let read = read_words(reader, source, mode, &mut words.block);
+                    if let Err(event) = self.play_words(&words, &mut lines, out, taps, steps) {
                         return Ending::WriteFailed { event };
                     }
                     if let Err(stop) = read {
-                        return self.end_reading(stop, &mut lines, out, mode, taps, steps);
+                        let given = InMode { value: stop, mode };
+                        return self.end_reading(given, &mut lines, out, taps, steps);
                     }
                     match write_at_pause(reader, source, since, &mut lines, out) {
                         Ok(place) => since = place,
@@ -121,7 +118,10 @@ impl Rig {
                     }
                     next = reader.next(source);
                 }
-                Err(stop) => return self.end_reading(stop, &mut lines, out, mode, taps, steps),
+                Err(stop) => {
+                    let given = InMode { value: stop, mode };
+                    return self.end_reading(given, &mut lines, out, taps, steps);
+                }
             }
         }
     }
