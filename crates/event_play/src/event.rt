@@ -4,7 +4,7 @@ ghost use Rattle.event_play.specs.Ends.{PlaysOrEnds};
 ghost use Rattle.event_play.specs.Setting.{setting};
 ghost use Rattle.event_play.specs.Streams.{gathering, outlets};
 
-use crate::ending::{Ending, Mode, Within};
+use crate::ending::{Ending, InMode, Within};
 use crate::feed::feed_word;
 use crate::film::Played;
 use crate::finals::write_behind;
@@ -22,14 +22,13 @@ impl Rig {
     /// Plays one event, and puts or writes what is due for it.
     pub(crate) fn play_event<K: Sink, T: Listener, L: Ledger>(
         &mut self,
-        event: &Event,
+        event: InMode<Event>,
         lines: &mut Gathered,
         out: &mut K,
-        mode: Mode,
         taps: &mut Vec<T>,
         steps: &mut Steps<L>,
     ) -> Result<(), Ending>
-        ensures { PlaysOrEnds mode event.now
+        ensures { PlaysOrEnds event.mode event.value
             (setting (gathering lines.old (outlets (K.held out.old) (K.faults out.old)
             (map T.heard taps.old.items) steps.old)) self.old)
             (setting (gathering lines.new (outlets (K.held out.new) (K.faults out.new)
@@ -39,9 +38,10 @@ impl Rig {
             gathered: lines,
             out,
         };
-        match *event {
-            Event::Gp0 { word } => self.play_word(word, mode, lines, taps, steps),
-            _ => self.play_other(event, mode, lines, taps, steps),
+        let mode = event.mode;
+        match event.value {
+            Event::Gp0 { word } => self.play_word(InMode { value: word, mode }, lines, taps, steps),
+            _ => self.play_other(event, lines, taps, steps),
         }
     }
 
@@ -49,13 +49,12 @@ impl Rig {
     // drawing processor.
     fn play_word<K: Sink, T: Listener, L: Ledger>(
         &mut self,
-        word: u32,
-        mode: Mode,
+        word: InMode<u32>,
         lines: &mut Lines<K>,
         taps: &mut Vec<T>,
         steps: &mut Steps<L>,
     ) -> Result<(), Ending>
-        ensures plays { PlaysOrEnds mode (Event.Gp0 word)
+        ensures plays { PlaysOrEnds word.mode (Event.Gp0 word.value)
             (setting (gathering lines.old.gathered.now (outlets (K.held lines.old.out.now) (K.faults lines.old.out.now)
             (map T.heard taps.old.items) steps.old)) self.old)
             (setting (gathering lines.new.gathered.now (outlets (K.held lines.new.out.now) (K.faults lines.new.out.now)
@@ -64,8 +63,11 @@ impl Rig {
         ensures out { lines.new.out.ghost_name ≡ lines.old.out.ghost_name }
     {
         let number = self.next_number();
-        let within = Within { number, mode };
-        match feed_word(&mut self.gpu, within, word, lines, taps, steps) {
+        let within = Within {
+            number,
+            mode: word.mode,
+        };
+        match feed_word(&mut self.gpu, within, word.value, lines, taps, steps) {
             Ok(()) => {
                 self.played = number;
                 Ok(())
@@ -77,13 +79,12 @@ impl Rig {
     // The same for any other event.
     fn play_other<K: Sink, T: Listener, L: Ledger>(
         &mut self,
-        event: &Event,
-        mode: Mode,
+        event: InMode<Event>,
         lines: &mut Lines<K>,
         taps: &mut Vec<T>,
         steps: &mut Steps<L>,
     ) -> Result<(), Ending>
-        ensures plays { PlaysOrEnds mode event.now
+        ensures plays { PlaysOrEnds event.mode event.value
             (setting (gathering lines.old.gathered.now (outlets (K.held lines.old.out.now) (K.faults lines.old.out.now)
             (map T.heard taps.old.items) steps.old)) self.old)
             (setting (gathering lines.new.gathered.now (outlets (K.held lines.new.out.now) (K.faults lines.new.out.now)
@@ -92,7 +93,7 @@ impl Rig {
         ensures out { lines.new.out.ghost_name ≡ lines.old.out.ghost_name }
     {
         let number = self.next_number();
-        let work = match judge(event, &mut self.walk, &self.ram, self.running) {
+        let work = match judge(&event.value, &mut self.walk, &self.ram, self.running) {
             Ok(work) => work,
             Err(fault) => {
                 return Err(Ending::Faulted {
@@ -101,17 +102,20 @@ impl Rig {
                 });
             }
         };
-        let within = Within { number, mode };
+        let within = Within {
+            number,
+            mode: event.mode,
+        };
         match self.perform(within, work, lines, taps, steps) {
             Err(event) => Err(Ending::WriteFailed { event }),
             Ok(shown) => {
                 self.played = number;
                 let played = Played {
-                    event: *event,
+                    event: event.value,
                     number,
                     shown,
                 };
-                let Ok(()) = write_behind(&self.gpu, played, lines.out, mode, steps) else {
+                let Ok(()) = write_behind(&self.gpu, played, lines.out, event.mode, steps) else {
                     return Err(Ending::WriteFailed { event: number });
                 };
                 Ok(())

@@ -16,10 +16,18 @@ use crate::outlet::{Lines, put_noted};
 use crate::rig::Rig;
 use dev_io::Sink;
 use gathered_out::Gathered;
+use gpu_capture::WordBlock;
 use gpu_core::{Gpu, NotedWords};
 use gpu_taps::Listener;
 use std::sync::ledger::Ledger;
 use vram_store::Steps;
+
+/// Words of a capture that are taken at once, and what is written of the capture.
+#[derive(Drop)]
+pub(crate) struct ModeWords {
+    pub(crate) block: WordBlock,
+    pub(crate) mode: Mode,
+}
 
 impl Rig {
     /// Plays words that are written to GP0, an event each, and puts the lines of their notes if the mode lists them.
@@ -27,37 +35,37 @@ impl Rig {
     /// lines lack a byte.
     pub(crate) fn play_words<K: Sink, T: Listener, L: Ledger>(
         &mut self,
-        words: &[u32],
+        words: &ModeWords,
         lines: &mut Gathered,
         out: &mut K,
-        mode: Mode,
         taps: &mut Vec<T>,
         steps: &mut Steps<L>,
     ) -> Result<(), u64>
         ensures told { (t : Tale) (first : Outlets)
             → IsTold t first (without_sink (map T.heard taps.old.items) steps.old) self.old.gpu self.old.played
-            → IsTold (after_words t words.now) first (without_sink (map T.heard taps.new.items) steps.new)
+            → IsTold (after_words t words.now.block) first (without_sink (map T.heard taps.new.items) steps.new)
             self.new.gpu self.new.played }
         ensures puts { (t : Tale) (first : Outlets)
             → IsTold t first (without_sink (map T.heard taps.old.items) steps.old) self.old.gpu self.old.played
-            → PutsPieces (pieces_for mode (word_notes t words.now))
+            → PutsPieces (pieces_for words.now.mode (word_notes t words.now.block))
             (holding (K.held out.old) lines.old) (holding (K.held out.new) lines.new) result }
-        ensures free { MayGather mode lines.old → MayGather mode lines.new }
+        ensures free { MayGather words.now.mode lines.old → MayGather words.now.mode lines.new }
         ensures ram { self.new.ram ≡ self.old.ram }
         ensures running { self.new.running ≡ self.old.running }
         ensures cause { OnErr result (Rose (K.faults out.old) (K.faults out.new)) }
         ensures faults { K.faults out.old ≤ K.faults out.new }
     {
-        match mode {
+        let fed = words.block.as_slice();
+        match words.mode {
             Mode::List => {
                 let lines = &mut Lines {
                     gathered: lines,
                     out,
                 };
-                list_events(&mut self.gpu, &mut self.played, words, lines, taps, steps)
+                list_events(&mut self.gpu, &mut self.played, fed, lines, taps, steps)
             }
             _ => {
-                self.played = feed_events(&mut self.gpu, self.played, words, taps, steps);
+                self.played = feed_events(&mut self.gpu, self.played, fed, taps, steps);
                 Ok(())
             }
         }

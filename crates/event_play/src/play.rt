@@ -1,7 +1,7 @@
 // A capture is played to its end.
 ghost use Rattle.std.specs.Prelude.{◌≡◌, ◌≤◌, None, map, OnOk, IfErr};
 ghost use Rattle.dev_io.specs.Device.{Rose};
-ghost use Rattle.gpu_capture.specs.Reader.{CountsFaults, standing};
+ghost use Rattle.gpu_capture.specs.Reader.{CountsFaults, IsReadFault, standing};
 ghost use Rattle.gpu_capture.specs.Words.{TakesWords, StopsBehind, GoesOn};
 ghost use Rattle.event_play.specs.Causes.{MayReadFault, MayWriteFault, IsEnding};
 ghost use Rattle.event_play.specs.Course.{at_end};
@@ -12,7 +12,8 @@ ghost use Rattle.event_play.specs.RigState.{Stands, StandsFor};
 ghost use Rattle.event_play.specs.Step.{Machine};
 ghost use Rattle.event_play.specs.Streams.{streams};
 
-use crate::ending::{Ending, Mode};
+use crate::ending::{Ending, InMode, Mode};
+use crate::listing::ModeWords;
 use crate::pause::{end_behind, write_at_pause, write_before_words};
 use crate::rig::Rig;
 use dev_io::{Sink, Source};
@@ -84,7 +85,10 @@ impl Rig {
         ensures read_faults { S.faults source.old ≤ S.faults source.new }
         ensures write_faults { K.faults out.old ≤ K.faults out.new }
     {
-        let mut block = WordBlock::new();
+        let mut words = ModeWords {
+            block: WordBlock::new(),
+            mode,
+        };
         let mut lines = Gathered::new();
         let mut next = reader.next(source);
         self.raise(reader.version());
@@ -92,28 +96,21 @@ impl Rig {
         'events: loop {
             match next {
                 Ok(event) => {
-                    if let Err(ending) = self.play_event(
-                        &event, &mut lines, out, mode, taps, steps,
-                    ) {
+                    let given = InMode { value: event, mode };
+                    if let Err(ending) = self.play_event(given, &mut lines, out, taps, steps) {
                         return end_behind(ending, &mut lines, out);
                     }
                     match write_before_words(reader, since, &mut lines, out) {
                         Ok(place) => since = place,
                         Err(event) => return Ending::WriteFailed { event },
                     }
-                    let read = read_words(reader, source, mode, &mut block);
-                    if let Err(event) = self.play_words(
-                        block.as_slice(),
-                        &mut lines,
-                        out,
-                        mode,
-                        taps,
-                        steps,
-                    ) {
+                    let read = read_words(reader, source, mode, &mut words.block);
+                    if let Err(event) = self.play_words(&words, &mut lines, out, taps, steps) {
                         return Ending::WriteFailed { event };
                     }
                     if let Err(stop) = read {
-                        return self.end_reading(stop, &mut lines, out, mode, taps, steps);
+                        let given = InMode { value: stop, mode };
+                        return self.end_reading(given, &mut lines, out, taps, steps);
                     }
                     match write_at_pause(reader, source, since, &mut lines, out) {
                         Ok(place) => since = place,
@@ -121,7 +118,10 @@ impl Rig {
                     }
                     next = reader.next(source);
                 }
-                Err(stop) => return self.end_reading(stop, &mut lines, out, mode, taps, steps),
+                Err(stop) => {
+                    let given = InMode { value: stop, mode };
+                    return self.end_reading(given, &mut lines, out, taps, steps);
+                }
             }
         }
     }
@@ -152,7 +152,7 @@ fn read_words<S: Source>(
     ensures runs_on { OnOk result (reader.new.stop ≡ None) }
     ensures stop { IfErr result (StopsBehind (standing reader.old.progress (S.left source.old))
         (standing reader.new.progress (S.left source.new)) block.new) }
-    ensures faults { CountsFaults (S.faults source.old) (S.faults source.new) result }
+    ensures faults { CountsFaults IsReadFault (S.faults source.old) (S.faults source.new) result }
 {
     match mode {
         Mode::List => {

@@ -9,7 +9,7 @@ ghost use Rattle.event_play.specs.Ends.{EndsAt, EndsReading, finale};
 ghost use Rattle.event_play.specs.Replay.{next_number};
 ghost use Rattle.event_play.specs.Streams.{gathering, outlets};
 
-use crate::ending::{Ending, Mode, Within};
+use crate::ending::{Ending, InMode, Mode, Within};
 use crate::finals::{lacks_picture, write_finals};
 use crate::rig::Rig;
 use dev_io::Sink;
@@ -23,28 +23,27 @@ impl Rig {
     /// Ends playing at a stop of the reader: what is gathered is written before.
     pub(crate) fn end_reading<K: Sink, T: Listener, L: Ledger>(
         &self,
-        stop: Stop,
+        stop: InMode<Stop>,
         lines: &mut Gathered,
         out: &mut K,
-        mode: Mode,
         taps: &Vec<T>,
         steps: &mut Steps<L>,
     ) -> Ending
         ensures ends { (s : State) → kept_of s ≡ self.now.gpu →
-            EndsReading (finale mode s (next_number self.now.played)) stop
+            EndsReading (finale stop.mode s (next_number self.now.played)) stop.value
             (gathering lines.old (outlets (K.held out.old) (K.faults out.old) (map T.heard taps.now.items) steps.old))
             (outlets (K.held out.new) (K.faults out.new) (map T.heard taps.now.items) steps.new) result }
         ensures known { IsEnding result }
-        ensures stopped { MayReadFault result → IsReadFault stop }
+        ensures stopped { MayReadFault result → IsReadFault stop.value }
         ensures cause { MayWriteFault result → Rose (K.faults out.old) (K.faults out.new) }
         ensures faults { K.faults out.old ≤ K.faults out.new }
     {
         match lines.write(out) {
-            Ok(()) => match stop {
-                Stop::End => self.finish(out, mode, taps, steps),
+            Ok(()) => match stop.value {
+                Stop::End => self.finish(out, stop.mode, taps, steps),
                 _ => Ending::Stopped {
                     event: self.next_number(),
-                    stop,
+                    stop: stop.value,
                 },
             },
             Err(event) => Ending::WriteFailed { event },

@@ -35,10 +35,11 @@ abbrev pub IsReadFault : Stop → Type 0
 IsReadFault (ReadFault byte) = Unit {0}
 IsReadFault stop = ⊥
 
--- the source's count of faults does not fall, and it rose where a read failed
-pub record CountsFaults {Value : Type 0} (before now : ℕ) (result : Result Value Stop) : Type 0 where
+-- the source's count of faults does not fall, and it rose where a read failed, by this test of a fault
+pub record CountsFaults {Value Fault : Type 0} (IsRead : Fault → Type 0) (before now : ℕ) (result : Result Value Fault)
+    : Type 0 where
   pub kept : before ≤ now
-  pub cause : IfErr result (λ stop. IsReadFault stop → Rose before now)
+  pub cause : IfErr result (λ fault. IsRead fault → Rose before now)
 
 -- the stop where a word that is due can't be had, after these bytes of it
 abbrev pub SaysNoWord : Stop → ℕ → List ℕ → Option (List ℕ) → Type 0

@@ -2,7 +2,7 @@
 ghost use Rattle.std.specs.Prelude.{◌≡◌, ◌≤◌, ◌+◌, ◌*◌, ◌/◌, ◌%◌, List, ℕ, Option, []};
 ghost use Rattle.std.specs.Prelude.{length, drop, min, IfErr, OnOk};
 ghost use Rattle.dev_io.specs.Device.{prepended};
-ghost use Rattle.gpu_capture.specs.Reader.{CountsFaults, IsProgress, standing};
+ghost use Rattle.gpu_capture.specs.Reader.{CountsFaults, IsProgress, IsReadFault, standing};
 ghost use Rattle.gpu_capture.specs.Words.{TakesWords, StopsBehind, CanTake, StaysWithin, behind_words};
 
 use crate::event::Stop;
@@ -70,7 +70,7 @@ impl WordBlock {
         ensures few { progress.new.place ≤ progress.old.place + min (4 * most) 2048 }
         ensures stop { IfErr result (StopsBehind (standing progress.old (S.left source.old))
             (standing progress.new (S.left source.new)) self.new) }
-        ensures faults { CountsFaults (S.faults source.old) (S.faults source.new) result }
+        ensures faults { CountsFaults IsReadFault (S.faults source.old) (S.faults source.new) result }
     {
         self.words.clear();
         let due = words_at_once(progress).min(most);
@@ -98,7 +98,7 @@ fn take_words<S: Source>(
     ensures few { progress.new.place ≤ progress.old.place + 4 * count }
     ensures stop { IfErr result (StopsBehind (standing progress.old (S.left source.old))
         (standing progress.new (S.left source.new)) words.new.items) }
-    ensures faults { CountsFaults (S.faults source.old) (S.faults source.new) result }
+    ensures faults { CountsFaults IsReadFault (S.faults source.old) (S.faults source.new) result }
 {
     fill_words(progress, source, &mut bytes[..4 * count], words)
 }
@@ -119,7 +119,7 @@ fn fill_words<S: Source>(
     ensures few { progress.new.place ≤ progress.old.place + length bytes.old }
     ensures stop { IfErr result (StopsBehind (standing progress.old (S.left source.old))
         (standing progress.new (S.left source.new)) words.new.items) }
-    ensures faults { CountsFaults (S.faults source.old) (S.faults source.new) result }
+    ensures faults { CountsFaults IsReadFault (S.faults source.old) (S.faults source.new) result }
 {
     let place = progress.place;
     match fill(source, bytes) {

@@ -4,7 +4,7 @@ ghost use Rattle.std.specs.Prelude.{option_to_list};
 ghost use Rattle.gpu_capture.specs.Record.{IsEvent};
 ghost use Rattle.gpu_capture.specs.Capture.{head_version, IsVersion};
 ghost use Rattle.gpu_capture.specs.Reader.{IsWord, EndsWord, IsBehindHead, IsProgress, Takes, StopsAt};
-ghost use Rattle.gpu_capture.specs.Reader.{CountsFaults, standing, work_left, tag_due, behind_word};
+ghost use Rattle.gpu_capture.specs.Reader.{CountsFaults, IsReadFault, standing, work_left, tag_due, behind_word};
 
 use crate::event::{Event, Stop};
 use crate::head::head_among;
@@ -33,7 +33,7 @@ fn read_word<S: Source>(source: &mut S, place: u32) -> Result<u32, Stop>
     requires { place < 2 ^ 31 }
     ensures word { IfOk result (λ word. IsWord (S.left source.old) (S.left source.new) place word) }
     ensures stop { IfErr result (λ stop. EndsWord (S.left source.old) (S.left source.new) place stop) }
-    ensures faults { CountsFaults (S.faults source.old) (S.faults source.new) result }
+    ensures faults { CountsFaults IsReadFault (S.faults source.old) (S.faults source.new) result }
 {
     if place >= LIMIT {
         return Err(Stop::TooLong { byte: LIMIT });
@@ -70,7 +70,7 @@ fn take_head<S: Source>(progress: &mut Progress, source: &mut S) -> Result<(), S
     ensures forward { OnOk result (work_left progress.new ≤ work_left progress.old) }
     ensures stop { IfErr result
         (StopsAt (standing progress.old (S.left source.old)) (standing progress.new (S.left source.new))) }
-    ensures faults { CountsFaults (S.faults source.old) (S.faults source.new) result }
+    ensures faults { CountsFaults IsReadFault (S.faults source.old) (S.faults source.new) result }
 {
     if progress.version > 0 {
         return Ok(());
@@ -115,7 +115,7 @@ fn take_word<S: Source>(progress: &mut Progress, source: &mut S) -> Result<Optio
     ensures forward { OnOk result (work_left progress.new < work_left progress.old) }
     ensures stop { IfErr result
         (StopsAt (standing progress.old (S.left source.old)) (standing progress.new (S.left source.new))) }
-    ensures faults { CountsFaults (S.faults source.old) (S.faults source.new) result }
+    ensures faults { CountsFaults IsReadFault (S.faults source.old) (S.faults source.new) result }
 {
     if progress.left > 0 {
         progress.left -= 1;
@@ -161,7 +161,7 @@ pub(crate) fn advance<S: Source>(progress: &mut Progress, source: &mut S) -> Res
     ensures forward { OnOk result (work_left progress.new < work_left progress.old) }
     ensures stop { IfErr result
         (StopsAt (standing progress.old (S.left source.old)) (standing progress.new (S.left source.new))) }
-    ensures faults { CountsFaults (S.faults source.old) (S.faults source.new) result }
+    ensures faults { CountsFaults IsReadFault (S.faults source.old) (S.faults source.new) result }
 {
     take_head(progress, source)?;
     'words: loop {

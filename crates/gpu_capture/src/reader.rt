@@ -154,7 +154,7 @@ impl EventReader {
         ensures stop { IfErr result (StopsBehind (standing self.old.progress (S.left source.old))
             (standing self.new.progress (S.left source.new)) block.new) }
         ensures keeps { KeepsStop self.old self.new (S.left source.old) (S.left source.new) result }
-        ensures faults { CountsFaults (S.faults source.old) (S.faults source.new) result }
+        ensures faults { CountsFaults IsReadFault (S.faults source.old) (S.faults source.new) result }
     {
         self.stop = block.take(&mut self.progress, source, most).err();
         match self.stop {

@@ -1,6 +1,6 @@
 -- What is taken from a source, word by word, and what the table says of it.
-use Rattle.std.specs.Prelude.{◌≡◌, ◌≤◌, ◌<◌, ℕ, ◌+◌, ◌*◌, ◌^◌, List, [], ◌++◌, Option, Result, IfErr, length}
-use Rattle.dev_io.specs.Device.{Rose, prepended, IsAtEnd}
+use Rattle.std.specs.Prelude.{◌≡◌, ◌<◌, ℕ, ◌+◌, ◌*◌, ◌^◌, List, [], ◌++◌, Option, length}
+use Rattle.dev_io.specs.Device.{prepended, IsAtEnd}
 use Rattle.gpu_capture.specs.Written.{word_bytes}
 use Rattle.gpu_capture.specs.declared.event.Stop.TheVariants.{Truncated, ReadFault}
 use Rattle.snapshot_words.specs.Outline.{bytes_of, outline_words}
@@ -14,11 +14,6 @@ use Rattle.snapshot_words.specs.declared.section.Section.{Section}
 abbrev pub IsReadFault : SnapFault → Type 0
 IsReadFault (fault.Stop (ReadFault byte)) = Unit {0}
 IsReadFault other = ⊥
-
--- the source's count of faults does not fall, and it rose where a read failed
-pub record CountsFaults {Value : Type 0} (before now : ℕ) (result : Result Value SnapFault) : Type 0 where
-  pub kept : before ≤ now
-  pub cause : IfErr result (λ fault. IsReadFault fault → Rose before now)
 
 -- ---- words
 

@@ -1,12 +1,13 @@
 // Whole parts that are read.
 ghost use Rattle.std.specs.Prelude.{◌≡◌, ◌≤◌, ◌<◌, ◌+◌, ◌^◌, [], IfOk, IfErr};
 ghost use Rattle.gp1_status.specs.Words.{words_of, AreAllowed as RegisterBits};
+ghost use Rattle.gpu_capture.specs.Reader.{CountsFaults};
 ghost use Rattle.gpu_core.specs.Kept.{IsOpen};
 ghost use Rattle.list_dma.specs.Plans.{IsRun};
 ghost use Rattle.px_num.specs.Height.{IsHeight};
 ghost use Rattle.snapshot_words.specs.Outline.{ArePending};
 ghost use Rattle.snapshot_words.specs.Reading.{section_from};
-ghost use Rattle.snapshot_words.specs.Taking.{CountsFaults, Takes, Stops, remainder};
+ghost use Rattle.snapshot_words.specs.Taking.{IsReadFault, Takes, Stops, remainder};
 ghost use Rattle.snapshot_words.specs.Values.{front_words, pending_words, store_words, run_words};
 
 use crate::fault::SnapFault;
@@ -34,7 +35,7 @@ pub(crate) fn read_front<S: Source>(
     ensures near { place.new ≤ place.old + 52 }
     ensures fault { IfErr result (λ fault.
         Stops (section_from Section.Front [] place.old) (S.left source.old) (S.left source.new) fault) }
-    ensures faults { CountsFaults (S.faults source.old) (S.faults source.new) result }
+    ensures faults { CountsFaults IsReadFault (S.faults source.old) (S.faults source.new) result }
 {
     match take_section(source, place, Section::Front) {
         Ok(words) => Ok(front_in(words.as_slice())),
@@ -59,7 +60,7 @@ pub(crate) fn read_registers<S: Source>(
     ensures near { place.new ≤ place.old + 52 }
     ensures fault { IfErr result (λ fault.
         Stops (section_from (Section.Registers height) [] place.old) (S.left source.old) (S.left source.new) fault) }
-    ensures faults { CountsFaults (S.faults source.old) (S.faults source.new) result }
+    ensures faults { CountsFaults IsReadFault (S.faults source.old) (S.faults source.new) result }
 {
     match take_section(source, place, Section::Registers { height }) {
         Ok(words) => Ok(registers_in(height, words.as_slice())),
@@ -83,7 +84,7 @@ pub(crate) fn read_store<S: Source>(
     ensures near { place.new ≤ place.old + 52 }
     ensures fault { IfErr result (λ fault.
         Stops (section_from (Section.Store height) [] place.old) (S.left source.old) (S.left source.new) fault) }
-    ensures faults { CountsFaults (S.faults source.old) (S.faults source.new) result }
+    ensures faults { CountsFaults IsReadFault (S.faults source.old) (S.faults source.new) result }
 {
     match take_section(source, place, Section::Store { height }) {
         Ok(words) => Ok(store_in(height, words.as_slice())),
@@ -107,7 +108,7 @@ pub(crate) fn read_pending<S: Source>(
     ensures near { place.new ≤ place.old + 52 }
     ensures fault { IfErr result (λ fault.
         Stops (section_from (Section.Pending height) [] place.old) (S.left source.old) (S.left source.new) fault) }
-    ensures faults { CountsFaults (S.faults source.old) (S.faults source.new) result }
+    ensures faults { CountsFaults IsReadFault (S.faults source.old) (S.faults source.new) result }
 {
     match take_section(source, place, Section::Pending { height }) {
         Ok(words) => {
@@ -129,7 +130,7 @@ pub(crate) fn read_run<S: Source>(source: &mut S, place: &mut u32) -> Result<Run
     ensures near { place.new ≤ place.old + 52 }
     ensures fault { IfErr result (λ fault.
         Stops (section_from Section.Run [] place.old) (S.left source.old) (S.left source.new) fault) }
-    ensures faults { CountsFaults (S.faults source.old) (S.faults source.new) result }
+    ensures faults { CountsFaults IsReadFault (S.faults source.old) (S.faults source.new) result }
 {
     match take_section(source, place, Section::Run) {
         Ok(words) => Ok(run_in(words.as_slice())),

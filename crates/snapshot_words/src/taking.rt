@@ -1,10 +1,11 @@
 // Words that are taken from a source.
 ghost use Rattle.std.specs.Prelude.{◌≡◌, ◌≤◌, ◌<◌, ◌+◌, ◌*◌, ◌^◌, [], IfOk, IfErr};
 ghost use Rattle.dev_io.specs.Device.{Rose};
+ghost use Rattle.gpu_capture.specs.Reader.{CountsFaults};
 ghost use Rattle.gpu_capture.specs.Written.{word_bytes};
 ghost use Rattle.snapshot_words.specs.Reading.{section_from};
 ghost use Rattle.snapshot_words.specs.Sections.{IsSection, IsWhole};
-ghost use Rattle.snapshot_words.specs.Taking.{IsWord, EndsWord, CountsFaults, Takes, Stops, IsReadFault, remainder};
+ghost use Rattle.snapshot_words.specs.Taking.{IsWord, EndsWord, Takes, Stops, IsReadFault, remainder};
 
 use crate::fault::SnapFault;
 use crate::needs::wants;
@@ -62,7 +63,7 @@ pub(crate) fn take_section<S: Source>(
     ensures near { place.new ≤ place.old + 52 }
     ensures fault { IfErr result (λ fault.
         Stops (section_from section [] place.old) (S.left source.old) (S.left source.new) fault) }
-    ensures faults { CountsFaults (S.faults source.old) (S.faults source.new) result }
+    ensures faults { CountsFaults IsReadFault (S.faults source.old) (S.faults source.new) result }
 {
     let mut words = ArrayVec::<u32, 16>::new();
     'words: while wants(section, words.as_slice()) {

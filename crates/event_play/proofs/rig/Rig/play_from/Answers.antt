@@ -18,6 +18,7 @@ events-init g c = record {
       (record { state = e; played = refl }))
       c.next-next.result c.next-next.ensures.takes c.next-next.ensures.version
       (c.next-next.ensures.stop c.requires);
+  mode = refl;
   running = c.next-next.ensures.keeps.runs_on;
   known = c.next-next.ensures.version;
   read_cause = c.next-next.ensures.cause c.requires;
@@ -62,10 +63,10 @@ returns-in-Err-play_words-clause-ends g c = λ s e.
     let read = c.read_words-read.ensures in
     words_fail _ _ _ _ _ _ _ _ _ _ _ _ _ _ _ _ _
     paused.reached read.suit.unwatched c.play_words.ensures.ram c.play_words.ensures.running
-    (rw c.as_slice.ensures at c.play_words.ensures.told) (rw read.goes_on.version started)
+    c.play_words.ensures.told (rw read.goes_on.version started)
     (λ is. let few = read.suit.few is in let near = c.in-Ok-write_before_words.ensures.near in omega (arith, few, near))
     (g.K.Sink.held c.play_words.new.out) c.play_words.new.lines c.in-Err-play_words.event c.read_words-read.result
-    (rw c.as_slice.ensures at c.in-Err-play_words.ensures.puts) read.takes read.stop
+    (rw c.events.invariant.mode at c.in-Err-play_words.ensures.puts) read.takes read.stop
     (from_small s c.args.self.now.played c.args.reader.now.progress)
 
 pub returns-in-Err-read-clause-ends : goal.returns-in-Err-read-clause-ends
@@ -79,10 +80,11 @@ returns-in-Err-read-clause-ends g c = λ s e.
     let read = c.read_words-read.ensures in
     let stopped = words_stop _ _ _ _ _ _ _ _ _ _ _ _ _ _ _ _ _
     paused.reached read.suit.unwatched c.play_words.ensures.ram c.play_words.ensures.running
-    (rw c.as_slice.ensures at c.play_words.ensures.told) (rw read.goes_on.version started)
+    c.play_words.ensures.told (rw read.goes_on.version started)
     (λ is. let few = read.suit.few is in let near = c.in-Ok-write_before_words.ensures.near in omega (arith, few, near))
     (g.K.Sink.held c.play_words.new.out) c.play_words.new.lines c.in_default-play_words.field-0 c.in-Err-read.stop
-    (rw c.as_slice.ensures at c.in_default-play_words.ensures.puts) (c.play_words.ensures.free paused.reached.free)
+    (rw c.events.invariant.mode at c.in_default-play_words.ensures.puts)
+    ((rw c.events.invariant.mode at c.play_words.ensures.free) paused.reached.free)
     c.in-Err-read.ensures.stop in
     let mid = gathering c.play_words.new.lines (outlets (g.K.Sink.held c.play_words.new.out)
     (g.K.Sink.faults c.play_words.new.out) (map g.T.Listener.heard c.play_words.new.taps.items)
@@ -104,10 +106,11 @@ returns-in-Err-write_at_pause-clause-ends g c = λ s e.
     pause_ends _ _ _ _ _ _ _ _ (g.K.Sink.held c.write_at_pause.new.out) c.in-Err-write_at_pause.event
     (words_went _ _ _ _ _ _ _ _ _ _ _ _ _ _ _ _ _
     paused.reached read.suit.unwatched c.play_words.ensures.ram c.play_words.ensures.running
-    (rw c.as_slice.ensures at c.play_words.ensures.told) (rw read.goes_on.version started)
+    c.play_words.ensures.told (rw read.goes_on.version started)
     (λ is. let few = read.suit.few is in let near = c.in-Ok-write_before_words.ensures.near in omega (arith, few, near))
     (g.K.Sink.held c.play_words.new.out) c.play_words.new.lines c.in_default-play_words.field-0
-    (rw c.as_slice.ensures at c.in_default-play_words.ensures.puts) (c.play_words.ensures.free paused.reached.free)
+    (rw c.events.invariant.mode at c.in_default-play_words.ensures.puts)
+    ((rw c.events.invariant.mode at c.play_words.ensures.free) paused.reached.free)
     c.in_default-read.ensures.takes)
     (from_small s c.args.self.now.played c.args.reader.now.progress) c.in-Err-write_at_pause.ensures.failed
 
@@ -129,18 +132,19 @@ events-preserved g c =
           let read = c.read_words-read.ensures in
           let went = words_went _ _ _ _ _ _ _ _ _ _ _ _ _ _ _ _ _
           paused.reached read.suit.unwatched c.play_words.ensures.ram c.play_words.ensures.running
-          (rw c.as_slice.ensures at c.play_words.ensures.told) (rw read.goes_on.version started)
+          c.play_words.ensures.told (rw read.goes_on.version started)
           (λ is. let few = read.suit.few is in let near = c.in-Ok-write_before_words.ensures.near in
           omega (arith, few, near))
           (g.K.Sink.held c.play_words.new.out) c.play_words.new.lines c.in_default-play_words.field-0
-          (rw c.as_slice.ensures at c.in_default-play_words.ensures.puts)
-          (c.play_words.ensures.free paused.reached.free)
+          (rw c.events.invariant.mode at c.in_default-play_words.ensures.puts)
+          ((rw c.events.invariant.mode at c.play_words.ensures.free) paused.reached.free)
           c.in_default-read.ensures.takes in
           let again = pauses_on _ _ _ _ _ _ _ c.in-Ok-write_at_pause.place _ _ (g.K.Sink.held c.write_at_pause.new.out)
           went (rw read.goes_on.version started) c.in-Ok-write_at_pause.ensures.ok in
           reads _ _ _ _ _ _ _ _ _ _ again.reached (rw read.goes_on.version started) again.near
           c.next-next-in-Ok.result c.next-next-in-Ok.ensures.takes
           (c.next-next-in-Ok.ensures.stop c.in_default-read.ensures.runs_on);
+      mode = c.events.invariant.mode;
       running = c.next-next-in-Ok.ensures.keeps.runs_on;
       known = c.next-next-in-Ok.ensures.version;
       read_cause = IfErr-weaker c.next-next-in-Ok.result _ _

@@ -16,6 +16,7 @@ invariant-events g l = record {
       (map g.T.Listener.heard l.fn.taps.items) l.fn.steps)
       (streams (g.S.Source.left l.source) (g.K.Sink.held l.out) (map g.T.Listener.heard l.taps.items) l.steps)
       l.lines l.since l.self l.reader.progress l.next;
+  mode : l.words.mode ≡ l.mode;
   running : OnOk l.next (l.reader.stop ≡ None);
   known : OnOk l.next (1 ≤ l.reader.progress.version);
   read_cause : IfErr l.next
