@@ -7,12 +7,12 @@ use Rattle.gp0_packets.specs.declared.packet.Packet.TheVariants as packet
 use Rattle.gpu_capture.specs.declared.event.Event.{Event}
 use Rattle.gpu_capture.specs.declared.event.Event.TheVariants as event
 use Rattle.gpu_core.specs.Machine.{State, new_item}
-use Rattle.prim_draw.specs.Staying.{IsPlain}
+use Rattle.prim_draw.specs.Staying.{IsUnset}
 use Rattle.dead_drawing.specs.Run.{after}
 
 abbrev pub IsCalm : Packet → Type 0
-IsCalm (packet.Poly four a b c d shaded textured semi raw clut page) = IsPlain textured
-IsCalm (packet.Rect x y w h color textured semi raw u v clut) = IsPlain textured
+IsCalm (packet.Poly four a b c d shaded textured semi raw clut page) = IsUnset textured
+IsCalm (packet.Rect x y w h color textured semi raw u v clut) = IsUnset textured
 IsCalm (packet.Copy from to w h) = ⊥
 IsCalm (packet.Store x y w h) = ⊥
 IsCalm other = Unit {0}

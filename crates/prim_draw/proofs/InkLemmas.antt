@@ -127,6 +127,6 @@ in_memory height area p is inside =
       reach = omega (arith, ints, v.to, is.bottom, is.reach);
     }
 
-pub plain_shift : (dither : Bool) (x y : ℕ) → dither ≡ false → shift_of dither x y ≡ pos 0
+pub undithered_shift : (dither : Bool) (x y : ℕ) → dither ≡ false → shift_of dither x y ≡ pos 0
 unfolding shift_of
-plain_shift dither x y off = rw off refl
+undithered_shift dither x y off = rw off refl

@@ -34,41 +34,41 @@ use Rattle.prim_draw.proofs.ApartLemmas.{IsLocal, cells_same, each_same}
 
 -- ---- paints
 
-abbrev IsPlainPaint : Paint → Type 0
-IsPlainPaint (Flat color) = Unit {0}
-IsPlainPaint (Shaded tri) = Unit {0}
-IsPlainPaint (TexturedTri tri texture) = ⊥
-IsPlainPaint (TexturedRow color texture u v flip) = ⊥
+abbrev IsUntexturedPaint : Paint → Type 0
+IsUntexturedPaint (Flat color) = Unit {0}
+IsUntexturedPaint (Shaded tri) = Unit {0}
+IsUntexturedPaint (TexturedTri tri texture) = ⊥
+IsUntexturedPaint (TexturedRow color texture u v flip) = ⊥
 
-plain_local : (paint : Paint) (brush : Brush) → IsPlainPaint paint
+toned_local : (paint : Paint) (brush : Brush) → IsUntexturedPaint paint
     → IsLocal (λ cell m. paint_pixel paint brush cell.x cell.y 0 m)
-plain_local (Flat color) brush plain = λ cell m now same. rw same refl
-plain_local (Shaded tri) brush plain = λ cell m now same. rw same refl
-plain_local (TexturedTri tri texture) brush plain = absurd plain
-plain_local (TexturedRow color texture u v flip) brush plain = absurd plain
+toned_local (Flat color) brush bare = λ cell m now same. rw same refl
+toned_local (Shaded tri) brush bare = λ cell m now same. rw same refl
+toned_local (TexturedTri tri texture) brush bare = absurd bare
+toned_local (TexturedRow color texture u v flip) brush bare = absurd bare
 
 -- ---- triangles
 
-inside_same : (coat : Coat) (t : Corners) (b : Option Box2) (k : ℕ) (m now : List ℕ) → IsPlainPaint coat.paint
+inside_same : (coat : Coat) (t : Corners) (b : Option Box2) (k : ℕ) (m now : List ℕ) → IsUntexturedPaint coat.paint
     → SameAt k m now → SameAt k (drawn_inside coat t b m) (drawn_inside coat t b now)
-inside_same coat t None k m now plain same = same
-inside_same coat t (Some b) k m now plain same = cells_same (pixel_at (even coat)) coat.brush.mask k
-    (plain_local coat.paint coat.brush plain) (filter (draws t) (cells_of (block_of b))) m now same
+inside_same coat t None k m now bare same = same
+inside_same coat t (Some b) k m now bare same = cells_same (pixel_at (even coat)) coat.brush.mask k
+    (toned_local coat.paint coat.brush bare) (filter (draws t) (cells_of (block_of b))) m now same
 
-flat_or_shaded : (b : Bool) (color : ℕ) (t : Corners) → IsPlainPaint (cond b (Shaded t) (Flat color))
+flat_or_shaded : (b : Bool) (color : ℕ) (t : Corners) → IsUntexturedPaint (cond b (Shaded t) (Flat color))
 flat_or_shaded true color t = tt
 flat_or_shaded false color t = tt
 
-plain_paint : (r : Registers) (style : Style) (t : Corners) → style.textured ≡ false
-    → IsPlainPaint (triangle_paint r style t)
+untextured_paint : (r : Registers) (style : Style) (t : Corners) → style.textured ≡ false
+    → IsUntexturedPaint (triangle_paint r style t)
 unfolding triangle_paint
-plain_paint r style t e = rw e (flat_or_shaded style.shaded style.color t)
+untextured_paint r style t e = rw e (flat_or_shaded style.shaded style.color t)
 
 triangle_same : (r : Registers) (style : Style) (t : Corners) (k : ℕ) (m now : List ℕ) → style.textured ≡ false
     → SameAt k m now → SameAt k (drawn_triangle r style t m) (drawn_triangle r style t now)
 unfolding drawn_triangle triangle_coat
 triangle_same r style t k m now e same = inside_same (triangle_coat r style t) t (triangle_box r t) k m now
-    (plain_paint r style t e) same
+    (untextured_paint r style t e) same
 
 polygon_same : (r : Registers) (style : Style) (p : Polygon) (k : ℕ) (m now : List ℕ) → style.textured ≡ false
     → SameAt k m now
@@ -105,10 +105,10 @@ rectangle_same : (r : Registers) (tile : Tile) (e : Extent) (k : ℕ) (m now : L
 unfolding drawn_rectangle
 rectangle_same r tile e k m now none same = all_same tile e (rectangle_box r e) k m now none same
 
-plain_tile : (r : Registers) (color : ℕ) (semi raw : Bool) (u v clut : ℕ)
+untextured_tile : (r : Registers) (color : ℕ) (semi raw : Bool) (u v clut : ℕ)
     → (tile_in r (rectangle_style color false semi raw clut) u v).texture ≡ None
 unfolding tile_in
-plain_tile r color semi raw u v clut = refl
+untextured_tile r color semi raw u v clut = refl
 
 -- ---- lines
 
@@ -124,7 +124,7 @@ point_same area brush p k m now same = by_test (is_in area p)
         (cond b (drawn_cells (pixel_at (even (record { paint = Flat p.color; brush = brush }))) brush.mask
         (cell_at p ∷ []) now) now)
     by_test true = cells_same (pixel_at (even (record { paint = Flat p.color; brush = brush }))) brush.mask k
-        (plain_local (Flat p.color) brush tt) (cell_at p ∷ []) m now same
+        (toned_local (Flat p.color) brush tt) (cell_at p ∷ []) m now same
     by_test false = same
 
 points_same : (area : Box2) (brush : Brush) (s : Ends) (n k : ℕ) (m now : List ℕ) → SameAt k m now
@@ -147,20 +147,20 @@ ends_same r semi s k m now same = by_test (is_near s.first s.second)
 
 pub drawing_is_local : DrawingIsLocal
 unfolding drawn_packet
-drawing_is_local r (packet.Poly four a b c d shaded true semi raw clut page) k m now plain same = absurd plain
-drawing_is_local r (packet.Poly four a b c d shaded false semi raw clut page) k m now plain same =
+drawing_is_local r (packet.Poly four a b c d shaded true semi raw clut page) k m now bare same = absurd bare
+drawing_is_local r (packet.Poly four a b c d shaded false semi raw clut page) k m now bare same =
     polygon_same r (polygon_style shaded false semi raw clut a) (polygon four a b c d) k m now refl same
-drawing_is_local r (packet.Segment a b semi) k m now plain same = ends_same r semi (placed_ends r a b) k m now same
-drawing_is_local r (packet.Rect x y w h color true semi raw u v clut) k m now plain same = absurd plain
-drawing_is_local r (packet.Rect x y w h color false semi raw u v clut) k m now plain same =
+drawing_is_local r (packet.Segment a b semi) k m now bare same = ends_same r semi (placed_ends r a b) k m now same
+drawing_is_local r (packet.Rect x y w h color true semi raw u v clut) k m now bare same = absurd bare
+drawing_is_local r (packet.Rect x y w h color false semi raw u v clut) k m now bare same =
     rectangle_same r (tile_in r (rectangle_style color false semi raw clut) u v) (extent_at r x y w h) k m now
-    (plain_tile r color semi raw u v clut) same
-drawing_is_local r (packet.Fill color x y w h) k m now plain same = same
-drawing_is_local r (packet.Copy from to w h) k m now plain same = same
-drawing_is_local r (packet.Load x y w h) k m now plain same = same
-drawing_is_local r (packet.Store x y w h) k m now plain same = same
-drawing_is_local r (packet.Pixels word) k m now plain same = same
-drawing_is_local r (packet.Env index value) k m now plain same = same
-drawing_is_local r packet.Irq k m now plain same = same
-drawing_is_local r packet.Nop k m now plain same = same
-drawing_is_local r packet.Finish k m now plain same = same
+    (untextured_tile r color semi raw u v clut) same
+drawing_is_local r (packet.Fill color x y w h) k m now bare same = same
+drawing_is_local r (packet.Copy from to w h) k m now bare same = same
+drawing_is_local r (packet.Load x y w h) k m now bare same = same
+drawing_is_local r (packet.Store x y w h) k m now bare same = same
+drawing_is_local r (packet.Pixels word) k m now bare same = same
+drawing_is_local r (packet.Env index value) k m now bare same = same
+drawing_is_local r packet.Irq k m now bare same = same
+drawing_is_local r packet.Nop k m now bare same = same
+drawing_is_local r packet.Finish k m now bare same = same

@@ -26,7 +26,7 @@ hull a b = record {
   y2 = int_max a.y2 b.y2;
 }
 
--- the same where either may be none
+-- the hull of two boxes, either of which may be none
 abbrev pub joined : Option Box2 → Option Box2 → Option Box2
 joined None b = b
 joined (Some a) None = Some a

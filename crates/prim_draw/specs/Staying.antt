@@ -11,14 +11,14 @@ use Rattle.prim_draw.specs.Apart.{AgreeOutside, SameAt}
 abbrev pub DrawingStays : Type 0
 DrawingStays = (r : Registers) (p : Packet) (m : List ℕ) → AgreeOutside (area_of r p) m (drawn_packet r p m)
 
-abbrev pub IsPlain : Bool → Type 0
-IsPlain true = ⊥
-IsPlain false = Unit {0}
+abbrev pub IsUnset : Bool → Type 0
+IsUnset true = ⊥
+IsUnset false = Unit {0}
 
 -- it samples no texture
 abbrev pub IsUntextured : Packet → Type 0
-IsUntextured (packet.Poly four a b c d shaded textured semi raw clut page) = IsPlain textured
-IsUntextured (packet.Rect x y w h color textured semi raw u v clut) = IsPlain textured
+IsUntextured (packet.Poly four a b c d shaded textured semi raw clut page) = IsUnset textured
+IsUntextured (packet.Rect x y w h color textured semi raw u v clut) = IsUnset textured
 IsUntextured other = Unit {0}
 
 -- where two states agree at a cell, they do so after the same drawing without texture

@@ -23,7 +23,7 @@ fn hull(a: &Box2, b: &Box2) -> Box2
     box_from(&first, &last)
 }
 
-/// The same where either may be none.
+/// The hull of two boxes, either of which may be none.
 pub(crate) fn joined(a: Option<Box2>, b: Option<Box2>) -> Option<Box2>
     ensures { result ≡ joined a b }
 {

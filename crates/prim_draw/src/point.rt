@@ -122,7 +122,7 @@ pub(crate) fn plot_color<L: Ledger>(
 // Whether plotting asks for the cell: for what it holds or for its place.
 fn asks_for_cell(brush: &Brush) -> bool
     ensures opaque { result ≡ false → brush.now.semi ≡ false }
-    ensures plain { result ≡ false → brush.now.dither ≡ false }
+    ensures undithered { result ≡ false → brush.now.dither ≡ false }
     ensures untested { result ≡ false → is_testing brush.now.mask ≡ false }
 {
     brush.semi || brush.dither || tests(brush.mask)

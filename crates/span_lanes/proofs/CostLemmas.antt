@@ -63,9 +63,9 @@ cost_more span at k before now next e so_far here =
     joined before now next d e f g = omega arith
 
 -- chunks without a texture
-pub plain_cost : (span : Span) (first k : ℕ) → texture_of span.paint ≡ None → chunk_cost span first k ≡ 2 + 0 * k
+pub toned_cost : (span : Span) (first k : ℕ) → texture_of span.paint ≡ None → chunk_cost span first k ≡ 2 + 0 * k
 unfolding has_hazard
-plain_cost span first k e = rw e refl
+toned_cost span first k e = rw e refl
 
 -- chunks whose texels are known
 pub textured_cost : (span : Span) (t : Texture) (first k : ℕ) (cells : List Cell) → texture_of span.paint ≡ Some t

@@ -7,7 +7,7 @@ pub mod ColorLemmas
 pub mod CostLemmas
 pub mod GuardLemmas
 pub mod PartLemmas
-pub mod PlainLemmas
+pub mod TonedLemmas
 pub mod PlanLemmas
 pub mod RampedLemmas
 pub mod SolidLemmas

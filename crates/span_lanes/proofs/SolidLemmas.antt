@@ -13,7 +13,7 @@ use Rattle.span_lanes.specs.declared.span.Span.{Span}
 use Rattle.span_lanes.specs.Shade.{shade, blended_if, flat_pixel}
 use Rattle.span_lanes.specs.Lanes.{IsSolid}
 use Rattle.span_lanes.proofs.ColorLemmas.{no_shift}
-use Rattle.span_lanes.proofs.PlainLemmas.{plain_is}
+use Rattle.span_lanes.proofs.TonedLemmas.{toned_is}
 
 even : (semi testing dither : Bool) → (not (semi || testing) && not dither) ≡ true → (semi ≡ false) × (testing ≡ false)
     × (dither ≡ false)
@@ -26,7 +26,7 @@ pixel : (brush : Brush) (color back : ℕ) (t : ℕ) → t ≡ tone_of (red_of c
     → t < 2 ^ 15 → brush.semi ≡ false
     → flat_pixel brush color (pos 0) back ≡ Some t
 unfolding blended_if
-pixel brush color back t e low semi = plain_is brush color (pos 0) back t t e (rw semi refl) low
+pixel brush color back t e low semi = toned_is brush color (pos 0) back t t e (rw semi refl) low
 
 written : (mask cell t : ℕ) → is_testing mask ≡ false → written_over mask cell (Some t) ≡ Some (forced mask t)
 unfolding is_kept

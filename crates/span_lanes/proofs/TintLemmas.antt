@@ -4,7 +4,7 @@ use Rattle.edge_walk.specs.Triangle.{Corners, is_inside}
 use Rattle.edge_walk.specs.declared.plane.Plane.{Plane}
 use Rattle.span_lanes.specs.declared.hues.Hues.{Hues}
 use Rattle.span_lanes.specs.declared.hues.Hues.TheVariants.{One}
-use Rattle.span_lanes.specs.declared.tint.Tint.TheVariants.{Plain, Planes}
+use Rattle.span_lanes.specs.declared.tint.Tint.TheVariants.{OneColor, Planes}
 use Rattle.span_lanes.specs.declared.span.Paint.{Paint}
 use Rattle.span_lanes.specs.declared.span.Paint.TheVariants.{Flat, Shaded, TexturedTri, TexturedRow}
 use Rattle.span_lanes.specs.Shade.{HasInside, AreInside}
@@ -12,12 +12,12 @@ use Rattle.span_lanes.specs.Hues.{AreHues, AreHuesOf}
 use Rattle.span_lanes.specs.Pen.{IsTint, IsTintOf}
 
 -- one colour
-pub plain_hues : (paint : Paint) (color x y n : ℕ) → IsTint paint (Plain color) → HasInside paint x y n
+pub one_hues : (paint : Paint) (color x y n : ℕ) → IsTint paint (OneColor color) → HasInside paint x y n
     → AreHues paint x y n (One color)
-plain_hues (Flat own) color x y n is inside = λ at j lane lt. let e : color ≡ own = cc in e
-plain_hues (Shaded tri) color x y n is inside = λ at j lane lt. is (x + (at + j)) y (inside (at + j) lt)
-plain_hues (TexturedTri tri texture) color x y n is inside = λ at j lane lt. is (x + (at + j)) y (inside (at + j) lt)
-plain_hues (TexturedRow own texture u v flip) color x y n is inside = λ at j lane lt. let e : color ≡ own = cc in e
+one_hues (Flat own) color x y n is inside = λ at j lane lt. let e : color ≡ own = cc in e
+one_hues (Shaded tri) color x y n is inside = λ at j lane lt. is (x + (at + j)) y (inside (at + j) lt)
+one_hues (TexturedTri tri texture) color x y n is inside = λ at j lane lt. is (x + (at + j)) y (inside (at + j) lt)
+one_hues (TexturedRow own texture u v flip) color x y n is inside = λ at j lane lt. let e : color ≡ own = cc in e
 
 -- the first cell of a row of a triangle
 pub first_cell : (tri : Corners) (x y n : ℕ) → 1 ≤ n → AreInside tri x y n → IsTrue (is_inside tri (pos x) (pos y))

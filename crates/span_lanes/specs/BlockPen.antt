@@ -13,7 +13,7 @@ use Rattle.span_lanes.specs.declared.sheet.Sheet.{Sheet}
 use Rattle.span_lanes.specs.declared.span.Brush.{Brush}
 use Rattle.span_lanes.specs.declared.span.Span.{Span}
 use Rattle.span_lanes.specs.declared.swatches.Swatches.{Swatches}
-use Rattle.span_lanes.specs.declared.tint.Tint.TheVariants.{Plain}
+use Rattle.span_lanes.specs.declared.tint.Tint.TheVariants.{OneColor}
 use Rattle.span_lanes.specs.Frame.{Framed, IsBlockApart}
 use Rattle.span_lanes.specs.Pen.{IsTint, IsTintOf, coat_of, loaded_of}
 use Rattle.span_lanes.specs.Ramped.{AreSlopesOf, IsMixOf}
@@ -35,8 +35,8 @@ pub record IsBeside (tri : Corners) (t : Texture) : Type 0 where
   pub unscaled : IsUnscaled tri
 
 -- the palette can be coloured once under this colour, which is that of all cells, and pixels are stored as they are
-pub record IsPlain (tri : Corners) (t : Texture) (brush : Brush) (color : ℕ) : Type 0 where
-  pub one : IsTintOf tri (Plain color)
+pub record SuitsKept (tri : Corners) (t : Texture) (brush : Brush) (color : ℕ) : Type 0 where
+  pub one : IsTintOf tri (OneColor color)
   pub depth : t.page.depth ≡ 0
   pub even : (brush.dither && not t.raw) ≡ false
   pub mask : brush.mask ≡ 0
@@ -44,9 +44,9 @@ pub record IsPlain (tri : Corners) (t : Texture) (brush : Brush) (color : ℕ) :
 
 -- rows of a triangle may be drawn in a way
 abbrev pub IsWay : Corners → Texture → Brush → Way → Type 0
-IsWay tri t brush (Kept color) = IsBeside tri t × IsPlain tri t brush color
+IsWay tri t brush (Kept color) = IsBeside tri t × SuitsKept tri t brush color
 IsWay tri t brush Beside = IsBeside tri t
-IsWay tri t brush (Scaled color) = IsTintOf tri (Plain color)
+IsWay tri t brush (Scaled color) = IsTintOf tri (OneColor color)
 IsWay tri t brush Mixed = Unit {0}
 
 -- in a block that lies apart from the texture
@@ -66,7 +66,7 @@ pub record IsKeptPen (span : Span) (sheet : Sheet) (color : ℕ) (b : Block) (la
   pub ready : IsSheetOf (coat_of span) sheet
   pub apart : IsBlockApart b sheet.texture
   pub beside : IsBeside sheet.tri sheet.texture
-  pub plain : IsPlain sheet.tri sheet.texture sheet.brush color
+  pub suits : SuitsKept sheet.tri sheet.texture sheet.brush color
   pub colored : IfSome last AreColored
 
 -- texels stand side by side
@@ -79,7 +79,7 @@ pub record IsBesidePen (span : Span) (sheet : Sheet) (b : Block) (last : Option 
 -- by the coordinates of each texel, under one colour
 pub record IsScaledPen (span : Span) (t : Texture) (color : ℕ) (slopes : RampedSlopes) (b : Block) : Type 0 where
   pub is : IsInApart span t b
-  pub hue : IsTint span.paint (Plain color)
+  pub hue : IsTint span.paint (OneColor color)
   pub slopes_are : AreSlopesOf span.paint slopes
 
 -- under several

@@ -51,7 +51,7 @@ PaintHazard paint x y first n =
 abbrev pub HasHazard : Span → ℕ → ℕ → Type 0
 HasHazard span first n = PaintHazard span.paint span.x span.y first n
 
--- ---- the same as a test that computes
+-- ---- hazards as tests that compute
 
 abbrev pub has_paint_hazard : Option Texture → Paint → ℕ → ℕ → ℕ → ℕ → Bool
 has_paint_hazard None paint x y first n = false

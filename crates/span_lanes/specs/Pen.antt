@@ -10,7 +10,7 @@ use Rattle.span_lanes.specs.declared.span.Paint.TheVariants.{Flat, Shaded, Textu
 use Rattle.span_lanes.specs.declared.span.Span.{Span}
 use Rattle.span_lanes.specs.declared.swatches.Swatches.{Swatches}
 use Rattle.span_lanes.specs.declared.tint.Tint.{Tint}
-use Rattle.span_lanes.specs.declared.tint.Tint.TheVariants.{Plain, Planes}
+use Rattle.span_lanes.specs.declared.tint.Tint.TheVariants.{OneColor, Planes}
 use Rattle.span_lanes.specs.Cells.{Stage, drawn_cells, row_cells}
 use Rattle.span_lanes.specs.Cost.{span_cost}
 use Rattle.span_lanes.specs.Lanes.{IsSolid}
@@ -47,15 +47,15 @@ IsFresh pen m = AreFresh pen.coat.paint m pen.palette
 
 -- the colours of a triangle
 abbrev pub IsTintOf : Corners → Tint → Type 0
-IsTintOf tri (Plain color) = (x y : ℕ) → IsTrue (is_inside tri (pos x) (pos y)) → color ≡ color_in tri x y
+IsTintOf tri (OneColor color) = (x y : ℕ) → IsTrue (is_inside tri (pos x) (pos y)) → color ≡ color_in tri x y
 IsTintOf tri (Planes red green blue) = IsPlane tri 0 red × IsPlane tri 1 green × IsPlane tri 2 blue
 
 -- the colours of a paint
 abbrev pub IsTint : Paint → Tint → Type 0
-IsTint (Flat color) tint = tint ≡ Plain color
+IsTint (Flat color) tint = tint ≡ OneColor color
 IsTint (Shaded tri) tint = IsTintOf tri tint
 IsTint (TexturedTri tri texture) tint = IsTintOf tri tint
-IsTint (TexturedRow color texture u v flip) tint = tint ≡ Plain color
+IsTint (TexturedRow color texture u v flip) tint = tint ≡ OneColor color
 
 -- the texel coordinates of a triangle
 pub record AreSlopes (tri : Corners) (slopes : Slopes) : Type 0 where

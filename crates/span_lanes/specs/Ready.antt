@@ -18,7 +18,7 @@ IsReady coat (Toned tint) = (texture_of coat.paint ≡ None) × IsTint coat.pain
 IsReady coat (Tri sheet) = IsSheetOf coat sheet
 IsReady coat (Row texture row) = coat.paint ≡ TexturedRow row.color texture row.u row.v row.flip
 
--- the same with a palette under a colour, if it is kept
+-- a pen holds this, and a palette under a colour, if one is kept
 pub record IsPen (coat : Coat) (made : Ready) (last : Option Swatches) : Type 0 where
   pub ready : IsReady coat made
   pub colored : IfSome last AreColored

@@ -23,7 +23,7 @@ pub enum Way {
     Beside,
     /// By the coordinates of each texel, under one colour ([`ScaledPen`](crate::ScaledPen)).
     Scaled { color: u32 },
-    /// The same under several ([`MixedPen`](crate::MixedPen)).
+    /// By the coordinates of each texel, under several colours ([`MixedPen`](crate::MixedPen)).
     Mixed,
 }
 

@@ -71,7 +71,7 @@ fn draw_beside<L: Ledger>(
     ensures last { IsKept span.now.paint vram.new last.new }
 {
     match tint {
-        Tint::Plain { color } if keeps_palette(span, found.texture) => {
+        Tint::OneColor { color } if keeps_palette(span, found.texture) => {
             draw_kept(vram, span, found, *color, last, steps)
         }
         _ => {
@@ -146,7 +146,7 @@ pub(crate) fn draw_row<L: Ledger>(
                 texture,
                 sampler: &stretch,
             };
-            let tint = Tint::Plain { color: row.color };
+            let tint = Tint::OneColor { color: row.color };
             draw_beside(vram, span, &found, &tint, last, steps)
         }
         _ => {

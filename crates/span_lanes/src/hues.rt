@@ -58,7 +58,7 @@ pub(crate) fn hues_of(span: &Span, tint: &Tint) -> Hues
     ensures { AreHues span.now.paint span.now.x span.now.y span.now.n result }
 {
     match tint {
-        Tint::Plain { color } => Hues::One { color: *color },
+        Tint::OneColor { color } => Hues::One { color: *color },
         Tint::Planes { red, green, blue } => tri_lines(red, green, blue, span.x, span.y),
     }
 }

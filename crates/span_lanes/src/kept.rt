@@ -1,6 +1,6 @@
 // Rows of texels of four bits that stand side by side, whose palette is coloured once.
 ghost use Rattle.std.specs.Prelude.{◌≡◌, IsTrue};
-ghost use Rattle.span_lanes.specs.BlockPen.{IsBeside, IsPlain};
+ghost use Rattle.span_lanes.specs.BlockPen.{IsBeside, SuitsKept};
 ghost use Rattle.span_lanes.specs.Sheet.{CanDrawSheet};
 ghost use Rattle.span_lanes.specs.declared.hues.Hues.TheVariants.{One};
 ghost use Rattle.span_lanes.specs.Draws.{CanSample, DrawsSpan, at_stage};
@@ -89,7 +89,8 @@ pub(crate) fn draw_kept<L: Ledger>(
     }
 }
 
-// The same where it is known how texels and pixels are drawn, so that there is one loop.
+// A row of texels under a colour, whose palette is kept from then on, where it is known how texels and pixels are drawn:
+// so there is one loop.
 #[inline(always)]
 pub(crate) fn draw_kept_known<L: Ledger>(
     vram: &mut Vram,
@@ -125,7 +126,7 @@ pub(crate) fn draw_kept_plain<L: Ledger>(
 )
     requires can { CanDrawSheet sheet.now span.now vram.old }
     requires beside { IsBeside sheet.now.tri sheet.now.texture }
-    requires plain { IsPlain sheet.now.tri sheet.now.texture sheet.now.brush color }
+    requires suits { SuitsKept sheet.now.tri sheet.now.texture sheet.now.brush color }
     requires last { IsKept span.now.paint vram.old last.old }
     ensures drawn { DrawsSpan span.now 0 (at_stage vram.old steps.old) (at_stage vram.new steps.new) }
     ensures last { IsKept span.now.paint vram.new last.new }

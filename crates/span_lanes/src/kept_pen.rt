@@ -51,7 +51,7 @@ impl KeptPen {
         let divisor = tri.area_divisor();
         KeptPen {
             span: no_cells(tri, texture, brush),
-            sheet: sheet_under(tri, texture, brush, Tint::Plain { color }, &divisor),
+            sheet: sheet_under(tri, texture, brush, Tint::OneColor { color }, &divisor),
             color,
             block: *block,
             last: None,

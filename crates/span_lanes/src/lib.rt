@@ -30,7 +30,6 @@ mod part;
 mod pen;
 mod pixel;
 mod placed;
-mod plain;
 mod plainly;
 mod plan;
 mod planned;
@@ -56,6 +55,7 @@ mod texel_rows;
 mod texels;
 mod textured;
 mod tint;
+mod toned;
 mod track;
 mod untextured;
 

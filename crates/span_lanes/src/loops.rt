@@ -67,7 +67,7 @@ pub(crate) fn draw_parts<C: Chunks, L: Ledger>(
     }
 }
 
-// The same by whether pixels are stored as they are.
+// Draws a span part by part, by a loop of its own where pixels are stored as they are.
 #[inline(always)]
 pub(crate) fn draw_by_brush<C: Chunks, L: Ledger>(
     vram: &mut Vram,

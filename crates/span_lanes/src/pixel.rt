@@ -44,7 +44,7 @@ fn front(raw: bool, color: u32, shift: i8, t: u16) -> u16
 }
 
 #[tactic(auto, unfolding(crate::specs::Shade::flat_pixel))]
-fn plain_pixel(brush: &Brush, color: u32, shift: i8, back: u16) -> Option<u16>
+fn toned_pixel(brush: &Brush, color: u32, shift: i8, back: u16) -> Option<u16>
     requires mode { brush.now.mode ≤ 3 }
     requires shift { IsShift shift }
     ensures { result ≡ flat_pixel brush.now color shift back }
@@ -115,11 +115,11 @@ pub(crate) fn pixel_of<L: Ledger>(
     match &span.paint {
         Paint::Flat { color } => {
             let shift = shift_for(span.brush.dither, span.x + i, span.y);
-            plain_pixel(&span.brush, *color, shift, back)
+            toned_pixel(&span.brush, *color, shift, back)
         }
         Paint::Shaded { tri } => {
             let shift = shift_for(span.brush.dither, span.x + i, span.y);
-            plain_pixel(&span.brush, color_of(tri, span.x + i, span.y), shift, back)
+            toned_pixel(&span.brush, color_of(tri, span.x + i, span.y), shift, back)
         }
         Paint::TexturedTri { tri, texture } => {
             let shift = shift_for(span.brush.dither && !texture.raw, span.x + i, span.y);

@@ -49,7 +49,7 @@ fn many_texels<P: Placed, L: Ledger>(
     read_texels::<AllAtOnce, L>(vram, texture, &at, part.k, steps)
 }
 
-// The same where they are at most eight: compiled apart, so that the compiler may drop the other lanes.
+// The texels of a part of at most eight cells: compiled apart, so that the compiler may drop the other lanes.
 #[inline(never)]
 fn few_texels<P: Placed, L: Ledger>(
     placed: &P,

@@ -28,7 +28,7 @@ fn flat_ready(color: u32, brush: &Brush) -> Ready
     match solid_color(brush, color) {
         Some(h) => Ready::Solid { h },
         None => Ready::Toned {
-            tint: Tint::Plain { color },
+            tint: Tint::OneColor { color },
         },
     }
 }

@@ -78,7 +78,7 @@ impl TexelRows {
         has_room(&self.texture, self.u as u16, n) && is_block_apart(&self.block, &self.texture)
     }
 
-    /// The same rows, of which it is known whether texels are drawn as they are: such rows have loops of their own.
+    /// These rows, of which it is known whether texels are drawn as they are: such rows have loops of their own.
     #[inline(always)]
     pub fn known_raw(&self, raw: bool) -> TexelRows
         requires { self.now.texture.raw ≡ raw }
@@ -99,7 +99,7 @@ impl TexelRows {
         is_plain(&self.brush)
     }
 
-    /// The same rows, of which it is known that pixels are stored as they are, where the brush does that.
+    /// These rows, of which it is known that pixels are stored as they are, where the brush does that.
     #[inline(always)]
     pub fn known_plain(&self) -> TexelRows
         requires mask { self.now.brush.mask ≡ 0 }

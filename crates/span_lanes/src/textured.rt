@@ -77,7 +77,7 @@ pub(crate) fn draw_fronts<L: Ledger>(
     store_part(vram, part, lanes, steps);
 }
 
-// The same by its texels and the colours of the span.
+// Draws a part by its texels and the colours of the span.
 #[inline(always)]
 pub(crate) fn draw_shaded<L: Ledger>(
     vram: &mut Vram,

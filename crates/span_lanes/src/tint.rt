@@ -2,14 +2,14 @@
 ghost use Rattle.std.specs.Prelude.{◌≡◌, IfSome};
 ghost use Rattle.edge_walk.specs.Held.{divisor_for};
 ghost use Rattle.span_lanes.specs.Pen.{IsTintOf};
-ghost use Rattle.span_lanes.specs.declared.tint.Tint.TheVariants.{Plain};
+ghost use Rattle.span_lanes.specs.declared.tint.Tint.TheVariants.{OneColor};
 
 use edge_walk::{Divisor, Plane, Tri};
 
 // One colour, or three channels over a triangle.
 #[derive(Clone, Copy)]
 pub(crate) enum Tint {
-    Plain {
+    OneColor {
         color: u32,
     },
     Planes {
@@ -34,7 +34,7 @@ fn tri_planes(tri: &Tri, divisor: &Divisor) -> Tint
 // The colour of all cells of a triangle, where it is seen that they have one.
 #[inline(always)]
 pub(crate) fn one_color(tri: &Tri) -> Option<u32>
-    ensures { IfSome result (λ color. IsTintOf tri.now (Plain color)) }
+    ensures { IfSome result (λ color. IsTintOf tri.now (OneColor color)) }
 {
     tri.one_color()
 }
@@ -45,7 +45,7 @@ pub(crate) fn tri_tint(tri: &Tri, divisor: &Divisor) -> Tint
     ensures { IsTintOf tri.now result }
 {
     match one_color(tri) {
-        Some(color) => Tint::Plain { color },
+        Some(color) => Tint::OneColor { color },
         None => tri_planes(tri, divisor),
     }
 }

@@ -12,9 +12,9 @@ use crate::colors::{Shifts, shifts_of};
 use crate::hues::{Hues, hues_of};
 use crate::loops::{Chunks, draw_by_brush, draw_parts};
 use crate::part::Part;
-use crate::plain::collect_plain;
 use crate::store::store_part;
 use crate::tint::Tint;
+use crate::toned::collect_toned;
 use edge_walk::RowLine;
 use std::sync::ledger::Ledger;
 use vram_store::{Steps, Vram};
@@ -35,7 +35,7 @@ impl Chunks for Toned {
 
     #[inline(always)]
     fn draw_part<L: Ledger>(&self, vram: &mut Vram, part: &Part, steps: &mut Steps<L>) {
-        let lanes = collect_plain(vram, &self.hues, self.shifts, part, steps);
+        let lanes = collect_toned(vram, &self.hues, self.shifts, part, steps);
         store_part(vram, part, lanes, steps);
     }
 
@@ -59,7 +59,7 @@ fn toned_by(span: &Span, hues: Hues) -> Toned
 #[inline(never)]
 fn draw_one<L: Ledger>(vram: &mut Vram, span: &Span, color: u32, steps: &mut Steps<L>)
     requires can { CanDraw span.now vram.old }
-    requires plain { texture_of span.now.paint ≡ None }
+    requires untextured { texture_of span.now.paint ≡ None }
     requires hues { AreHues span.now.paint span.now.x span.now.y span.now.n (One color) }
     ensures drawn { DrawsSpan span.now 0 (at_stage vram.old steps.old) (at_stage vram.new steps.new) }
 {
@@ -77,7 +77,7 @@ fn draw_lines<L: Ledger>(
     steps: &mut Steps<L>,
 )
     requires can { CanDraw span.now vram.old }
-    requires plain { texture_of span.now.paint ≡ None }
+    requires untextured { texture_of span.now.paint ≡ None }
     requires hues { AreHues span.now.paint span.now.x span.now.y span.now.n (Lines red green blue) }
     ensures drawn { DrawsSpan span.now 0 (at_stage vram.old steps.old) (at_stage vram.new steps.new) }
 {
@@ -94,7 +94,7 @@ pub(crate) fn draw_untextured<L: Ledger>(
     steps: &mut Steps<L>,
 )
     requires can { CanDraw span.now vram.old }
-    requires plain { texture_of span.now.paint ≡ None }
+    requires untextured { texture_of span.now.paint ≡ None }
     requires tint { IsTint span.now.paint tint.now }
     ensures drawn { DrawsSpan span.now 0 (at_stage vram.old steps.old) (at_stage vram.new steps.new) }
 {

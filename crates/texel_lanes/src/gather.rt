@@ -23,7 +23,7 @@ pub trait Gather {
         ensures value { (j : ℕ) → j < k → slice_index result j ≡ at vram.now (slice_index xs j) (slice_index ys j) }
         ensures cost { steps.new ≤ steps.old + k };
 
-    /// The same of cells that stand in one row.
+    /// The first `k` lanes are the cells at these columns of one row, and the others mean nothing.
     fn gather_in_row<L: Ledger>(
         vram: &Vram,
         xs: u16x16,

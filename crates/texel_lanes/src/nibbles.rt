@@ -44,7 +44,7 @@ fn indexes(across: u16x16, halfwords: u16x16) -> u16x16
     shifted_down(wrapping_mul(halfwords, raises(across)), 12)
 }
 
-// The same as bytes.
+// The indexes of four bits that texels side by side have in these halfwords, as bytes.
 #[inline(always)]
 pub(crate) fn nibbles(across: u16x16, halfwords: u16x16) -> u8x16
     requires across { length across ≡ 16 }

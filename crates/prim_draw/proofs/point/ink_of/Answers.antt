@@ -4,7 +4,7 @@ use Rattle.vram_store.specs.Plot.{draw_at}
 use Rattle.vram_store.specs.Vram.{at, set}
 use Rattle.vram_store.proofs.Drawn.{plot_is}
 use Rattle.prim_draw.proofs.PointLemmas.{opaque_pixel, plot_untested}
-use Rattle.prim_draw.proofs.InkLemmas.{plain_shift}
+use Rattle.prim_draw.proofs.InkLemmas.{undithered_shift}
 use Rattle.prim_draw.proofs.point.ink_of.Goals as goal
 
 pub returns-else-asks_for_cell : goal.returns-else-asks_for_cell
@@ -13,8 +13,8 @@ returns-else-asks_for_cell c cell m =
     let no = c.if-asks_for_cell.false in
     let place = 1024 * cell.y + cell.x in
     let f : Option ℕ → List ℕ = λ p. draw_at brush.mask place p m in
-    let flat : shift_of brush.dither cell.x cell.y ≡ pos 0 = plain_shift brush.dither cell.x cell.y
-    (c.asks_for_cell.ensures.plain no) in
+    let flat : shift_of brush.dither cell.x cell.y ≡ pos 0 = undithered_shift brush.dither cell.x cell.y
+    (c.asks_for_cell.ensures.undithered no) in
     let pixel : Some c.pixel_over.result ≡ flat_pixel brush c.args.color (pos 0) 0 = c.pixel_over.ensures in
     sym
     (ap (λ h. set m cell.x cell.y h) c.force.ensures

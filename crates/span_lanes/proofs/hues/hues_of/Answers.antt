@@ -1,11 +1,11 @@
-use Rattle.span_lanes.proofs.TintLemmas.{plain_hues, planes_hues}
+use Rattle.span_lanes.proofs.TintLemmas.{one_hues, planes_hues}
 use Rattle.span_lanes.proofs.hues.hues_of.Goals as goal
 
-pub returns-in-Plain : goal.returns-in-Plain
-returns-in-Plain c =
+pub returns-in-OneColor : goal.returns-in-OneColor
+returns-in-OneColor c =
     let span = c.args.span.now in
-    plain_hues span.paint c.in-Plain.color span.x span.y span.n
-    (rw c.in-Plain.is at c.requires.tint) c.requires.span.inside
+    one_hues span.paint c.in-OneColor.color span.x span.y span.n
+    (rw c.in-OneColor.is at c.requires.tint) c.requires.span.inside
 
 pub returns-in-Planes : goal.returns-in-Planes
 returns-in-Planes c =

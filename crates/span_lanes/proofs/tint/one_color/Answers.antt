@@ -3,13 +3,13 @@ use Rattle.std.specs.Prelude.{IfSome}
 use Rattle.edge_walk.specs.Attribute.{HasColor}
 use Rattle.edge_walk.specs.Triangle.{Corners, is_inside}
 use Rattle.span_lanes.specs.Pen.{IsTintOf}
-use Rattle.span_lanes.specs.declared.tint.Tint.TheVariants.{Plain}
+use Rattle.span_lanes.specs.declared.tint.Tint.TheVariants.{OneColor}
 use Rattle.span_lanes.proofs.ColorLemmas.{one_in}
 use Rattle.span_lanes.proofs.tint.one_color.Goals as goal
 
 by_color : (tri : Corners) (found : Option ℕ) → IfSome found (λ color. color < 2 ^ 24)
     → IfSome found (λ color. (x y : ℤ) → IsTrue (is_inside tri x y) → HasColor tri x y color)
-    → IfSome found (λ color. IsTintOf tri (Plain color))
+    → IfSome found (λ color. IsTintOf tri (OneColor color))
 by_color tri None low value = tt
 by_color tri (Some color) low value = λ x y inside. one_in tri x y color low (value (pos x) (pos y) inside)
 

@@ -93,7 +93,7 @@ fn hue_tones(hues: &Hues, dither: bool, shifts: Shifts, first: u16) -> u16x16
 
 // The pixels of k cells of a span without a texture, all of them read in video memory as it is.
 #[inline(always)]
-pub(crate) fn collect_plain<L: Ledger>(
+pub(crate) fn collect_toned<L: Ledger>(
     vram: &Vram,
     hues: &Hues,
     shifts: Shifts,

@@ -1,4 +1,4 @@
-use Rattle.span_lanes.proofs.plain.mixed_tones.Goals as goal
+use Rattle.span_lanes.proofs.toned.mixed_tones.Goals as goal
 
 pub returns-clause-value : goal.returns-clause-value
 returns-clause-value c = λ j lt.

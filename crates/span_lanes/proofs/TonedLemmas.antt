@@ -15,34 +15,34 @@ use Rattle.span_lanes.specs.Lanes.{DoesFor}
 use Rattle.span_lanes.specs.Paints.{paint_color}
 use Rattle.span_lanes.proofs.BackLemmas.{kept_free}
 
-paint_plain : (paint : Paint) (brush : Brush) (x y i : ℕ) (m : List ℕ) → texture_of paint ≡ None
+paint_toned : (paint : Paint) (brush : Brush) (x y i : ℕ) (m : List ℕ) → texture_of paint ≡ None
     → paint_pixel paint brush x y i m ≡ flat_pixel brush (paint_color paint x y) (shift_of brush.dither x y) (at m x y)
-paint_plain (Flat color) brush x y i m none = refl
-paint_plain (Shaded tri) brush x y i m none = refl
-paint_plain (TexturedTri tri texture) brush x y i m none = absurd (cc)
-paint_plain (TexturedRow color texture u v flip) brush x y i m none = absurd (cc)
+paint_toned (Flat color) brush x y i m none = refl
+paint_toned (Shaded tri) brush x y i m none = refl
+paint_toned (TexturedTri tri texture) brush x y i m none = absurd (cc)
+paint_toned (TexturedRow color texture u v flip) brush x y i m none = absurd (cc)
 
-pub shade_plain : (span : Span) (i x : ℕ) (m : List ℕ) → texture_of span.paint ≡ None → x ≡ span.x + i
+pub shade_toned : (span : Span) (i x : ℕ) (m : List ℕ) → texture_of span.paint ≡ None → x ≡ span.x + i
     → shade span i m ≡ flat_pixel span.brush (paint_color span.paint x span.y) (shift_of span.brush.dither x span.y)
     (at m x span.y)
 unfolding shade
-shade_plain span i x m none e = rw e (paint_plain span.paint span.brush (span.x + i) span.y i m none)
+shade_toned span i x m none e = rw e (paint_toned span.paint span.brush (span.x + i) span.y i m none)
 
 packed_low : (p x : ℕ) → x ≡ p → x < 2 ^ 15 → packed_pixel p false false ≡ x
 packed_low p x e lt = omega arith
 
-pub plain_is : (brush : Brush) (color : ℕ) (shift : ℤ) (back t h : ℕ)
+pub toned_is : (brush : Brush) (color : ℕ) (shift : ℤ) (back t h : ℕ)
     → t ≡ tone_of (red_of color) (green_of color) (blue_of color) shift
     → h ≡ blended_if brush.semi brush.mode back t → h < 2 ^ 15 → flat_pixel brush color shift back ≡ Some h
 unfolding flat_pixel
-plain_is brush color shift back t h tone e low =
+toned_is brush color shift back t h tone e low =
     ap (λ (n : ℕ). Some n) (packed_low _ h (e ∙ ap (blended_if brush.semi brush.mode back) tone) low)
 
 -- a lane whose pixel is there
-pub plain_lane : (brush : Brush) (cell back : ℕ) (pixel : Option ℕ) (p w b h : ℕ) → pixel ≡ Some p
+pub toned_lane : (brush : Brush) (cell back : ℕ) (pixel : Option ℕ) (p w b h : ℕ) → pixel ≡ Some p
     → DoesFor brush cell back → b ≡ 1 → w ≡ forced brush.mask p → h ≡ cond (is_kept brush.mask back) back w
     → IsLane (written_over brush.mask cell pixel) b h cell
-plain_lane brush cell back pixel p w b h e does one write over =
+toned_lane brush cell back pixel p w b h e does one write over =
     rw e (by_back does (over ∙ ap (cond (is_kept brush.mask back) back) write))
   where
     by_kept : (kept : Bool) (q : ℕ) → h ≡ cond kept cell q → IsLane (cond kept None (Some q)) b h cell

@@ -5,8 +5,8 @@ use Rattle.span_lanes.specs.Lanes.{DoesFor}
 use Rattle.vram_store.proofs.Ones.{ones}
 use Rattle.span_lanes.proofs.BackLemmas.{flat_back}
 use Rattle.span_lanes.proofs.ColorLemmas.{shift_again, no_shift}
-use Rattle.span_lanes.proofs.PlainLemmas.{shade_plain, plain_is, plain_lane}
-use Rattle.span_lanes.proofs.plain.collect_plain.Goals as goal
+use Rattle.span_lanes.proofs.TonedLemmas.{shade_toned, toned_is, toned_lane}
+use Rattle.span_lanes.proofs.toned.collect_toned.Goals as goal
 
 pub returns-clause-lanes : goal.returns-clause-lanes
 returns-clause-lanes g c = record {
@@ -25,11 +25,11 @@ returns-clause-lanes g c = record {
       let hue = rw same_x at (c.requires.tones.colors c.args.part.now.first j in_lanes (omega arith)) in
       let again = c.requires.tones.offsets.value j in_lanes ∙ shift_again span.brush.dither span.x x span.y j
       (omega (arith, c.requires.part.cut)) in
-      plain_lane span.brush cell _ _ _ _ _ _
-      (shade_plain span (c.args.part.now.first + j) x c.args.vram.now c.requires.tones.plain (omega arith)
+      toned_lane span.brush cell _ _ _ _ _ _
+      (shade_toned span (c.args.part.now.first + j) x c.args.vram.now c.requires.tones.untextured (omega arith)
       ∙ ap (flat_pixel span.brush color (shift_of span.brush.dither x span.y)) here
       ∙ flat_back span.brush color (shift_of span.brush.dither x span.y) cell _ back
-      ∙ plain_is span.brush color _ _ _ _ (rw (hue, again) at (c.hue_tones-tones.ensures.value j in_lanes))
+      ∙ toned_is span.brush color _ _ _ _ (rw (hue, again) at (c.hue_tones-tones.ensures.value j in_lanes))
       (c.blend_lanes_if-plotted.ensures.value j in_lanes) (c.blend_lanes_if-plotted.ensures.low j in_lanes))
       back (ones j in_lanes) (c.force_lanes.ensures.value j in_lanes) (c.over_lanes.ensures.value j in_lanes);
 }
