@@ -89,8 +89,8 @@ pub(crate) fn draw_kept<L: Ledger>(
     }
 }
 
-// A row of texels under a colour, whose palette is kept from then on, where it is known how texels and pixels are drawn:
-// so there is one loop.
+// A row of texels under a colour, whose palette is kept from then on, where it is known how texels and pixels are
+// drawn: so there is one loop.
 #[inline(always)]
 pub(crate) fn draw_kept_known<L: Ledger>(
     vram: &mut Vram,
