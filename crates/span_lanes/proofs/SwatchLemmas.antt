@@ -10,7 +10,8 @@ use Rattle.span_lanes.specs.declared.span.Paint.{Paint}
 use Rattle.texel_lanes.specs.declared.table.Table.{Table}
 use Rattle.texel_lanes.specs.Texture.{at_cell, clut_row}
 use Rattle.span_lanes.specs.Shade.{texture_of}
-use Rattle.span_lanes.specs.Swatches.{AreColored, AreEntries, AreFresh, AreSwatches, HasPalette, IsKept, IsPalette, IsPaletteOf}
+use Rattle.span_lanes.specs.Swatches.{AreColored, AreEntries, AreFresh, AreSwatches, HasPalette, IsKept, IsPalette}
+use Rattle.span_lanes.specs.Swatches.{IsPaletteOf}
 use Rattle.span_lanes.specs.Swatches.{IsUnder}
 use Rattle.span_lanes.specs.Swatches.{entries_of}
 use Rattle.texel_lanes.specs.Table.{entries_in, entry_at}

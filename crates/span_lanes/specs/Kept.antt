@@ -20,12 +20,16 @@ pub record CanTake (s : Span) (t : Texture) (found : Type 0) (m : List ℕ) : Ty
   pub apart : IsApart s
   pub finds : found
 
--- one whose palette of sixteen entries is kept under its colour
-pub record CanKeep (s : Span) (t : Texture) (found : Type 0) (kept : Swatches) (m : List ℕ) : Type 0 where
+-- one under one colour whose palette of sixteen entries can be coloured once
+pub record CanColor (s : Span) (t : Texture) (found : Type 0) (color : ℕ) (m : List ℕ) : Type 0 where
   pub sample : CanSample s t m
   pub suits : SuitsPalette s t
   pub finds : found
-  pub hue : AreHues s.paint s.x s.y s.n (One kept.color)
+  pub hue : AreHues s.paint s.x s.y s.n (One color)
+
+-- one whose palette is kept under its colour
+pub record CanKeep (s : Span) (t : Texture) (found : Type 0) (kept : Swatches) (m : List ℕ) : Type 0 where
+  pub can : CanColor s t found kept.color m
   pub raw : kept.raw ≡ t.raw
   pub colored : AreColored kept
   pub entries : AreSwatches t m kept

@@ -1,11 +1,16 @@
--- The parts of a paint at a cell.
+-- Paints, and their parts at a cell.
 use Rattle.std.specs.Prelude.{ℕ, ◌+◌}
 use Rattle.span_lanes.specs.declared.part.Part.{Part}
+use Rattle.span_lanes.specs.declared.row.TexelRow.{TexelRow}
 use Rattle.span_lanes.specs.declared.span.Paint.{Paint}
 use Rattle.span_lanes.specs.declared.span.Paint.TheVariants.{Flat, Shaded, TexturedTri, TexturedRow}
 use Rattle.span_lanes.specs.Shade.{row_u, attribute_in, color_in}
 
--- its colour at (x, y)
+-- a row of texels
+abbrev pub row_paint : TexelRow → Paint
+row_paint row = TexturedRow row.color row.texture row.u row.v row.flip
+
+-- the colour of a paint at (x, y)
 abbrev pub paint_color : Paint → ℕ → ℕ → ℕ
 paint_color (Flat color) x y = color
 paint_color (Shaded tri) x y = color_in tri x y

@@ -6,6 +6,7 @@ use Rattle.span_lanes.specs.Pen.{coat_span}
 use Rattle.span_lanes.specs.declared.span.Coat.{Coat}
 use Rattle.span_lanes.specs.Swatches.{AreColored, AreFresh, entries_of}
 use Rattle.span_lanes.specs.declared.span.Paint.TheVariants.{TexturedRow}
+use Rattle.span_lanes.specs.declared.row.TexelRow.{TexelRow}
 use Rattle.span_lanes.specs.declared.span.Span.{Span}
 use Rattle.span_lanes.specs.declared.swatches.Swatches.{Swatches}
 use Rattle.span_lanes.specs.declared.texel_rows.TexelRows.{TexelRows}
@@ -52,6 +53,18 @@ new_laid rows = record { rows = rows; palette = None }
 -- the palette that a pen keeps, if any, is the one in video memory
 abbrev pub IsLaidFresh : Laid → List ℕ → Type 0
 IsLaidFresh laid m = AreFresh (texel_coat laid.rows 0).paint m laid.palette
+
+-- a row of the page, as these rows have it
+pub record IsRowOf (rows : TexelRows) (row : TexelRow) : Type 0 where
+  pub color : row.color ≡ rows.color
+  pub texture : row.texture ≡ rows.texture
+  pub u : row.u ≡ rows.u
+  pub flip : row.flip ≡ rows.flip
+
+-- any rows: each is looked at by itself
+pub record IsEachRowPen (rows : TexelRows) (row : TexelRow) (last : Option Swatches) : Type 0 where
+  pub row_is : IsRowOf rows row
+  pub colored : IfSome last AreColored
 
 -- the palette can be coloured once, and what is kept was
 pub record IsKeptRowsPen (rows : TexelRows) (last : Option Swatches) : Type 0 where

@@ -12,7 +12,8 @@
 // - `Kept<&RampedSlopes>` and `Shaded<&RampedSlopes>`, in `draw_scaled`: by the coordinates of each texel under one
 //   colour, apart from what is written. No line belongs to them.
 // - `Mixed`, in `draw_mixed`: the same under several. [triangle turned, gouraud, dithered, half]
-// - `Kept<Stretch>`, four in `draw_kept`: the same of other spans, raw or not, as it is or not: two look-ups or four.
+// - `Kept<Stretch>`, four in `draw_kept_beside`: a palette coloured once, of other spans, raw or not, as it is or not:
+//   two look-ups or four.
 // - `Raw<Fours>`, `Raw<Eights>`, `Raw<Wholes>`, each as it is or not, in `draw_raw`: texels side by side without a
 //   colour. [triangle 15-bit raw]
 // - `Shaded` of the same three, each as it is or not, in `draw_shaded`: under colours. [rectangle 8-bit modulated]
@@ -26,21 +27,22 @@ ghost use Rattle.span_lanes.specs.BlockPen.{IsBeside};
 ghost use Rattle.span_lanes.specs.Draws.{CanDraw, DrawsSpan, at_stage};
 ghost use Rattle.span_lanes.specs.Guard.{IsInOtherRow};
 ghost use Rattle.span_lanes.specs.Kept.{CanTake};
-ghost use Rattle.span_lanes.specs.declared.span.Paint.TheVariants.{TexturedRow};
+ghost use Rattle.span_lanes.specs.Paints.{row_paint};
 ghost use Rattle.span_lanes.specs.Pen.{IsTint, coat_of};
 ghost use Rattle.span_lanes.specs.Ready.{IsReady};
 ghost use Rattle.span_lanes.specs.Sheet.{CanDrawSheet, IsSheetOf};
 ghost use Rattle.span_lanes.specs.Stretch.{IsStretch};
 ghost use Rattle.span_lanes.specs.Swatches.{IsKept};
 
+use crate::Span;
 use crate::apart::is_apart;
-use crate::kept::{draw_kept, keeps_palette};
+use crate::kept::{draw_kept_beside, keeps_palette};
 use crate::loops::draw_parts;
 use crate::plan::{row_plan, tri_plan};
 use crate::planned::draw_planned;
 use crate::ready::Ready;
 use crate::row::TexelRow;
-use crate::sampler::Found;
+use crate::sampler::{FlatTexels, Found, found_by};
 use crate::sheet::Sheet;
 use crate::solid::Solid;
 use crate::stretch::{Stretch, place_row, row_stretch};
@@ -48,7 +50,6 @@ use crate::stretched::draw_stretched;
 use crate::swatches::Swatches;
 use crate::tint::Tint;
 use crate::untextured::draw_untextured;
-use crate::{Span, Texture};
 use std::sync::ledger::Ledger;
 use vram_store::{Steps, Vram};
 
@@ -63,7 +64,7 @@ fn draw_beside<L: Ledger>(
     steps: &mut Steps<L>,
 )
     requires take { CanTake span.now found.now.texture.now (IsStretch span.now found.now.texture.now
-        found.now.sampler.now) vram.old }
+        found.now.sampler) vram.old }
     requires tint { IsTint span.now.paint tint.now }
     requires palette { IsInOtherRow found.now.texture.now span.now.y }
     requires last { IsKept span.now.paint vram.old last.old }
@@ -72,11 +73,16 @@ fn draw_beside<L: Ledger>(
 {
     match tint {
         Tint::OneColor { color } if keeps_palette(span, found.texture) => {
-            draw_kept(vram, span, found, *color, last, steps)
+            let texels = FlatTexels {
+                texture: found.texture,
+                color: *color,
+                sampler: found.sampler,
+            };
+            draw_kept_beside(vram, span, &texels, last, steps)
         }
         _ => {
             *last = None;
-            draw_stretched(vram, span, found.texture, found.sampler, tint, steps)
+            draw_stretched(vram, span, found, tint, steps)
         }
     }
 }
@@ -96,11 +102,7 @@ pub(crate) fn draw_beside_row<L: Ledger>(
     ensures drawn { DrawsSpan span.now 0 (at_stage vram.old steps.old) (at_stage vram.new steps.new) }
     ensures last { IsKept span.now.paint vram.new last.new }
 {
-    let stretch = place_row(span, sheet);
-    let found = Found {
-        texture: &sheet.texture,
-        sampler: &stretch,
-    };
+    let found = found_by(&sheet.texture, place_row(span, sheet));
     draw_beside(vram, span, &found, &sheet.tint, last, steps);
 }
 
@@ -109,18 +111,17 @@ pub(crate) fn draw_beside_row<L: Ledger>(
 fn draw_planned_row<L: Ledger>(
     vram: &mut Vram,
     span: &Span,
-    texture: &Texture,
-    row: TexelRow,
+    row: &TexelRow,
     last: &mut Option<Swatches>,
     steps: &mut Steps<L>,
 )
     requires can { CanDraw span.now vram.old }
-    requires paint { span.now.paint ≡ TexturedRow row.color texture.now row.u row.v row.flip }
+    requires paint { span.now.paint ≡ row_paint row.now }
     requires last { IsKept span.now.paint vram.old last.old }
     ensures drawn { DrawsSpan span.now 0 (at_stage vram.old steps.old) (at_stage vram.new steps.new) }
     ensures last { IsKept span.now.paint vram.new last.new }
 {
-    let plan = row_plan(span, texture, row);
+    let plan = row_plan(span, row);
     draw_planned(vram, span, &plan, last, steps);
 }
 
@@ -129,29 +130,25 @@ fn draw_planned_row<L: Ledger>(
 pub(crate) fn draw_row<L: Ledger>(
     vram: &mut Vram,
     span: &Span,
-    texture: &Texture,
-    row: TexelRow,
+    row: &TexelRow,
     last: &mut Option<Swatches>,
     steps: &mut Steps<L>,
 )
     requires can { CanDraw span.now vram.old }
-    requires paint { span.now.paint ≡ TexturedRow row.color texture.now row.u row.v row.flip }
+    requires paint { span.now.paint ≡ row_paint row.now }
     requires last { IsKept span.now.paint vram.old last.old }
     ensures drawn { DrawsSpan span.now 0 (at_stage vram.old steps.old) (at_stage vram.new steps.new) }
     ensures last { IsKept span.now.paint vram.new last.new }
 {
-    match row_stretch(span, texture, row) {
-        Some(stretch) if is_apart(span, texture) => {
-            let found = Found {
-                texture,
-                sampler: &stretch,
-            };
+    match row_stretch(span, row) {
+        Some(stretch) if is_apart(span, &row.texture) => {
+            let found = found_by(&row.texture, stretch);
             let tint = Tint::OneColor { color: row.color };
             draw_beside(vram, span, &found, &tint, last, steps)
         }
         _ => {
-            let (span, texture) = (*span, *texture);
-            draw_planned_row(vram, &span, &texture, row, last, steps);
+            let (span, row) = (*span, *row);
+            draw_planned_row(vram, &span, &row, last, steps);
         }
     }
 }
@@ -194,6 +191,6 @@ pub(crate) fn draw_ready<L: Ledger>(
         Ready::Solid { h } => draw_parts(vram, span, &Solid { h: *h }, steps),
         Ready::Toned { tint } => draw_untextured(vram, span, tint, steps),
         Ready::Tri { sheet } => draw_tri(vram, span, sheet, last, steps),
-        Ready::Row { texture, row } => draw_row(vram, span, texture, *row, last, steps),
+        Ready::Row { row } => draw_row(vram, span, row, last, steps),
     }
 }

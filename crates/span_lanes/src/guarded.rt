@@ -42,22 +42,22 @@ fn has_hazard(plan: &Plan, at: &Coordinates, part: &Part) -> bool
 #[inline(never)]
 fn draw_guarded<L: Ledger>(
     vram: &mut Vram,
-    plan: Plan,
-    at: Coordinates,
+    plan: &Plan,
+    at: &Coordinates,
     part: &Part,
     steps: &mut Steps<L>,
 )
     requires can { CanDraw part.now.span.now vram.old }
-    requires plan { IsPlan part.now.span.now plan }
+    requires plan { IsPlan part.now.span.now plan.now }
     requires part { IsPart part.now }
-    requires at { HasCoordinates (part_u part.now) (part_v part.now) part.now.k at.us at.vs }
+    requires at { HasCoordinates (part_u part.now) (part_v part.now) part.now.k at.now.us at.now.vs }
     ensures { DrawsPart part.now 0 (at_stage vram.old steps.old) (at_stage vram.new steps.new) }
 {
-    if has_hazard(&plan, &at, part) {
+    if has_hazard(plan, at, part) {
         draw_cells(vram, part, steps);
     } else {
         let texture = &plan.texture;
-        let texels = read_texels::<OneByOne, L>(vram, texture, &at, part.k, steps);
+        let texels = read_texels::<OneByOne, L>(vram, texture, at, part.k, steps);
         draw_shaded(vram, texture, &plan.shading, texels, part, steps);
     }
 }
@@ -73,7 +73,7 @@ impl Chunks for Plan {
     #[inline(always)]
     fn draw_part<L: Ledger>(&self, vram: &mut Vram, part: &Part, steps: &mut Steps<L>) {
         let at = track_lanes(&self.track, part.first);
-        draw_guarded(vram, *self, at, part, steps);
+        draw_guarded(vram, self, &at, part, steps);
     }
 
     ghost can = { λ c s m serves. serves.0 };

@@ -1,21 +1,15 @@
-// Rows of texels of four bits that stand side by side, whose palette is coloured once.
+// Rows of texels of four bits whose palette is coloured once.
 ghost use Rattle.std.specs.Prelude.{◌≡◌, IsTrue};
-ghost use Rattle.span_lanes.specs.BlockPen.{IsBeside, SuitsKept};
-ghost use Rattle.span_lanes.specs.Sheet.{CanDrawSheet};
-ghost use Rattle.span_lanes.specs.declared.hues.Hues.TheVariants.{One};
-ghost use Rattle.span_lanes.specs.Draws.{CanSample, DrawsSpan, at_stage};
+ghost use Rattle.span_lanes.specs.Draws.{DrawsSpan, at_stage};
 ghost use Rattle.span_lanes.specs.Guard.{IsApart, IsInOtherRow};
-ghost use Rattle.span_lanes.specs.Hues.{AreHues};
-ghost use Rattle.span_lanes.specs.Kept.{CanKeep};
+ghost use Rattle.span_lanes.specs.Kept.{CanColor, CanKeep};
 ghost use Rattle.span_lanes.specs.Stretch.{IsStretch};
 ghost use Rattle.span_lanes.specs.Swatches.{IsKept, SuitsPalette};
 
 use crate::loops::{draw_by_brush, draw_parts};
-use crate::plainly::plain;
-use crate::sampler::Found;
+use crate::sampler::{FlatTexels, Indexed};
 use crate::shading::has_even_palette;
-use crate::sheet::Sheet;
-use crate::stretch::{Stretch, place_row};
+use crate::stretch::Stretch;
 use crate::stretched::known;
 use crate::swatches::{Swatches, keep_palette};
 use crate::texels::Kept;
@@ -33,7 +27,42 @@ pub(crate) fn keeps_palette(span: &Span, texture: &Texture) -> bool
     has_even_palette(texture, &span.brush)
 }
 
-// A row, by whether the texels are drawn as they are.
+// Texels by the palette that is kept.
+#[inline(always)]
+fn kept_under<'a, S: Copy>(texels: &FlatTexels<S>, swatches: &'a Swatches) -> Kept<'a, S>
+    ensures texture { result.texture ≡ texels.now.texture.now }
+    ensures sampler { result.sampler ≡ texels.now.sampler }
+    ensures swatches { result.swatches.now ≡ swatches.now }
+{
+    Kept {
+        texture: *texels.texture,
+        sampler: texels.sampler,
+        swatches,
+    }
+}
+
+// A row of texels, whose palette is kept from then on: by one loop.
+#[inline(always)]
+pub(crate) fn draw_kept<S: Indexed + Copy, L: Ledger>(
+    vram: &mut Vram,
+    span: &Span,
+    texels: &FlatTexels<S>,
+    last: &mut Option<Swatches>,
+    steps: &mut Steps<L>,
+)
+    requires can { CanColor span.now texels.now.texture.now
+        (S.finds texels.now.sampler span.now texels.now.texture.now) texels.now.color vram.old }
+    requires last { IsKept span.now.paint vram.old last.old }
+    ensures drawn { DrawsSpan span.now 0 (at_stage vram.old steps.old) (at_stage vram.new steps.new) }
+    ensures last { IsKept span.now.paint vram.new last.new }
+{
+    keep_palette(vram, texels.texture, texels.color, last, steps);
+    if let Some(swatches) = &*last {
+        draw_parts(vram, span, &kept_under(texels, swatches), steps);
+    }
+}
+
+// A row, by whether the texels are drawn as they are, and the pixels stored so.
 #[inline(always)]
 fn draw_by_raw<L: Ledger>(vram: &mut Vram, span: &Span, kept: &Kept<Stretch>, steps: &mut Steps<L>)
     requires { CanKeep span.now kept.now.texture (IsStretch span.now kept.now.texture kept.now.sampler)
@@ -51,89 +80,23 @@ fn draw_by_raw<L: Ledger>(vram: &mut Vram, span: &Span, kept: &Kept<Stretch>, st
     }
 }
 
-// Texels by the palette that is kept.
+// A row of texels side by side, whose palette is kept from then on: by a loop for each way to store the pixels.
 #[inline(always)]
-fn kept_under<'a>(found: &Found<Stretch>, swatches: &'a Swatches) -> Kept<'a, Stretch>
-    ensures texture { result.texture ≡ found.now.texture.now }
-    ensures sampler { result.sampler ≡ found.now.sampler.now }
-    ensures swatches { result.swatches.now ≡ swatches.now }
-{
-    Kept {
-        texture: *found.texture,
-        sampler: *found.sampler,
-        swatches,
-    }
-}
-
-// A row of texels under a colour, whose palette is kept from then on.
-#[inline(always)]
-pub(crate) fn draw_kept<L: Ledger>(
+pub(crate) fn draw_kept_beside<L: Ledger>(
     vram: &mut Vram,
     span: &Span,
-    found: &Found<Stretch>,
-    color: u32,
+    texels: &FlatTexels<Stretch>,
     last: &mut Option<Swatches>,
     steps: &mut Steps<L>,
 )
-    requires sample { CanSample span.now found.now.texture.now vram.old }
-    requires hue { AreHues span.now.paint span.now.x span.now.y span.now.n (One color) }
-    requires stretch { IsStretch span.now found.now.texture.now found.now.sampler.now }
-    requires suits { SuitsPalette span.now found.now.texture.now }
+    requires can { CanColor span.now texels.now.texture.now
+        (IsStretch span.now texels.now.texture.now texels.now.sampler) texels.now.color vram.old }
     requires last { IsKept span.now.paint vram.old last.old }
     ensures drawn { DrawsSpan span.now 0 (at_stage vram.old steps.old) (at_stage vram.new steps.new) }
     ensures last { IsKept span.now.paint vram.new last.new }
 {
-    keep_palette(vram, found.texture, color, last, steps);
+    keep_palette(vram, texels.texture, texels.color, last, steps);
     if let Some(swatches) = &*last {
-        draw_by_raw(vram, span, &kept_under(found, swatches), steps);
+        draw_by_raw(vram, span, &kept_under(texels, swatches), steps);
     }
-}
-
-// A row of texels under a colour, whose palette is kept from then on, where it is known how texels and pixels are
-// drawn: so there is one loop.
-#[inline(always)]
-pub(crate) fn draw_kept_known<L: Ledger>(
-    vram: &mut Vram,
-    span: &Span,
-    found: &Found<Stretch>,
-    color: u32,
-    last: &mut Option<Swatches>,
-    steps: &mut Steps<L>,
-)
-    requires sample { CanSample span.now found.now.texture.now vram.old }
-    requires hue { AreHues span.now.paint span.now.x span.now.y span.now.n (One color) }
-    requires stretch { IsStretch span.now found.now.texture.now found.now.sampler.now }
-    requires suits { SuitsPalette span.now found.now.texture.now }
-    requires last { IsKept span.now.paint vram.old last.old }
-    ensures drawn { DrawsSpan span.now 0 (at_stage vram.old steps.old) (at_stage vram.new steps.new) }
-    ensures last { IsKept span.now.paint vram.new last.new }
-{
-    keep_palette(vram, found.texture, color, last, steps);
-    if let Some(swatches) = &*last {
-        draw_parts(vram, span, &kept_under(found, swatches), steps);
-    }
-}
-
-// A row of a triangle of which it is known that it suits, and that pixels are stored as they are.
-#[inline(always)]
-pub(crate) fn draw_kept_plain<L: Ledger>(
-    vram: &mut Vram,
-    span: &Span,
-    sheet: &Sheet,
-    color: u32,
-    last: &mut Option<Swatches>,
-    steps: &mut Steps<L>,
-)
-    requires can { CanDrawSheet sheet.now span.now vram.old }
-    requires beside { IsBeside sheet.now.tri sheet.now.texture }
-    requires suits { SuitsKept sheet.now.tri sheet.now.texture sheet.now.brush color }
-    requires last { IsKept span.now.paint vram.old last.old }
-    ensures drawn { DrawsSpan span.now 0 (at_stage vram.old steps.old) (at_stage vram.new steps.new) }
-    ensures last { IsKept span.now.paint vram.new last.new }
-{
-    let found = Found {
-        texture: &sheet.texture,
-        sampler: &place_row(span, sheet),
-    };
-    draw_kept_known(vram, &plain(span), &found, color, last, steps);
 }

@@ -4,9 +4,12 @@ ghost use Rattle.span_lanes.specs.declared.block_pen.Way.TheVariants.{Kept};
 ghost use Rattle.span_lanes.specs.declared.span.Paint.TheVariants.{TexturedTri};
 
 use crate::block_pen::BlockPen;
-use crate::kept::draw_kept_plain;
+use crate::kept::draw_kept;
+use crate::plainly::plain;
+use crate::sampler::FlatTexels;
 use crate::sheet::{Sheet, sheet_under};
 use crate::span::no_cells;
+use crate::stretch::place_row;
 use crate::swatches::Swatches;
 use crate::tint::Tint;
 use crate::{Block, Brush, Run, Span, Texture};
@@ -68,13 +71,12 @@ impl BlockPen for KeptPen {
         self.span.x = run.x;
         self.span.y = y;
         self.span.n = run.n;
-        draw_kept_plain(
-            vram,
-            &self.span,
-            &self.sheet,
-            self.color,
-            &mut self.last,
-            steps,
-        );
+        let stretch = place_row(&self.span, &self.sheet);
+        let texels = FlatTexels {
+            texture: &self.sheet.texture,
+            color: self.color,
+            sampler: stretch,
+        };
+        draw_kept(vram, &plain(&self.span), &texels, &mut self.last, steps);
     }
 }

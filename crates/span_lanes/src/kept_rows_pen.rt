@@ -2,8 +2,8 @@
 ghost use Rattle.span_lanes.specs.TexelRows.{KeepsPalette};
 
 use crate::TexelRows;
-use crate::kept::draw_kept_known;
-use crate::sampler::Found;
+use crate::kept::draw_kept;
+use crate::sampler::FlatTexels;
 use crate::swatches::Swatches;
 use crate::texel_row_pen::TexelRowPen;
 use std::marker::Model;
@@ -53,10 +53,11 @@ impl TexelRowPen for KeptRowsPen {
     fn draw_row<L: Ledger>(&mut self, vram: &mut Vram, y: u16, v: u8, steps: &mut Steps<L>) {
         let span = self.rows.span(y, v);
         let stretch = self.rows.stretch(v);
-        let found = Found {
+        let texels = FlatTexels {
             texture: &self.rows.texture,
-            sampler: &stretch,
+            color: self.rows.color,
+            sampler: stretch,
         };
-        draw_kept_known(vram, &span, &found, self.rows.color, &mut self.last, steps);
+        draw_kept(vram, &span, &texels, &mut self.last, steps);
     }
 }

@@ -1,8 +1,8 @@
 // What is chosen once for all chunks of a textured span.
 ghost use Rattle.std.specs.Prelude.{◌≡◌, Some};
 ghost use Rattle.span_lanes.specs.Shade.{IsSpan, texture_of};
-ghost use Rattle.span_lanes.specs.declared.span.Paint.TheVariants.{TexturedRow};
 ghost use Rattle.span_lanes.specs.Hues.{AreHues};
+ghost use Rattle.span_lanes.specs.Paints.{row_paint};
 ghost use Rattle.span_lanes.specs.Pen.{coat_of};
 ghost use Rattle.span_lanes.specs.Plan.{IsPlan};
 ghost use Rattle.span_lanes.specs.Sheet.{IsSheetOf};
@@ -43,9 +43,9 @@ fn plan_with(span: &Span, texture: &Texture, hues: Hues, track: Track) -> Plan
 
 // The plan of a row of texels.
 #[inline(always)]
-pub(crate) fn row_plan(span: &Span, texture: &Texture, row: TexelRow) -> Plan
+pub(crate) fn row_plan(span: &Span, row: &TexelRow) -> Plan
     requires span { IsSpan span.now }
-    requires paint { span.now.paint ≡ TexturedRow row.color texture.now row.u row.v row.flip }
+    requires paint { span.now.paint ≡ row_paint row.now }
     ensures { IsPlan span.now result }
 {
     let track = Track {
@@ -55,7 +55,7 @@ pub(crate) fn row_plan(span: &Span, texture: &Texture, row: TexelRow) -> Plan
         },
         v: Along::Same { v: row.v },
     };
-    plan_with(span, texture, Hues::One { color: row.color }, track)
+    plan_with(span, &row.texture, Hues::One { color: row.color }, track)
 }
 
 // The plan of a row of a triangle.

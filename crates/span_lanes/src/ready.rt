@@ -6,7 +6,7 @@ use crate::row::TexelRow;
 use crate::sheet::{Sheet, sheet_of};
 use crate::solid::solid_color;
 use crate::tint::{Tint, tri_tint};
-use crate::{Brush, Paint, Texture};
+use crate::{Brush, Paint};
 
 // What is one for all spans of a paint and a brush.
 #[derive(Clone, Copy)]
@@ -18,7 +18,7 @@ pub(crate) enum Ready {
     // a triangle with a texture
     Tri { sheet: Sheet },
     // a row of texels
-    Row { texture: Texture, row: TexelRow },
+    Row { row: TexelRow },
 }
 
 // One colour.
@@ -52,9 +52,9 @@ pub(crate) fn ready_of(paint: &Paint, brush: &Brush) -> Ready
             v,
             flip,
         } => Ready::Row {
-            texture: *texture,
             row: TexelRow {
                 color: *color,
+                texture: *texture,
                 u: *u,
                 v: *v,
                 flip: *flip,

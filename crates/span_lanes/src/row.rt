@@ -2,10 +2,13 @@
 ghost use Rattle.std.specs.Prelude.{◌≡◌, ◌≤◌};
 ghost use Rattle.span_lanes.specs.Shade.{row_u};
 
+use crate::Texture;
+
 // A row of texels under one colour, from a column of the page on.
 #[derive(Clone, Copy)]
 pub(crate) struct TexelRow {
     pub(crate) color: u32,
+    pub(crate) texture: Texture,
     pub(crate) u: u8,
     pub(crate) v: u8,
     pub(crate) flip: bool,

@@ -12,10 +12,26 @@ use std::sync::ledger::Ledger;
 use vram_store::{Steps, Vram};
 
 // A texture, and what finds texels in it.
-#[derive(Drop)]
+#[derive(Clone, Copy)]
 pub(crate) struct Found<'a, S> {
     pub(crate) texture: &'a Texture,
-    pub(crate) sampler: &'a S,
+    pub(crate) sampler: S,
+}
+
+#[inline(always)]
+pub(crate) fn found_by<S>(texture: &Texture, sampler: S) -> Found<'_, S>
+    ensures texture { result.texture.now ≡ texture.now }
+    ensures sampler { result.sampler ≡ sampler }
+{
+    Found { texture, sampler }
+}
+
+// A texture under one colour, and what finds texels in it.
+#[derive(Clone, Copy)]
+pub(crate) struct FlatTexels<'a, S> {
+    pub(crate) texture: &'a Texture,
+    pub(crate) color: u32,
+    pub(crate) sampler: S,
 }
 
 // How the texels of a span are found, part by part.

@@ -5,7 +5,7 @@ ghost use Rattle.span_lanes.specs.declared.span.Paint.TheVariants.{TexturedTri};
 
 use crate::block_pen::BlockPen;
 use crate::ramped::{RampedSlopes, tri_ramped_slopes};
-use crate::sampler::Found;
+use crate::sampler::FlatTexels;
 use crate::scaled::draw_scaled;
 use crate::span::no_cells;
 use crate::swatches::Swatches;
@@ -72,10 +72,11 @@ impl BlockPen for ScaledPen {
         self.span.x = run.x;
         self.span.y = y;
         self.span.n = run.n;
-        let found = Found {
+        let texels = FlatTexels {
             texture: &self.texture,
+            color: self.color,
             sampler: &self.slopes,
         };
-        draw_scaled(vram, &self.span, &found, self.color, &mut self.last, steps);
+        draw_scaled(vram, &self.span, &texels, &mut self.last, steps);
     }
 }

@@ -1,9 +1,9 @@
 // Where texels stand side by side in a row of video memory.
 ghost use Rattle.std.specs.Prelude.{◌≡◌, ◌≤◌, ◌<◌, ◌+◌, ◌/◌, IfSome, IsTrue};
 ghost use Rattle.texture_page.specs.Page.{windowed};
-ghost use Rattle.span_lanes.specs.declared.span.Paint.TheVariants.{TexturedRow};
 ghost use Rattle.texel_lanes.specs.Texture.{IsTexture};
 ghost use Rattle.span_lanes.specs.Shade.{IsSpan};
+ghost use Rattle.span_lanes.specs.Paints.{row_paint};
 ghost use Rattle.span_lanes.specs.Pen.{coat_of};
 ghost use Rattle.span_lanes.specs.Sheet.{IsSheetOf};
 ghost use Rattle.span_lanes.specs.Stretch.{IsRising, IsStretch};
@@ -79,15 +79,15 @@ fn stretch_from(span: &Span, texture: &Texture, u: u8, v: u8) -> Option<Stretch>
 
 // Where the texels of a row stand side by side, if they do.
 #[inline(always)]
-pub(crate) fn row_stretch(span: &Span, texture: &Texture, row: TexelRow) -> Option<Stretch>
+pub(crate) fn row_stretch(span: &Span, row: &TexelRow) -> Option<Stretch>
     requires span { IsSpan span.now }
-    requires paint { span.now.paint ≡ TexturedRow row.color texture.now row.u row.v row.flip }
-    ensures { IfSome result (IsStretch span.now texture.now) }
+    requires paint { span.now.paint ≡ row_paint row.now }
+    ensures { IfSome result (IsStretch span.now row.now.texture) }
 {
     if row.flip {
         None
     } else {
-        stretch_from(span, texture, row.u, row.v)
+        stretch_from(span, &row.texture, row.u, row.v)
     }
 }
 

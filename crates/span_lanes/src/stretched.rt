@@ -7,7 +7,7 @@ ghost use Rattle.span_lanes.specs.Stretch.{IsStretch};
 
 use crate::hues::hues_of;
 use crate::loops::draw_by_brush;
-use crate::sampler::Sampler;
+use crate::sampler::{Found, Sampler, found_by};
 use crate::shading::shading_of;
 use crate::side_by_side::{Eights, Fours, Wholes};
 use crate::stretch::Stretch;
@@ -31,17 +31,17 @@ pub(crate) fn known(texture: &Texture, raw: bool) -> Texture
 fn draw_raw<S: Sampler + Copy, L: Ledger>(
     vram: &mut Vram,
     span: &Span,
-    texture: &Texture,
-    sampler: &S,
+    found: &Found<S>,
     steps: &mut Steps<L>,
 )
-    requires take { CanTake span.now texture.now (S.finds sampler.now span.now texture.now) vram.old }
-    requires raw { texture.now.raw ≡ true }
+    requires take { CanTake span.now found.now.texture.now
+        (S.finds found.now.sampler span.now found.now.texture.now) vram.old }
+    requires raw { found.now.texture.now.raw ≡ true }
     ensures { DrawsSpan span.now 0 (at_stage vram.old steps.old) (at_stage vram.new steps.new) }
 {
     let raw = Raw {
-        texture: known(texture, true),
-        sampler: *sampler,
+        texture: known(found.texture, true),
+        sampler: found.sampler,
     };
     draw_by_brush(vram, span, &raw, steps);
 }
@@ -51,20 +51,20 @@ fn draw_raw<S: Sampler + Copy, L: Ledger>(
 fn draw_shaded<S: Sampler + Copy, L: Ledger>(
     vram: &mut Vram,
     span: &Span,
-    texture: &Texture,
-    sampler: &S,
+    found: &Found<S>,
     tint: &Tint,
     steps: &mut Steps<L>,
 )
-    requires take { CanTake span.now texture.now (S.finds sampler.now span.now texture.now) vram.old }
-    requires raw { texture.now.raw ≡ false }
+    requires take { CanTake span.now found.now.texture.now
+        (S.finds found.now.sampler span.now found.now.texture.now) vram.old }
+    requires raw { found.now.texture.now.raw ≡ false }
     requires tint { IsTint span.now.paint tint.now }
     ensures { DrawsSpan span.now 0 (at_stage vram.old steps.old) (at_stage vram.new steps.new) }
 {
     let shaded = Shaded {
-        texture: known(texture, false),
-        sampler: *sampler,
-        shading: shading_of(span, texture, hues_of(span, tint)),
+        texture: known(found.texture, false),
+        sampler: found.sampler,
+        shading: shading_of(span, found.texture, hues_of(span, tint)),
     };
     draw_by_brush(vram, span, &shaded, steps);
 }
@@ -74,19 +74,19 @@ fn draw_shaded<S: Sampler + Copy, L: Ledger>(
 fn draw_by_raw<S: Sampler + Copy, L: Ledger>(
     vram: &mut Vram,
     span: &Span,
-    texture: &Texture,
-    sampler: &S,
+    found: &Found<S>,
     tint: &Tint,
     steps: &mut Steps<L>,
 )
-    requires take { CanTake span.now texture.now (S.finds sampler.now span.now texture.now) vram.old }
+    requires take { CanTake span.now found.now.texture.now
+        (S.finds found.now.sampler span.now found.now.texture.now) vram.old }
     requires tint { IsTint span.now.paint tint.now }
     ensures { DrawsSpan span.now 0 (at_stage vram.old steps.old) (at_stage vram.new steps.new) }
 {
-    if texture.raw {
-        draw_raw(vram, span, texture, sampler, steps);
+    if found.texture.raw {
+        draw_raw(vram, span, found, steps);
     } else {
-        draw_shaded(vram, span, texture, sampler, tint, steps);
+        draw_shaded(vram, span, found, tint, steps);
     }
 }
 
@@ -95,19 +95,28 @@ fn draw_by_raw<S: Sampler + Copy, L: Ledger>(
 pub(crate) fn draw_stretched<L: Ledger>(
     vram: &mut Vram,
     span: &Span,
-    texture: &Texture,
-    stretch: &Stretch,
+    found: &Found<Stretch>,
     tint: &Tint,
     steps: &mut Steps<L>,
 )
-    requires take { CanTake span.now texture.now (IsStretch span.now texture.now stretch.now) vram.old }
+    requires take { CanTake span.now found.now.texture.now
+        (IsStretch span.now found.now.texture.now found.now.sampler) vram.old }
     requires tint { IsTint span.now.paint tint.now }
     ensures { DrawsSpan span.now 0 (at_stage vram.old steps.old) (at_stage vram.new steps.new) }
 {
-    let stretch = *stretch;
+    let (texture, stretch) = (found.texture, found.sampler);
     match texture.page.depth {
-        0 => draw_by_raw(vram, span, texture, &Fours { stretch }, tint, steps),
-        1 => draw_by_raw(vram, span, texture, &Eights { stretch }, tint, steps),
-        _ => draw_by_raw(vram, span, texture, &Wholes { stretch }, tint, steps),
+        0 => {
+            let fours = found_by(texture, Fours { stretch });
+            draw_by_raw(vram, span, &fours, tint, steps);
+        }
+        1 => {
+            let eights = found_by(texture, Eights { stretch });
+            draw_by_raw(vram, span, &eights, tint, steps);
+        }
+        _ => {
+            let wholes = found_by(texture, Wholes { stretch });
+            draw_by_raw(vram, span, &wholes, tint, steps);
+        }
     }
 }

@@ -30,20 +30,20 @@ pub trait TexelRowPen: Drop {
 #[derive(Drop)]
 pub struct EachRowPen {
     rows: TexelRows,
+    // the last row that was drawn; at first row 0
+    row: TexelRow,
     // the palette that was seen, and what the colour makes of it
     last: Option<Swatches>,
 }
 
 impl Model for EachRowPen {
-    ghost use Rattle.std.specs.Prelude.{IfSome};
-    ghost use Rattle.span_lanes.specs.Swatches.{AreColored};
-    ghost use Rattle.span_lanes.specs.TexelRows.{Laid, laid_of};
+    ghost use Rattle.span_lanes.specs.TexelRows.{IsEachRowPen, Laid, laid_of};
 
     ghost Value = { Laid };
 
     ghost view = { λ pen. laid_of pen.rows pen.last };
 
-    ghost invariant = { λ pen. IfSome pen.last AreColored };
+    ghost invariant = { λ pen. IsEachRowPen pen.rows pen.row pen.last };
 }
 
 impl EachRowPen {
@@ -57,6 +57,7 @@ impl EachRowPen {
     {
         EachRowPen {
             rows: *rows,
+            row: rows.row_at(0),
             last: None,
         }
     }
@@ -69,12 +70,7 @@ impl TexelRowPen for EachRowPen {
     #[tactic(auto, using(crate::proofs::SwatchLemmas::kept_of_fresh, crate::proofs::SwatchLemmas::fresh_of_kept))]
     fn draw_row<L: Ledger>(&mut self, vram: &mut Vram, y: u16, v: u8, steps: &mut Steps<L>) {
         let span = self.rows.span(y, v);
-        let row = TexelRow {
-            color: self.rows.color,
-            u: self.rows.u,
-            v,
-            flip: self.rows.flip,
-        };
-        draw_row(vram, &span, &self.rows.texture, row, &mut self.last, steps);
+        self.row.v = v;
+        draw_row(vram, &span, &self.row, &mut self.last, steps);
     }
 }

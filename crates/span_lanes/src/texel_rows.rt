@@ -3,10 +3,11 @@ ghost use Rattle.std.specs.Prelude.{ℕ, ◌≡◌, IsTrue, false};
 ghost use Rattle.texel_lanes.specs.Texture.{IsTexture};
 ghost use Rattle.span_lanes.specs.Frame.{IsBlock};
 ghost use Rattle.span_lanes.specs.Stretch.{IsStretch};
-ghost use Rattle.span_lanes.specs.TexelRows.{KeepsPalette, texel_span};
+ghost use Rattle.span_lanes.specs.TexelRows.{IsRowOf, KeepsPalette, texel_span};
 
 use crate::apart::is_block_apart;
 use crate::plainly::{is_plain, plain_brush};
+use crate::row::TexelRow;
 use crate::shading::has_even_palette;
 use crate::stretch::{Stretch, has_room, is_open, stretch_at};
 use crate::stretched::known;
@@ -47,6 +48,21 @@ impl TexelRows {
                 flip: self.flip,
             },
             brush: self.brush,
+        }
+    }
+
+    // Row v of the page.
+    #[inline(always)]
+    pub(crate) fn row_at(&self, v: u8) -> TexelRow
+        ensures row { IsRowOf self.now result }
+        ensures v { result.v ≡ v }
+    {
+        TexelRow {
+            color: self.color,
+            texture: self.texture,
+            u: self.u,
+            v,
+            flip: self.flip,
         }
     }
 

@@ -86,5 +86,5 @@ impl<S: Indexed> Chunks for Kept<'_, S> {
         draw_fronts(vram, &self.texture, drawn, part, steps);
     }
 
-    ghost can = { λ c s m serves. serves.sample.can };
+    ghost can = { λ c s m serves. serves.can.sample.can };
 }

@@ -1,5 +1,5 @@
 -- A texel as it is in video memory (psx-spx, "GPU Video Memory (VRAM)": texture bitmaps and palettes).
-use Rattle.std.specs.Prelude.{ℕ, ◌/◌, ◌%◌, ◌+◌, ◌<◌, List, if◌then◌else◌, nat_lt}
+use Rattle.std.specs.Prelude.{ℕ, ◌+◌, ◌<◌, List, if◌then◌else◌, nat_lt}
 use Rattle.px_num.specs.declared.shape.Cell.{Cell}
 use Rattle.vram_store.specs.Vram.{at}
 use Rattle.texture_page.specs.Page.{IsPage, IsWindow, texel_place, clut_place, index_at}
@@ -28,6 +28,6 @@ texel t u v m =
 abbrev pub texel_steps : ℕ → ℕ
 texel_steps depth = if nat_lt depth 2 then 2 else 1
 
--- the row of a palette
+-- the row of a palette: that of its first entry
 abbrev pub clut_row : ℕ → ℕ
-clut_row clut = clut / 64 % 512
+clut_row clut = (clut_place clut 0).y

@@ -8,6 +8,7 @@ use crate::gather::Gather;
 use px_num::lanes::{add, low_bits, splat};
 use std::simd::prelude::*;
 use std::sync::ledger::Ledger;
+use texture_page::clut_cell;
 use vram_store::{Steps, Vram};
 
 /// The row of video memory that a palette stands in.
@@ -16,7 +17,7 @@ pub fn clut_row(clut: u16) -> u16
     ensures value { result ≡ clut_row clut }
     ensures low { result < 512 }
 {
-    clut / 64 % 512
+    clut_cell(clut, 0).y
 }
 
 // The columns of the entries of sixteen indexes.

@@ -11,12 +11,12 @@ read_texels-texels-requires-clause-page g c = rw c.requires.plan.texture at c.re
 
 pub draw_shaded-requires-clause-texels : goal.draw_shaded-requires-clause-texels
 draw_shaded-requires-clause-texels g c =
-    texels_here c.args.part.now c.args.plan.texture _ _ c.args.vram.now _ c.requires.at
+    texels_here c.args.part.now c.args.plan.now.texture _ _ c.args.vram.now _ c.requires.at
     c.read_texels-texels.ensures.long c.read_texels-texels.ensures.value
 
 pub returns-then-has_hazard : goal.returns-then-has_hazard
 returns-then-has_hazard g c =
-    let cost = hazard_cost c.args.part.now.span.now c.args.plan.texture c.args.part.now.first c.args.part.now.k
+    let cost = hazard_cost c.args.part.now.span.now c.args.plan.now.texture c.args.part.now.first c.args.part.now.k
     c.requires.plan.texture
     (sym c.has_hazard.ensures.value ∙ c.if-has_hazard.true) in
     let spent = rw c.requires.plan.texture at c.draw_cells.ensures.cost in
@@ -28,7 +28,7 @@ returns-then-has_hazard g c =
 
 pub returns-else-has_hazard : goal.returns-else-has_hazard
 returns-else-has_hazard g c =
-    let cost = free_cost c.args.part.now.span.now c.args.plan.texture c.args.part.now.first c.args.part.now.k
+    let cost = free_cost c.args.part.now.span.now c.args.plan.now.texture c.args.part.now.first c.args.part.now.k
     c.requires.plan.texture
     (sym c.has_hazard.ensures.value ∙ c.if-has_hazard.false) in
     record {

@@ -6,5 +6,5 @@ stretch_from-requires-clause-texture c = rw c.requires.paint at c.requires.span.
 
 pub stretch_from-requires-clause-rising : goal.stretch_from-requires-clause-rising
 stretch_from-requires-clause-rising c =
-    let row = c.args.row in
-    row_rising c.args.span.now c.args.texture.now row.color row.u row.v row.flip c.requires.paint c.if-row.false
+    let row = c.args.row.now in
+    row_rising c.args.span.now row.texture row.color row.u row.v row.flip c.requires.paint c.if-row.false

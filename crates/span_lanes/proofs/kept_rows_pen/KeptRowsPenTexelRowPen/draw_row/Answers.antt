@@ -1,12 +1,29 @@
+use Rattle.std.proofs.Common.{refl}
 use Rattle.span_lanes.proofs.PartLemmas.{draws_cells}
+use Rattle.span_lanes.specs.TexelRows.{texel_span}
 use Rattle.span_lanes.proofs.kept_rows_pen.KeptRowsPenTexelRowPen.draw_row.Goals as goal
 
-pub draw_kept_known-requires-clause-stretch : goal.draw_kept_known-requires-clause-stretch
-draw_kept_known-requires-clause-stretch g c = rw c.span-span.ensures (c.stretch-stretch.ensures c.args.y)
+pub draw_kept-requires-clause-can : goal.draw_kept-requires-clause-can
+draw_kept-requires-clause-can g c =
+    let rows = c.self.inside.rows in
+    let keeps = c.self.invariant.keeps in
+    let asked = rw (← c.self.view_is) at c.requires.can in
+    rw c.span-span.ensures
+    (record {
+      sample = record { can = asked.can; texture = refl };
+      suits = record {
+        apart = keeps.apart.apart _ refl asked.can.span asked.in_block;
+        depth = keeps.depth;
+        row = keeps.apart.palette (texel_span rows c.args.y c.args.v) asked.in_block keeps.depth;
+        even = keeps.even;
+      };
+      finds = c.stretch-stretch.ensures c.args.y;
+      hue = λ at j lane lt. refl;
+    })
 
 pub returns-clause-drawn : goal.returns-clause-drawn
 returns-clause-drawn g c =
     let rows = c.self.inside.rows in
     rw (← c.self.view_is)
     (draws_cells _ _ _
-    (rw c.span-span.ensures at c.draw_kept_known.ensures.drawn))
+    (rw c.span-span.ensures at c.draw_kept.ensures.drawn))

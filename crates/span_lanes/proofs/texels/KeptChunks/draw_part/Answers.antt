@@ -8,7 +8,7 @@ use Rattle.span_lanes.proofs.texels.KeptChunks.draw_part.Goals as goal
 pub draw_fronts-requires-clause-free : goal.draw_fronts-requires-clause-free
 draw_fronts-requires-clause-free g c =
     let part = c.args.part.now in
-    c.requires.serves.suits.apart.free part.first part.k c.requires.part.within
+    c.requires.serves.can.suits.apart.free part.first part.k c.requires.part.within
 
 pub draw_fronts-requires-clause-drawn : goal.draw_fronts-requires-clause-drawn
 draw_fronts-requires-clause-drawn g c =
@@ -28,8 +28,8 @@ draw_fronts-requires-clause-drawn g c =
           let x : ℕ = span.x + part.first + j in
           let lane : j < 16 = omega arith in
           let same_x : span.x + (part.first + j) ≡ x = omega arith in
-          let hue = rw same_x at (c.requires.serves.hue part.first j lane (omega arith)) in
-          let even = c.requires.serves.suits.even in
+          let hue = rw same_x at (c.requires.serves.can.hue part.first j lane (omega arith)) in
+          let even = c.requires.serves.can.suits.even in
           rw (← hue, no_shift (span.brush.dither && not c.args.self.now.texture.raw) x span.y even)
           (c.drawn_at-drawn.ensures.fronts j lane);
     }
@@ -37,10 +37,10 @@ draw_fronts-requires-clause-drawn g c =
 pub returns-clause-drawn : goal.returns-clause-drawn
 returns-clause-drawn g c =
     let part = c.args.part.now in
-    let suits = c.requires.serves.suits in
+    let suits = c.requires.serves.can.suits in
     let cost = (rw suits.depth at
     (apart_cost part.span.now c.args.self.now.texture part.first part.k suits.apart c.requires.part.within
-    c.requires.serves.sample.texture)) in
+    c.requires.serves.can.sample.texture)) in
     record {
       cells = c.draw_fronts.ensures.cells;
       long = c.draw_fronts.ensures.others.count;
@@ -52,12 +52,14 @@ returns-clause-serves g c =
     let is = c.requires.serves in
     let part = c.args.part.now in
     record {
-      sample = sample_stays is.sample c.draw_fronts.ensures.others.count;
-      suits = is.suits;
-      finds = is.finds;
-      hue = is.hue;
+      can = record {
+        sample = sample_stays is.can.sample c.draw_fronts.ensures.others.count;
+        suits = is.can.suits;
+        finds = is.can.finds;
+        hue = is.can.hue;
+      };
       raw = is.raw;
       colored = is.colored;
       entries = swatches_kept c.args.self.now.texture (part.span.now.x + part.first) part.span.now.y part.k _ _ _
-          c.draw_fronts.ensures.others (omega arith) is.suits.row is.entries;
+          c.draw_fronts.ensures.others (omega arith) is.can.suits.row is.entries;
     }
