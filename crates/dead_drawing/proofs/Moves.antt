@@ -1,5 +1,6 @@
 -- Fills and loads, in two states of video memory.
-use Rattle.std.proofs.Common.{◌≡◌, ◌<◌, ◌≤◌, ◌+◌, ◌-◌, ◌*◌, ◌/◌, ◌%◌, ◌||◌, eqb, ℕ, pos, List, [], ◌∷◌, None, Some, Bool}
+use Rattle.std.proofs.Common.{◌≡◌, ◌<◌, ◌≤◌, ◌+◌, ◌-◌, ◌*◌, ◌/◌, ◌%◌, ◌||◌, eqb, ℕ, pos, List, [], ◌∷◌}
+use Rattle.std.proofs.Common.{None, Some, Bool}
 use Rattle.std.proofs.Common.{true, false, cond, length, get_or, slice_set, inl, inr, refl, sym, ap, ◌∙◌, subst, arith}
 use Rattle.std.proofs.lemmas.Bool.{cases_lt}
 use Rattle.std.proofs.lemmas.Bool.Decides.{nat_tests}

@@ -74,7 +74,8 @@ lane_is a b c which area x y j step here there bytes area_is step_is =
     let v = weights_of a b c z y there in
     let total : pos (sum_at a b c which z y) ≡ (pos (sum_at a b c which x y) +ℤ step *ℤ pos j) =
     rw step_is (sum_further (attribute which a) (attribute which b) (attribute which c) (weight b c x y)
-    (weight c a x y) (weight a b x y) (weight b c z y) (weight c a z y) (weight a b z y) j (c.y -ℤ b.y) (a.y -ℤ c.y) (b.y -ℤ a.y)
+    (weight c a x y) (weight a b x y) (weight b c z y) (weight c a z y) (weight a b z y) j
+    (c.y -ℤ b.y) (a.y -ℤ c.y) (b.y -ℤ a.y)
     (v.first ∙ edge_further b c x y (pos j) ∙ ap (λ e. e -ℤ (c.y -ℤ b.y) *ℤ pos j) (sym w.first))
     (v.second ∙ edge_further c a x y (pos j) ∙ ap (λ e. e -ℤ (a.y -ℤ c.y) *ℤ pos j) (sym w.second))
     (v.third ∙ edge_further a b x y (pos j) ∙ ap (λ e. e -ℤ (b.y -ℤ a.y) *ℤ pos j) (sym w.third))) in

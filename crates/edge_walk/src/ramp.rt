@@ -63,7 +63,8 @@ pub(crate) fn ramp_of(step: u64) -> Ramp
 pub(crate) fn around(ninth: u32, ramp: &Ramp) -> u16x16
     requires { length ramp.now.lanes ≡ 16 }
     ensures long { length result ≡ 16 }
-    ensures value { (step : ℕ) → IsRamp step ramp.now → EachLane (λ j. slice_index result j ≡ short_value step ninth j) }
+    ensures value { (step : ℕ) → IsRamp step ramp.now
+        → EachLane (λ j. slice_index result j ≡ short_value step ninth j) }
     ensures bytes { EachLane (λ j. slice_index result j ≤ 255) }
 {
     top_bytes(plus(ramp.lanes, ninth))

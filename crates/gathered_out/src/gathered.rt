@@ -97,9 +97,9 @@ impl Gathered {
         }
     }
 
-    /// Adds a piece of at most 4,096 bytes, which is due at the event of this number. Where there is no room for it, what
-    /// is gathered is written first. The answer to a failure is the number of the first piece that lacks a byte, one of
-    /// those before this; nothing more can be written then.
+    /// Adds a piece of at most 4,096 bytes, which is due at the event of this number. Where there is no room for it,
+    /// what is gathered is written first. The answer to a failure is the number of the first piece that lacks a byte,
+    /// one of those before this; nothing more can be written then.
     pub fn put<K: Sink>(&mut self, number: u64, bytes: &[u8], out: &mut K) -> Result<(), u64>
         requires { length bytes.now ≤ 4096 }
         ensures ok { (before : Option (List ℕ)) (pieces : List Piece) → AreOut before pieces (K.held out.old) self.old
@@ -119,8 +119,8 @@ impl Gathered {
         }
     }
 
-    /// Writes all that is gathered, and nothing is gathered then. The answer to a failure is the number of the first piece
-    /// that lacks a byte; nothing more can be written then.
+    /// Writes all that is gathered, and nothing is gathered then. The answer to a failure is the number of the first
+    /// piece that lacks a byte; nothing more can be written then.
     pub fn write<K: Sink>(&mut self, out: &mut K) -> Result<(), u64>
         ensures ok { (before : Option (List ℕ)) (pieces : List Piece) → AreOut before pieces (K.held out.old) self.old
             → OnOk result (K.held out.new ≡ appended before (bytes_of pieces)) }

@@ -11,6 +11,7 @@ use Rattle.prim_draw.specs.Apart.{AgreeOutside, SameAt}
 abbrev pub DrawingStays : Type 0
 DrawingStays = (r : Registers) (p : Packet) (m : List ℕ) → AgreeOutside (area_of r p) m (drawn_packet r p m)
 
+-- a flag of a packet is not set
 abbrev pub IsUnset : Bool → Type 0
 IsUnset true = ⊥
 IsUnset false = Unit {0}
