@@ -4,7 +4,7 @@ use Rattle.std.proofs.Common.{append_assoc, ◌<◌, append-nil, arith, inl, inr
 use Rattle.gathered_out.specs.Pieces.{Piece}
 use Rattle.gathered_out.proofs.Gathers.{Gathers, gathers_none, gathers_written}
 use Rattle.gathered_out.specs.Puts.{IsWritten, holding}
-use Rattle.gpu_capture.specs.Capture.{limit}
+use Rattle.gpu_capture.specs.Capture.{capture, limit}
 use Rattle.gpu_capture.specs.Written.{spelled}
 use Rattle.gpu_capture.specs.declared.event.Event.{Event}
 use Rattle.gpu_capture.specs.declared.progress.Progress.{Progress}
@@ -12,7 +12,7 @@ use Rattle.gpu_capture.proofs.Taken.{taken_count}
 use Rattle.event_play.specs.Replay.{Tale}
 use Rattle.event_play.specs.RigState.{RigState}
 use Rattle.event_play.specs.Streams.{Streams, streams}
-use Rattle.capture_flat.specs.Passing.{AreNeeded}
+use Rattle.gpu_capture.specs.Reading.{AreNeeded}
 use Rattle.event_play.specs.Pausing.{Pauses, most_behind}
 use Rattle.capture_cut.specs.Came.{Came, GoesOn, Reached, unheld}
 use Rattle.capture_cut.specs.Cut.{CutAt, events_of}
@@ -34,7 +34,7 @@ pub record WasDue (t : Tale) (played events : List Event) (flushed taken : List 
   pub between : List ℕ
   pub rest : List ℕ
   pub taken_is : taken ≡ (flushed ++ between) ++ rest
-  pub needed : AreNeeded (played ++ (earlier ++ event ∷ [])) (flushed ++ between)
+  pub needed : AreNeeded capture (played ++ (earlier ++ event ∷ [])) (flushed ++ between)
 
 -- where more events come, and more bytes are taken
 pub due_more : (t : Tale) (played events more all : List Event) (flushed taken further : List ℕ)
@@ -60,7 +60,7 @@ due_more t played events more all flushed taken further all_are number was due i
 pub due_here : (t : Tale) (played events : List Event) (given : Event) (flushed behind taken further : List ℕ)
     (number : ℕ)
     → number ≡ length (played ++ events) + 1 → length (cut_file t (events ++ given ∷ [])) ≤ limit
-    → taken ≡ flushed ++ behind → AreNeeded (played ++ (events ++ given ∷ [])) (taken ++ further)
+    → taken ≡ flushed ++ behind → AreNeeded capture (played ++ (events ++ given ∷ [])) (taken ++ further)
     → WasDue t played (events ++ given ∷ []) flushed (taken ++ further) number (begun t events) (spelled given)
 due_here t played events given flushed behind taken further number number_is fits taken_is needed =
     let all : taken ++ further ≡ flushed ++ (behind ++ further) = ap (λ bs. bs ++ further) taken_is

@@ -15,11 +15,10 @@ use Rattle.event_play.specs.Told.{told_notes}
 use Rattle.event_play.specs.declared.ending.Ending.TheVariants.{Faulted as FaultedPlay}
 use Rattle.event_play.proofs.BoxCosts.{event_cost-small}
 use Rattle.event_play.proofs.Feeds.{told-append}
-use Rattle.event_play.proofs.Firsts.{IsFirst, from_first, raised_first}
+use Rattle.event_play.proofs.Firsts.{IsFirst, from_first, raised_first, raised_played}
 use Rattle.event_play.proofs.Grows.{tale_on, after-event}
-use Rattle.event_play.proofs.Reaching.{spent_on}
-use Rattle.capture_flat.proofs.Awaiting.{Answers, answers, raised_played}
-use Rattle.capture_flat.proofs.Following.{both_small}
+use Rattle.event_play.proofs.Reaching.{both_small, spent_on}
+use Rattle.gpu_capture.proofs.Needed.{Answers, answers}
 use Rattle.capture_cut.specs.Came.{PlaysNext, PlaysAnswer, HasRead, PlaysFirst}
 use Rattle.capture_cut.specs.Cut.{Plays, StandsBehind, cut_at}
 use Rattle.capture_cut.proofs.Reading.{read_none, read_on, version_on}

@@ -8,11 +8,11 @@ use Rattle.gpu_capture.specs.declared.event.Event.{Event}
 use Rattle.gpu_capture.specs.declared.event.Stop.{Stop}
 use Rattle.gpu_capture.specs.declared.progress.Progress.{Progress}
 use Rattle.gpu_capture.proofs.Versions.{version_from}
-use Rattle.capture_flat.proofs.Awaiting.{Answers}
-use Rattle.capture_flat.proofs.Needed.{none_needed, needed_on, needed_end, says_on, stop_says, takes_version}
-use Rattle.capture_flat.proofs.Needed.{stops_version}
+use Rattle.gpu_capture.proofs.Needed.{Answers}
+use Rattle.gpu_capture.proofs.Needed.{none_needed, needed_on, needed_end, says_on, stop_says, takes_version}
+use Rattle.gpu_capture.proofs.Needed.{stops_version}
 use Rattle.capture_cut.specs.Came.{HasRead, IsReadFailure}
-use Rattle.capture_cut.specs.Cut.{Way, events_of, read_of, ReadsTo, StopsBehind}
+use Rattle.capture_cut.specs.Cut.{Way, events_of, ReadsTo, said_of, StopsBehind}
 
 pub read_none : (left : Option (List ℕ)) (p : Progress) → IsStart p → HasRead left left p [] []
 read_none left p is = record {
@@ -51,7 +51,7 @@ pub stops_behind : (before mid now : Option (List ℕ)) (old new : Progress) (xs
     → HasRead before mid old xs (events_of way) → (stops : StopsAt (standing old mid) (standing new now) stop)
     → way.version ≡ new.version → way.taken ≡ xs ++ stops.taken → StopsBehind way stop now
 stops_behind before mid now old new xs stop way was stops same taken = record {
-  says = stop_says old (read_of way) xs stops.taken now stop taken was.says (rw same stops.says);
+  says = stop_says old (said_of way) way.taken xs stops.taken now stop taken was.says (rw same stops.says);
   needed = rw taken (needed_end old (events_of way) xs stops.taken was.says was.needed stops.needed);
 }
 

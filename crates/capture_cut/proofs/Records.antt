@@ -16,14 +16,14 @@ use Rattle.gpu_capture.proofs.Written.{word_length}
 use Rattle.event_play.specs.Replay.{Tale}
 use Rattle.event_play.specs.RigState.{RigState}
 use Rattle.event_play.specs.Streams.{Streams, streams}
-use Rattle.capture_flat.specs.Out.{spell}
-use Rattle.capture_flat.specs.Passing.{SaysFirst}
+use Rattle.gpu_capture.specs.Written.{spell}
+use Rattle.gpu_capture.specs.Reading.{SaysFirst}
 use Rattle.event_play.specs.Pausing.{most_behind}
-use Rattle.capture_flat.proofs.Allows.{allows_append}
-use Rattle.capture_flat.proofs.Following.{few_behind}
-use Rattle.capture_flat.proofs.Pieces.{spell-append, wrote_on}
+use Rattle.gpu_capture.proofs.Spelled.{allows_append}
+use Rattle.event_play.proofs.Behind.{few_behind}
+use Rattle.gpu_capture.proofs.Spelled.{spell-append, wrote_on}
 use Rattle.capture_cut.specs.Came.{EndsAt, EndsReading, EndsRecord, EndsTooLong, HasRead, PutsRecord, writing}
-use Rattle.capture_cut.specs.Cut.{CutAt, Way, EndsCut, IsLast, ReadsTo, SaysEnding, StopsBehind, events_of, read_of}
+use Rattle.capture_cut.specs.Cut.{CutAt, Way, EndsCut, IsLast, ReadsTo, SaysEnding, StopsBehind, events_of}
 use Rattle.capture_cut.specs.File.{snapshot, begun, cut_file}
 use Rattle.capture_cut.specs.declared.ending.CutEnding.{CutEnding}
 use Rattle.capture_cut.specs.declared.ending.CutEnding.TheVariants.{Done, PastEnd, Stopped, Faulted, TooLong}
@@ -106,7 +106,7 @@ module _ (cut : CutAt) (before now : Streams) (rig : RigState) (old : Progress) 
 
   -- a failed write of what is gathered
   lacks : (taken : List ℕ) (later : List Event) (number : ℕ) → before.left ≡ prepended taken left
-      → SaysFirst (read_of (way taken later)) (events_of (way taken later))
+      → SaysFirst capture (way taken later).version taken (events_of (way taken later))
       → length taken ≤ length at.flushed + most_behind
       → BreaksDue (due taken later) before.held held number
       → EndsCut cut before after rig (WriteFailed number)
@@ -284,7 +284,7 @@ module _ (cut : CutAt) (before now : Streams) (rig : RigState) (old : Progress) 
       behind = stops_behind before.left now.left left old new far.taken stop (way bytes_taken far.later) at.on.reads
           stops version_is refl
 
-      says_events : SaysFirst (read_of (way bytes_taken far.later)) (events_of far)
+      says_events : SaysFirst capture (way bytes_taken far.later).version bytes_taken (events_of far)
       says_events = λ rest. (
         capture_from old (stops.taken ++ rest),
         ap capture (append_assoc far.taken stops.taken rest) ∙ at.on.reads.says (stops.taken ++ rest),

@@ -18,7 +18,7 @@ use Rattle.event_play.specs.Setting.{setting}
 use Rattle.event_play.specs.Step.{event_step}
 use Rattle.event_play.specs.Stepping.{HasStepped, numbered}
 use Rattle.event_play.specs.Streams.{Outlets, Streams}
-use Rattle.capture_flat.specs.Passing.{AreNeeded}
+use Rattle.gpu_capture.specs.Reading.{AreNeeded}
 use Rattle.capture_cut.specs.Cut.{CutAt, Way, events_of, Plays, StandsBehind}
 use Rattle.capture_cut.specs.File.{begun, rig_of, IsWritable}
 use Rattle.capture_cut.specs.declared.ending.CutEnding.{CutEnding}
@@ -72,7 +72,7 @@ pub record IsReady (progress : Progress) (stop : Option Stop) : Type 0 where
 pub record HasRead (before now : Option (List ℕ)) (p : Progress) (taken : List ℕ) (events : List Event) : Type 0 where
   pub bytes : before ≡ prepended taken now
   pub says : (rest : List ℕ) → capture (taken ++ rest) ≡ then_events events (capture_from p rest)
-  pub needed : AreNeeded events taken
+  pub needed : AreNeeded capture events taken
 
 -- so many events were read and played
 pub record PlaysFirst (at : CutAt) (before now : Streams) (rig : RigState) (p : Progress) : Type 0 where

@@ -3,7 +3,7 @@ use Rattle.std.specs.Prelude.{◌≡◌, ◌≤◌, ◌<◌, ◌⊎◌, ◌==◌
 use Rattle.std.specs.Prelude.{if◌then◌else◌}
 use Rattle.dev_io.specs.Device.{prepended, appended, AppendsPart, Rose}
 use Rattle.gpu_capture.specs.Capture.{capture, limit}
-use Rattle.gpu_capture.specs.Reading.{AreFewBehind}
+use Rattle.gpu_capture.specs.Reading.{AreFewBehind, AreNeeded, AreNeededToEnd, Said, SaysFirst, SaysStop}
 use Rattle.gpu_capture.specs.Written.{spelled, spelled_end, AllowsAll}
 use Rattle.gpu_capture.specs.declared.event.Event.{Event}
 use Rattle.gpu_capture.specs.declared.event.Stop.{Stop}
@@ -18,7 +18,6 @@ use Rattle.event_play.specs.Step.{event_step}
 use Rattle.event_play.specs.Streams.{Streams}
 use Rattle.event_play.specs.Told.{told_notes}
 use Rattle.event_play.specs.declared.fault.EventFault.{EventFault}
-use Rattle.capture_flat.specs.Passing.{Way as Read, AreNeeded, AreNeededToEnd, SaysFirst, SaysStop}
 use Rattle.capture_cut.specs.File.{snapshot, begun, cut_file, rig_of, IsWritable}
 use Rattle.capture_cut.specs.declared.ending.CutEnding.{CutEnding}
 use Rattle.capture_cut.specs.declared.ending.CutEnding.TheVariants.{Done, PastEnd, Stopped, Faulted, TooLong}
@@ -36,22 +35,21 @@ pub record Way : Type 0 where
 abbrev pub events_of : Way → List Event
 events_of way = way.played ++ way.later
 
--- all of them as read, for what the format says of the bytes taken; nothing is made of them
-abbrev pub read_of : Way → Read
-read_of way =
-    record { version = way.version; taken = way.taken; events = events_of way; flat = []; tale = way.tale }
+-- what the bytes taken say
+abbrev pub said_of : Way → Said
+said_of way = record { version = way.version; events = events_of way }
 
 -- ---- the reading
 
 -- the reader stopped behind the events of the way, and took no byte too many
 pub record StopsBehind (way : Way) (stop : Stop) (left : Option (List ℕ)) : Type 0 where
-  pub says : SaysStop (read_of way) stop left
-  pub needed : AreNeededToEnd (events_of way) way.taken
+  pub says : SaysStop capture way.taken (said_of way) stop left
+  pub needed : AreNeededToEnd capture (events_of way) way.taken
 
 -- the reader took the bytes of these events, and none too many
 pub record ReadsTo (way : Way) (events : List Event) : Type 0 where
-  pub says : SaysFirst (read_of way) events
-  pub needed : AreNeeded events way.taken
+  pub says : SaysFirst capture way.version way.taken events
+  pub needed : AreNeeded capture events way.taken
 
 -- ---- the playing
 
@@ -137,7 +135,7 @@ pub record LacksRecord (n : ℕ) (way : Way) (number : ℕ) (before now : Stream
   pub rest : List Event
   pub are : way.later ≡ earlier ++ event ∷ rest
   pub number_is : number ≡ length (way.played ++ earlier) + 1
-  pub says : SaysFirst (read_of way) (events_of way)
+  pub says : SaysFirst capture way.version way.taken (events_of way)
   pub few : AreFewBehind capture (way.played ++ (earlier ++ event ∷ [])) way.taken most_behind
   pub held : AppendsPart (appended before.held (begun way.tale earlier)) now.held (spelled event)
   pub fits : length (cut_file way.tale (earlier ++ event ∷ [])) ≤ limit

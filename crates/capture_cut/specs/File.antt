@@ -9,7 +9,7 @@ use Rattle.event_play.specs.Replay.{Tale}
 use Rattle.event_play.specs.RigState.{RigState}
 use Rattle.snapshot_words.specs.Outline.{snap_bytes, snapshot_head, outline_words, IsOutline, AreMemories}
 use Rattle.snapshot_words.specs.declared.outline.Outline.{Outline}
-use Rattle.capture_flat.specs.Out.{spell}
+use Rattle.gpu_capture.specs.Written.{spell}
 
 -- a rig but for its memories
 abbrev pub outline_of : RigState → Outline

@@ -43,7 +43,7 @@ pub(crate) fn allowed(event: Event)
 }
 
 /// How many bytes the record of an event has.
-#[tactic(auto, using(capture_flat::proofs::Counts::record_length))]
+#[tactic(auto, using(gpu_capture::proofs::Spelled::record_length))]
 pub(crate) fn record_size(event: &Event) -> u32
     ensures value { result ≡ length (spelled event.now) }
     ensures few { result ≤ 16 }

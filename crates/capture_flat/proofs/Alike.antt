@@ -359,24 +359,3 @@ flat_film t events fine =
       frames = frames;
       strokes = ap (λ (seen : Seen). seen.strokes) same.1.seen;
     }
-
--- ---- whatever bytes follow
-
-abbrev SameBut : Played → Played → Type 0
-SameBut a b = (a.ending ≡ b.ending) × (a.tale ≡ b.tale)
-
--- the bytes behind a list of events do not matter to its replay
-pub rest_same : (events : List Event) (t : Tale) (rest : List ℕ)
-    → SameBut (played_events t events End rest) (whole t events)
-rest_same [] t rest = (refl, refl)
-rest_same (given ∷ events) t rest = by_case (after_event t given) (λ next. rest_same events next rest)
-  where
-    by_case : (r : Result Tale EventFault)
-        → ((next : Tale) → SameBut (played_events next events End rest) (whole next events))
-        → SameBut
-        (go_on r (λ next. played_events next events End rest)
-        (λ fault. record { tale = t; ending = Faulted (next_number t.played) fault; rest = rest }))
-        (go_on r (λ next. whole next events)
-        (λ fault. record { tale = t; ending = Faulted (next_number t.played) fault; rest = [] }))
-    by_case (Ok next) same = same next
-    by_case (Err fault) same = (refl, refl)

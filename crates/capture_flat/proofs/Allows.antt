@@ -75,8 +75,3 @@ later_allows low high (given ∷ events) le allows =
     let here : Allows high given =
     record { known = omega (arith, le, allows.0.known); event = allows.0.event; words = allows.0.words } in
     (here, later_allows low high events le allows.1)
-
-pub allows_append : (version : ℕ) (xs ys : List Event) → AllowsAll version xs → AllowsAll version ys
-    → AllowsAll version (xs ++ ys)
-allows_append version [] ys first next = next
-allows_append version (x ∷ xs) ys first next = (first.0, allows_append version xs ys first.1 next)

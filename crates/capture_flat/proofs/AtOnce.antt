@@ -36,7 +36,8 @@ use Rattle.capture_flat.specs.declared.ending.FlatEnding.TheVariants.{WriteFaile
 use Rattle.capture_flat.specs.declared.file.Draft.{Draft}
 use Rattle.capture_flat.specs.declared.file.FlatFile.{FlatFile}
 use Rattle.capture_flat.proofs.Awaiting.{Paused, pauses_on}
-use Rattle.capture_flat.proofs.Following.{Passes, few_behind, heard_on, passes_on, spent_within}
+use Rattle.capture_flat.proofs.Following.{Passes, heard_on, passes_on, spent_within}
+use Rattle.event_play.proofs.Behind.{few_behind}
 use Rattle.capture_flat.proofs.Lacking.{WasDue, due_more, lacks_records}
 use Rattle.capture_flat.proofs.PlayedWords.{more_cost, more_notes, same_played, same_state, words_follow}
 use Rattle.capture_flat.proofs.PlayedWords.{words_gathered, words_length, words_small}

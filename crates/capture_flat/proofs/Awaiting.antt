@@ -1,7 +1,6 @@
 -- How far flattening a capture has come, where the reader has answered an event that is not played yet, or a stop.
-use Rattle.std.proofs.Common.{◌≡◌, ◌≤◌, ◌<◌, ◌+◌, inl, inr, ◌==◌, ℕ, List, [], ◌∷◌, Option, Result, Ok, Err, OnOk, IfOk}
+use Rattle.std.proofs.Common.{◌≡◌, ◌≤◌, ◌<◌, ◌+◌, inl, inr, ℕ, List, [], ◌∷◌, Option, Result, Ok, Err, OnOk, IfOk}
 use Rattle.std.proofs.Common.{IfErr, refl, ap, sym, subst, ◌∙◌, append-nil, length, arith}
-use Rattle.std.proofs.lemmas.Bool.{cases_Bool}
 use Rattle.dev_io.specs.Device.{appended}
 use Rattle.dev_io.proofs.Appended.{appended-nil}
 use Rattle.dev_io.proofs.Parts.{prepended-nil}
@@ -15,22 +14,17 @@ use Rattle.gpu_capture.specs.declared.event.Stop.{Stop}
 use Rattle.gpu_capture.specs.declared.progress.Progress.{Progress}
 use Rattle.gpu_taps.specs.Tally.{Reading}
 use Rattle.event_play.specs.Pausing.{Pauses}
-use Rattle.event_play.specs.Replay.{Tale, from_state, raised, tall_version}
+use Rattle.event_play.specs.Replay.{Tale, from_state, raised}
 use Rattle.event_play.specs.RigState.{RigState, StandsFor}
 use Rattle.event_play.specs.Step.{Machine}
 use Rattle.event_play.specs.Streams.{Streams, streams}
-use Rattle.event_play.proofs.Firsts.{IsFirst, from_first, raised_first}
+use Rattle.event_play.proofs.Firsts.{IsFirst, from_first, raised_first, raised_played}
 use Rattle.capture_flat.specs.Out.{begun}
 use Rattle.capture_flat.specs.declared.file.Draft.{Draft}
 use Rattle.capture_flat.specs.declared.file.FlatFile.{FlatFile}
 use Rattle.capture_flat.proofs.Lacking.{WasDue}
 use Rattle.capture_flat.proofs.Following.{Passes, follows_none}
-use Rattle.capture_flat.proofs.Needed.{none_needed, takes_version, stops_version}
-
--- the reader went from one place to the next, and answered this
-abbrev pub Answers : (old new : Progress) (before now : Option (List ℕ)) → Result Event Stop → Type 0
-Answers old new before now (Ok event) = Takes (standing old before) (standing new now) (event ∷ []) × (1 ≤ new.version)
-Answers old new before now (Err stop) = StopsAt (standing old before) (standing new now) stop
+use Rattle.gpu_capture.proofs.Needed.{Answers, answers, none_needed, takes_version, stops_version}
 
 pub record Awaits (start : Tale) (version : ℕ) (before now : Streams) (rig : RigState) (new : Progress)
     (draft : Draft) (since : ℕ) (next : Result Event Stop) : Type 0 where
@@ -53,16 +47,6 @@ pub stops_is : (old new : Progress) (before now : Option (List ℕ)) (next : Res
 stops_is old new before now next stop is answer = rw is at answer
 
 -- ---- the beginning
-
-pub raised_played : (t : Tale) (version : ℕ) → (raised t version).played ≡ t.played
-raised_played t version = elim (cases_Bool (version == tall_version)) [ inl is ↦ rw is refl | inr is ↦ rw is refl ]
-
-pub answers : (old new : Progress) (before now : Option (List ℕ)) (next : Result Event Stop)
-    → IfOk next (λ event. Takes (standing old before) (standing new now) (event ∷ []))
-    → OnOk next (1 ≤ new.version) → IfErr next (λ stop. StopsAt (standing old before) (standing new now) stop)
-    → Answers old new before now next
-answers old new before now (Ok event) takes known stops = (takes, known)
-answers old new before now (Err stop) takes known stops = stops
 
 pub starts : (s : Machine) (left left_now held : Option (List ℕ)) (heard : List Reading) (steps : ℕ) (rig : RigState)
     (first new : Progress) (version : ℕ) (draft : Draft)

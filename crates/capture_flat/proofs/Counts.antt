@@ -4,12 +4,10 @@ use Rattle.list_dma.specs.Node.{words_behind, node_words, word_count}
 use Rattle.ot_clear_dma.specs.Ram.{word_at}
 use Rattle.event_play.specs.Block.{first_words, block_words, address_in}
 use Rattle.event_play.specs.declared.block.Block.{Block}
-use Rattle.gpu_capture.specs.Written.{spelled}
-use Rattle.gpu_capture.proofs.Written.{words_length}
-use Rattle.gpu_capture.specs.Written.{record_words}
-use Rattle.gpu_capture.specs.declared.event.Event.{Event}
+use Rattle.gpu_capture.specs.Written.{spell, spelled}
+use Rattle.gpu_capture.proofs.Spelled.{record_length}
 use Rattle.gpu_capture.specs.declared.event.Event.TheVariants.{Gp0, Skip}
-use Rattle.capture_flat.specs.Out.{spell, spell_words}
+use Rattle.capture_flat.specs.Out.{spell_words}
 
 pub behind_length : (ram : List ℕ) (address n : ℕ) → length (words_behind ram address n) ≡ n
 behind_length ram address zero = refl
@@ -27,10 +25,6 @@ first_length ram block (suc i) =
 pub block_length : (ram : List ℕ) (block : Block) → length (block_words ram block) ≡ block.n
 block_length ram block = first_length ram block block.n
 
--- the record of an event, in bytes
-pub record_length : (given : Event) → length (spelled given) ≡ 4 * length (record_words given)
-record_length given = words_length (record_words given)
-
 pub words_bytes : (words : List ℕ) → length (spell_words words) ≡ 8 * length words
 words_bytes [] = refl
 words_bytes (word ∷ words) =
@@ -42,6 +36,3 @@ skips_bytes zero = refl
 skips_bytes (suc n) =
     let e = length-append (spelled Skip) (spell (replicate n Skip)) in
     omega (arith, e, record_length Skip, skips_bytes n)
-
-pub one_bytes : (given : Event) → length (spell (given ∷ [])) ≡ 4 * length (record_words given)
-one_bytes given = let e = length-append (spelled given) [] in omega (arith, e, record_length given)

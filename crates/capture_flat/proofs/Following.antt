@@ -1,16 +1,15 @@
 -- Events, one after another, and what was written of them.
-use Rattle.std.proofs.Common.{◌≡◌, ◌≤◌, ◌<◌, ◌⊎◌, inl, inr, ◌+◌, ◌++◌, ℕ, List, [], ◌∷◌, Option, Ok, length, min}
+use Rattle.std.proofs.Common.{◌≡◌, ◌≤◌, ◌<◌, inl, inr, ◌+◌, ◌++◌, ℕ, List, [], ◌∷◌, Option, Ok, length, min}
 use Rattle.std.proofs.Common.{length-append, refl, ap}
 use Rattle.std.proofs.Common.{sym, subst, ◌∙◌, append_assoc, append-nil, arith}
 use Rattle.dev_io.specs.Device.{prepended}
 use Rattle.dev_io.proofs.Parts.{taken_on}
 use Rattle.gp0_packets.specs.declared.note.Note.{Note}
 use Rattle.gpu_capture.specs.Capture.{Captured, capture, then_events, limit}
-use Rattle.gpu_capture.specs.Reader.{AreNeeded as ReaderNeeds, IsStart, Takes, capture_from, standing}
+use Rattle.gpu_capture.specs.Reader.{Takes, capture_from, standing}
 use Rattle.gpu_capture.specs.Written.{written, AllowsAll}
 use Rattle.gpu_capture.specs.declared.event.Event.{Event}
 use Rattle.gpu_capture.specs.declared.progress.Progress.{Progress}
-use Rattle.gpu_capture.proofs.Taken.{few_at_first, few_at_once, taken_count}
 use Rattle.gpu_capture.proofs.Versions.{version_from}
 use Rattle.gathered_out.specs.Pieces.{piece}
 use Rattle.gathered_out.specs.Puts.{BreaksPut, BreaksWriting, IsPut, IsWritten, holding}
@@ -29,23 +28,21 @@ use Rattle.event_play.specs.declared.fault.EventFault.{EventFault}
 use Rattle.event_play.proofs.BoxCosts.{event_cost-small}
 use Rattle.event_play.proofs.Feeds.{told-append}
 use Rattle.event_play.proofs.Grows.{tale_on, after-event}
-use Rattle.event_play.proofs.Reaching.{beside, spent_on}
+use Rattle.event_play.proofs.Reaching.{beside, both_small, spent_on}
 use Rattle.capture_flat.specs.Flat.{flat_events, flat_replay, then_flat}
 use Rattle.capture_flat.specs.OneEvent.{EndsBehind, EndsEvent, IsTooLong, LacksPut, PassesEvent, PlaysFlat, stage}
 use Rattle.capture_flat.specs.Out.{due_at, begun, flat_version, flat_file}
-use Rattle.capture_flat.specs.Passing.{Way, Follows, AreNeeded, IsLast, EndsFlat}
+use Rattle.capture_flat.specs.Passing.{Way, Follows, IsLast, EndsFlat}
+use Rattle.gpu_capture.specs.Reading.{AreNeeded}
 use Rattle.capture_flat.specs.declared.ending.FlatEnding.{FlatEnding}
 use Rattle.capture_flat.specs.declared.ending.FlatEnding.TheVariants.{Done, Stopped, Faulted, TooLong, WriteFailed}
 use Rattle.capture_flat.specs.declared.file.Draft.{Draft}
-use Rattle.capture_flat.proofs.Allows.{allows_append}
+use Rattle.gpu_capture.proofs.Spelled.{allows_append}
 use Rattle.capture_flat.proofs.Lacking.{WasDue, due_here, due_more, lacks_records}
-use Rattle.capture_flat.proofs.Needed.{needed_on, says_on}
+use Rattle.gpu_capture.proofs.Needed.{needed_on, says_on}
 use Rattle.capture_flat.proofs.Output.{begun_on, written_length, written_fits}
 use Rattle.event_play.specs.Setting.{setting}
-
--- a reader is at its start, or behind the head
-abbrev pub IsReading : Progress → List ℕ → List Event → Type 0
-IsReading p taken events = (IsStart p × (taken ≡ []) × (events ≡ [])) ⊎ (1 ≤ p.version)
+use Rattle.event_play.proofs.Behind.{IsReading, few_behind}
 
 -- So many events were read and played, and their records were put. All was last written where the reader stood at this
 -- place.
@@ -56,7 +53,7 @@ pub record Passes (first : Tale) (version : ℕ) (before now : Streams) (rig : R
   pub events : List Event
   pub reading : IsReading progress taken events
   pub says : (rest : List ℕ) → capture (taken ++ rest) ≡ then_events events (capture_from progress rest)
-  pub needed : AreNeeded events taken
+  pub needed : AreNeeded capture events taken
   pub tale : Tale
   pub flat : List Event
   pub follows : Follows first events tale flat
@@ -73,25 +70,6 @@ pub record Passes (first : Tale) (version : ℕ) (before now : Streams) (rig : R
   pub heard : now.heard ≡ told_notes tale.notes before.heard
   pub cost : now.steps ≤ before.steps + tale.cost
   pub small : tale.cost ≤ tale.box_cost
-
--- few bytes more were taken, wherever the reader stood near the place where all was last written
-pub few_behind : (p : Progress) (events : List Event) (taken more flushed : List ℕ) (since : ℕ)
-    → IsReading p taken events
-    → ((rest : List ℕ) → capture (taken ++ rest) ≡ then_events events (capture_from p rest))
-    → length flushed ≡ min since limit → p.place < since + 4096 → ReaderNeeds p more
-    → length (taken ++ more) ≤ length flushed + most_behind
-few_behind p events taken more flushed since reading says since_is near needed = elim reading [
-  | inl start ↦
-      let all = length-append taken more in
-      let none = ap length start.1 in
-      let few = few_at_first p more start.0 needed in
-      omega (arith, all, none, few)
-  | inr known ↦
-      let all = length-append taken more in
-      let count = taken_count p events taken known says in
-      let few = few_at_once p more known needed in
-      omega (arith, all, count, few, since_is, near)
-]
 
 -- ---- events that follow
 
@@ -143,9 +121,6 @@ heard_on before mid now told notes was took = took ∙ ap (told_notes notes) was
 
 pub spent_within : (before now a b : ℕ) → now ≤ before + a → a ≤ b → now ≤ before + b
 spent_within before now a b within small = omega arith
-
-pub both_small : (a b c d : ℕ) → a ≤ c → b ≤ d → a + b ≤ c + d
-both_small a b c d first next = omega arith
 
 -- events in two parts
 split_events : (xs ys : List Event) (c : Captured) → then_events (xs ++ ys) c ≡ then_events xs (then_events ys c)
@@ -223,7 +198,7 @@ module _ (start : Tale) (version : ℕ) (before : Streams) (left_mid left : Opti
   bytes : before.left ≡ prepended taken left
   bytes = taken_on before.left left_mid left was.taken takes.taken was.bytes takes.bytes
 
-  needs : AreNeeded (was.events ++ given ∷ []) taken
+  needs : AreNeeded capture (was.events ++ given ∷ []) taken
   needs = needed_on old was.events given was.taken takes.taken was.says was.needed takes.needed
 
   -- what stands behind the event

@@ -3,7 +3,7 @@ use Rattle.std.proofs.Common.{◌≡◌, ◌≤◌, inl, ◌+◌, ◌++◌, ℕ,
 use Rattle.std.proofs.Common.{◌∙◌, append_assoc, append-nil, arith}
 use Rattle.dev_io.specs.Device.{prepended}
 use Rattle.gathered_out.proofs.Gathers.{BreaksDue}
-use Rattle.gpu_capture.specs.Capture.{limit}
+use Rattle.gpu_capture.specs.Capture.{capture, limit}
 use Rattle.gpu_capture.specs.declared.event.Event.{Event}
 use Rattle.event_play.specs.Pausing.{most_behind}
 use Rattle.event_play.specs.Replay.{Tale, next_number, raised}
@@ -11,7 +11,8 @@ use Rattle.event_play.specs.RigState.{RigState, StandsFor}
 use Rattle.event_play.specs.Streams.{Streams}
 use Rattle.event_play.specs.Told.{told_notes}
 use Rattle.capture_flat.specs.Out.{begun, due_at, flat_file}
-use Rattle.capture_flat.specs.Passing.{AreNeeded, EndsFlat, Follows, SaysFirst, Way}
+use Rattle.capture_flat.specs.Passing.{EndsFlat, Follows, Way}
+use Rattle.gpu_capture.specs.Reading.{AreNeeded, SaysFirst}
 use Rattle.capture_flat.specs.declared.ending.FlatEnding.TheVariants.{WriteFailed}
 
 -- these bytes are due at the event of this number, one of these, behind those that were due before; the bytes that were
@@ -32,7 +33,7 @@ pub record WasDue (first : Tale) (version : ℕ) (events : List Event) (flushed 
   pub between : List ℕ
   pub rest : List ℕ
   pub taken_is : taken ≡ (flushed ++ between) ++ rest
-  pub needed : AreNeeded (earlier ++ event ∷ []) (flushed ++ between)
+  pub needed : AreNeeded capture (earlier ++ event ∷ []) (flushed ++ between)
 
 -- where more events come, and more bytes are taken
 pub due_more : (first : Tale) (version : ℕ) (events more all : List Event) (flushed taken further : List ℕ)
@@ -61,7 +62,7 @@ due_more first version events more all flushed taken further all_are number was 
 pub due_here : (first tale : Tale) (version : ℕ) (events flat : List Event) (given : Event)
     (flushed behind taken further : List ℕ) → Follows first events tale flat
     → length (flat_file first version (events ++ given ∷ [])) ≤ limit → taken ≡ flushed ++ behind
-    → AreNeeded (events ++ given ∷ []) (taken ++ further)
+    → AreNeeded capture (events ++ given ∷ []) (taken ++ further)
     → WasDue first version (events ++ given ∷ []) flushed (taken ++ further) (next_number tale.played)
     (begun version tale.played flat) (due_at version tale given)
 due_here first tale version events flat given flushed behind taken further follows fits taken_is needed =
@@ -88,7 +89,8 @@ due_here first tale version events flat given flushed behind taken further follo
 -- its records lack a byte
 pub lacks_records : (start : Tale) (before now : Streams) (rig : RigState) (way : Way) (flushed : List ℕ) (number : ℕ)
     → before.left ≡ prepended way.taken now.left
-    → Follows (raised start way.version) way.events way.tale way.flat → SaysFirst way way.events
+    → Follows (raised start way.version) way.events way.tale way.flat
+    → SaysFirst capture way.version way.taken way.events
     → BreaksDue (WasDue (raised start way.version) way.version way.events flushed way.taken) before.held now.held number
     → length way.taken ≤ length flushed + most_behind → StandsFor rig way.tale
     → now.heard ≡ told_notes way.tale.notes before.heard → now.steps ≤ before.steps + way.tale.cost

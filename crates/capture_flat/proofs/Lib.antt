@@ -6,7 +6,6 @@ pub mod Controls
 pub mod Counts
 pub mod Following
 pub mod Lacking
-pub mod Needed
 pub mod Output
 pub mod Passes
 pub mod Pieces

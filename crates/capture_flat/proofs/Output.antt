@@ -7,8 +7,9 @@ use Rattle.gpu_capture.specs.Written.{written, spelled_end, tag_of}
 use Rattle.gpu_capture.proofs.Written.{word_length}
 use Rattle.gpu_capture.specs.declared.event.Event.{Event}
 use Rattle.event_play.specs.Replay.{next_number}
-use Rattle.capture_flat.specs.Out.{spell, head_due, begun, flat_version}
-use Rattle.capture_flat.proofs.Pieces.{spell-append}
+use Rattle.capture_flat.specs.Out.{head_due, begun, flat_version}
+use Rattle.gpu_capture.specs.Written.{spell}
+use Rattle.gpu_capture.proofs.Spelled.{spell-append}
 
 counts_on : (played : ℕ) → (next_number played == 0) ≡ false
 counts_on played = grind arith

@@ -16,7 +16,8 @@ use Rattle.event_play.specs.declared.fault.EventFault.{EventFault}
 use Rattle.event_play.specs.declared.work.Work.{Work}
 use Rattle.event_play.specs.declared.work.Work.TheVariants as work
 use Rattle.capture_flat.specs.Flat.{flat_events, flat_work, flat_asked}
-use Rattle.capture_flat.specs.Out.{spell, head_due, due_at}
+use Rattle.capture_flat.specs.Out.{head_due, due_at}
+use Rattle.gpu_capture.specs.Written.{spell}
 use Rattle.capture_flat.specs.OneEvent.{PlaysFlat}
 use Rattle.event_play.specs.Setting.{setting}
 

@@ -19,7 +19,8 @@ use Rattle.event_play.specs.Step.{Machine}
 use Rattle.event_play.proofs.AtOnce.{word_is}
 use Rattle.event_play.proofs.Following.{needed_on}
 use Rattle.capture_flat.specs.Flat.{flat_events}
-use Rattle.capture_flat.specs.Out.{begun, due_at, flat_file, spell}
+use Rattle.capture_flat.specs.Out.{begun, due_at, flat_file}
+use Rattle.gpu_capture.specs.Written.{spell}
 use Rattle.capture_flat.specs.Passing.{Follows}
 use Rattle.capture_flat.specs.Records.{record_pieces}
 use Rattle.capture_flat.proofs.Counts.{words_bytes}

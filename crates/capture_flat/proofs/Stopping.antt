@@ -26,17 +26,21 @@ use Rattle.capture_flat.specs.Flat.{flat_replay}
 use Rattle.event_play.specs.Alike.{AreAlike}
 use Rattle.capture_flat.specs.OneEvent.{Closes, EndsReading, StopsAs, end_due, writing}
 use Rattle.capture_flat.specs.Out.{begun, flat_version, flat_file}
-use Rattle.capture_flat.specs.Passing.{Way, Follows, AreNeededToEnd, SaysFirst, SaysStop, IsFlatCapture, EndsFlat}
+use Rattle.capture_flat.specs.Passing.{Way, Follows, EndsFlat, said_of}
+use Rattle.gpu_capture.specs.Reading.{AreNeededToEnd, SaysFirst, SaysStop}
+use Rattle.event_play.specs.Alike.{IsFlatCapture}
 use Rattle.capture_flat.specs.declared.ending.FlatEnding.{FlatEnding}
 use Rattle.capture_flat.specs.declared.file.Draft.{Draft}
 use Rattle.capture_flat.specs.declared.ending.FlatEnding.TheVariants.{Done, Stopped, Faulted, TooLong, WriteFailed}
-use Rattle.capture_flat.proofs.Alike.{flat_alike, rest_same}
+use Rattle.capture_flat.proofs.Alike.{flat_alike}
+use Rattle.event_play.proofs.Rests.{rest_same}
 use Rattle.capture_flat.proofs.Allows.{later_allows}
-use Rattle.capture_flat.proofs.Following.{Passes, all_flat, few_behind, file_fits, spent_within}
+use Rattle.capture_flat.proofs.Following.{Passes, all_flat, file_fits, spent_within}
+use Rattle.event_play.proofs.Behind.{few_behind}
 use Rattle.capture_flat.proofs.Lacking.{WasDue, due_more, lacks_records}
-use Rattle.capture_flat.proofs.Needed.{needed_end, stop_says, stops_version}
+use Rattle.gpu_capture.proofs.Needed.{needed_end, stop_says, stops_version}
 use Rattle.capture_flat.proofs.Output.{begun_end}
-use Rattle.capture_flat.proofs.Pieces.{wrote_on}
+use Rattle.gpu_capture.proofs.Spelled.{wrote_on}
 use Rattle.capture_flat.proofs.Ports.{all_ports}
 
 -- ---- what was written
@@ -112,7 +116,7 @@ module _ (start : Tale) (version : ℕ) (before : Streams) (left_mid left held_o
       }
 
   needs : (stop : Stop) (stops : StopsAt (standing old left_mid) (standing new left) stop)
-      → AreNeededToEnd was.events (was.taken ++ stops.taken)
+      → AreNeededToEnd capture was.events (was.taken ++ stops.taken)
   needs stop stops = needed_end old was.events was.taken stops.taken was.says was.needed stops.needed
 
   bytes : (stop : Stop) (stops : StopsAt (standing old left_mid) (standing new left) stop)
@@ -120,8 +124,9 @@ module _ (start : Tale) (version : ℕ) (before : Streams) (left_mid left held_o
   bytes stop stops = taken_on before.left left_mid left was.taken stops.taken was.bytes stops.bytes
 
   says : (stop : Stop) (stops : StopsAt (standing old left_mid) (standing new left) stop)
-      → SaysStop (way stop stops) stop left
-  says stop stops = stop_says old (way stop stops) was.taken stops.taken left stop refl was.says (rw same stops.says)
+      → SaysStop capture (way stop stops).taken (said_of (way stop stops)) stop left
+  says stop stops =
+      stop_says old (said_of (way stop stops)) _ was.taken stops.taken left stop refl was.says (rw same stops.says)
 
   fits : length (flat_file first_tale version was.events) ≤ limit
   fits = file_fits first_tale version before (streams left_mid held_old heard steps) rig old draft since was
@@ -243,7 +248,7 @@ module _ (start : Tale) (version : ℕ) (before : Streams) (left_mid left held_m
 
   -- the bytes taken say the events, if there are some
   says_events : (stop : Stop) (stops : StopsAt (standing old left_mid) (standing new left) stop) → 1 ≤ old.version
-      → SaysFirst (way_here stop stops) was.events
+      → SaysFirst capture (way_here stop stops).version (way_here stop stops).taken was.events
   says_events stop stops known = λ rest. (
     capture_from old (stops.taken ++ rest),
     ap capture (append_assoc was.taken stops.taken rest) ∙ was.says (stops.taken ++ rest),

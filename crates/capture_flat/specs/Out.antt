@@ -1,7 +1,7 @@
 -- What is written of flat events (our own rule).
-use Rattle.std.specs.Prelude.{ℕ, List, [], ◌++◌, ◌==◌, max, map, flat_map, if◌then◌else◌}
+use Rattle.std.specs.Prelude.{ℕ, List, [], ◌++◌, ◌==◌, max, map, if◌then◌else◌}
 use Rattle.gpu_capture.specs.Capture.{head_of}
-use Rattle.gpu_capture.specs.Written.{spelled, written}
+use Rattle.gpu_capture.specs.Written.{spell, written}
 use Rattle.gpu_capture.specs.declared.event.Event.{Event}
 use Rattle.gpu_capture.specs.declared.event.Event.TheVariants.{Gp0}
 use Rattle.event_play.specs.Replay.{Tale}
@@ -10,10 +10,6 @@ use Rattle.capture_flat.specs.Flat.{flat_events, flat_replay}
 -- the version that is written for a version: reads that are not shown are known from version 2 on
 abbrev pub flat_version : ℕ → ℕ
 flat_version version = max 2 version
-
--- the records of events
-abbrev pub spell : List Event → List ℕ
-spell events = flat_map spelled events
 
 -- the records of words that are written to GP0
 abbrev pub spell_words : List ℕ → List ℕ

@@ -1,9 +1,8 @@
 -- A flat capture that is written as the events come (our own rule).
-use Rattle.std.specs.Prelude.{◌≡◌, ◌≤◌, ◌<◌, ◌⊎◌, ℕ, List, [], ◌∷◌, ◌++◌, ◌+◌, Option, Err, length}
+use Rattle.std.specs.Prelude.{◌≡◌, ◌≤◌, ◌<◌, ◌⊎◌, ℕ, List, [], ◌∷◌, ◌++◌, ◌+◌, Err, length}
 use Rattle.dev_io.specs.Device.{prepended, appended, AppendsPart, Rose}
 use Rattle.gpu_capture.specs.Capture.{capture, limit}
-use Rattle.gpu_capture.specs.Reading.{AreFewBehind, AreNeeded as Needs, AreNeededToEnd as NeedsToEnd}
-use Rattle.gpu_capture.specs.Reading.{SaysFirst as SaysThese, SaysStop as Stops}
+use Rattle.gpu_capture.specs.Reading.{AreFewBehind, AreNeeded, AreNeededToEnd, Said, SaysFirst, SaysStop}
 use Rattle.gpu_capture.specs.Written.{spelled_end, AllowsAll}
 use Rattle.gpu_capture.specs.declared.event.Event.{Event}
 use Rattle.gpu_capture.specs.declared.event.Stop.{Stop}
@@ -16,11 +15,9 @@ use Rattle.event_play.specs.RigState.{RigState, StandsFor}
 use Rattle.event_play.specs.Step.{event_step}
 use Rattle.event_play.specs.Streams.{Streams}
 use Rattle.event_play.specs.Told.{told_notes}
-use Rattle.event_play.specs.declared.ending.Ending.TheVariants.{Done as PlayedWhole}
 use Rattle.event_play.specs.declared.fault.EventFault.{EventFault}
-use Rattle.event_play.specs.Ports.{AreAtPorts}
 use Rattle.capture_flat.specs.Flat.{flat_replay}
-use Rattle.event_play.specs.Alike.{AreAlike}
+use Rattle.event_play.specs.Alike.{IsFlatCapture}
 use Rattle.capture_flat.specs.Out.{begun, due_at, head_due, flat_version, flat_file}
 use Rattle.capture_flat.specs.declared.ending.FlatEnding.{FlatEnding}
 use Rattle.capture_flat.specs.declared.ending.FlatEnding.TheVariants.{Done, Stopped, Faulted, TooLong, WriteFailed}
@@ -43,39 +40,16 @@ pub record Follows (first : Tale) (events : List Event) (tale : Tale) (flat : Li
   pub fresh : tale.played ≡ 0 → flat ≡ []
   pub allowed : AllowsAll 2 flat
 
--- ---- the bytes taken
-
--- none of these bytes is one too many for the last of these events: a proper part of them is cut short before it
-abbrev pub AreNeeded : List Event → List ℕ → Type 0
-AreNeeded events taken = Needs capture events taken
-
--- none of them is one too many to see how the capture ends behind these events: a proper part of them is cut short
-abbrev pub AreNeededToEnd : List Event → List ℕ → Type 0
-AreNeededToEnd events taken = NeedsToEnd capture events taken
-
--- the bytes taken say these events first, in a capture of the version of the way
-abbrev pub SaysFirst : Way → List Event → Type 0
-SaysFirst way events = SaysThese capture way.version way.taken events
-
--- what a capture of the bytes taken says where the reader stopped behind the events of the way
-abbrev pub SaysStop : Way → Stop → (left : Option (List ℕ)) → Type 0
-SaysStop way stop left = Stops capture way.taken (record { version = way.version; events = way.events }) stop left
+-- what the bytes taken say
+abbrev pub said_of : Way → Said
+said_of way = record { version = way.version; events = way.events }
 
 -- ---- the endings
 
--- The bytes written are a capture of flat events alone. Playing it, whatever follows, is whole, and shows the same
--- words and leads to the same status word and the same video memory.
-pub record IsFlatCapture (first t : Tale) (version : ℕ) (flat : List Event) (bytes : List ℕ) : Type 0 where
-  pub ports : AreAtPorts flat
-  pub reads : (after : List ℕ)
-      → capture (bytes ++ after) ≡ record { version = version; events = flat; ending = End; rest = after }
-  pub whole : (after : List ℕ) → (played_capture first (bytes ++ after)).ending ≡ PlayedWhole
-  pub alike : (after : List ℕ) → AreAlike (played_capture first (bytes ++ after)).tale t
-
 -- all was read, played and written
 pub record IsWhole (first : Tale) (way : Way) (before now : Streams) : Type 0 where
-  pub says : SaysStop way End now.left
-  pub needed : AreNeededToEnd way.events way.taken
+  pub says : SaysStop capture way.taken (said_of way) End now.left
+  pub needed : AreNeededToEnd capture way.events way.taken
   pub plays : (rest : List ℕ) → played_capture first (way.taken ++ rest) ≡ whole way.tale rest
   pub held : now.held ≡ appended before.held (flat_file (raised first way.version) way.version way.events)
   pub is_flat : IsFlatCapture first way.tale (flat_version way.version)
@@ -85,16 +59,16 @@ pub record IsWhole (first : Tale) (way : Way) (before now : Streams) : Type 0 wh
 -- the reader stopped otherwise; all that was due stands
 pub record IsStopped (way : Way) (number : ℕ) (stop : Stop) (before now : Streams) : Type 0 where
   pub number_is : number ≡ next_number way.tale.played
-  pub says : SaysStop way stop now.left
-  pub needed : AreNeededToEnd way.events way.taken
+  pub says : SaysStop capture way.taken (said_of way) stop now.left
+  pub needed : AreNeededToEnd capture way.events way.taken
   pub held : now.held ≡ appended before.held (begun way.version way.tale.played way.flat)
 
 -- the next event has a fault; all that was due stands
 pub record HasFault (way : Way) (number : ℕ) (fault : EventFault) (before now : Streams) : Type 0 where
   pub event : Event
   pub number_is : number ≡ next_number way.tale.played
-  pub needed : AreNeeded (way.events ++ event ∷ []) way.taken
-  pub says : SaysFirst way (way.events ++ event ∷ [])
+  pub needed : AreNeeded capture (way.events ++ event ∷ []) way.taken
+  pub says : SaysFirst capture way.version way.taken (way.events ++ event ∷ [])
   pub fault_is : event_step way.tale.state number event ≡ Err fault
   pub held : now.held ≡ appended before.held (begun way.version way.tale.played way.flat)
 
@@ -107,8 +81,8 @@ pub record IsLast (first : Tale) (way : Way) (number : ℕ) : Type 0 where
   pub are : way.events ≡ before ++ event ∷ []
   pub follows : Follows (raised first way.version) before tale flat
   pub number_is : number ≡ next_number tale.played
-  pub needed : AreNeeded way.events way.taken
-  pub says : SaysFirst way way.events
+  pub needed : AreNeeded capture way.events way.taken
+  pub says : SaysFirst capture way.version way.taken way.events
 
 -- With the records of the last event the file would be too long, and without them it would not. None of them was
 -- written; all that was due before stands.
@@ -129,7 +103,7 @@ pub record LacksRecords (first : Tale) (way : Way) (number : ℕ) (before now : 
   pub are : way.events ≡ earlier ++ event ∷ later
   pub follows : Follows (raised first way.version) earlier tale flat
   pub number_is : number ≡ next_number tale.played
-  pub says : SaysFirst way way.events
+  pub says : SaysFirst capture way.version way.taken way.events
   pub few : AreFewBehind capture (earlier ++ event ∷ []) way.taken most_behind
   pub held : AppendsPart (appended before.held (begun way.version tale.played flat)) now.held
       (due_at way.version tale event)
@@ -138,8 +112,8 @@ pub record LacksRecords (first : Tale) (way : Way) (number : ℕ) (before now : 
 -- a proper part of the End record was written
 pub record LacksEnd (first : Tale) (way : Way) (number : ℕ) (before now : Streams) : Type 0 where
   pub number_is : number ≡ next_number way.tale.played
-  pub needed : AreNeededToEnd way.events way.taken
-  pub says : SaysStop way End now.left
+  pub needed : AreNeededToEnd capture way.events way.taken
+  pub says : SaysStop capture way.taken (said_of way) End now.left
   pub held : AppendsPart (appended before.held (begun way.version way.tale.played way.flat)) now.held
       (head_due way.version way.tale.played ++ spelled_end)
   pub fits : length (flat_file (raised first way.version) way.version way.events) ≤ limit

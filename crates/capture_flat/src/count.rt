@@ -6,7 +6,7 @@ ghost use Rattle.ot_clear_dma.specs.Ram.{memory_words};
 ghost use Rattle.event_play.specs.Step.{words_of};
 ghost use Rattle.event_play.specs.Work.{AreWords, IsWork};
 ghost use Rattle.capture_flat.specs.Flat.{flat_work};
-ghost use Rattle.capture_flat.specs.Out.{spell};
+ghost use Rattle.gpu_capture.specs.Written.{spell};
 
 use event_play::{Words, Work};
 use list_dma::{WALK_LIMIT, next_node, node_at};

@@ -8,7 +8,8 @@ ghost use Rattle.event_play.specs.RigState.{StandsFor};
 ghost use Rattle.event_play.specs.Streams.{outlets};
 ghost use Rattle.event_play.specs.Work.{IsWork};
 ghost use Rattle.capture_flat.specs.Flat.{flat_work};
-ghost use Rattle.capture_flat.specs.Out.{spell, head_due, flat_version};
+ghost use Rattle.capture_flat.specs.Out.{head_due, flat_version};
+ghost use Rattle.gpu_capture.specs.Written.{spell};
 ghost use Rattle.capture_flat.specs.OneEvent.{PassesEvent, EndsEvent, stage};
 ghost use Rattle.capture_flat.specs.Passing.{EndsWriting};
 

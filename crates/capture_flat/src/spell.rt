@@ -6,7 +6,8 @@ ghost use Rattle.gpu_capture.specs.declared.event.Event.TheVariants.{Skip};
 ghost use Rattle.gpu_capture.specs.Record.{IsEvent};
 ghost use Rattle.event_play.specs.Work.{IsWork};
 ghost use Rattle.capture_flat.specs.Flat.{flat_work};
-ghost use Rattle.capture_flat.specs.Out.{spell, spell_words};
+ghost use Rattle.capture_flat.specs.Out.{spell_words};
+ghost use Rattle.gpu_capture.specs.Written.{spell};
 
 use dev_io::Sink;
 use event_play::{WordCursor, Work};

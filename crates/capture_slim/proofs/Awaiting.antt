@@ -7,12 +7,11 @@ use Rattle.dev_io.specs.Device.{prepended, appended, Rose}
 use Rattle.dev_io.proofs.Parts.{prepended-nil, taken_on}
 use Rattle.gpu_capture.specs.Capture.{Captured, capture, then_events, opened, numbered_version, heads}
 use Rattle.gpu_capture.specs.Head.{head_among}
-use Rattle.gpu_capture.specs.Reader.{Takes, StopsAt, IsReadFault, IsStart, SaysStop as ReaderSays, capture_from}
+use Rattle.gpu_capture.specs.Reader.{Takes, StopsAt, IsReadFault, IsStart, capture_from}
 use Rattle.gpu_capture.specs.Reader.{standing, work_left, tag_due}
 use Rattle.gpu_capture.specs.declared.event.Event.{Event}
 use Rattle.gpu_capture.specs.declared.event.Stop.{Stop}
-use Rattle.gpu_capture.specs.declared.event.Stop.TheVariants.{End, NotCapture, Truncated, BadRecord}
-use Rattle.gpu_capture.specs.declared.event.Stop.TheVariants.{TooLong as PastLimit, ReadFault}
+use Rattle.gpu_capture.specs.declared.event.Stop.TheVariants.{End}
 use Rattle.gpu_capture.specs.declared.progress.Progress.{Progress}
 use Rattle.gpu_capture.proofs.Versions.{version_from}
 use Rattle.event_play.specs.Ends.{IsNotEnd}
@@ -20,15 +19,15 @@ use Rattle.event_play.specs.Ports.{IsAtPorts}
 use Rattle.dead_drawing.specs.Laws.{height_for}
 use Rattle.dead_drawing.specs.Slim.{slim_events}
 use Rattle.dead_drawing.proofs.PacketLaw.{ports_append}
-use Rattle.capture_flat.specs.Passing.{AreNeeded}
-use Rattle.capture_flat.proofs.Awaiting.{Answers, answers}
-use Rattle.capture_flat.proofs.Needed.{none_needed, needed_on, needed_end, says_on, stop_whole, stop_part}
-use Rattle.capture_flat.proofs.Needed.{takes_version, stops_version}
+use Rattle.gpu_capture.specs.Reading.{AreNeeded, SaysFirst}
+use Rattle.gpu_capture.proofs.Needed.{Answers, answers}
+use Rattle.gpu_capture.proofs.Needed.{none_needed, needed_on, needed_end, says_on, stop_says}
+use Rattle.gpu_capture.proofs.Needed.{takes_version, stops_version}
 use Rattle.capture_slim.specs.Came.{Came, EndsEvent, EndsRefused, EndsPushed, EndsStop, FailsAny, FailsLast, HasCount}
 use Rattle.capture_slim.specs.Came.{and_event}
 use Rattle.capture_slim.specs.File.{IsDraft, begun}
 use Rattle.gathered_out.specs.Pieces.{Piece}
-use Rattle.capture_slim.specs.Passing.{Streams, streams, Way, SaysFirst, SaysStop, StopsBehind, RefusesNext, SaysEnding}
+use Rattle.capture_slim.specs.Passing.{Streams, streams, Way, StopsBehind, RefusesNext, SaysEnding, said_of}
 use Rattle.capture_slim.specs.Passing.{EndsSlim, Passed, WritesAll}
 use Rattle.capture_slim.specs.Window.{Window, first_window}
 use Rattle.capture_slim.specs.declared.ending.SlimEnding.{SlimEnding}
@@ -50,7 +49,7 @@ pub record Awaits (version : ℕ) (before now : Streams) (window : Window) (draf
   pub bytes : before.left ≡ prepended taken left
   pub events : List Event
   pub says : (rest : List ℕ) → capture (taken ++ rest) ≡ then_events events (capture_from old rest)
-  pub needed : AreNeeded events taken
+  pub needed : AreNeeded capture events taken
   pub came : Came (record { version = version; events = events; base = before.held }) window draft count now.held
   pub named : (events ≡ []) ⊎ (1 ≤ new.version)
   pub same : version ≡ max new.version 1
@@ -155,14 +154,14 @@ module _ (version : ℕ) (before now : Streams) (window : Window) (draft : Draft
       (capture_from new rest)
   all_says rest = says_on at.old new at.events e at.taken takes.taken rest at.says takes.says
 
-  all_needed : AreNeeded (at.events ++ e ∷ []) (at.taken ++ takes.taken)
+  all_needed : AreNeeded capture (at.events ++ e ∷ []) (at.taken ++ takes.taken)
   all_needed = needed_on at.old at.events e at.taken takes.taken at.says at.needed takes.needed
 
   -- the bytes taken, with these events of them
   abbrev way_of : List Event → Way
   way_of events = record { version = version; taken = at.taken ++ takes.taken; events = events }
 
-  says_first : (events : List Event) → SaysFirst (way_of events) (at.events ++ e ∷ [])
+  says_first : (events : List Event) → SaysFirst capture version (at.taken ++ takes.taken) (at.events ++ e ∷ [])
   says_first events rest = (capture_from new rest, all_says rest, version_from new rest at.answer.1 ∙ version_is)
 
   next_version : (newer : Progress) (left : Option (List ℕ)) (next : Result Event Stop)
@@ -265,21 +264,9 @@ module _ (version : ℕ) (before now : Streams) (window : Window) (draft : Draft
   abbrev way : Way
   way = record { version = new.version; taken = at.taken ++ at.answer.taken; events = at.events }
 
-  way_says : (stop : Stop) → ReaderSays stop at.old new.version at.answer.taken now.left → SaysStop way stop now.left
-  way_says End says = λ rest. stop_whole at.old new.version at.events at.taken at.answer.taken rest End at.says says
-  way_says (NotCapture byte) says = λ rest. stop_whole at.old new.version at.events at.taken at.answer.taken rest
-      (NotCapture byte) at.says says
-  way_says (BadRecord byte word) says = λ rest. stop_whole at.old new.version at.events at.taken at.answer.taken rest
-      (BadRecord byte word) at.says says
-  way_says (PastLimit byte) says = λ rest. stop_whole at.old new.version at.events at.taken at.answer.taken rest
-      (PastLimit byte) at.says says
-  way_says (Truncated byte) says =
-      (stop_part at.old new.version at.events at.taken at.answer.taken byte at.says says.0, says.1)
-  way_says (ReadFault byte) says = stop_part at.old new.version at.events at.taken at.answer.taken byte at.says says
-
   stops_behind : (held : Option (List ℕ)) → StopsBehind way stop before (streams now.left now.faults held)
   stops_behind held = record {
-    says = way_says stop at.answer.says;
+    says = stop_says at.old (said_of way) _ at.taken at.answer.taken now.left stop refl at.says at.answer.says;
     needed = needed_end at.old at.events at.taken at.answer.taken at.says at.needed at.answer.needed;
     cause = cause;
   }

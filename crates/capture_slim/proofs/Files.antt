@@ -7,8 +7,8 @@ use Rattle.gpu_capture.specs.Capture.{head_of, limit}
 use Rattle.gpu_capture.specs.Written.{spelled, spelled_end, written, tag_of}
 use Rattle.gpu_capture.proofs.Written.{word_length}
 use Rattle.gpu_capture.specs.declared.event.Event.{Event}
-use Rattle.capture_flat.specs.Out.{spell}
-use Rattle.capture_flat.proofs.Pieces.{spell-append, wrote_on}
+use Rattle.gpu_capture.specs.Written.{spell}
+use Rattle.gpu_capture.proofs.Spelled.{spell-append, wrote_on}
 use Rattle.capture_slim.specs.File.{begun, head_due, head_at, due, IsFile, IsDraft, IsLacking, FailsNext}
 use Rattle.capture_slim.specs.File.{EndsTooLong, output_of}
 use Rattle.gathered_out.specs.Pieces.{AreOut, BreaksOff, Piece, bytes_of}

@@ -10,7 +10,7 @@ use Rattle.gpu_capture.specs.Capture.{limit}
 use Rattle.gpu_capture.specs.Written.{spelled_end, HoldsWords}
 use Rattle.gpu_capture.specs.declared.event.Event.{Event}
 use Rattle.gpu_capture.specs.declared.event.Stop.{Stop}
-use Rattle.capture_flat.proofs.Pieces.{wrote_on}
+use Rattle.gpu_capture.proofs.Spelled.{wrote_on}
 use Rattle.gpu_capture.specs.declared.event.Event.TheVariants as event
 use Rattle.event_play.specs.Ports.{IsAtPorts}
 use Rattle.dead_drawing.specs.Dead.{is_droppable}

@@ -18,8 +18,8 @@ use Rattle.dead_drawing.specs.Laws.{height_for, machine_for}
 use Rattle.dead_drawing.specs.Slim.{slim_events, slim_from, kept_by}
 use Rattle.dead_drawing.proofs.SlimLaw.{slim_ports}
 use Rattle.dead_drawing.proofs.WholeLists.{slim_law}
-use Rattle.capture_flat.specs.Passing.{IsFlatCapture}
-use Rattle.capture_flat.proofs.Alike.{rest_same}
+use Rattle.event_play.specs.Alike.{IsFlatCapture}
+use Rattle.event_play.proofs.Rests.{rest_same}
 use Rattle.capture_slim.specs.Came.{HoldWords}
 use Rattle.capture_slim.specs.Passing.{first, slim_file}
 use Rattle.gpu_capture.proofs.Known.{AreKnown, capture_known}

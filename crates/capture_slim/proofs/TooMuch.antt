@@ -7,8 +7,8 @@ use Rattle.gpu_capture.specs.Written.{spelled_end, written}
 use Rattle.gpu_capture.specs.declared.event.Event.{Event}
 use Rattle.dead_drawing.specs.Laws.{height_for}
 use Rattle.dead_drawing.specs.Slim.{slim_events}
-use Rattle.capture_flat.specs.Out.{spell}
-use Rattle.capture_flat.proofs.Pieces.{spell-append}
+use Rattle.gpu_capture.specs.Written.{spell}
+use Rattle.gpu_capture.proofs.Spelled.{spell-append}
 use Rattle.capture_slim.specs.Passing.{FailsAt, IsTooLong, Streams, Way, passed_on}
 use Rattle.capture_slim.specs.Places.{kept_of, places, slim_first}
 use Rattle.capture_slim.specs.Stream.{DueLaw, window_behind, outs, staying}

@@ -4,7 +4,7 @@ use Rattle.dev_io.specs.Device.{appended, AppendsPart}
 use Rattle.gpu_capture.specs.Capture.{IsVersion, head_of, limit}
 use Rattle.gpu_capture.specs.Written.{spelled, written}
 use Rattle.gpu_capture.specs.declared.event.Event.{Event}
-use Rattle.capture_flat.specs.Out.{spell}
+use Rattle.gpu_capture.specs.Written.{spell}
 use Rattle.gathered_out.specs.Pieces.{BreaksOff, Piece, bytes_of}
 use Rattle.capture_slim.specs.Places.{kept_of}
 use Rattle.capture_slim.specs.declared.ending.SlimEnding.{SlimEnding}

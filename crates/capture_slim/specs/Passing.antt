@@ -1,12 +1,12 @@
 -- A capture that is written without its dead drawing as the events come (our own rule).
 use Rattle.std.specs.Prelude.{◌≡◌, ◌≤◌, ◌<◌, ◌⊎◌, ℕ, List, [], ◌∷◌, ◌++◌, ◌+◌, Option, length}
-use Rattle.dev_io.specs.Device.{prepended, appended, AppendsPart, IsAtEnd, Rose}
-use Rattle.gpu_capture.specs.Capture.{Captured, capture, then_events, limit}
+use Rattle.dev_io.specs.Device.{prepended, appended, AppendsPart, Rose}
+use Rattle.gpu_capture.specs.Capture.{capture, limit}
 use Rattle.gpu_capture.specs.Reader.{IsReadFault}
 use Rattle.gpu_capture.specs.Written.{spelled_end, written}
 use Rattle.gpu_capture.specs.declared.event.Event.{Event}
 use Rattle.gpu_capture.specs.declared.event.Stop.{Stop}
-use Rattle.gpu_capture.specs.declared.event.Stop.TheVariants.{End, Truncated, ReadFault}
+use Rattle.gpu_capture.specs.declared.event.Stop.TheVariants.{End, ReadFault}
 use Rattle.event_play.specs.Ends.{IsNotEnd}
 use Rattle.event_play.specs.Ports.{IsAtPorts, AreAtPorts}
 use Rattle.event_play.specs.Replay.{Tale, played_capture, from_state}
@@ -14,7 +14,8 @@ use Rattle.event_play.specs.Step.{first_machine}
 use Rattle.dead_drawing.specs.Dead.{window_events}
 use Rattle.dead_drawing.specs.Laws.{height_for}
 use Rattle.dead_drawing.specs.Slim.{slim_events}
-use Rattle.capture_flat.specs.Passing.{AreNeeded, AreNeededToEnd, IsFlatCapture}
+use Rattle.gpu_capture.specs.Reading.{AreNeeded, AreNeededToEnd, Said, SaysFirst, SaysStop}
+use Rattle.event_play.specs.Alike.{IsFlatCapture}
 use Rattle.capture_slim.specs.File.{begun, head_due, Fails, Output}
 use Rattle.capture_slim.specs.Places.{slim_first}
 use Rattle.capture_slim.specs.declared.ending.SlimEnding.{SlimEnding}
@@ -43,42 +44,30 @@ slim_of version events = slim_events (height_for version) events
 abbrev pub slim_file : (version : ℕ) → List Event → List ℕ
 slim_file version events = written version (slim_of version events)
 
--- the bytes taken say these events first, in a capture of the version of the way
-abbrev pub SaysFirst : Way → List Event → Type 0
-SaysFirst way events = (rest : List ℕ)
-    → (more : Captured) × (capture (way.taken ++ rest) ≡ then_events events more) × (more.version ≡ way.version)
-
--- what a capture of the bytes taken says where the reader stopped behind the events of the way
-abbrev pub SaysStop : Way → Stop → (left : Option (List ℕ)) → Type 0
-SaysStop way (ReadFault byte) left =
-    capture way.taken ≡ record { version = way.version; events = way.events; ending = Truncated byte; rest = [] }
-SaysStop way (Truncated byte) left =
-    (capture way.taken ≡ record { version = way.version; events = way.events; ending = Truncated byte; rest = [] })
-    × IsAtEnd left
-SaysStop way stop left =
-    (rest : List ℕ) → capture (way.taken ++ rest)
-    ≡ record { version = way.version; events = way.events; ending = stop; rest = rest }
+-- what the bytes taken say
+abbrev pub said_of : Way → Said
+said_of way = record { version = way.version; events = way.events }
 
 -- ---- how the reading stands
 
 -- the reader stopped behind the events of the way, for a fault only where the source has failed since
 pub record StopsBehind (way : Way) (stop : Stop) (before now : Streams) : Type 0 where
-  pub says : SaysStop way stop now.left
-  pub needed : AreNeededToEnd way.events way.taken
+  pub says : SaysStop capture way.taken (said_of way) stop now.left
+  pub needed : AreNeededToEnd capture way.events way.taken
   pub cause : IsReadFault stop → Rose before.faults now.faults
 
 -- the next event is none of the ports
 pub record RefusesNext (way : Way) : Type 0 where
   pub event : Event
   pub refused : IsAtPorts event → ⊥
-  pub says : SaysFirst way (way.events ++ event ∷ [])
-  pub needed : AreNeeded (way.events ++ event ∷ []) way.taken
+  pub says : SaysFirst capture way.version way.taken (way.events ++ event ∷ [])
+  pub needed : AreNeeded capture (way.events ++ event ∷ []) way.taken
 
 -- the last event of the way is so many events behind one of this number
 pub record ReadsOn (way : Way) (number : ℕ) : Type 0 where
   pub number_is : length way.events ≡ number + window_events
-  pub says : SaysFirst way way.events
-  pub needed : AreNeeded way.events way.taken
+  pub says : SaysFirst capture way.version way.taken way.events
+  pub needed : AreNeeded capture way.events way.taken
 
 -- one of this number is among the last events where the reading ends
 pub record IsAmongLast (events : List Event) (number : ℕ) : Type 0 where
@@ -88,8 +77,8 @@ pub record IsAmongLast (events : List Event) (number : ℕ) : Type 0 where
 -- the last event of the way is so many events behind one of this number, or more
 pub record ReadsBeyond (way : Way) (number : ℕ) : Type 0 where
   pub number_is : number + window_events ≤ length way.events
-  pub says : SaysFirst way way.events
-  pub needed : AreNeeded way.events way.taken
+  pub says : SaysFirst capture way.version way.taken way.events
+  pub needed : AreNeeded capture way.events way.taken
 
 -- the record of the event of this number is due
 abbrev pub IsDue : Way → (number : ℕ) → (before now : Streams) → Type 0

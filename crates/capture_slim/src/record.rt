@@ -56,7 +56,7 @@ fn put_head(bytes: &mut ArrayVec<u8, DUE_MOST>, file: SlimFile)
 }
 
 // The record of an event of the ports.
-#[tactic(auto, using(capture_flat::proofs::Counts::record_length))]
+#[tactic(auto, using(gpu_capture::proofs::Spelled::record_length))]
 fn port_record(event: &Event) -> ArrayVec<u8, RECORD_MOST>
     requires { IsAtPorts event.now }
     ensures value { result.items ≡ spelled event.now }

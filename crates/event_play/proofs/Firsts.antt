@@ -28,3 +28,6 @@ raised_first t version first = elim (cases_Bool (version == tall_version)) [
 
 pub from_first : (s : Machine) (played : ℕ) → IsFirst (from_state s played)
 from_first s played = record { shown = refl; frames = refl; notes = refl; strokes = refl; cost = refl; box_cost = refl }
+
+pub raised_played : (t : Tale) (version : ℕ) → (raised t version).played ≡ t.played
+raised_played t version = elim (cases_Bool (version == tall_version)) [ inl is ↦ rw is refl | inr is ↦ rw is refl ]

@@ -1,5 +1,6 @@
 pub mod AtOnce
 pub mod Awaiting
+pub mod Behind
 pub mod BoxCosts
 pub mod Feeds
 pub mod Nodes
@@ -12,6 +13,7 @@ pub mod Listed
 pub mod Parts
 pub mod Reaching
 pub mod Reports
+pub mod Rests
 pub mod Turns
 pub mod Works
 pub mod Firsts

@@ -72,6 +72,10 @@ heard_on before mid now told notes was took = took ∙ ap (told_notes notes) was
 pub spent_on : (before mid now a b : ℕ) → mid ≤ before + a → now ≤ mid + b → now ≤ before + (a + b)
 spent_on before mid now a b was took = omega arith
 
+-- two sums, part by part
+pub both_small : (a b c d : ℕ) → a ≤ c → b ≤ d → a + b ≤ c + d
+both_small a b c d first next = omega arith
+
 -- what was spent, and what is spent on an event and on what is due for it
 cost_on : (mode : Mode) (before mid at now : ℕ) (t : Tale) (event : Event) (machine : Machine) (shown : Option ℕ)
     (notes : List Note)

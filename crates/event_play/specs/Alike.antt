@@ -1,16 +1,28 @@
 -- What two replays may have in common (our own rule).
-use Rattle.std.specs.Prelude.{◌≡◌, List, []}
+use Rattle.std.specs.Prelude.{◌≡◌, ◌++◌, ℕ, List, []}
+use Rattle.gpu_capture.specs.Capture.{capture}
 use Rattle.gpu_capture.specs.declared.event.Event.{Event}
 use Rattle.gpu_capture.specs.declared.event.Stop.TheVariants.{End}
 use Rattle.gpu_core.specs.Machine.{status_word}
-use Rattle.event_play.specs.Replay.{Tale, Played, played_events, from_state}
+use Rattle.event_play.specs.Ports.{AreAtPorts}
+use Rattle.event_play.specs.Replay.{Tale, Played, played_capture, played_events, from_state}
 use Rattle.event_play.specs.Step.{Machine}
+use Rattle.event_play.specs.declared.ending.Ending.TheVariants.{Done as PlayedWhole}
 
 -- two replays showed the same words, and lead to the same status word and the same video memory
 pub record AreAlike (a b : Tale) : Type 0 where
   pub shown : a.shown ≡ b.shown
   pub status : status_word a.state.gpu ≡ status_word b.state.gpu
   pub cells : a.state.gpu.parts.m ≡ b.state.gpu.parts.m
+
+-- These bytes are a capture of such events of the ports alone. Playing it, whatever follows, is whole, and shows the
+-- same words and leads to the same status word and the same video memory.
+pub record IsFlatCapture (first t : Tale) (version : ℕ) (flat : List Event) (bytes : List ℕ) : Type 0 where
+  pub ports : AreAtPorts flat
+  pub reads : (after : List ℕ)
+      → capture (bytes ++ after) ≡ record { version = version; events = flat; ending = End; rest = after }
+  pub whole : (after : List ℕ) → (played_capture first (bytes ++ after)).ending ≡ PlayedWhole
+  pub alike : (after : List ℕ) → AreAlike (played_capture first (bytes ++ after)).tale t
 
 -- events, replayed from a machine as if they were all of a capture
 abbrev pub replay_of : Machine → List Event → Played

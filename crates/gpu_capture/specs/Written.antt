@@ -31,6 +31,10 @@ record_words event.Skip = tag_of 9 1 ∷ []
 abbrev pub spelled : Event → List ℕ
 spelled given = flat_map word_bytes (record_words given)
 
+-- the records of events
+abbrev pub spell : List Event → List ℕ
+spell events = flat_map spelled events
+
 -- an End record
 abbrev pub spelled_end : List ℕ
 spelled_end = word_bytes (tag_of 0 0)

@@ -28,7 +28,7 @@ use Rattle.event_play.proofs.Splits.{replays_split}
 use Rattle.snapshot_words.specs.Outline.{snapshot_head, snap_bytes}
 use Rattle.snapshot_words.specs.Reading.{Snapshot}
 use Rattle.snapshot_words.proofs.States.{state_read}
-use Rattle.capture_flat.specs.Out.{spell}
+use Rattle.gpu_capture.specs.Written.{spell}
 use Rattle.capture_cut.specs.File.{cut_file, rig_bytes}
 use Rattle.capture_cut.specs.File.{snapshot as state_bytes}
 use Rattle.gpu_snapshot.specs.CutFiles.{IsCutWhole, LeadsTo, EndAlike, played_cut, PlaysLead, CutsAreWhole, GoesOn}

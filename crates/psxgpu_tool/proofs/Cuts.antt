@@ -1,5 +1,5 @@
 -- What the end of cutting a capture says, where the bytes of the source are told.
-use Rattle.std.proofs.Common.{◌≡◌, ◌≤◌, ◌<◌, ◌+◌, inl, inr, ℕ, zero, suc, ◌++◌, List, [], ◌∷◌, Some, Err, length, take}
+use Rattle.std.proofs.Common.{◌≡◌, ◌≤◌, ◌<◌, inl, inr, ℕ, zero, suc, ◌++◌, List, [], ◌∷◌, Some, Err, length, take}
 use Rattle.std.proofs.Common.{drop}
 use Rattle.std.proofs.Common.{refl, ap, sym, subst, ◌∙◌, append-nil, append_assoc, arith}
 use Rattle.std.proofs.lemmas.List.{length-append, take_at, drop_at}
@@ -19,8 +19,8 @@ use Rattle.event_play.specs.Step.{event_step, event_cost, event_box_cost}
 use Rattle.event_play.specs.Streams.{Streams}
 use Rattle.event_play.specs.declared.ending.Ending.TheVariants as play
 use Rattle.event_play.specs.declared.fault.EventFault.{EventFault}
-use Rattle.capture_flat.specs.Out.{spell}
-use Rattle.capture_flat.proofs.Pieces.{spell-append}
+use Rattle.gpu_capture.specs.Written.{spell}
+use Rattle.gpu_capture.proofs.Spelled.{spell-append}
 use Rattle.capture_cut.specs.Cut.{Way, Plays, events_of, EndsCut, IsCut, cut_at, MayReadFault, MayWriteFault}
 use Rattle.capture_cut.specs.File.{snapshot, begun, cut_file}
 use Rattle.capture_cut.specs.declared.ending.CutEnding.{CutEnding}

@@ -22,12 +22,14 @@ use Rattle.event_play.specs.declared.ending.Ending.TheVariants as play
 use Rattle.event_play.specs.declared.fault.EventFault.{EventFault}
 use Rattle.event_play.specs.declared.work.Work.{Work}
 use Rattle.capture_flat.specs.Flat.{flat_events, flat_replay, flat_asked, then_flat}
-use Rattle.capture_flat.specs.Out.{spell, flat_file, flat_version}
-use Rattle.capture_flat.specs.Passing.{Way, Follows, EndsFlat, IsFlatCapture, MayReadFault, MayWriteFault}
+use Rattle.capture_flat.specs.Out.{flat_file, flat_version}
+use Rattle.gpu_capture.specs.Written.{spell}
+use Rattle.capture_flat.specs.Passing.{Way, Follows, EndsFlat, MayReadFault, MayWriteFault}
+use Rattle.event_play.specs.Alike.{IsFlatCapture}
 use Rattle.capture_flat.specs.declared.ending.FlatEnding.{FlatEnding}
 use Rattle.capture_flat.specs.declared.ending.FlatEnding.TheVariants.{Done, Stopped, Faulted, TooLong, WriteFailed}
 use Rattle.capture_flat.proofs.Following.{all_flat}
-use Rattle.capture_flat.proofs.Pieces.{spell-append}
+use Rattle.gpu_capture.proofs.Spelled.{spell-append}
 use Rattle.psxgpu_tool.specs.First.{first, play_of, seen}
 use Rattle.psxgpu_tool.specs.FlatRun.{flat_of, FlatWhole, EndsAsFlat}
 use Rattle.psxgpu_tool.specs.Line.{status_of, flat_status}

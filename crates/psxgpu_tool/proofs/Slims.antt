@@ -13,9 +13,10 @@ use Rattle.event_play.specs.Replay.{Tale}
 use Rattle.dead_drawing.specs.Dead.{window_events}
 use Rattle.dead_drawing.specs.Laws.{height_for}
 use Rattle.dead_drawing.specs.Slim.{slim_events}
-use Rattle.capture_flat.specs.Passing.{IsFlatCapture}
-use Rattle.capture_slim.specs.Passing.{EndsSlim, IsTooLong, MayReadFault, MayWriteFault, RefusesNext, SaysStop, Way}
-use Rattle.capture_slim.specs.Passing.{slim_file, streams}
+use Rattle.event_play.specs.Alike.{IsFlatCapture}
+use Rattle.capture_slim.specs.Passing.{EndsSlim, IsTooLong, MayReadFault, MayWriteFault, RefusesNext, Way}
+use Rattle.gpu_capture.specs.Reading.{SaysStop}
+use Rattle.capture_slim.specs.Passing.{said_of, slim_file, streams}
 use Rattle.capture_slim.specs.declared.ending.SlimEnding.{SlimEnding}
 use Rattle.capture_slim.specs.declared.ending.SlimEnding.TheVariants.{Done, Stopped, NotFlat, TooLong, WriteFailed}
 use Rattle.psxgpu_tool.specs.First.{first, play_of}
@@ -158,7 +159,8 @@ module _ (before now : Outside) (bytes : List ℕ) (told : before.source.left �
       }
 
   long_stop : (way : Way) (number : ℕ) (stop : Stop) (rest : List ℕ) → bytes ≡ way.taken ++ rest
-      → now.source.left ≡ Some rest → (IsReadFault stop → ⊥) → SaysStop way stop now.source.left
+      → now.source.left ≡ Some rest → (IsReadFault stop → ⊥)
+      → SaysStop capture way.taken (said_of way) stop now.source.left
       → AreAtPorts way.events → IsTooLong way number → EndsAsSlim (capture bytes) 2
   long_stop way number (ReadFault byte) rest all left read says ports long = absurd (read tt)
   long_stop way number (Truncated byte) rest all left read says ports long =

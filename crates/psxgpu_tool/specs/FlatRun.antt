@@ -8,7 +8,8 @@ use Rattle.event_play.specs.RigState.{RigState}
 use Rattle.event_play.specs.declared.ending.Ending.TheVariants.{Done}
 use Rattle.capture_flat.specs.Flat.{flat_replay}
 use Rattle.capture_flat.specs.Out.{flat_file, flat_version}
-use Rattle.capture_flat.specs.Passing.{EndsFlat, IsEnding, IsFlatCapture}
+use Rattle.capture_flat.specs.Passing.{EndsFlat, IsEnding}
+use Rattle.event_play.specs.Alike.{IsFlatCapture}
 use Rattle.capture_flat.specs.declared.ending.FlatEnding.{FlatEnding}
 use Rattle.psxgpu_tool.specs.First.{first, play_of, seen}
 use Rattle.psxgpu_tool.specs.Line.{flat_status, flat_text, status_of}

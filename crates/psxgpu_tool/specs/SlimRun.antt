@@ -9,7 +9,7 @@ use Rattle.gpu_taps.specs.Tally.{Reading}
 use Rattle.event_play.specs.Ports.{AreAtPorts}
 use Rattle.dead_drawing.specs.Laws.{height_for}
 use Rattle.dead_drawing.specs.Slim.{slim_events}
-use Rattle.capture_flat.specs.Passing.{IsFlatCapture}
+use Rattle.event_play.specs.Alike.{IsFlatCapture}
 use Rattle.capture_slim.specs.Passing.{EndsSlim, IsEnding, slim_file, streams}
 use Rattle.capture_slim.specs.declared.ending.SlimEnding.{SlimEnding}
 use Rattle.psxgpu_tool.specs.First.{first, play_of}

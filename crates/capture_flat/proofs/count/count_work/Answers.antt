@@ -1,6 +1,6 @@
 use Rattle.std.proofs.Common.{sym}
 use Rattle.gpu_capture.specs.declared.event.Event.TheVariants as event
-use Rattle.capture_flat.proofs.Counts.{one_bytes}
+use Rattle.gpu_capture.proofs.Spelled.{one_bytes}
 use Rattle.capture_flat.proofs.count.count_work.Goals as goal
 
 pub returns-in-Control-clause-value : goal.returns-in-Control-clause-value

@@ -3,7 +3,7 @@ use Rattle.gathered_out.specs.Pieces.{piece}
 use Rattle.gathered_out.specs.Puts.{sink_state}
 use Rattle.gathered_out.proofs.Puts.{HasPut}
 use Rattle.gpu_capture.specs.declared.event.Event.TheVariants.{Skip}
-use Rattle.capture_flat.specs.Out.{spell}
+use Rattle.gpu_capture.specs.Written.{spell}
 use Rattle.capture_flat.proofs.spell.spell_skips.Given as goal
 
 abbrev pub invariant-loop-i : goal.invariant-loop-i

@@ -1,8 +1,8 @@
 use Rattle.std.proofs.Common.{◌∷◌, ◌++◌, [], ap, append-nil, append_assoc, map, refl, sym, ◌∙◌}
 use Rattle.gathered_out.proofs.Puts.{put_none, put_on, put_fails, puts_all}
 use Rattle.gpu_capture.specs.declared.event.Event.TheVariants.{Gp0}
-use Rattle.capture_flat.specs.Out.{spell}
-use Rattle.capture_flat.proofs.Pieces.{spell-append, spell_split}
+use Rattle.gpu_capture.specs.Written.{spell}
+use Rattle.gpu_capture.proofs.Spelled.{spell-append, spell_split}
 use Rattle.capture_flat.proofs.spell.spell_words.Goals as goal
 
 pub words-init : goal.words-init

@@ -4,7 +4,7 @@ use Rattle.gathered_out.specs.Puts.{sink_state}
 use Rattle.gathered_out.proofs.Puts.{HasPut}
 use Rattle.gpu_capture.specs.declared.event.Event.{Event}
 use Rattle.gpu_capture.specs.declared.event.Event.TheVariants.{Gp0}
-use Rattle.capture_flat.specs.Out.{spell}
+use Rattle.gpu_capture.specs.Written.{spell}
 use Rattle.capture_flat.proofs.spell.spell_words.Given as goal
 
 abbrev pub invariant-words : goal.invariant-words

@@ -1,8 +1,10 @@
 -- What the bytes taken say, and that none of them is one too many.
-use Rattle.std.proofs.Common.{◌≡◌, ◌≤◌, inl, inr, ◌++◌, ℕ, List, [], ◌∷◌, Option, refl, ap, sym, ◌∙◌, append_assoc}
-use Rattle.std.proofs.Common.{append-nil}
+use Rattle.std.proofs.Common.{◌≡◌, ◌≤◌, inl, inr, ◌++◌, ℕ, List, [], ◌∷◌, Option, Result, Ok, Err, OnOk, IfOk, IfErr}
+use Rattle.std.proofs.Common.{refl, ap, sym, ◌∙◌, append_assoc, append-nil}
 use Rattle.gpu_capture.specs.Capture.{Captured, capture, ended, then_events}
-use Rattle.gpu_capture.specs.Reader.{AreNeeded as ReaderNeeds, Takes, SaysStop as ReaderSays, capture_from, standing}
+use Rattle.gpu_capture.specs.Reader.{AreNeeded as ReaderNeeds, SaysStop as ReaderSays, StopsAt, Takes, capture_from}
+use Rattle.gpu_capture.specs.Reader.{standing}
+use Rattle.gpu_capture.specs.Reading.{AreNeeded, AreNeededToEnd, Said, SaysStop}
 use Rattle.gpu_capture.specs.declared.event.Event.{Event}
 use Rattle.gpu_capture.specs.declared.event.Stop.{Stop}
 use Rattle.gpu_capture.specs.declared.event.Stop.TheVariants.{End, NotCapture, Truncated, BadRecord}
@@ -10,11 +12,10 @@ use Rattle.gpu_capture.specs.declared.event.Stop.TheVariants.{TooLong as PastLim
 use Rattle.gpu_capture.specs.declared.progress.Progress.{Progress}
 use Rattle.gpu_capture.proofs.Steps.{split}
 use Rattle.gpu_capture.proofs.Versions.{version_from}
-use Rattle.capture_flat.specs.Passing.{Way, AreNeeded, AreNeededToEnd, SaysStop}
 
 -- ---- none too many
 
-pub none_needed : (taken : List ℕ) → taken ≡ [] → AreNeeded [] taken
+pub none_needed : (taken : List ℕ) → taken ≡ [] → AreNeeded capture [] taken
 none_needed taken none [] [] is some = absurd (some refl)
 none_needed taken none [] (x ∷ xs) is some = absurd cc
 none_needed taken none (x ∷ xs) more is some = absurd cc
@@ -22,7 +23,7 @@ none_needed taken none (x ∷ xs) more is some = absurd cc
 -- the bytes so far, and those of one event more
 pub needed_on : (old : Progress) (events : List Event) (given : Event) (xs ys : List ℕ)
     → ((more : List ℕ) → capture (xs ++ more) ≡ then_events events (capture_from old more))
-    → AreNeeded events xs → ReaderNeeds old ys → AreNeeded (events ++ given ∷ []) (xs ++ ys)
+    → AreNeeded capture events xs → ReaderNeeds old ys → AreNeeded capture (events ++ given ∷ []) (xs ++ ys)
 needed_on old events given xs ys reached was next part more is some =
     elim (split xs ys part more is) [
       | inl behind ↦
@@ -62,7 +63,7 @@ needed_on old events given xs ys reached was next part more is some =
 -- the bytes so far, and those of a stop
 pub needed_end : (old : Progress) (events : List Event) (xs ys : List ℕ)
     → ((more : List ℕ) → capture (xs ++ more) ≡ then_events events (capture_from old more))
-    → AreNeeded events xs → ReaderNeeds old ys → AreNeededToEnd events (xs ++ ys)
+    → AreNeeded capture events xs → ReaderNeeds old ys → AreNeededToEnd capture events (xs ++ ys)
 needed_end old events xs ys reached was next part more is some =
     elim (split xs ys part more is) [
       | inl behind ↦
@@ -121,23 +122,23 @@ stop_part old version events xs ys byte reached says =
     ∙ ap (λ (all : List Event). record { version = version; events = all; ending = Truncated byte; rest = [] })
     (append-nil events)
 
--- the same for every stop, behind the events of a way
-pub stop_says : (old : Progress) (way : Way) (xs ys : List ℕ) (left : Option (List ℕ)) (stop : Stop)
-    → way.taken ≡ xs ++ ys
-    → ((more : List ℕ) → capture (xs ++ more) ≡ then_events way.events (capture_from old more))
-    → ReaderSays stop old way.version ys left → SaysStop way stop left
-stop_says old way xs ys left End are reached says = λ rest. rw are
-    (stop_whole old way.version way.events xs ys rest End reached says)
-stop_says old way xs ys left (NotCapture byte) are reached says = λ rest. rw are
-    (stop_whole old way.version way.events xs ys rest (NotCapture byte) reached says)
-stop_says old way xs ys left (BadRecord byte word) are reached says = λ rest. rw are
-    (stop_whole old way.version way.events xs ys rest (BadRecord byte word) reached says)
-stop_says old way xs ys left (PastLimit byte) are reached says = λ rest. rw are
-    (stop_whole old way.version way.events xs ys rest (PastLimit byte) reached says)
-stop_says old way xs ys left (Truncated byte) are reached says =
-    (rw are (stop_part old way.version way.events xs ys byte reached says.0), says.1)
-stop_says old way xs ys left (ReadFault byte) are reached says = rw are
-    (stop_part old way.version way.events xs ys byte reached says)
+-- what they say, however the reader stopped
+pub stop_says : (old : Progress) (said : Said) (taken xs ys : List ℕ) (left : Option (List ℕ)) (stop : Stop)
+    → taken ≡ xs ++ ys
+    → ((more : List ℕ) → capture (xs ++ more) ≡ then_events said.events (capture_from old more))
+    → ReaderSays stop old said.version ys left → SaysStop capture taken said stop left
+stop_says old said taken xs ys left End are reached says = λ rest. rw are
+    (stop_whole old said.version said.events xs ys rest End reached says)
+stop_says old said taken xs ys left (NotCapture byte) are reached says = λ rest. rw are
+    (stop_whole old said.version said.events xs ys rest (NotCapture byte) reached says)
+stop_says old said taken xs ys left (BadRecord byte word) are reached says = λ rest. rw are
+    (stop_whole old said.version said.events xs ys rest (BadRecord byte word) reached says)
+stop_says old said taken xs ys left (PastLimit byte) are reached says = λ rest. rw are
+    (stop_whole old said.version said.events xs ys rest (PastLimit byte) reached says)
+stop_says old said taken xs ys left (Truncated byte) are reached says =
+    (rw are (stop_part old said.version said.events xs ys byte reached says.0), says.1)
+stop_says old said taken xs ys left (ReadFault byte) are reached says = rw are
+    (stop_part old said.version said.events xs ys byte reached says)
 
 -- ---- versions
 
@@ -163,3 +164,17 @@ stops_version old version (Truncated byte) taken now says was = sym (version_fro
     ∙ ap (λ (c : Captured). c.version) says.0
 stops_version old version (ReadFault byte) taken now says was = sym (version_from old taken was)
     ∙ ap (λ (c : Captured). c.version) says
+
+-- ---- answers
+
+-- the reader went from one place to the next, and answered this
+abbrev pub Answers : (old new : Progress) (before now : Option (List ℕ)) → Result Event Stop → Type 0
+Answers old new before now (Ok event) = Takes (standing old before) (standing new now) (event ∷ []) × (1 ≤ new.version)
+Answers old new before now (Err stop) = StopsAt (standing old before) (standing new now) stop
+
+pub answers : (old new : Progress) (before now : Option (List ℕ)) (next : Result Event Stop)
+    → IfOk next (λ event. Takes (standing old before) (standing new now) (event ∷ []))
+    → OnOk next (1 ≤ new.version) → IfErr next (λ stop. StopsAt (standing old before) (standing new now) stop)
+    → Answers old new before now next
+answers old new before now (Ok event) takes known stops = (takes, known)
+answers old new before now (Err stop) takes known stops = stops
