@@ -9,6 +9,8 @@ mod film;
 mod flat;
 mod lines;
 mod pictures;
+mod rows;
+mod runs;
 mod slim;
 mod told;
 
@@ -23,16 +25,6 @@ use vram_store::Steps;
 
 /// The room of a sink for lines.
 pub(crate) const LINES: usize = 4096;
-
-/// A run, and what is to come of it.
-#[derive(Clone, Copy)]
-pub(crate) struct Case {
-    pub(crate) words: &'static str,
-    pub(crate) records: &'static str,
-    pub(crate) status: u8,
-    pub(crate) out: &'static str,
-    pub(crate) err: &'static str,
-}
 
 /// The words of a command line, with spaces between them.
 pub(crate) fn words_of(alloc: Global, words: &str) -> io::Result<Vec<String>> {

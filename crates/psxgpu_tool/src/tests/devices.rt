@@ -1,9 +1,9 @@
 // Captures that break off, and devices that fail.
+use crate::tests::LINES;
 use crate::tests::capture::{bytewise, capture};
-use crate::tests::{LINES, status_over};
-use dev_io::{CutSource, FailSink, MemSink, MemSource};
+use crate::tests::runs::{is_refused_at, ran};
+use dev_io::MemSource;
 use std::alloc::Global;
-use std::io;
 use std::test::Fail;
 
 /// A list that cuts a triangle in two, and reads of the status around it.
@@ -56,23 +56,17 @@ fn event_of(place: usize) -> u64 {
 // Whether the capture is refused as it should be where it breaks off at this place.
 fn breaks_off(alloc: Global, bytes: &[u8], place: usize) -> Result<bool, Fail> {
     let mut source = MemSource::new(bytes.iter().take(place).copied().collect(alloc)?);
-    let mut out = MemSink::new(alloc, LINES)?;
-    let mut err = MemSink::new(alloc, LINES)?;
-    let status = status_over(alloc, "play", &mut source, &mut out, &mut err)?;
     let n = ends_before(&EVENT_ENDS, place).saturating_add(1);
     let line = format!(in alloc; "psxgpu: truncated at event {n} byte {place}\n")?;
-    Ok(status == 2 && out.bytes() == lines_before(place) && err.bytes() == line.as_bytes())
+    Ok(ran(alloc, "play", &mut source, LINES)?.is(2, lines_before(place), line.as_bytes()))
 }
 
 // The same where the call for the byte at this place fails.
 fn starves(alloc: Global, bytes: &[u8], place: usize) -> Result<bool, Fail> {
     let mut source = bytewise(alloc, bytes, &[place as u64])?;
-    let mut out = MemSink::new(alloc, LINES)?;
-    let mut err = MemSink::new(alloc, LINES)?;
-    let status = status_over(alloc, "play", &mut source, &mut out, &mut err)?;
     let n = ends_before(&EVENT_ENDS, place).saturating_add(1);
     let line = format!(in alloc; "psxgpu: read-fault at event {n} byte {place}\n")?;
-    Ok(status == 3 && out.bytes() == lines_before(place) && err.bytes() == line.as_bytes())
+    Ok(ran(alloc, "play", &mut source, LINES)?.is(3, lines_before(place), line.as_bytes()))
 }
 
 #[test]
@@ -98,77 +92,46 @@ fn each_read_fails_in_turn(rt: HostRuntime) -> Result<(), Fail> {
 fn each_write_fails_in_turn(rt: HostRuntime) -> Result<(), Fail> {
     let alloc = rt.alloc();
     for place in 0..LINES_OF_RECORDS.len() {
-        let mut source = MemSource::new(capture(alloc, b"PSXGPUC1", RECORDS)?);
-        let mut out = FailSink::new(alloc, LINES, 1, [place as u64].to_vec(alloc)?)?;
-        let mut err = MemSink::new(alloc, LINES)?;
-        let n = event_of(place);
-        let line = format!(in alloc; "psxgpu: write-fault at event {n}\n")?;
-        assert_eq!(rt;
-            status_over(alloc, "play", &mut source, &mut out, &mut err)?,
-            4,
+        let bytes = capture(alloc, b"PSXGPUC1", RECORDS)?;
+        let event = event_of(place);
+        assert!(rt;
+            is_refused_at(alloc, "play", bytes, LINES_OF_RECORDS, place, event)?,
             "{place}"
         );
-        assert_eq!(rt; out.bytes(), &LINES_OF_RECORDS[..place], "{place}");
-        assert_eq!(rt; err.bytes(), line.as_bytes(), "{place}");
     }
     Ok(())
 }
 
-// A source of these bytes that fails at the calls of these numbers.
-fn failing(alloc: Global, bytes: &[u8], fails: &[u64]) -> io::Result<CutSource> {
-    Ok(CutSource::new(bytes.to_vec(alloc)?, Vec::new(alloc), fails.to_vec(alloc)?))
+// Whether bytes that are no capture, or none that is whole, are refused so.
+fn ends_so(alloc: Global, bytes: &[u8], err: &[u8]) -> Result<bool, Fail> {
+    let mut source = MemSource::new(bytes.to_vec(alloc)?);
+    Ok(ran(alloc, "vram", &mut source, LINES)?.is(2, b"", err))
 }
 
 #[test]
 fn ends_of_a_capture(rt: HostRuntime) -> Result<(), Fail> {
     let alloc = rt.alloc();
-    for (bytes, fails_in, fails_out, status, err) in [
-        (
-            b"".as_slice(),
-            [].as_slice(),
-            [].as_slice(),
-            2,
-            b"psxgpu: truncated at event 1 byte 0\n".as_slice(),
-        ),
-        (
-            b"PSXGPUC9".as_slice(),
-            [].as_slice(),
-            [].as_slice(),
-            2,
-            b"psxgpu: not-capture at event 1 byte 7\n".as_slice(),
-        ),
-        (
-            b"PSXGPUC1\x01\x00\x00".as_slice(),
-            [].as_slice(),
-            [].as_slice(),
-            2,
-            b"psxgpu: truncated at event 1 byte 11\n".as_slice(),
-        ),
-        (
-            b"PSXGPUC1\x00\x00\x00\x00".as_slice(),
-            [0].as_slice(),
-            [].as_slice(),
-            3,
-            b"psxgpu: read-fault at event 1 byte 0\n".as_slice(),
-        ),
-        (
-            b"PSXGPUC1\x00\x00\x00\x00".as_slice(),
-            [].as_slice(),
-            [0].as_slice(),
-            4,
-            b"psxgpu: write-fault at event 1\n".as_slice(),
-        ),
-    ] {
-        let mut source = failing(alloc, bytes, fails_in)?;
-        let mut out = FailSink::new(alloc, 16, 0, fails_out.to_vec(alloc)?)?;
-        let mut told = MemSink::new(alloc, LINES)?;
-        assert_eq!(rt;
-            status_over(alloc, "vram", &mut source, &mut out, &mut told)?,
-            status,
-            "{bytes:?}"
-        );
-        assert_eq!(rt; out.bytes().len(), 0);
-        assert_eq!(rt; told.bytes(), err, "{bytes:?}");
-    }
+    assert!(rt; ends_so(alloc, b"", b"psxgpu: truncated at event 1 byte 0\n")?);
+    assert!(rt;
+        ends_so(
+            alloc,
+            b"PSXGPUC9",
+            b"psxgpu: not-capture at event 1 byte 7\n"
+        )?
+    );
+    let broken = b"PSXGPUC1\x01\x00\x00";
+    assert!(rt; ends_so(alloc, broken, b"psxgpu: truncated at event 1 byte 11\n")?);
+    Ok(())
+}
+
+// The first read of an empty capture fails, and the first write of a dump into a sink without room.
+#[test]
+fn the_first_call_fails(rt: HostRuntime) -> Result<(), Fail> {
+    let alloc = rt.alloc();
+    let bytes = capture(alloc, b"PSXGPUC1", "")?;
+    let mut starved = bytewise(alloc, &bytes, &[0])?;
+    let dump = ran(alloc, "vram", &mut starved, LINES)?;
+    assert!(rt; dump.is(3, b"", b"psxgpu: read-fault at event 1 byte 0\n"));
+    assert!(rt; is_refused_at(alloc, "vram", bytes, b"", 0, 1)?);
     Ok(())
 }

@@ -1,7 +1,7 @@
 // Dumps of video memory.
 use crate::tests::capture::capture;
-use crate::tests::{LINES, status_over};
-use dev_io::{MemSink, MemSource};
+use crate::tests::runs::ran;
+use dev_io::MemSource;
 use std::alloc::Global;
 use std::io;
 use std::test::Fail;
@@ -117,10 +117,8 @@ fn is_dump(bytes: &[u8], len: usize, runs: &[Run]) -> bool {
 fn is_met(alloc: Global, head: &[u8], records: &str, len: usize, runs: &str) -> Result<bool, Fail> {
     let runs = runs_of(alloc, runs)?.ok_or("no runs")?;
     let mut source = MemSource::new(capture(alloc, head, records)?);
-    let mut dump = MemSink::new(alloc, len)?;
-    let mut err = MemSink::new(alloc, LINES)?;
-    let status = status_over(alloc, "vram", &mut source, &mut dump, &mut err)?;
-    Ok(status == 0 && is_dump(dump.bytes(), len, &runs) && err.bytes().len() == 0)
+    let dump = ran(alloc, "vram", &mut source, len)?;
+    Ok(dump.status == 0 && is_dump(dump.out.bytes(), len, &runs) && dump.err.bytes().is_empty())
 }
 
 #[test]
@@ -145,28 +143,20 @@ fn heights_and_turns(rt: HostRuntime) -> Result<(), Fail> {
     Ok(())
 }
 
+// Whether the dump behind these records begins with these bytes.
+fn begins_with(alloc: Global, records: &str, cells: &[u8]) -> Result<bool, Fail> {
+    let mut source = MemSource::new(capture(alloc, b"PSXGPUC1", records)?);
+    let dump = ran(alloc, "vram", &mut source, SHORT)?;
+    Ok(dump.status == 0 && dump.out.bytes().starts_with(cells))
+}
+
 // The cells of rounding by the dither table: a shaded triangle, and a flat one.
 #[test]
 fn dithered_cells(rt: HostRuntime) -> Result<(), Fail> {
     let alloc = rt.alloc();
-    for (records, cells) in [
-        (
-            "gp0 e407ffff e1000200 30080808 0 80808 8 80808 80000",
-            [0, 0, 0x21, 4, 0, 0, 0x21, 4],
-        ),
-        (
-            "gp0 e407ffff e1000200 20080808 0 8 80000",
-            [0x21, 4, 0x21, 4, 0x21, 4, 0x21, 4],
-        ),
-    ] {
-        let mut source = MemSource::new(capture(alloc, b"PSXGPUC1", records)?);
-        let mut dump = MemSink::new(alloc, SHORT)?;
-        let mut err = MemSink::new(alloc, LINES)?;
-        assert_eq!(rt;
-            status_over(alloc, "vram", &mut source, &mut dump, &mut err)?,
-            0
-        );
-        assert!(rt; dump.bytes().starts_with(&cells), "{records}");
-    }
+    let shaded = "gp0 e407ffff e1000200 30080808 0 80808 8 80808 80000";
+    assert!(rt; begins_with(alloc, shaded, b"\0\0\x21\x04\0\0\x21\x04")?);
+    let flat = "gp0 e407ffff e1000200 20080808 0 8 80000";
+    assert!(rt; begins_with(alloc, flat, b"\x21\x04\x21\x04\x21\x04\x21\x04")?);
     Ok(())
 }

@@ -1,9 +1,9 @@
 // Pictures one after another, and their sums.
+use crate::tests::LINES;
 use crate::tests::capture::capture;
-use crate::tests::{LINES, status_over};
-use dev_io::{FailSink, MemSink, MemSource};
+use crate::tests::runs::{is_refused_at, ran};
+use dev_io::MemSource;
 use std::alloc::Global;
-use std::io;
 use std::test::Fail;
 
 /// A screen of 4 by 1, whose picture is a head of 11 bytes and 12 bytes of pixels. A mark stands behind a red cell, a
@@ -27,17 +27,10 @@ const FLIP: u64 = 12;
 
 const END: u64 = 16;
 
-fn source(alloc: Global) -> io::Result<MemSource> {
-    Ok(MemSource::new(capture(alloc, b"PSXGPUC1", RECORDS)?))
-}
-
 // Whether a command writes these bytes.
 fn writes(alloc: Global, words: &str, want: &[u8]) -> Result<bool, Fail> {
-    let mut source = source(alloc)?;
-    let mut out = MemSink::new(alloc, LINES)?;
-    let mut err = MemSink::new(alloc, LINES)?;
-    let status = status_over(alloc, words, &mut source, &mut out, &mut err)?;
-    Ok(status == 0 && out.bytes() == want && err.bytes().is_empty())
+    let mut source = MemSource::new(capture(alloc, b"PSXGPUC1", RECORDS)?);
+    Ok(ran(alloc, words, &mut source, LINES)?.is(0, want, b""))
 }
 
 #[test]
@@ -48,24 +41,16 @@ fn pictures_at_flips_and_at_marks(rt: HostRuntime) -> Result<(), Fail> {
     Ok(())
 }
 
-// Where a byte is refused, those before it are there, and err names the event at which it was due.
 #[test]
 fn each_byte_of_two_pictures_is_refused(rt: HostRuntime) -> Result<(), Fail> {
     let alloc = rt.alloc();
     for place in 0..2 * PICTURE {
-        let mut source = source(alloc)?;
-        let mut out = FailSink::new(alloc, LINES, 1, [place as u64].to_vec(alloc)?)?;
-        let mut err = MemSink::new(alloc, LINES)?;
-        let n = if place < PICTURE { FLIP } else { END };
-        let line = format!(in alloc; "psxgpu: write-fault at event {n}\n")?;
-        assert_eq!(rt;
-            status_over(alloc, "frames", &mut source, &mut out, &mut err)?,
-            4,
+        let bytes = capture(alloc, b"PSXGPUC1", RECORDS)?;
+        let event = if place < PICTURE { FLIP } else { END };
+        assert!(rt;
+            is_refused_at(alloc, "frames", bytes, FLIPS, place, event)?,
             "{place}"
         );
-        assert_eq!(rt; out.bytes().len(), place, "{place}");
-        assert!(rt; FLIPS.starts_with(out.bytes()), "{place}");
-        assert_eq!(rt; err.bytes(), line.as_bytes(), "{place}");
     }
     Ok(())
 }

@@ -1,7 +1,8 @@
 // Flat captures.
+use crate::tests::LINES;
 use crate::tests::capture::{bytewise, capture};
-use crate::tests::{LINES, status_over};
-use dev_io::{FailSink, MemSink, MemSource, Source};
+use crate::tests::runs::{is_refused_at, ran};
+use dev_io::{MemSource, Source};
 use std::alloc::Global;
 use std::test::Fail;
 
@@ -86,24 +87,15 @@ const SNAPSHOT: Case = Case {
 // Whether a source is made flat as it should be.
 fn is_met<S: Source>(alloc: Global, case: &Case, source: &mut S) -> Result<bool, Fail> {
     let want = capture(alloc, case.flat_head, case.flat)?;
-    let mut out = MemSink::new(alloc, LINES)?;
-    let mut err = MemSink::new(alloc, LINES)?;
-    let status = status_over(alloc, "flat", source, &mut out, &mut err)?;
-    Ok(
-        status == case.status
-            && out.bytes().len() == case.len
-            && want.as_slice().starts_with(out.bytes())
-            && err.bytes() == case.err.as_bytes(),
-    )
+    let outcome = ran(alloc, "flat", source, LINES)?;
+    let out = want.get(..case.len).ok_or("too short")?;
+    Ok(outcome.is(case.status, out, case.err.as_bytes()))
 }
 
 // Whether these bytes show the words of the case.
 fn shows(alloc: Global, case: &Case, bytes: Vec<u8>) -> Result<bool, Fail> {
     let mut source = MemSource::new(bytes);
-    let mut out = MemSink::new(alloc, LINES)?;
-    let mut err = MemSink::new(alloc, LINES)?;
-    let status = status_over(alloc, "play", &mut source, &mut out, &mut err)?;
-    Ok(status == 0 && out.bytes() == case.shown.as_bytes())
+    Ok(ran(alloc, "play", &mut source, LINES)?.is(0, case.shown.as_bytes(), b""))
 }
 
 #[test]
@@ -155,19 +147,12 @@ fn each_write_of_a_flat_capture_fails_in_turn(rt: HostRuntime) -> Result<(), Fai
     let alloc = rt.alloc();
     let want = capture(alloc, LIST.flat_head, LIST.flat)?;
     for place in 0..52usize {
-        let mut source = MemSource::new(capture(alloc, LIST.head, LIST.records)?);
-        let mut out = FailSink::new(alloc, LINES, 1, [place as u64].to_vec(alloc)?)?;
-        let mut err = MemSink::new(alloc, LINES)?;
-        let n = event_of(place);
-        let line = format!(in alloc; "psxgpu: write-fault at event {n}\n")?;
-        assert_eq!(rt;
-            status_over(alloc, "flat", &mut source, &mut out, &mut err)?,
-            4,
+        let bytes = capture(alloc, LIST.head, LIST.records)?;
+        let event = event_of(place);
+        assert!(rt;
+            is_refused_at(alloc, "flat", bytes, &want, place, event)?,
             "{place}"
         );
-        assert_eq!(rt; out.bytes().len(), place, "{place}");
-        assert!(rt; want.as_slice().starts_with(out.bytes()), "{place}");
-        assert_eq!(rt; err.bytes(), line.as_bytes(), "{place}");
     }
     Ok(())
 }

@@ -1,7 +1,8 @@
 // Pictures of what is shown.
+use crate::tests::LINES;
 use crate::tests::capture::{capture, push_word};
-use crate::tests::{LINES, status_over};
-use dev_io::{MemSink, MemSource};
+use crate::tests::runs::ran;
+use dev_io::MemSource;
 use std::alloc::Global;
 use std::io;
 use std::test::Fail;
@@ -87,38 +88,29 @@ fn is_frame(bytes: &[u8]) -> bool {
 fn a_frame_is_shown(rt: HostRuntime) -> Result<(), Fail> {
     let alloc = rt.alloc();
     let mut source = MemSource::new(frame(alloc)?);
-    let mut out = MemSink::new(alloc, FRAME)?;
-    let mut err = MemSink::new(alloc, LINES)?;
-    assert_eq!(rt;
-        status_over(alloc, "shot", &mut source, &mut out, &mut err)?,
-        0
-    );
-    assert!(rt; is_frame(out.bytes()));
+    let shot = ran(alloc, "shot", &mut source, FRAME)?;
+    assert_eq!(rt; shot.status, 0);
+    assert!(rt; is_frame(shot.out.bytes()));
     Ok(())
+}
+
+// Whether the picture of 4 by 1 behind these records begins with these bytes.
+fn begins_with(alloc: Global, records: &str, start: &[u8]) -> Result<bool, Fail> {
+    let mut source = MemSource::new(capture(alloc, b"PSXGPUC1", records)?);
+    let shot = ran(alloc, "shot", &mut source, LINES)?;
+    let bytes = shot.out.bytes();
+    Ok(shot.status == 0 && bytes.len() == 23 && bytes.starts_with(start))
 }
 
 #[test]
 fn bytes_of_small_pictures(rt: HostRuntime) -> Result<(), Fail> {
     let alloc = rt.alloc();
-    let load = "gp1 6214200, gp1 7004410, gp0 a0000000 0 10006 4030201 8070605 c0b0a09";
-    for (mode, start) in [
-        (
-            "gp1 8000010, ",
-            b"P6\n4 1\n255\n\x01\x02\x03\x04\x05\x06\x07\x08\x09\x0a\x0b\x0c".as_slice(),
-        ),
-        ("gp1 8000000, ", b"P6\n4 1\n255\n\x08\x84\x00".as_slice()),
-    ] {
-        let mut records = String::from_str(alloc, mode)?;
-        records.push_str(load)?;
-        let mut source = MemSource::new(capture(alloc, b"PSXGPUC1", records.as_str())?);
-        let mut out = MemSink::new(alloc, LINES)?;
-        let mut err = MemSink::new(alloc, LINES)?;
-        assert_eq!(rt;
-            status_over(alloc, "shot", &mut source, &mut out, &mut err)?,
-            0
-        );
-        assert!(rt; out.bytes().starts_with(start), "{mode}");
-        assert_eq!(rt; out.bytes().len(), 23);
-    }
+    let of_24_bits = "gp1 8000010, gp1 6214200, gp1 7004410, \
+        gp0 a0000000 0 10006 4030201 8070605 c0b0a09";
+    let start = b"P6\n4 1\n255\n\x01\x02\x03\x04\x05\x06\x07\x08\x09\x0a\x0b\x0c";
+    assert!(rt; begins_with(alloc, of_24_bits, start)?);
+    let of_15_bits = "gp1 8000000, gp1 6214200, gp1 7004410, \
+        gp0 a0000000 0 10006 4030201 8070605 c0b0a09";
+    assert!(rt; begins_with(alloc, of_15_bits, b"P6\n4 1\n255\n\x08\x84\x00")?);
     Ok(())
 }

@@ -1,7 +1,8 @@
 // Captures without dead drawing.
+use crate::tests::LINES;
 use crate::tests::capture::{bytewise, capture};
-use crate::tests::{LINES, status_over};
-use dev_io::{FailSink, MemSink, MemSource, Source};
+use crate::tests::runs::{is_refused_at, ran};
+use dev_io::{MemSource, Source};
 use std::alloc::Global;
 use std::test::Fail;
 
@@ -58,15 +59,9 @@ const SNAPSHOT: Case = Case {
 // Whether a source loses its dead drawing as it should.
 fn is_met<S: Source>(alloc: Global, case: &Case, source: &mut S) -> Result<bool, Fail> {
     let want = capture(alloc, case.head, case.slim)?;
-    let mut out = MemSink::new(alloc, LINES)?;
-    let mut err = MemSink::new(alloc, LINES)?;
-    let status = status_over(alloc, "slim", source, &mut out, &mut err)?;
-    Ok(
-        status == case.status
-            && out.bytes().len() == case.len
-            && want.as_slice().starts_with(out.bytes())
-            && err.bytes() == case.err.as_bytes(),
-    )
+    let outcome = ran(alloc, "slim", source, LINES)?;
+    let out = want.get(..case.len).ok_or("too short")?;
+    Ok(outcome.is(case.status, out, case.err.as_bytes()))
 }
 
 #[test]
@@ -100,19 +95,12 @@ fn each_write_fails_in_turn_behind_a_window(rt: HostRuntime) -> Result<(), Fail>
     let alloc = rt.alloc();
     let want = capture(alloc, COVERED.head, COVERED.slim)?;
     for place in 0..48usize {
-        let mut source = MemSource::new(capture(alloc, COVERED.head, COVERED.records)?);
-        let mut out = FailSink::new(alloc, LINES, 1, [place as u64].to_vec(alloc)?)?;
-        let mut err = MemSink::new(alloc, LINES)?;
-        let n = event_of(place);
-        let line = format!(in alloc; "psxgpu: write-fault at event {n}\n")?;
-        assert_eq!(rt;
-            status_over(alloc, "slim", &mut source, &mut out, &mut err)?,
-            4,
+        let bytes = capture(alloc, COVERED.head, COVERED.records)?;
+        let event = event_of(place);
+        assert!(rt;
+            is_refused_at(alloc, "slim", bytes, &want, place, event)?,
             "{place}"
         );
-        assert_eq!(rt; out.bytes().len(), place, "{place}");
-        assert!(rt; want.as_slice().starts_with(out.bytes()), "{place}");
-        assert_eq!(rt; err.bytes(), line.as_bytes(), "{place}");
     }
     Ok(())
 }
