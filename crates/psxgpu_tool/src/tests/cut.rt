@@ -87,10 +87,9 @@ fn what_is_no_snapshot(rt: HostRuntime) -> Result<(), Fail> {
     Ok(())
 }
 
-/// A cut behind the last of seven events, a fault of one of the first events, and words that name no cut.
+/// A cut behind the last of seven events, and words that name no cut.
 const UNCUT: &str = "
 cut 8 < gp0 e407ffff 20ffffff, stat, gp0 0 8 80000, stat | | 2 psxgpu: cut-past-end at event 8;
-cut 3 < stat, ram 100 100, dma 2 100 0 1000401, stat | | 2 psxgpu: list-loop at event 3 node 000100;
 cut < stat | | 1 psxgpu: usage;
 cut 0 < stat | | 1 psxgpu: usage;
 cut 007 < stat | | 1 psxgpu: usage;
@@ -103,5 +102,9 @@ fn what_is_not_cut(rt: HostRuntime) -> Result<(), Fail> {
     for row in UNCUT.trim_end().split_terminator(';') {
         assert!(rt; holds(rt.alloc(), b"PSXGPUC1", row)?, "{row}");
     }
+    // The fault is one of the first events.
+    let fault = "cut 3 < stat, ram 100 100, dma 2 100 0 1000401, stat
+        | | 2 psxgpu: list-loop at event 3 node 000100";
+    assert!(rt; holds(rt.alloc(), b"PSXGPUC2", fault)?);
     Ok(())
 }

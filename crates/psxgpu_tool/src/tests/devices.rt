@@ -61,7 +61,7 @@ fn breaks_off(alloc: Global, bytes: &[u8], place: usize) -> Result<bool, Fail> {
     Ok(ran(alloc, "play", &mut source, LINES)?.is(2, lines_before(place), line.as_bytes()))
 }
 
-// The same where the call for the byte at this place fails.
+// Whether it is refused as it should be where the call for the byte at this place fails.
 fn starves(alloc: Global, bytes: &[u8], place: usize) -> Result<bool, Fail> {
     let mut source = bytewise(alloc, bytes, &[place as u64])?;
     let n = ends_before(&EVENT_ENDS, place).saturating_add(1);
@@ -124,7 +124,7 @@ fn ends_of_a_capture(rt: HostRuntime) -> Result<(), Fail> {
     Ok(())
 }
 
-// The first read of an empty capture fails, and the first write of a dump into a sink without room.
+// The first read of an empty capture fails, and the first write of its dump.
 #[test]
 fn the_first_call_fails(rt: HostRuntime) -> Result<(), Fail> {
     let alloc = rt.alloc();

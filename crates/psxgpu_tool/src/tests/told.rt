@@ -40,6 +40,7 @@ fn holds_with_taps(alloc: Global, row: &str) -> Result<bool, Fail> {
     )
 }
 
+/// What the taps tell behind a capture, behind a demo, and behind a fault.
 const TOLD: &str = "
 report < gp0 e407ffff 20ffffff 0 8 80000
     | tap 0 0 1 0 0 0 0 0 1 0 0 / tap 1 1 7 3825729535 5 1 553648127 / tap 2 1 81 81;
