@@ -23,11 +23,11 @@ CFLAGS = -O2
 
 run: $(PLAYER)
 	@$(PLAYER) shot < $(EXAMPLE) > two-fills.ppm
-	@python3 tools/picture.py two-fills.ppm two-fills.png
+	@python3 -m psxgpu picture two-fills.ppm two-fills.png
 	@echo "two-fills.ppm, two-fills.png: a blue screen of 320 by 240 with a red square in it"
 
 $(BUILT)/psxgpu_tool: $(SOURCES)
-	@python3 tools/build_progress.py $(JOBS)
+	@python3 packaging/build_progress.py $(JOBS)
 	cd crates/psxgpu_tool && rt run -- play < stdin > /dev/null
 
 # The program for one processor. The proofs are those of the usual build, and its program stays.

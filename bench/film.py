@@ -13,9 +13,9 @@ import sys
 import tempfile
 
 ROOT = os.path.dirname(os.path.dirname(os.path.abspath(__file__)))
-sys.path.insert(0, os.path.join(ROOT, 'tools'))
+sys.path.insert(0, ROOT)
 
-from capture import Capture, display_start, screen  # noqa: E402
+from psxgpu.capture import Capture, display_start, screen  # noqa: E402
 from run import OURS, seconds  # noqa: E402
 from workloads import TEXTURES, Numbers, frame  # noqa: E402
 

@@ -19,10 +19,10 @@ import sys
 import tempfile
 
 ROOT = os.path.dirname(os.path.dirname(os.path.abspath(__file__)))
-sys.path.insert(0, os.path.join(ROOT, 'tools'))
+sys.path.insert(0, ROOT)
 
 from bindings import browser_seconds, library_players  # noqa: E402
-from capture import Capture  # noqa: E402
+from psxgpu.capture import Capture  # noqa: E402
 from workloads import UNITS, WORKLOADS  # noqa: E402
 
 OURS = 'crates/psxgpu_tool/out/psxgpu_tool'

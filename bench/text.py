@@ -14,9 +14,9 @@ import sys
 import tempfile
 
 ROOT = os.path.dirname(os.path.dirname(os.path.abspath(__file__)))
-sys.path.insert(0, os.path.join(ROOT, 'tools'))
+sys.path.insert(0, ROOT)
 
-from capture import Capture, drawing_area  # noqa: E402
+from psxgpu.capture import Capture, drawing_area  # noqa: E402
 from run import OURS  # noqa: E402
 from workloads import Numbers, triangle  # noqa: E402
 

@@ -10,9 +10,9 @@ try:
 except ImportError:
     lzma = None
 
-sys.path.insert(0, os.path.join(os.path.dirname(os.path.abspath(__file__)), '..', 'tools'))
+sys.path.insert(0, os.path.join(os.path.dirname(os.path.abspath(__file__)), '..'))
 
-from capture import (GP0, GP1, clut, copy, draw_mode, drawing_area, fill, line, load, polygon, records,  # noqa: E402
+from psxgpu.capture import (GP0, GP1, clut, copy, draw_mode, drawing_area, fill, line, load, polygon, records,  # noqa: E402
                      rectangle, texture_page)
 
 PAGE4, PAGE8, PAGE15 = (texture_page(x, 256, depth) for x, depth in ((512, 0), (640, 1), (768, 2)))

@@ -11,9 +11,9 @@ import tempfile
 import unittest
 
 HERE = os.path.dirname(os.path.abspath(__file__))
-sys.path.append(os.path.join(HERE, '..', 'tools'))
+sys.path.append(os.path.join(HERE, '..'))
 
-import for_library_tests as program  # noqa: E402
+from tests.library import support as program
 
 ROOT = os.path.dirname(HERE)
 OUT = os.path.join(ROOT, 'out')

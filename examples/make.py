@@ -4,9 +4,9 @@ import os
 import sys
 
 HERE = os.path.dirname(os.path.abspath(__file__))
-sys.path.insert(0, os.path.join(HERE, '..', 'tools'))
+sys.path.insert(0, os.path.join(HERE, '..'))
 
-from capture import *  # noqa: E402,F403
+from psxgpu.capture import *  # noqa: E402,F403
 from textured_frame import textured_frame  # noqa: E402
 
 

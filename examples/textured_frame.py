@@ -1,6 +1,6 @@
 """A frame as a game draws it: textures go through DMA in blocks, packets stand in main memory, an ordering table is
 cleared by channel 6, and channel 2 walks it. `textured_frame` gives the capture."""
-from capture import *  # noqa: F403
+from psxgpu.capture import *  # noqa: F403
 
 SKY, FLOOR, CUBE, FRONT = 60, 40, 20, 0     # depths in the ordering table; 0 is drawn last
 BRICKS = texture_page(640, 0, 0)            # 4 bits

@@ -8,9 +8,9 @@ import unittest
 
 HERE = os.path.dirname(os.path.abspath(__file__))
 PLAYER = os.environ.get('PLAYER')  # the built program
-sys.path.insert(0, os.path.join(HERE, '..', 'tools'))
+sys.path.insert(0, os.path.join(HERE, '..'))
 
-from capture import CLEAR_TABLE, GP0, LIST, Capture, events, records  # noqa: E402, F401
+from psxgpu.capture import CLEAR_TABLE, GP0, LIST, Capture, events, records  # noqa: E402, F401
 
 
 def file_of(bytes_most):

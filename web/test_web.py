@@ -12,7 +12,7 @@ import sys
 import unittest
 
 HERE = os.path.dirname(os.path.abspath(__file__))
-sys.path[:0] = [HERE, os.path.join(HERE, '..', 'tools')]
+sys.path[:0] = [HERE, os.path.join(HERE, '..')]
 
 import for_library_tests as program  # noqa: E402
 from browser import Browser  # noqa: E402

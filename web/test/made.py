@@ -2,7 +2,7 @@
 import random
 import struct
 
-from capture import (Capture, copy, draw_mode, drawing_area, drawing_offset, events, fill, line, load, mask_setting,
+from psxgpu.capture import (Capture, copy, draw_mode, drawing_area, drawing_offset, events, fill, line, load, mask_setting,
                      polygon, records, rectangle, screen, store, texture_window)
 
 

@@ -9,7 +9,7 @@ import unittest
 
 from page import Page
 
-from capture import Capture, corner, display_start, draw_mode, drawing_area, drawing_offset, fill, polygon, screen
+from psxgpu.capture import Capture, corner, display_start, draw_mode, drawing_area, drawing_offset, fill, polygon, screen
 
 # Milliseconds that are said in docs/VIEWER.md: until the page shows the recording, and for a step back.
 OPEN, STEP = 10000, 100

@@ -8,7 +8,7 @@ import time
 
 HERE = os.path.dirname(os.path.abspath(__file__))
 ROOT = os.path.dirname(os.path.dirname(HERE))
-sys.path[:0] = [os.path.join(ROOT, 'web'), os.path.join(ROOT, 'tools')]
+sys.path[:0] = [os.path.join(ROOT, 'web'), ROOT]
 
 from browser import Browser
 

@@ -33,8 +33,8 @@ class Out(Reader):
         seen = self.page.evaluate('[...probe.viewer.views.view.source.getContext("2d").getImageData(150, 140, 1, 1).data]')
         self.assertEqual(seen, [255, 77, 109, 255])
         told = self.page.evaluate('document.getElementById("compare").textContent')
-        tool = [sys.executable, os.path.join(ROOT, 'tools', 'compare.py'), own, other]
-        said = subprocess.run(tool, capture_output=True, text=True, check=False)
+        tool = [sys.executable, '-m', 'psxgpu', 'compare', own, other]
+        said = subprocess.run(tool, capture_output=True, text=True, check=False, cwd=ROOT)
         self.assertIn('their box100 140 150 150', told)
         self.assertIn('100 140 150 150', said.stdout)
         lines = program('list', data=data)[0].decode().splitlines()

@@ -7,7 +7,7 @@ import unittest
 
 from page import Page, examples, program
 
-from capture import Capture
+from psxgpu.capture import Capture
 from made import drawn_at_random, in_zstd, prefix
 
 

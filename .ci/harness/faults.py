@@ -1,0 +1,208 @@
+#!/usr/bin/env python3
+"""Lets each call of a player's run fail in turn: its growths of memory, its reads and its writes.
+
+    python3 .ci/harness/faults.py PLAYER CAPTURE .. [-- COMMAND ..]
+
+For each capture (or snapshot) and each command (play, if none is given; `cut 3` is one word), the run is tried as it
+is, and then once for each growth of memory that is refused, for each read and each write that fails, and with reads and
+writes of one byte each. What must come: without memory status 5, nothing read and nothing on standard output, or, where
+a smaller growth serves as well and is asked for next, all as it was; where a read fails status 3, where a write fails
+status 4, and in both cases a part of what is written otherwise; where standard error fails, or the pieces are short,
+the same status and the same output. The calls are made to fail by .ci/harness/faults.c, which gcc makes a library of that is
+loaded before the player. Then the disk is full behind some bytes of the output: status 4, with exactly these bytes, and for
+`list`, `pixel`, `flat` and `cut` the event is the one at which the next byte is due, by the line that lacks it or by what
+the command writes of the first events alone. The last line is `N passed, M failed`. Without gcc the exit status is 77.
+"""
+import os
+import resource
+import shutil
+import signal
+import subprocess
+import sys
+import tempfile
+
+HERE = os.path.dirname(os.path.abspath(__file__))
+ROOT = os.path.dirname(os.path.dirname(HERE))
+SECONDS = 120
+KINDS = ('memory', 'read', 'write', 'error')
+PLACES = 48
+MOST_EVENTS = 400
+END = 4
+
+
+class Run:
+    """One run of a player: its status, what it wrote, and how many calls of each kind it made."""
+
+    def __init__(self, library, folder, words, capture, kind='', at=0):
+        counts = os.path.join(folder, 'counts')
+        env = dict(os.environ, LD_PRELOAD=library, FAULT_COUNTS=counts, FAULT_KIND=kind, FAULT_AT=str(at))
+        with open(capture, 'rb') as source:
+            done = subprocess.run(words, stdin=source, stdout=subprocess.PIPE, stderr=subprocess.PIPE, env=env,
+                                  timeout=SECONDS)
+        self.status, self.out, self.err = done.returncode, done.stdout, done.stderr
+        with open(counts) as file:
+            self.calls = dict(zip(KINDS, map(int, file.read().split())))
+
+
+class Full:
+    """One run of a player on a disk that is full behind so many bytes."""
+
+    def __init__(self, folder, words, capture, room):
+        out = os.path.join(folder, 'full')
+
+        def bounded():
+            signal.signal(signal.SIGXFSZ, signal.SIG_IGN)
+            resource.setrlimit(resource.RLIMIT_FSIZE, (room, room))
+
+        with open(capture, 'rb') as source, open(out, 'wb') as file:
+            done = subprocess.run(words, stdin=source, stdout=file, stderr=subprocess.PIPE, preexec_fn=bounded,
+                                  timeout=SECONDS)
+        self.status, self.err = done.returncode, done.stderr
+        with open(out, 'rb') as file:
+            self.out = file.read()
+
+
+def is_part(part, whole):
+    return len(part) < len(whole) and whole.startswith(part)
+
+
+def as_it_was(was, now):
+    same = (now.status, now.out, now.err) == (was.status, was.out, was.err)
+    return '' if same else 'status %d, err %r' % (now.status, now.err[:60])
+
+
+def without_memory(was, now):
+    if now.calls['memory'] > was.calls['memory'] and not as_it_was(was, now):
+        return ''
+    if now.status != 5 or now.err != b'psxgpu: memory\n':
+        return 'status %d, err %r' % (now.status, now.err[:60])
+    return 'it read or wrote' if now.out or now.calls['read'] else ''
+
+
+def without_read(was, now):
+    if now.status != 3 or not now.err.startswith(b'psxgpu: read-fault at event '):
+        return 'status %d, err %r' % (now.status, now.err[:60])
+    return '' if was.out.startswith(now.out) else 'out is not a part of what is written else'
+
+
+def without_write(was, now):
+    if now.status != 4 or not now.err.startswith(b'psxgpu: write-fault at event '):
+        return 'status %d, err %r' % (now.status, now.err[:60])
+    return '' if is_part(now.out, was.out) else 'out is no proper part of what is written else'
+
+
+def without_error(was, now):
+    return '' if (now.status, now.out) == (was.status, was.out) else 'status %d' % now.status
+
+
+def full_disk(was, now, room, event):
+    """Judges a run on a full disk; event is None where it is not known."""
+    line = b'psxgpu: write-fault at event '
+    if now.status != 4 or not now.err.startswith(line):
+        return 'status %d, err %r' % (now.status, now.err[:60])
+    if now.out != was.out[:room]:
+        return 'out has not exactly the bytes for which there was room'
+    said = int(now.err[len(line):].split(b'\n')[0])
+    return '' if event in (None, said) else 'event %d, and the byte is due at %d' % (said, event)
+
+
+def ends_of_events(words, capture):
+    """How many bytes of the output are due up to each event, by what is written of the first events alone; the End record
+    of that is not."""
+    ends = []
+    for events in range(1, MOST_EVENTS + 1):
+        first = subprocess.run([sys.executable, '-m', 'psxgpu', 'first', str(events), capture], capture_output=True,
+                               env=dict(os.environ, PYTHONPATH=ROOT))
+        if first.returncode:
+            return ends
+        out = subprocess.run(words, input=first.stdout, capture_output=True, timeout=SECONDS)
+        ends.append(max(len(out.stdout) - END, 0) if out.returncode == 0 else 0)
+    return ends
+
+
+def event_of(was, words, capture):
+    """The event at which a byte is due, by its place; None where the command does not let it be told."""
+    if words[1] in ('list', 'pixel'):
+        return lambda place: int(was.out[was.out.rfind(b'\n', 0, place) + 1:].split()[0])
+    if words[1] in ('flat', 'cut') and was.status == 0:
+        ends = ends_of_events(words, capture)
+        return lambda place: sum(end <= place for end in ends) + 1
+    return lambda place: None
+
+
+def rooms(size):
+    """Some numbers of bytes below this, all of them where they are few."""
+    return sorted({size * k // PLACES for k in range(PLACES)} if size > PLACES else range(size))
+
+
+JUDGES = {'memory': without_memory, 'read': without_read, 'write': without_write, 'error': without_error}
+
+
+def trials(was):
+    """What is tried after the run as it is: the kind, the number of the call, and who judges."""
+    for kind, judge in JUDGES.items():
+        for at in range(1, was.calls[kind] + 1):
+            yield kind, at, judge
+    yield 'short', 0, as_it_was
+
+
+def tried(library, folder, player, capture, command):
+    """How many runs of a command on a capture did what they must, and how many not."""
+    words = [player] + command.split()
+    was = Run(library, folder, words, capture)
+    passed = failed = 0
+    for kind, at, judge in trials(was):
+        wrong = judge(was, Run(library, folder, words, capture, kind, at))
+        passed, failed = passed + (not wrong), failed + bool(wrong)
+        if wrong:
+            print('%s, %s: %s %d: %s' % (capture, command, kind, at, wrong))
+    due = event_of(was, words, capture)
+    for room in rooms(len(was.out)):
+        wrong = full_disk(was, Full(folder, words, capture, room), room, due(room))
+        passed, failed = passed + (not wrong), failed + bool(wrong)
+        if wrong:
+            print('%s, %s: disk of %d bytes: %s' % (capture, command, room, wrong))
+    return passed, failed
+
+
+def built(folder):
+    """The library that lets calls fail; None without gcc."""
+    if not shutil.which('gcc'):
+        return None
+    library = os.path.join(folder, 'faults.so')
+    subprocess.run(['gcc', '-O2', '-shared', '-fPIC', '-o', library, os.path.join(HERE, 'faults.c')], check=True)
+    return library
+
+
+def main(player, captures, commands):
+    passed = failed = 0
+    with tempfile.TemporaryDirectory() as folder:
+        library = built(folder)
+        if library is None:
+            print('skipped: gcc is not on this machine')
+            return 77
+        player = shutil.which(player) or os.path.abspath(player)
+        for capture in captures:
+            for command in commands:
+                good, bad = tried(library, folder, player, capture, command)
+                passed, failed = passed + good, failed + bad
+    print('%d passed, %d failed' % (passed, failed))
+    return 1 if failed else 0
+
+
+def words_of(args):
+    """The player, the captures and the commands of a command line; None where it is none."""
+    cut = args.index('--') if '--' in args else len(args)
+    if cut < 2 or not all(os.path.isfile(it) for it in args[1:cut]):
+        return None
+    return args[0], args[1:cut], args[cut + 1:] or ['play']
+
+
+if __name__ == '__main__':
+    given = words_of(sys.argv[1:])
+    if given is None:
+        sys.exit(__doc__)
+    try:
+        sys.exit(main(*given))
+    except (OSError, subprocess.SubprocessError) as error:
+        sys.exit('faults.py: %s' % error)

@@ -1,0 +1,195 @@
+"""Writes captures, and takes them apart again. docs/CAPTURE.md has the format. Importing this module writes nothing.
+
+    from psxgpu.capture import Capture, fill, rectangle
+    capture = Capture()
+    capture.gp0(fill(0x802010, 0, 0, 1024, 511))
+    capture.gp0(rectangle(0x0000FF, 10, 20, 64, 64))
+    capture.save('mine.capture')
+
+A function of this module that is named after a packet gives the packet's words as a list: they can be written to the
+port (`Capture.gp0`) or laid into main memory for DMA (`Capture.ram`, `OrderingTable`). A colour is a number whose
+lowest byte is red, the next green, the next blue: 0x0000FF is red. A number that does not fit its field is a
+ValueError that names the field. `Stream` of stream.py reads captures of any length.
+"""
+import io
+import struct
+
+from psxgpu.registers import (clear_commands, clear_interrupt, display_mode, display_on, display_start,  # noqa: F401
+                       dma_direction, draw_mode, drawing_area, drawing_offset, horizontal_range, information,
+                       mask_setting, reset, screen, texture_window, vertical_range)
+from psxgpu.stream import (BEGIN, DMA, GP0, GP1, HEADS, KINDS, MOST_READS, MOST_WORDS, RAM, READ, SKIP, STAT, TURN,  # noqa
+                    Stream, encode, is_allowed)
+from psxgpu.words import (bits, clut, copy, corner, fill, interrupt, line, load, nop, polygon, rectangle, store,  # noqa: F401
+                   texcoord, texture_page, vertex)
+
+# Values of CHCR for channel 2 and channel 6.
+LIST, BLOCKS_IN, BLOCKS_OUT, CLEAR_TABLE = 0x01000401, 0x01000201, 0x01000200, 0x11000002
+
+
+class Capture:
+    """A capture that grows record by record."""
+
+    def __init__(self, version=1):
+        self.version = version
+        self.records = []
+
+    def keep(self, record):
+        """Takes the bytes of a record."""
+        self.records.append(record)
+
+    def record(self, kind, count, words=()):
+        if kind > (DMA if self.version == 1 else SKIP):
+            raise ValueError('%s records need version 2 or 3' % KINDS[kind])
+        if not is_allowed(self.version, kind, count):
+            raise ValueError('%s count: %d' % (KINDS[kind], count))
+        try:
+            self.keep(encode(kind, count, words))
+        except OverflowError:
+            for word in words:
+                bits(KINDS[kind] + ' word', word, 32)
+        return self
+
+    def gp0(self, *packets):
+        """Words for port GP0: numbers, or lists of them. One record; each word is an event."""
+        words = flat(packets)
+        for at in range(0, len(words), MOST_WORDS):
+            part = words[at:at + MOST_WORDS]
+            self.record(GP0, len(part), part)
+        return self
+
+    def gp1(self, *words):
+        """Words for port GP1, a record each."""
+        for word in flat(words):
+            self.record(GP1, 1, (word,))
+        return self
+
+    def ram(self, address, *words):
+        """Words for main memory, from this address on: a multiple of 4."""
+        words = flat(words)
+        if address % 4 or not 0 <= address <= 0x200000 - 4 * len(words):
+            raise ValueError('ram address: %x for %d words' % (address, len(words)))
+        if words:
+            self.record(RAM, len(words), [address] + words)
+        return self
+
+    def repeat(self, kind, n):
+        while n > 0:
+            self.record(kind, min(n, MOST_READS))
+            n -= MOST_READS
+        return self
+
+    def read(self, n=1):
+        """n reads of the data port."""
+        return self.repeat(READ, n)
+
+    def turn(self, n=1):
+        """n turns of the running transfer. Versions 2 and 3."""
+        return self.repeat(TURN, n)
+
+    def skip(self, n=1):
+        """n reads whose words are not shown. Versions 2 and 3."""
+        return self.repeat(SKIP, n)
+
+    def stat(self, n=1):
+        """n reads of the status word."""
+        for _ in range(n):
+            self.record(STAT, 1)
+        return self
+
+    def dma(self, channel, madr, bcr, chcr):
+        """A start of channel 2 (graphics) or 6 (ordering table), done at once."""
+        if channel not in (2, 6):
+            raise ValueError('dma channel: %d is neither 2 nor 6' % channel)
+        return self.record(DMA, channel, (madr, bcr, chcr))
+
+    def begin(self, madr, bcr, chcr):
+        """A start of channel 2 that goes on at each turn. Versions 2 and 3."""
+        return self.record(BEGIN, 2, (madr, bcr, chcr))
+
+    def start_from(self, dump, settings=(), display=()):
+        """Begins from a state that is not empty: a dump of video memory as `vram` writes it, the values of E1h to
+        E6h, and words for GP1. Video memory comes in loads of 512 by 256, since some emulators (pcsxr, MAME) do not
+        take a size of 0 for 1024."""
+        rows = 1024 if self.version == 3 else 512
+        if len(dump) != 2048 * rows:
+            raise ValueError('dump: %d bytes for %d rows' % (len(dump), rows))
+        self.gp0(mask_setting())
+        for y in range(0, rows, 256):
+            for x in (0, 512):
+                part = b''.join(dump[at:at + 1024] for at in range(2048 * y + 2 * x, 2048 * (y + 256), 2048))
+                self.gp0(0xA0000000, corner(x, y), corner(512, 256), list(struct.unpack('<65536I', part)))
+        if settings:
+            self.gp0([0xE1000000 + 0x01000000 * k | bits('setting', value, 24) for k, value in enumerate(settings)])
+        return self.gp1(display)
+
+    def bytes(self):
+        return HEADS[self.version] + b''.join(self.records) + bytes(4)
+
+    def save(self, path):
+        with open(path, 'wb') as file:
+            file.write(self.bytes())
+
+
+def flat(words):
+    """Numbers and lists of numbers, as one list."""
+    out = []
+    for word in words:
+        if isinstance(word, int):
+            out.append(word)
+        else:
+            out.extend(flat(word))
+    return out
+
+
+def records(data):
+    """Takes the bytes of a capture apart: its version, and the list of its records (kind, count, words), End left
+    out. `Stream` does the same without holding all of it."""
+    stream = Stream(io.BytesIO(data), 'capture', exact=True)
+    return stream.version, [(kind, count, words.tolist()) for kind, count, words in stream]
+
+
+def events(records):
+    """The events of records, one for each: (kind, count, words) as a record of one event."""
+    for kind, count, words in records:
+        if kind == RAM:
+            for k in range(count):
+                yield RAM, 1, [words[0] + 4 * k, words[1 + k]]
+        elif kind == GP0:
+            for word in words:
+                yield GP0, 1, [word]
+        elif kind in (READ, TURN, SKIP):
+            for _ in range(count):
+                yield kind, 1, []
+        else:
+            yield kind, count, words
+
+
+class OrderingTable:
+    """An ordering table in main memory: `clear`, `add` packets at depths, `draw`. Entry 0 is drawn last."""
+
+    def __init__(self, capture, table=0x1000, entries=256, packets=0x8000):
+        self.capture, self.table, self.entries, self.free = capture, table, entries, packets
+        self.first = [None] * entries
+
+    def entry(self, depth):
+        return self.table + 4 * depth
+
+    def clear(self):
+        """Channel 6 writes the table: each entry leads to the one before it, entry 0 ends the list."""
+        self.capture.dma(6, self.entry(self.entries - 1), self.entries, CLEAR_TABLE)
+        self.first = [None] * self.entries
+
+    def add(self, depth, words):
+        """Puts a packet before those that are already at this depth, as a program does."""
+        words = flat([words])
+        below = self.first[depth]
+        if below is None:
+            below = self.entry(depth - 1) if depth else 0xFFFFFF
+        self.capture.ram(self.free, len(words) << 24 | below, words)
+        self.capture.ram(self.entry(depth), self.free)
+        self.first[depth] = self.free
+        self.free += 4 + 4 * len(words)
+
+    def draw(self):
+        """Channel 2 walks the list from the last entry on."""
+        self.capture.dma(2, self.entry(self.entries - 1), 0, LIST)

@@ -1,0 +1,136 @@
+#!/usr/bin/env python3
+"""Records what a player gives for each capture of a folder, and checks it again.
+
+`record` plays all captures of the folders, on all processors, and writes a file of sums, a block for each capture. The
+player is a command to which `sums`, `vram` or `play` is added, with the capture on standard input; what it does not
+know is left out. `check` plays them again and reports what is not as recorded, on standard output and as report.txt,
+junit.xml and report.html in the folder of the report. With a reference, a player that gives what was recorded, it finds
+the first packet and draws the difference. `join` makes one file of sums of several, as when each machine played a part.
+`split` cuts a recording behind some of its frames into parts that are played side by side, and `glue` makes of what the
+player wrote on each of them what it writes on the whole. docs/CORPUS.md shows all of it.
+
+A run that was interrupted goes on where it was. Status: 0 the same, or done; 1 something differs; 2 trouble.
+
+    corpus.py record captures --golden captures.sums
+    corpus.py check captures --golden captures.sums --player ./new --reference ./old
+    corpus.py split long.capture --parts 8 --into parts
+"""
+import os
+import shlex
+import sys
+
+from psxgpu import command
+from psxgpu.corpus import report as report
+from psxgpu.command import DIFFERENT, SAME, Trouble, decimal
+from psxgpu.corpus.compare import Places, compare_sums
+from psxgpu.corpus.file import read_sums, write_whole
+from psxgpu.corpus.glue import glue
+from psxgpu.corpus.parts import split
+from psxgpu.corpus.play import Player
+from psxgpu.corpus.run import NAMES, captures_of, play_into
+from psxgpu.corpus.scan import FLIP, MARK
+from psxgpu.players.player import find
+
+
+USUAL = ('frames', 'vram', 'words')
+# What each action has to be told beside its places.
+WANTED = {'record': ('golden',), 'check': ('golden',), 'join': ('golden',), 'split': ('parts', 'into'), 'glue': ()}
+
+
+def arguments(parser):
+    parser.add_argument('action', choices=list(WANTED))
+    parser.add_argument('places', nargs='+', metavar='PLACE',
+                        help='record, check: folders, or files, which are named as they are written here; join: files '
+                             'of sums; split: a capture; glue: play, list, frames or sums, and what it wrote on each')
+    parser.add_argument('--golden', metavar='FILE', help='record, check, join: the file of sums')
+    parser.add_argument('--player', metavar='COMMAND',
+                        help='else psxgpu_tool: that of $PLAYER, of the path, or the one that is built here')
+    parser.add_argument('--limit', type=decimal(1, 86400), default=60, metavar='SECONDS',
+                        help='for one run of the player; one that takes longer hangs (default: 60)')
+    parser.add_argument('--jobs', type=decimal(1, 1000), default=len(os.sched_getaffinity(0)), metavar='N',
+                        help='players at a time (default: one for each processor)')
+    parser.add_argument('--gives', default=','.join(USUAL), metavar='LIST',
+                        help='what is asked for: some of %(default)s')
+    parser.add_argument('--marks', action='store_true',
+                        help='record, split: frames end at marks (GP1 3Fh) and not at new display starts')
+    parser.add_argument('--names', action='append', metavar='PATTERN', help='default: ' + ' '.join(NAMES))
+    parser.add_argument('--reference', metavar='COMMAND', help='check: a player that gives what was recorded')
+    parser.add_argument('--report', default='corpus-report', metavar='FOLDER', help='check: default %(default)s')
+    parser.add_argument('--played', metavar='FILE', help='check: what was played elsewhere; the rest is played here')
+    parser.add_argument('--pictures', type=decimal(0, 100000), default=50, metavar='N',
+                        help='check: at most (default: %(default)s)')
+    parser.add_argument('--parts', type=decimal(2, 1000), metavar='N', help='split: how many')
+    parser.add_argument('--into', metavar='FOLDER', help='split: where the parts go')
+
+
+def player_of(words, marks=False):
+    gives = [it for it in words.gives.split(',') if it]
+    if not gives or not set(gives) <= set(USUAL):
+        raise Trouble('--gives %s: some of %s' % (words.gives, ','.join(USUAL)))
+    if marks and 'frames' in gives:
+        gives[gives.index('frames')] = 'marks'
+    return Player(words.player or shlex.quote(find()), words.limit, gives)
+
+
+def captures(words):
+    return captures_of(words.places, words.names or NAMES)
+
+
+def record(words):
+    sums = play_into(words.golden, player_of(words, words.marks), captures(words), words.jobs)
+    ends = [row.end.split()[0] for row in sums.rows.values()]
+    kinds = ['%d %s' % (ends.count(kind), kind) for kind in sorted(set(ends))]
+    print('%s: %s' % (report.counted(len(ends)), ', '.join(kinds)))
+    return DIFFERENT if {'hangs', 'crashes', 'fails'} & set(ends) else SAME
+
+
+def check(words):
+    want = read_sums(words.golden)
+    os.makedirs(words.report, exist_ok=True)
+    player, found = player_of(words, 'marks' in want.gives), captures(words)
+    got = play_into(os.path.join(words.report, 'played.sums'), player, found, words.jobs, words.played)
+    findings = compare_sums(want, got)
+    paths = {it.name: it.path for it in found}
+    places = Places(player, words.reference and Player(words.reference, words.limit))
+    for finding in [it for it in findings if it.kind == 'different' and it.name in paths][:words.pictures]:
+        places.look(finding, paths[finding.name])
+    text = report.text(findings)
+    for name, data in (('report.txt', text), ('junit.xml', report.junit(findings)),
+                       ('report.html', report.page(findings, want.player, got.player))):
+        write_whole(os.path.join(words.report, name), data)
+    sys.stdout.write(text)
+    return SAME if all(it.kind == 'same' for it in findings) else DIFFERENT
+
+
+def join(words):
+    whole = None
+    for path in words.places:
+        sums = read_sums(path)
+        whole = whole or sums
+        if (sums.player, sums.gives) != (whole.player, whole.gives):
+            raise Trouble('%s: played by %s, and %s by %s' % (path, sums.player, words.places[0], whole.player))
+        for name, row in sums.rows.items():
+            if whole.rows.setdefault(name, row).block() != row.block():
+                raise Trouble('%s: a second capture of the name %s, with other sums' % (path, name))
+    write_whole(words.golden, whole.text())
+    print(report.counted(len(whole.rows)))
+    return SAME
+
+
+def run(words):
+    missing = ['--' + name for name in WANTED[words.action] if getattr(words, name) is None]
+    if missing:
+        raise Trouble('%s needs %s' % (words.action, ' and '.join(missing)))
+    if words.action == 'split':
+        if len(words.places) > 1:
+            raise Trouble('split takes one capture')
+        split(words.places[0], words.parts, words.into, player_of(words), MARK if words.marks else FLIP)
+    elif words.action == 'glue':
+        glue(words.places[0], words.places[1:], sys.stdout.buffer)
+    else:
+        return {'record': record, 'check': check, 'join': join}[words.action](words)
+    return SAME
+
+
+if __name__ == '__main__':
+    sys.exit(command.main(sys.modules[__name__]))

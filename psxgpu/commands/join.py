@@ -1,0 +1,47 @@
+#!/usr/bin/env python3
+"""Joins captures of one session end to end: the events of the first, then those of the second, and so on.
+
+    psxgpu join begin.capture rest.capture > whole.capture
+
+The result has the greatest version among them; captures of 512 and of 1024 rows (version 3) do not go together. Status:
+0 written, 2 trouble, also where the result has more than 2^30 bytes, which a player refuses.
+"""
+import sys
+
+from psxgpu.command import Trouble, main, reading, title, writing
+from psxgpu.stream import HEADS, Stream, encode
+
+MOST_BYTES = 1 << 30
+
+
+def arguments(parser):
+    parser.add_argument('captures', nargs='+', metavar='CAPTURE', help='captures in the order of the session')
+    parser.add_argument('-o', '--output', default='-', help='what is written; standard output if left out')
+
+
+def version_of(paths):
+    """The version of the whole."""
+    versions = {}
+    for path in paths:
+        with reading(path) as file:
+            versions[Stream(file, title(path)).version] = path
+    if 3 in versions and len(versions) > 1:
+        raise Trouble('%s and %s: 1024 and 512 rows' % (versions[3], versions[min(versions)]))
+    return max(versions)
+
+
+def run(words):
+    if '-' in words.captures:
+        raise Trouble('standard input: files are wanted, since each is read twice')
+    size = 12
+    with writing(words.output) as target:
+        target.write(HEADS[version_of(words.captures)])
+        for path in words.captures:
+            with reading(path) as file:
+                for record in Stream(file, path):
+                    data = encode(*record)
+                    size += len(data)
+                    target.write(data)
+        target.write(bytes(4))
+    if size > MOST_BYTES:
+        raise Trouble('the whole has %d bytes: a player refuses more than 2^30' % size)

@@ -1,0 +1,161 @@
+"""The file of sums that `corpus record` writes, and that belongs into version control.
+
+    psxgpu-corpus 1
+    player psxgpu_tool 0.2.0
+    gives frames vram words
+
+    capture 216 5b0e..(64 digits) flips.capture
+    frame 12 320 240 8e80..(64 digits) 77d1..(16 digits)
+    vram ca14..(64 digits)
+    words 3 09ab..(64 digits)
+    end played
+
+Lines of text, each a word that says what it is and then its values. `gives` has what was asked for, `marks` in place
+of `frames` where frames end at a recorder's marks. Behind the head stands a block for each capture, in the order of
+the names, and each block ends with an empty line. `capture` has the file's bytes, its SHA-256 and its name below the
+folder; `frame` the event, width, height and SHA-256 of a picture, and the first 16 digits of the SHA-256 of the lines
+read up to it (`-` where none was read or asked for); `vram` the SHA-256 of video memory after the end; `words` how
+many lines were read, and their SHA-256. `end` is `played`, `refused STATUS LINE`, `fails STATUS LINE`, `hangs
+SECONDS` or `crashes SIGNAL`. What the player does not give has no line.
+"""
+import os
+from dataclasses import dataclass, field
+from typing import List, Optional, Tuple
+
+from psxgpu.command import Trouble, named
+
+VERSION = 1
+HEAD = 'psxgpu-corpus'
+
+
+@dataclass
+class Frame:
+    event: int
+    width: int
+    height: int
+    picture: str
+    words: str = '-'
+
+    def line(self):
+        return 'frame %d %d %d %s %s' % (self.event, self.width, self.height, self.picture, self.words)
+
+
+@dataclass
+class Row:
+    """What a player gave for one capture."""
+    name: str
+    size: int
+    sum: str
+    frames: List[Frame] = field(default_factory=list)
+    vram: Optional[str] = None
+    words: Optional[Tuple[int, str]] = None
+    end: str = 'played'
+    seconds: float = 0.0
+
+    def block(self):
+        lines = ['capture %d %s %s' % (self.size, self.sum, self.name)]
+        lines += [frame.line() for frame in self.frames]
+        if self.vram:
+            lines.append('vram ' + self.vram)
+        if self.words:
+            lines.append('words %d %s' % self.words)
+        return '\n'.join(lines + ['end ' + self.end, '', ''])
+
+    def take(self, kind, value):
+        """Takes a line behind the first one. ValueError where it is none."""
+        if kind == 'frame':
+            event, width, height, picture, words = value.split(' ')
+            self.frames.append(Frame(int(event), int(width), int(height), picture, words))
+        elif kind == 'vram' and value:
+            self.vram = value
+        elif kind == 'words':
+            count, total = value.split(' ')
+            self.words = int(count), total
+        elif kind == 'end' and value:
+            self.end = value
+        else:
+            raise ValueError(kind)
+
+
+@dataclass
+class Sums:
+    """A file of sums: who played, what was asked of it, and the rows by name."""
+    player: str
+    gives: Tuple[str, ...]
+    rows: dict = field(default_factory=dict)
+
+    def head(self):
+        return '%s %d\nplayer %s\ngives %s\n\n' % (HEAD, VERSION, self.player, ' '.join(self.gives))
+
+    def text(self):
+        return self.head() + ''.join(self.rows[name].block() for name in sorted(self.rows))
+
+
+def open_text(path, mode='r'):
+    """Names of files need not be UTF-8, so what is not comes through unchanged."""
+    return open(path, mode, encoding='utf-8', errors='surrogateescape', newline='\n')
+
+
+def write_whole(path, text):
+    """Writes a file so that the one that was there stays until the new one is whole."""
+    part = path + '.new'
+    try:
+        with open_text(part, 'w') as file:
+            file.write(text)
+        os.replace(part, path)
+    except OSError as error:
+        raise named(error, path)
+
+
+def first_row(line, value):
+    if line != 'capture':
+        raise ValueError(line)
+    size, total, name = value.split(' ', 2)
+    return Row(name, int(size), total, end='')
+
+
+def read_head(lines, path):
+    wanted = (HEAD, 'player', 'gives')
+    found = [line.rstrip('\n').partition(' ') for line in lines[:3]]
+    if not found or found[0][0] != HEAD:
+        raise Trouble('%s: no file of sums: its first line is not `%s %d`' % (path, HEAD, VERSION))
+    if found[0][2] != str(VERSION):
+        raise Trouble('%s:1: version %s; this tool knows version %d' % (path, found[0][2], VERSION))
+    if tuple(kind for kind, _, _ in found) != wanted or lines[3:4] != ['\n']:
+        raise Trouble('%s: the head is not whole' % path)
+    return Sums(found[1][2], tuple(found[2][2].split()))
+
+
+def read_lines(path, is_whole):
+    try:
+        with open_text(path) as file:
+            lines = file.readlines()
+    except OSError as error:
+        raise named(error, path)
+    if not is_whole and lines and not lines[-1].endswith('\n'):
+        lines.pop()
+    return lines
+
+
+def read_sums(path, is_whole=True):
+    """Reads a file of sums. One that is being written may end inside a block, which is then left out."""
+    lines = read_lines(path, is_whole)
+    sums, row, ended = read_head(lines, path), None, 4
+    for at, line in enumerate(lines[4:], 5):
+        kind, _, value = line.rstrip('\n').partition(' ')
+        try:
+            if row is None:
+                row = first_row(kind, value)
+            elif line != '\n' or not row.end:
+                row.take(kind, value)
+            elif row.name not in sums.rows:
+                sums.rows[row.name], row, ended = row, None, at
+            else:
+                break
+        except ValueError:
+            raise Trouble('%s:%d: not a line of a file of sums: %s' % (path, at, line.rstrip('\n')[:60]))
+    if row and row.name in sums.rows:
+        raise Trouble('%s:%d: a second capture of the name %s' % (path, at, row.name))
+    if is_whole and ended != len(lines):
+        raise Trouble('%s:%d: the file ends inside a capture' % (path, len(lines)))
+    return sums

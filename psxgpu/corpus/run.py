@@ -1,0 +1,163 @@
+"""Plays the captures of a folder on all processors, and keeps what is done in a file, so that a run can go on."""
+import concurrent.futures
+import contextlib
+import fnmatch
+import os
+import sys
+import time
+from dataclasses import dataclass
+
+from psxgpu.command import Trouble, named, reason_of
+from psxgpu.corpus.file import Sums, open_text, read_sums, write_whole
+from psxgpu.corpus.play import size_and_sum
+
+NAMES = ('*.capture', '*.snapshot', '*.cap')
+WEIGHT = 20000          # what starting a player costs, in bytes of a capture
+AHEAD = 4               # captures that wait, for each one that is played
+QUIET = 30              # seconds between two lines where progress is no terminal
+
+
+@dataclass(frozen=True)
+class Capture:
+    name: str
+    path: str
+    size: int
+
+
+def captures_of(places, names=NAMES):
+    """The captures of folders, by name: the path below the folder. A place that is a file has its path as name."""
+    found = {}
+    for place in places:
+        for name, path in files_of(place, names):
+            name = name.replace(os.sep, '/')
+            if name in found:
+                raise Trouble('two captures of the name %s: %s and %s' % (name, found[name].path, path))
+            if '\n' in name:
+                raise Trouble('%r: a name of two lines cannot stand in a file of sums' % path)
+            found[name] = Capture(name, path, os.path.getsize(path))
+    if not found:
+        raise Trouble('%s: no capture (%s)' % (' '.join(places), ' '.join(names)))
+    return [found[name] for name in sorted(found)]
+
+
+def files_of(place, names):
+    if not os.path.isdir(place):
+        os.stat(place)
+        yield os.path.normpath(place), place
+        return
+    for folder, folders, files in os.walk(place):
+        folders.sort()
+        for file in sorted(files):
+            if any(fnmatch.fnmatch(file, name) for name in names):
+                path = os.path.join(folder, file)
+                yield os.path.relpath(path, place), path
+
+
+class Progress:
+    """A bar on a terminal, elsewhere a line from time to time."""
+
+    def __init__(self, captures, rows, file=None):
+        self.file = file or sys.stderr
+        self.is_terminal = self.file.isatty()
+        self.count, self.done, self.odd = len(captures), len(rows), 0
+        self.left = {it.name: it.size + WEIGHT for it in captures if it.name not in rows}
+        self.todo = self.whole = sum(self.left.values())
+        self.start = self.told = time.monotonic()
+
+    def row(self, row):
+        self.done += 1
+        self.odd += row.end != 'played'
+        self.whole -= self.left.pop(row.name)
+        now = time.monotonic()
+        if now - self.told > (0.1 if self.is_terminal else QUIET) or self.is_terminal and self.done == self.count:
+            self.told = now
+            self.tell(now - self.start)
+
+    def tell(self, seconds):
+        left = seconds * self.whole / max(1, self.todo - self.whole)
+        text = '%d of %d, %d not played, %d:%02d left' % (self.done, self.count, self.odd, left // 60, left % 60)
+        if self.is_terminal:
+            full = 30 * self.done // self.count
+            end = '\n' if self.done == self.count else ''
+            text = '\r[%s%s] %s ' % ('#' * full, ' ' * (30 - full), text)
+            self.file.write(text + end)
+        else:
+            self.file.write(text + '\n')
+        self.file.flush()
+
+
+class Journal:
+    """The file to which each row is added as soon as it is known. What it has already stays, and so do rows that were
+    played elsewhere, where the player and the captures are those of then."""
+
+    def __init__(self, path, player, captures, elsewhere=None):
+        self.path = path
+        self.sums = Sums(player.identity(), player.gives)
+        if elsewhere:
+            kept = read_sums(elsewhere)
+            if (kept.player, kept.gives) != (self.sums.player, self.sums.gives):
+                raise Trouble('%s: played by %s for %s; here is %s for %s'
+                              % (elsewhere, kept.player, ' '.join(kept.gives), self.sums.player,
+                                 ' '.join(player.gives)))
+            self.go_on(kept, captures)
+        if os.path.exists(path):
+            self.go_on(read_sums(path, is_whole=False), captures)
+        write_whole(path, self.sums.text())
+
+    def go_on(self, kept, captures):
+        if (kept.player, kept.gives) == (self.sums.player, self.sums.gives):
+            for it in captures:
+                row = kept.rows.get(it.name)
+                if row and size_and_sum(it.path) == (row.size, row.sum):
+                    self.sums.rows[it.name] = row
+
+    def add(self, row):
+        try:
+            with open_text(self.path, 'a') as file:
+                file.write(row.block())
+        except OSError as error:
+            raise named(error, self.path)
+        self.sums.rows[row.name] = row
+
+
+def play_all(player, captures, jobs):
+    """Plays captures, several at a time; gives each row when it is known."""
+    waiting = iter(captures)
+    with concurrent.futures.ThreadPoolExecutor(jobs) as pool:
+        running = set()
+        try:
+            while True:
+                for capture in waiting:
+                    running.add(pool.submit(player.row, capture))
+                    if len(running) >= AHEAD * jobs:
+                        break
+                if not running:
+                    return
+                ended, running = concurrent.futures.wait(running, return_when=concurrent.futures.FIRST_COMPLETED)
+                for it in ended:
+                    yield it.result()
+        finally:
+            for it in running:
+                it.cancel()
+
+
+def play_into(path, player, captures, jobs, elsewhere=None):
+    """Plays what the file beside `path` has not yet, and adds it there; then the file is `path`. Answers the sums."""
+    journal = Journal(path + '.part', player, captures, elsewhere)
+    rows = journal.sums.rows
+    if rows:
+        print('%d of %d captures were played before' % (len(rows), len(captures)), file=sys.stderr)
+    progress = Progress(captures, rows)
+    todo = [it for it in captures if it.name not in rows]
+    try:
+        with contextlib.closing(play_all(player, todo, jobs)) as played:
+            for row in played:
+                journal.add(row)
+                progress.row(row)
+        write_whole(path, journal.sums.text())
+        os.remove(journal.path)
+    except (OSError, KeyboardInterrupt) as error:
+        text = 'interrupted' if isinstance(error, KeyboardInterrupt) else reason_of(error)
+        raise Trouble('%s; %d of %d captures are kept in %s: run it again to go on'
+                      % (text, len(rows), len(captures), journal.path))
+    return journal.sums

@@ -1,0 +1,115 @@
+"""Skims the records of a capture or of a snapshot: what they are and how many events they have, not their words."""
+import struct
+
+from psxgpu.stream import BEGIN, DMA, GP0, GP1, HEADS, RAM, READ, SNAPSHOT, STAT, count_of
+
+MAIN_MEMORY = 0x200000
+MOST_PENDING = 12           # words of the longest packet
+FLIP, MARK = 0x05, 0x3F       # words of GP1 that end a frame: a new display start, a recorder's mark
+BLOCK = 1 << 20
+
+
+def take_words(file, n):
+    data = file.read(4 * n)
+    if len(data) < 4 * n:
+        raise ValueError('it ends early')
+    return struct.unpack('<%dI' % n, data)
+
+
+def past_state(file):
+    """Reads a snapshot's state up to its first record. Answers the number of events played before."""
+    height, low, high = take_words(file, 3)
+    take_words(file, 13)
+    pending, = take_words(file, 1)
+    if pending == 1:
+        take_words(file, min(take_words(file, 1)[0], MOST_PENDING))
+    elif pending == 2:
+        take_words(file, 5)
+    elif pending == 3 and take_words(file, 4)[3]:
+        take_words(file, 1)
+    if take_words(file, 1)[0]:
+        take_words(file, 5)
+    take_words(file, {1: 4, 2: 1}.get(take_words(file, 1)[0], 0))
+    file.seek(2048 * height + MAIN_MEMORY, 1)
+    return high << 32 | low
+
+
+def past_head(file):
+    """Reads up to the first record. Answers the number of events before it; ValueError where it is no capture."""
+    head = file.read(8)
+    if head == SNAPSHOT:
+        return past_state(file)
+    if head not in HEADS.values():
+        raise ValueError('no capture')
+    return 0
+
+
+def records(file):
+    """The records up to End: (kind, number of events, number of words behind the tag)."""
+    while True:
+        tag, = take_words(file, 1)
+        kind, count = tag >> 24, tag & 0xFFFFFF
+        if kind == 0:
+            return
+        words = {RAM: count + 1, GP0: count, GP1: 1, DMA: 3, BEGIN: 3}.get(kind, 0)
+        at = file.tell()
+        yield kind, count_of(kind, count), words
+        file.seek(at + 4 * words)
+
+
+def reads_before(path, events):
+    """For each number of a rising list of events, how many lines `play` has written when that event is done."""
+    counts, reads = [], 0
+    with open(path, 'rb') as file:
+        done = past_head(file)
+        for kind, size, _ in records(file):
+            shows = kind in (READ, STAT)
+            while len(counts) < len(events) and events[len(counts)] <= done + size:
+                counts.append(reads + shows * max(0, events[len(counts)] - done))
+            if len(counts) == len(events):
+                return counts
+            reads += shows * size
+            done += size
+    return counts + [reads] * (len(events) - len(counts))
+
+
+def frames(path, opcode=FLIP):
+    """The events that end a frame, and the number of the last event."""
+    found = []
+    with open(path, 'rb') as file:
+        done = past_head(file)
+        for kind, size, _ in records(file):
+            done += size
+            if kind == GP1 and take_words(file, 1)[0] >> 24 & 0x3F == opcode:
+                found.append(done)
+    return found, done
+
+
+def copy_bytes(file, out, count):
+    while count > 0:
+        piece = file.read(min(count, BLOCK))
+        if not piece:
+            raise ValueError('it ends early')
+        out.write(piece)
+        count -= len(piece)
+
+
+def copy_first(path, last, out):
+    """Writes the capture or snapshot up to the event of this number, and End."""
+    with open(path, 'rb') as file:
+        done = past_head(file)
+        whole, rest = file.tell(), None
+        for kind, size, words in records(file):
+            if done + size > last:
+                rest = kind, last - done
+                break
+            done += size
+            whole += 4 + 4 * words
+        file.seek(0)
+        copy_bytes(file, out, whole)
+        if rest and rest[1]:
+            kind, count = rest
+            out.write(struct.pack('<I', kind << 24 | count))
+            file.seek(4, 1)
+            copy_bytes(file, out, 4 * (count + (kind == RAM)) if kind in (RAM, GP0) else 0)
+    out.write(bytes(4))

@@ -1,0 +1,136 @@
+"""The calls of libpsxgpu by ctypes, and what they answer: what `psxgpu.machine` stands on.
+
+The library is the file that the environment's PSXGPU_LIB names, else the one beside this file, in the checkout's out/,
+or in the system. It is loaded with the first call.
+"""
+import ctypes
+import functools
+import os
+
+NAME = 'libpsxgpu.so.1'
+NO_PICTURE, NO_ROOM, NO_MEMORY = 10, 11, 13
+# What the program says of a code; `place` and `word` are those of the ending.
+WORDS = {
+    2: 'not-capture at event {event} byte {place}',
+    3: 'truncated at event {event} byte {place}',
+    4: 'bad-record at event {event} byte {place} word {word:08x}',
+    5: 'too-long at event {event} byte {place}',
+    7: 'bad-dma at event {event}',
+    8: 'dma-too-long at event {event} words {place}',
+    9: 'list-loop at event {event} node {word:06x}',
+    NO_PICTURE: 'no-picture at event {event}',
+    NO_ROOM: 'no-room',
+    12: 'bad-snapshot at event {event} byte {place} word {word:08x}',
+    NO_MEMORY: 'memory',
+    14: 'the machine is closed',
+    15: 'the machine is open',
+    16: 'the library has no such mode',
+    17: 'no such cell',
+    18: 'main memory has no words there',
+    19: 'no such channel',
+}
+
+
+class Error(Exception):
+    """What this module raises for what the library answers. The text is the program's line."""
+
+
+class Missing(Error):
+    """There is no library, or it has no such call."""
+
+
+class OutOfMemory(Error, MemoryError):
+    """The library got no memory. The machine is as before."""
+
+
+class Refused(Error):
+    """The library did not do it, and the machine is as before. `output` has what was due of `play` up to there."""
+
+    def __init__(self, code, event=0, place=0, word=0, output=b''):
+        text = WORDS.get(code, 'code %d' % code).format(event=event, place=place, word=word)
+        super().__init__('psxgpu: ' + text.replace(' at event 0', ''))
+        self.code, self.event, self.place, self.word, self.output = code, event, place, word, output
+
+
+for error in (Error, Missing, OutOfMemory, Refused):
+    error.__module__ = 'psxgpu'    # whose names they are for a reader
+
+
+class Handle(ctypes.Structure):
+    _fields_ = [('at', ctypes.c_void_p), ('open', ctypes.c_uint32)]
+
+
+class Ended(ctypes.Structure):
+    _fields_ = [('written', ctypes.c_size_t), ('event', ctypes.c_uint64), ('place', ctypes.c_uint64),
+                ('word', ctypes.c_uint32), ('code', ctypes.c_uint32)]
+
+
+class RawNote(ctypes.Structure):
+    _fields_ = [('event', ctypes.c_uint64), ('word', ctypes.c_size_t), ('head', ctypes.c_uint32),
+                ('class_number', ctypes.c_uint16), ('has_area', ctypes.c_uint16)]
+    _fields_ += [(name, ctypes.c_int32) for name in ('x1', 'y1', 'x2', 'y2')]
+
+
+HANDLE, WORD, SIZE = ctypes.POINTER(Handle), ctypes.c_uint32, ctypes.c_size_t
+BYTES, OUT_WORDS, OUT_HALF = ctypes.c_void_p, ctypes.POINTER(WORD), ctypes.POINTER(ctypes.c_uint16)
+OUT_SIZE, ENDED = ctypes.POINTER(SIZE), ctypes.POINTER(Ended)
+# The calls of c/psxgpu.h.
+CALLS = {
+    'new': [HANDLE], 'free': [HANDLE], 'clear': [HANDLE], 'set_tall': [HANDLE],
+    'gp0': [HANDLE, WORD], 'gp0_words': [HANDLE, BYTES, SIZE], 'gp1': [HANDLE, WORD],
+    'read': [HANDLE, OUT_WORDS], 'status': [HANDLE, OUT_WORDS], 'skip': [HANDLE],
+    'ram': [HANDLE, WORD, BYTES, SIZE], 'dma': [HANDLE, WORD, WORD, WORD, WORD, ENDED],
+    'begin': [HANDLE, WORD, WORD, WORD, ENDED], 'turn': [HANDLE],
+    'vram': [HANDLE, BYTES, SIZE, OUT_SIZE], 'cell': [HANDLE, WORD, WORD, OUT_HALF],
+    'shape': [HANDLE, OUT_HALF, OUT_HALF], 'picture': [HANDLE, BYTES, SIZE, OUT_SIZE],
+    'picture_rgba': [HANDLE, BYTES, SIZE, OUT_SIZE],
+    'registers': [HANDLE, BYTES, SIZE],
+    'save': [HANDLE, BYTES, SIZE, OUT_SIZE], 'load': [HANDLE, BYTES, SIZE, ENDED],
+    'gp0_notes': [HANDLE, BYTES, SIZE, ctypes.POINTER(RawNote), SIZE, OUT_SIZE],
+    'play': [WORD, WORD, BYTES, SIZE, BYTES, SIZE, ENDED],
+}
+
+
+class Library:
+    """The loaded library: each call by its name, without `psxgpu_`."""
+
+    def __init__(self, path):
+        loaded = ctypes.CDLL(path)
+        self.path = path
+        for name, kinds in CALLS.items():
+            call = getattr(loaded, 'psxgpu_' + name, None)
+            if call is not None:
+                call.argtypes, call.restype = kinds, None if name == 'free' else WORD
+                setattr(self, name, call)
+
+    def __getattr__(self, name):
+        raise Missing('%s has no psxgpu_%s' % (self.path, name))
+
+
+def places():
+    """Where the library may be; the first that can be loaded is taken."""
+    if os.environ.get('PSXGPU_LIB'):
+        return [os.environ['PSXGPU_LIB']]
+    package = os.path.dirname(os.path.dirname(os.path.abspath(__file__)))
+    return [os.path.join(package, NAME), os.path.join(package, '..', 'out', NAME), NAME]
+
+
+@functools.lru_cache(maxsize=None)
+def library():
+    """The library, loaded once. Raises Missing where there is none."""
+    causes = []
+    for path in places():
+        try:
+            return Library(path)
+        except OSError as bad:
+            causes.append(str(bad))
+    raise Missing('no libpsxgpu: ' + '; '.join(causes))
+
+
+def check(code, ended=None, output=b''):
+    """Raises what a call's code says, if it is not 0."""
+    if code == NO_MEMORY:
+        raise OutOfMemory('psxgpu: memory')
+    if code:
+        told = (ended.event, ended.place, ended.word) if ended else ()
+        raise Refused(code, *told, output=output)

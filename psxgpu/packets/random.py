@@ -1,0 +1,192 @@
+"""Random packets, class by class: what two players are compared on. docs/EMULATORS.md says why each class stands here.
+Each function takes a generator of random numbers and gives words."""
+from psxgpu.capture import (clut, copy, draw_mode, drawing_area, drawing_offset, fill, line, load, mask_setting, polygon,
+                     rectangle, texture_page, texture_window)
+
+WIDTH, HEIGHT = 320, 240      # what is drawn on: the top left of video memory
+AREA = drawing_area(0, 0, WIDTH - 1, HEIGHT - 1)
+
+
+def background(r):
+    """Random cells: on the part that is drawn on, and where pages and palettes lie."""
+    words = load(0, 0, 64, 64, [r.getrandbits(16) for _ in range(4096)])
+    for w in (64, 128, 256, 512):
+        words += copy(0, 0, w, 0, w, 64)
+    for h in (64, 128, 256):
+        words += copy(0, 0, 0, h, 1024, h)
+    return words
+
+
+def place(r, margin=0):
+    return r.randrange(-margin, WIDTH + margin), r.randrange(-margin, HEIGHT + margin)
+
+
+def color(r):
+    return r.getrandbits(24)
+
+
+def palette(r):
+    return clut(16 * r.randrange(40), 256 + r.randrange(256))
+
+
+def page(r, depths=(0, 1, 2), last=12):
+    return texture_page(64 * r.randrange(8, last), 256 * r.randrange(2), r.choice(depths), r.randrange(4))
+
+
+def fills(r):
+    return fill(color(r), r.randrange(1024), r.randrange(512), r.randrange(1024), r.randrange(512))
+
+
+def loads(r):
+    w, h = r.randrange(1, 40), r.randrange(1, 40)
+    return load(r.randrange(1024), r.randrange(512), w, h, [r.getrandbits(16) for _ in range(w * h)])
+
+
+def copies(r):
+    """Of rectangles that do not meet."""
+    source, target = (r.randrange(600), r.randrange(256)), (r.randrange(1024), 256 + r.randrange(256))
+    return copy(*source, *target, r.randrange(1, 300), r.randrange(1, 100))
+
+
+def copies_to_the_right(r):
+    x, y = r.randrange(500), r.randrange(256)
+    return copy(x, y, x + r.randrange(1, 100), y, r.randrange(128, 400), r.randrange(1, 60))
+
+
+def tiles(r, **settings):
+    return rectangle(color(r), *place(r, 30), r.randrange(1, 100), r.randrange(1, 100), **settings)
+
+
+def sprites(r, flip=False):
+    u = r.randrange(256)
+    return (draw_mode(page(r), flip_x=flip, flip_y=r.random() < 0.3)
+            + tiles(r, texture=(u | flip, r.randrange(256)), palette=palette(r), semi=r.random() < 0.4,
+                    raw=r.random() < 0.4))
+
+
+def flipped_even(r):
+    return (draw_mode(page(r), flip_x=True)
+            + tiles(r, texture=(2 * r.randrange(128), r.randrange(256)), palette=palette(r), raw=True))
+
+
+def corners(r, n):
+    return [place(r, 40) for _ in range(n)]
+
+
+def triangles(r):
+    return polygon(corners(r, 3), color(r), semi=r.random() < 0.3)
+
+
+def quads(r):
+    return polygon(corners(r, 4), color(r))
+
+
+def shaded(r):
+    return polygon(corners(r, 3), [color(r) for _ in range(3)])
+
+
+def one_to_one(r):
+    """A textured quad with a texel for each cell."""
+    (x, y), w, h = place(r), r.randrange(1, 120), r.randrange(1, 120)
+    u, v = r.randrange(256 - w), r.randrange(256 - h)
+    return polygon([(x, y), (x + w, y), (x, y + h), (x + w, y + h)], color(r), page=page(r), palette=palette(r),
+                   texture=[(u, v), (u + w, v), (u, v + h), (u + w, v + h)], semi=r.random() < 0.4,
+                   raw=r.random() < 0.4)
+
+
+def scaled(r):
+    texture = [(r.randrange(256), r.randrange(256)) for _ in range(3)]
+    return polygon(corners(r, 3), color(r), texture=texture, page=page(r), palette=palette(r), raw=r.random() < 0.5)
+
+
+def straight(r):
+    """Lines on the axes and on diagonals."""
+    (x, y), n, (dx, dy) = place(r, 30), r.randrange(200), r.choice(((1, 0), (0, 1), (1, 1), (1, -1)))
+    return line([(x, y), (x + n * dx, y + n * dy)], color(r), semi=r.random() < 0.3)
+
+
+def sloped(r):
+    return line(corners(r, 2), color(r))
+
+
+def dithered(piece):
+    """The same under dither, of one colour, so that the interpolation does not count."""
+    return lambda r: draw_mode(dither=True) + piece(r)
+
+
+def one_colour(r):
+    return polygon(corners(r, 3), [color(r)] * 3)
+
+
+def windows(r):
+    """Masks of whole powers of two."""
+    mask = [r.choice((0, 16, 24, 28, 30, 31)) for _ in range(2)]
+    return texture_window(*mask, r.randrange(32), r.randrange(32)) + sprites(r)
+
+
+def masked(r):
+    piece = r.choice((tiles, triangles, straight, sprites, copies, loads))
+    return mask_setting(r.random() < 0.5, r.random() < 0.5) + piece(r)
+
+
+def blended(r):
+    return draw_mode(r.randrange(4) << 5) + tiles(r, semi=True)
+
+
+def clipped(r):
+    x, y = place(r)
+    return (drawing_area(x, y, x + r.randrange(100), y + r.randrange(100))
+            + r.choice((tiles, triangles, straight, sprites))(r))
+
+
+def moved(r):
+    return drawing_offset(r.randrange(-200, 200), r.randrange(-200, 200)) + r.choice((tiles, triangles, straight))(r)
+
+
+def far(r):
+    """Sums of vertex and offset beyond eleven bits."""
+    place = r.randrange(700, 1023), r.randrange(HEIGHT)
+    return drawing_offset(r.randrange(900, 1023), 0) + rectangle(color(r), *place, 400, 20)
+
+
+def large(r):
+    """Triangles about the limits of the size rule."""
+    x, y = r.randrange(-600, 0), r.randrange(-300, 0)
+    right = (x + 1022 + r.randrange(3), y + r.randrange(100))
+    below = (x + r.randrange(100), y + 510 + r.randrange(3))
+    return polygon([(x, y), right, below], color(r))
+
+
+def wraps(r):
+    """Pages and palettes at the right edge of video memory."""
+    return (draw_mode(texture_page(64 * r.randrange(12, 16), 256 * r.randrange(2), r.randrange(4)))
+            + tiles(r, texture=(r.randrange(256), r.randrange(256)), raw=True,
+                    palette=clut(1008, r.randrange(256, 512))))
+
+
+CLASSES = {
+    'fills': fills,
+    'loads': loads,
+    'copies that do not overlap': copies,
+    'copies that overlap to the right': copies_to_the_right,
+    'rectangles, flat': tiles,
+    'rectangles, textured': sprites,
+    'rectangles, X flip with an odd U': lambda r: sprites(r, True),
+    'rectangles, X flip with an even U': flipped_even,
+    'triangles, flat': triangles,
+    'quads, flat': quads,
+    'triangles, gouraud': shaded,
+    'triangles of one colour, dithered': dithered(one_colour),
+    'quads, textured one to one': one_to_one,
+    'triangles, textured, scaled': scaled,
+    'lines on axes and diagonals': straight,
+    'lines, sloped': sloped,
+    'texture windows': windows,
+    'mask settings': masked,
+    'semi-transparency': blended,
+    'drawing area': clipped,
+    'offsets': moved,
+    'offsets beyond eleven bits': far,
+    'the size rule': large,
+    'pages and palettes at the edge': wraps,
+}

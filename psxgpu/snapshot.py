@@ -1,0 +1,74 @@
+"""What a snapshot (`psxgpu_tool cut N`) says of what is not finished. docs/CAPTURE.md has its words."""
+import struct
+
+from psxgpu.packets.split import name_and_length
+
+STATE = 3 + 13      # height, events played, registers
+NOTHING, PACKET, PIXELS, POLYLINE = range(4)
+ONE_BLOCK, LINKED_LIST = 1, 2
+
+
+class Words:
+    """The words of a snapshot's state, one after another."""
+
+    def __init__(self, file):
+        self.file = file
+        self.file.read(8)
+
+    def take(self, n):
+        return struct.unpack('<%dI' % n, self.file.read(4 * n))
+
+    def one(self):
+        return self.take(1)[0]
+
+
+def words_left(job):
+    """Of a load or store, by its x, y, w, h and the number of the next cell."""
+    _, _, w, h, cell = job
+    return (w * h - cell + 1) // 2
+
+
+def job_text(job):
+    return '%d by %d cells at (%d, %d)' % (job[2], job[3], job[0], job[1])
+
+
+def pending_text(words):
+    """What GP0 waits for."""
+    kind = words.one()
+    if kind == PACKET:
+        packet = words.take(words.one())
+        name, length = name_and_length(packet[0])
+        return ['a packet: %s %08x, %d of %d words' % (name, packet[0], len(packet), length)]
+    if kind == PIXELS:
+        job = words.take(5)
+        return ['a load of %s: %d data words are missing' % (job_text(job), words_left(job))]
+    if kind == POLYLINE:
+        command, _, _, is_begun = words.take(4)
+        if is_begun:
+            words.take(1)
+        return ['a polyline %08x: its end word is missing' % command]
+    return []
+
+
+def store_text(words):
+    if not words.one():
+        return []
+    job = words.take(5)
+    return ['a store of %s: it waits for %d reads' % (job_text(job), words_left(job))]
+
+
+def transfer_text(words):
+    kind = words.one()
+    if kind == ONE_BLOCK:
+        address, left, _, _ = words.take(4)
+        return ['a transfer of DMA: %d words are left at %06x' % (left, address)]
+    if kind == LINKED_LIST:
+        return ['a linked list of DMA: the next node is at %06x' % words.one()]
+    return []
+
+
+def unfinished(file):
+    """A line for each thing that is not finished behind the events of a snapshot."""
+    words = Words(file)
+    words.take(STATE)
+    return pending_text(words) + store_text(words) + transfer_text(words)

@@ -1,0 +1,192 @@
+"""Reads captures as a stream: record after record, whatever their length, with little memory.
+
+    with reading('mine.capture') as file:
+        for kind, count, words in Stream(file, 'mine.capture'):
+            ..
+
+A capture that breaks the format is `Trouble`, with the byte. docs/CAPTURE.md has the format.
+"""
+import contextlib
+import sys
+from array import array
+
+from psxgpu.command import Trouble, reading
+
+END, RAM, GP0, GP1, READ, STAT, DMA, BEGIN, TURN, SKIP = range(10)
+KINDS = ('End', 'Ram', 'Gp0', 'Gp1', 'Read', 'Stat', 'Dma', 'Begin', 'Turn', 'Skip')
+NOT_FLAT = (RAM, DMA, BEGIN, TURN)
+MOST_WORDS, MOST_READS, MOST_RAM = 0xFFFFFF, 262144, 524288
+MOST = {RAM: MOST_RAM, GP0: MOST_WORDS, GP1: 1, READ: MOST_READS, STAT: 1, TURN: MOST_READS, SKIP: MOST_READS}
+HEADS = {1: b'PSXGPUC1', 2: b'PSXGPUC2', 3: b'PSXGPUC3'}
+SNAPSHOT = b'PSXGPUS1'
+BLOCK = 1 << 18
+SINGLE = GP0 << 24 | 1                      # the tag of a Gp0 record with one word
+RUN = array('I', [SINGLE]) * 16384
+# What files begin with that are often taken for captures.
+BEGINNINGS = {b'\x1f\x8b': 'gzip', b'\x28\xb5\x2f\xfd': 'zstd', b'\xfd7zXZ': 'xz', b'PK\x03\x04': 'zip',
+              b'\x89PNG': 'PNG', b'P6': 'PPM', SNAPSHOT: 'a snapshot'}
+
+
+def little(words):
+    """Turns an array between the file's order of bytes and the machine's."""
+    if sys.byteorder == 'big':
+        words.byteswap()
+    return words
+
+
+def encode(kind, count, words=()):
+    """A record as bytes."""
+    return little(array('I', [kind << 24 | count, *words])).tobytes()
+
+
+def is_allowed(version, kind, count):
+    """Whether a tag of this kind and count may stand in a capture of this version."""
+    if kind > (DMA if version == 1 else SKIP):
+        return False
+    if kind in (DMA, BEGIN):
+        return count == 2 or kind == DMA and count == 6
+    return count == 0 if kind == END else 1 <= count <= MOST[kind]
+
+
+def count_of(kind, count):
+    """How many events a record is."""
+    return 1 if kind in (GP1, STAT, DMA, BEGIN) else count
+
+
+class Stream:
+    """A capture, from a file that gives bytes. `version` is known at once; iterated it gives (kind, count, words) for
+    each record, End left out. `words` is an array; that of a Ram record begins with the address. Neighbouring Gp0
+    records of one word come as one, unless all are asked for as they are (`exact`)."""
+
+    def __init__(self, file, name, exact=False):
+        self.file, self.name, self.exact = file, name, exact
+        self.block, self.at = array('I'), 0
+        self.before, self.rest = 8, 0       # bytes before the block; bytes at the end that are no word
+        head = file.read(8)
+        self.version = {head: version for version, head in HEADS.items()}.get(head)
+        if self.version is None:
+            self.refuse(head)
+
+    def refuse(self, head):
+        kinds = [kind for begin, kind in BEGINNINGS.items() if head.startswith(begin)]
+        if not head:
+            raise Trouble('%s: empty' % self.name)
+        raise Trouble('%s: no capture, %s' % (self.name, kinds[0] if kinds else 'it begins with %r' % head))
+
+    @property
+    def place(self):
+        """The number of the next byte."""
+        return self.before + 4 * self.at
+
+    def more(self, n):
+        """Reads until n words are there."""
+        self.before += 4 * self.at
+        words = self.block[self.at:]
+        self.at = 0
+        while len(words) < n:
+            data = self.file.read(max(BLOCK, 4 * (n - len(words))))
+            words.extend(little(array('I', data[:len(data) // 4 * 4])))
+            self.rest += len(data) % 4
+            if not data and len(words) < n:
+                self.block = words
+                raise Trouble('%s: cut at byte %d, inside a record or before the End record'
+                              % (self.name, self.before + 4 * len(words) + self.rest))
+        self.block = words
+
+    def take(self, n):
+        """The next n words."""
+        if self.at + n > len(self.block):
+            self.more(n)
+        self.at += n
+        return self.block[self.at - n:self.at]
+
+    def singles(self):
+        """The words of the Gp0 records of one word that stand next, as many as the block has."""
+        block, at = self.block, self.at
+        most = min((len(block) - at) // 2, len(RUN))
+        if not most or block[at] != SINGLE:
+            return None
+        low, n = 1, 4
+        while n < most and block[at:at + 2 * n:2] == RUN[:n]:
+            low, n = n, 4 * n
+        n = min(n, most)
+        while low < n:
+            middle = (low + n + 1) // 2
+            if block[at + 2 * low:at + 2 * middle:2] == RUN[:middle - low]:
+                low = middle
+            else:
+                n = middle - 1
+        self.at = at + 2 * low
+        return block[at + 1:self.at:2]
+
+    def __iter__(self):
+        wanted = {GP1: 1, DMA: 3, BEGIN: 3}
+        while True:
+            if self.at == len(self.block):
+                self.more(1)
+            words = self.singles()
+            if words and self.exact:
+                yield from ((GP0, 1, array('I', (word,))) for word in words)
+            elif words:
+                yield GP0, len(words), words
+            if words:
+                continue
+            place = self.place
+            tag = self.take(1)[0]
+            kind, count = tag >> 24, tag & 0xFFFFFF
+            if not is_allowed(self.version, kind, count):
+                raise Trouble('%s: byte %d: %08x begins no record of version %d'
+                              % (self.name, place, tag, self.version))
+            if kind == END:
+                return
+            try:
+                words = self.take(count + (kind == RAM) if kind in (RAM, GP0) else wanted.get(kind, 0))
+            except Trouble:
+                yield from self.beginning(kind, count)
+                raise
+            self.check_address(kind, count, words)
+            yield kind, count, words
+
+    def beginning(self, kind, count):
+        """The events that are there of a record that is cut: each of their words is one."""
+        words = self.block[self.at:]
+        there = len(words) - (kind == RAM)
+        if kind in (GP0, RAM) and there > 0:
+            self.check_address(kind, count, words)
+            yield kind, there, words
+
+    def check_address(self, kind, count, words):
+        if kind == RAM and (words[0] % 4 or words[0] + 4 * count > 0x200000):
+            raise Trouble('%s: byte %d: no address for %d words: %08x'
+                          % (self.name, self.place - 4 * len(words), count, words[0]))
+
+
+def is_flat(path):
+    """Whether a capture has port writes and reads alone, as far as it can be read."""
+    with contextlib.suppress(Trouble), reading(path) as file:
+        return not any(kind in NOT_FLAT for kind, _, _ in Stream(file, path))
+    return True
+
+
+def first_events(stream, n):
+    """The records of the first n events, the last one cut where it has more."""
+    for kind, count, words in stream:
+        if n <= 0:
+            return
+        events = count_of(kind, count)
+        if events > n:
+            count, words = n, words[:n + (kind == RAM)]
+        yield kind, count, words
+        n -= events
+
+
+def later_events(stream, n):
+    """The records behind the first n events."""
+    for kind, count, words in stream:
+        events = count_of(kind, count)
+        if events > n > 0:
+            words = array('I', [words[0] + 4 * n]) + words[1 + n:] if kind == RAM else words[n:]
+            count -= n
+        if events > n:
+            yield kind, count, words
+        n = max(0, n - events)

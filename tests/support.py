@@ -1,0 +1,57 @@
+"""What the tests of the tools share. Tests that need psxgpu_tool are skipped where there is none."""
+import os
+import subprocess
+import sys
+import tempfile
+import unittest
+
+TOP = os.path.dirname(os.path.dirname(os.path.abspath(__file__)))
+EXAMPLES = os.path.join(TOP, 'examples')
+sys.path[:0] = [TOP, EXAMPLES]
+os.environ['PYTHONPATH'] = TOP      # for the tools and players that the tests start
+
+from psxgpu.players import player  # noqa: E402
+from psxgpu.command import Trouble  # noqa: E402
+
+
+def built_player():
+    try:
+        return os.path.abspath(player.find())
+    except Trouble:
+        return None
+
+
+PLAYER = built_player()
+needs_player = unittest.skipUnless(PLAYER, 'psxgpu_tool is not built')
+
+
+def example(name):
+    return os.path.join(EXAMPLES, name + '.capture')
+
+
+def run_tool(name, *words, **settings):
+    """Runs `psxgpu NAME ..`; what it wrote is text, unless `text` says otherwise."""
+    environment = dict(os.environ, PLAYER=PLAYER or '', PYTHONPATH=TOP)
+    settings = dict(dict(capture_output=True, text=True, env=environment), **settings)
+    return subprocess.run([sys.executable, '-m', 'psxgpu', name, *words], **settings)
+
+
+class InFolder(unittest.TestCase):
+    """A test with a folder of its own."""
+
+    def setUp(self):
+        folder = tempfile.TemporaryDirectory()
+        self.addCleanup(folder.cleanup)
+        self.folder = folder.name
+
+    def path(self, name):
+        return os.path.join(self.folder, name)
+
+    def write(self, name, data):
+        with open(self.path(name), 'wb' if isinstance(data, bytes) else 'w') as file:
+            file.write(data)
+        return self.path(name)
+
+    def read(self, name):
+        with open(self.path(name), 'rb') as file:
+            return file.read()

@@ -1,0 +1,41 @@
+"""Two players on random captures."""
+import os
+import unittest
+
+from tests import support
+from psxgpu.packets.random import CLASSES
+
+
+class Agreement(support.InFolder):
+    def agree(self, *words):
+        done = support.run_tool('agree', *words)
+        return done.returncode, done.stdout.splitlines()[2:], done.stderr
+
+    def player(self, name, text):
+        path = self.write(name, '#!/bin/sh\n' + text)
+        os.chmod(path, 0o755)
+        return path
+
+    def test_dumps(self):
+        """One player writes zeros, one a one in the first cell, and one nothing."""
+        zeros = self.player('zeros', 'cat > /dev/null; head -c 1048576 /dev/zero\n')
+        one = self.player('one', "cat > /dev/null; printf '\\1'; head -c 1048575 /dev/zero\n")
+        nothing = self.player('nothing', 'cat > /dev/null\n')
+        self.assertEqual(self.agree(zeros, zeros, '2', 'fills'), (0, ['| fills | 2 | 2 |  |'], ''))
+        status, lines, _ = self.agree(zeros, one, '2', 'fills')
+        self.assertEqual((status, lines[0]), (1, '| fills | 2 | 0 | 100.00 % |'))
+        self.assertEqual(self.agree(zeros, nothing, '1', 'fills'), (2, ['| fills | 1 | 0 |  (1 without a dump) |'], ''))
+
+    def test_trouble(self):
+        for words, reason in ((['none', 'none', '1', 'fills'], 'none: No such file or directory'),
+                              (['a', 'b', '1', 'draws'], 'draws: no class; --classes lists them'),
+                              ([], 'two players are wanted')):
+            self.assertEqual(self.agree(*words)[::2], (2, 'psxgpu agree: %s\n' % reason))
+
+    def test_classes(self):
+        done = support.run_tool('agree', '--classes')
+        self.assertEqual((done.returncode, done.stdout.splitlines()), (0, list(CLASSES)))
+
+
+if __name__ == '__main__':
+    unittest.main()

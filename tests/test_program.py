@@ -1,0 +1,130 @@
+#!/usr/bin/env python3
+"""What the program says to a person: files by name, hints at a terminal, and none where standard error is none."""
+import os
+import pty
+import subprocess
+import sys
+import tempfile
+import unittest
+
+from psxgpu.capture import Capture, rectangle
+
+PLAYER = os.environ.get('PLAYER', 'crates/psxgpu_tool/out/psxgpu_tool')
+EMPTY = Capture().stat().bytes()
+
+
+def at_terminal(words, data=b'', out=None):
+    """Runs the program with standard error at a terminal; answers its status and what stands there."""
+    ours, theirs = pty.openpty()
+    with tempfile.TemporaryFile() as source:
+        source.write(data)
+        source.seek(0)
+        run = subprocess.Popen([PLAYER, *words], stdin=source, stdout=out or subprocess.DEVNULL, stderr=theirs)
+        os.close(theirs)
+        said = b''
+        while True:
+            try:
+                piece = os.read(ours, 4096)
+            except OSError:
+                break
+            if not piece:
+                break
+            said += piece
+        status = run.wait()
+    os.close(ours)
+    return status, said.decode().replace('\r\n', '\n').splitlines()
+
+
+def piped(words, data=b''):
+    run = subprocess.run([PLAYER, *words], input=data, capture_output=True)
+    return run.returncode, run.stdout, run.stderr.decode().splitlines()
+
+
+class Files(unittest.TestCase):
+    def setUp(self):
+        self.folder = tempfile.TemporaryDirectory()
+        self.name = os.path.join(self.folder.name, 'my.capture')
+        with open(self.name, 'wb') as file:
+            file.write(Capture().gp0(rectangle(0xFF, 0, 0, 16, 16)).bytes())
+
+    def tearDown(self):
+        self.folder.cleanup()
+
+    def test_a_last_word_is_the_file_that_is_read(self):
+        with open(self.name, 'rb') as file:
+            data = file.read()
+        for words in [['play'], ['vram'], ['list'], ['report'], ['flat'], ['slim'], ['cut', '1'], ['pixel', '1', '1'],
+                      ['frames']]:
+            with self.subTest(words=words):
+                self.assertEqual(piped([*words, self.name]), piped(words, data))
+
+    def test_a_file_that_cannot_be_opened(self):
+        status, out, said = piped(['play', '/no/such.capture'])
+        self.assertEqual((status, out), (3, b''))
+        self.assertEqual(said, ['psxgpu: /no/such.capture: No such file or directory (os error 2)'])
+
+    def test_words_that_ask_for_help(self):
+        help_text = piped(['--help'])
+        self.assertEqual(help_text[0], 0)
+        for words in [['-h'], ['help'], ['cut', '--help'], ['play', '-h']]:
+            with self.subTest(words=words):
+                self.assertEqual(piped(words), help_text)
+
+    def test_a_command_that_reads_nothing_takes_no_file(self):
+        self.assertEqual(piped(['demo', '3', self.name]), (1, b'', ['psxgpu: usage']))
+
+
+class Hints(unittest.TestCase):
+    def test_programs_get_the_lines_alone(self):
+        self.assertEqual(piped(['plya']), (1, b'', ['psxgpu: usage']))
+        self.assertEqual(piped(['play'], b'\x1f\x8b\x08\0\0\0\0\0'), (2, b'', ['psxgpu: not-capture at event 1 byte 0']))
+
+    def test_what_is_wrong_with_the_words(self):
+        for words, hint in [([], 'no command was given'),
+                            (['plya'], 'there is no such command'),
+                            (['cut'], 'cut takes a number of events, 1 to 4294967295, and perhaps a file'),
+                            (['demo', '0'], 'demo takes a number of packets, 1 to 100000'),
+                            (['pixel', '1024', '0'], 'pixel takes a column and a row, each 0 to 1023, and perhaps a file'),
+                            (['play', 'a', 'b'], 'a word too many: behind this command a file may stand, and nothing else')]:
+            with self.subTest(words=words):
+                self.assertEqual(at_terminal(words), (1, ['psxgpu: usage', 'psxgpu: ' + hint
+                                                          + '; psxgpu_tool --help lists the commands']))
+
+    def test_what_the_input_seems_to_be(self):
+        for data, hint in [(b'', 'the input is empty'),
+                           (b'\x1f\x8b\x08\0\0\0\0\0', 'the input is compressed: try gzip -dc FILE | psxgpu_tool ..'),
+                           (b'\x28\xb5\x2f\xfd\0\0\0\0', 'the input is compressed: try zstd -dc FILE | psxgpu_tool ..'),
+                           (b'\x89PNG\r\n\x1a\n', 'the input is a picture: a capture is wanted'),
+                           (b'gp0 e100', 'the input is text: psxgpu from-log makes a capture of a log')]:
+            with self.subTest(data=data):
+                status, said = at_terminal(['play'], data)
+                self.assertEqual((status, said[-1]), (2, 'psxgpu: ' + hint))
+
+    def test_a_capture_has_no_hint(self):
+        self.assertEqual(at_terminal(['play'], EMPTY), (0, []))
+        self.assertEqual(len(at_terminal(['play'], EMPTY[:-2])[1]), 1)
+
+    def test_a_directory_and_a_full_disk(self):
+        status, said = at_terminal(['play', '/'])
+        self.assertEqual((status, said[-1]), (3, 'psxgpu: Is a directory (os error 21)'))
+        with open('/dev/full', 'wb') as full:
+            status, said = at_terminal(['play'], EMPTY, full)
+        self.assertEqual((status, said[-1]), (4, 'psxgpu: No space left on device (os error 28)'))
+
+    def test_a_broken_pipe_is_quiet(self):
+        ours, theirs = os.pipe()
+        os.close(ours)
+        with os.fdopen(theirs, 'wb') as gone:
+            self.assertEqual(at_terminal(['vram'], EMPTY, gone), (4, []))
+
+    def test_bytes_are_kept_from_the_screen(self):
+        ours, theirs = pty.openpty()
+        status, said = at_terminal(['vram'], EMPTY, theirs)
+        os.close(theirs)
+        os.close(ours)
+        self.assertEqual((status, said), (1, ['psxgpu: this writes no text: send it to a file or a program, as in > FILE']))
+
+
+if __name__ == '__main__':
+    sys.path.insert(0, os.path.dirname(os.path.dirname(os.path.abspath(__file__))))
+    unittest.main()
