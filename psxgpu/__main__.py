@@ -4,6 +4,7 @@
 Status: 0 the same, or done; 1 different, or something to look at; 2 trouble, which is one line on standard error.
 """
 import importlib
+import signal
 import sys
 
 from psxgpu import command
@@ -24,6 +25,7 @@ def help_text():
 
 
 def main(words=None):
+    signal.signal(signal.SIGTERM, signal.default_int_handler)       # so that a run that is ended cleans up
     words = sys.argv[1:] if words is None else words
     name = words[0] if words else '--help'
     if name in TOOLS:

@@ -12,8 +12,10 @@ lowest byte is red, the next green, the next blue: 0x0000FF is red. A number tha
 ValueError that names the field. `Stream` of stream.py reads captures of any length.
 """
 import io
+import os
 import struct
 
+from psxgpu.output import write_whole
 from psxgpu.registers import (clear_commands, clear_interrupt, display_mode, display_on, display_start,  # noqa: F401
                        dma_direction, draw_mode, drawing_area, drawing_offset, horizontal_range, information,
                        mask_setting, reset, screen, texture_window, vertical_range)
@@ -126,8 +128,8 @@ class Capture:
         return HEADS[self.version] + b''.join(self.records) + bytes(4)
 
     def save(self, path):
-        with open(path, 'wb') as file:
-            file.write(self.bytes())
+        """Writes the capture to a file, which appears when it is whole."""
+        write_whole(os.fspath(path), self.bytes())
 
 
 def flat(words):

@@ -10,12 +10,11 @@ import os
 import sys
 import tempfile
 
+from psxgpu.output import write_whole, writing
+from psxgpu.trouble import Trouble, named, reason_of, title
+
 SAME, DIFFERENT, TROUBLE = 0, 1, 2
 BLOCK = 1 << 20
-
-
-class Trouble(ValueError):
-    """What ends a command with status 2. Its text is the reason."""
 
 
 class Help(argparse.Action):
@@ -39,17 +38,12 @@ def status_of(module, name, words):
         return end.code
 
 
-def reason_of(error):
-    """Why an operation on a file failed, in one line."""
-    name = error.filename if error.filename is not None else 'standard output'
-    return '%s: %s' % (name, error.strerror or error)
-
-
 def guarded(name, work):
     """Does the work; its status. No failure of a file ends in a traceback."""
     try:
         status = work()
-        sys.stdout.flush()
+        if sys.stdout is not None:
+            sys.stdout.flush()
         return status or SAME
     except Trouble as trouble:
         reason = str(trouble)
@@ -62,7 +56,7 @@ def guarded(name, work):
     except KeyboardInterrupt:
         reason = 'interrupted'
     # What can no longer be written is not tried again when Python ends.
-    with contextlib.suppress(OSError):
+    with contextlib.suppress(OSError, AttributeError):
         sys.stdout.flush()
     os.dup2(os.open(os.devnull, os.O_WRONLY), 1)
     if reason:
@@ -76,17 +70,12 @@ def main(module, words=None, name=None):
     return guarded(name, lambda: status_of(module, name, words))
 
 
-def named(error, path):
-    """The same failure, with the file that it happened to."""
-    if error.filename is None:
-        error.filename = path
-    return error
-
-
 @contextlib.contextmanager
 def reading(path):
     """A file to read bytes from; `-` is standard input."""
     try:
+        if path == '-' and sys.stdin is None:
+            raise Trouble('standard input: it is closed')
         if path == '-':
             yield sys.stdin.buffer
         else:
@@ -96,27 +85,6 @@ def reading(path):
         raise
     except OSError as error:
         raise named(error, title(path))
-
-
-@contextlib.contextmanager
-def writing(path):
-    """A file to write bytes to; `-` is standard output."""
-    try:
-        if path == '-':
-            yield sys.stdout.buffer
-            sys.stdout.buffer.flush()
-        else:
-            with open(path, 'wb') as file:
-                yield file
-    except BrokenPipeError:
-        raise
-    except OSError as error:
-        raise named(error, 'standard output' if path == '-' else path)
-
-
-def title(path):
-    """How a file is called in a message."""
-    return 'standard input' if path == '-' else path
 
 
 def read_whole(path):

@@ -2,7 +2,7 @@
 import struct
 import zlib
 
-from psxgpu.command import Trouble, named, read_whole, title, writing
+from psxgpu.command import Trouble, read_whole, title, write_whole
 
 WIDTH = 1024                                # cells of a row of video memory
 CHANNELS = {0: 1, 2: 3, 3: 1, 4: 2, 6: 4}   # bytes of a pixel, by PNG's type of colour
@@ -33,14 +33,9 @@ def ppm(image):
     return b'P6\n%d %d\n255\n' % (image.width, image.height) + image.pixels
 
 
-def write_image(path, image):
-    """As PPM where the name says so, else as PNG."""
-    with writing(path) as file:
-        try:
-            file.write(ppm(image) if path.endswith('.ppm') else png(image))
-            file.flush()
-        except OSError as error:
-            raise named(error, path)
+def write_image(path, image, inputs=()):
+    """Writes a picture: as PPM if the name ends in `.ppm`, else as PNG. `inputs`: as `writing` has them."""
+    write_whole(path, ppm(image) if path.endswith('.ppm') else png(image), inputs)
 
 
 def paeth(a, b, c):

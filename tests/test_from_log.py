@@ -10,8 +10,8 @@ from psxgpu.commands.from_log import HEADS, Bad, from_log
 def made(lines):
     """The bytes of a capture of these lines."""
     records = io.BytesIO()
-    version = from_log(lines, records)
-    return HEADS[version] + records.getvalue() + bytes(4)
+    log = from_log(lines, records)
+    return HEADS[log.needs] + records.getvalue() + bytes(4)
 
 
 class Logs(support.InFolder):

@@ -9,9 +9,11 @@ cell's difference is that of its farthest channel, in steps: of 31 in a dump, of
 counts as one of its own. The first picture has equal cells in dark gray and those that differ in red; that of --side
 has ours, theirs and the difference. Status: 0 equal, 1 different, 2 trouble.
 """
+import os
 import sys
 
 from psxgpu.command import DIFFERENT, SAME, Trouble, decimal, main
+from psxgpu.output import refuse_inputs
 from psxgpu.image import WIDTH, Image, about, cells_of, load_file, read_picture, shown, write_image
 
 BIT_15 = -1                             # the size of a difference in bit 15 alone
@@ -127,7 +129,16 @@ def compared(ours, theirs, tolerance=0):
     return Difference(Grid(ours), Grid(theirs), tolerance)
 
 
+def check_outputs(words):
+    """Raises Trouble if a picture would replace an input or the other picture."""
+    for path in filter(None, (words.picture, words.side)):
+        refuse_inputs(path, [words.ours, words.theirs])
+    if words.picture and words.side and os.path.realpath(words.picture) == os.path.realpath(words.side):
+        raise Trouble('%s: the name of both pictures: name another output' % words.side)
+
+
 def run(words):
+    check_outputs(words)
     files = [(path, *load_file(path)) for path in (words.ours, words.theirs)]
     grids = [about(path, Grid, data, is_picture) for path, data, is_picture in files]
     if files[0][2] != files[1][2]:

@@ -23,7 +23,7 @@ from psxgpu import command
 from psxgpu.corpus import report as report
 from psxgpu.command import DIFFERENT, SAME, Trouble, decimal
 from psxgpu.corpus.compare import Places, compare_sums
-from psxgpu.corpus.file import read_sums, write_whole
+from psxgpu.corpus.file import read_sums, write_text
 from psxgpu.corpus.glue import glue
 from psxgpu.corpus.parts import split
 from psxgpu.corpus.play import Player
@@ -97,7 +97,7 @@ def check(words):
     text = report.text(findings)
     for name, data in (('report.txt', text), ('junit.xml', report.junit(findings)),
                        ('report.html', report.page(findings, want.player, got.player))):
-        write_whole(os.path.join(words.report, name), data)
+        write_text(os.path.join(words.report, name), data)
     sys.stdout.write(text)
     return SAME if all(it.kind == 'same' for it in findings) else DIFFERENT
 
@@ -112,7 +112,7 @@ def join(words):
         for name, row in sums.rows.items():
             if whole.rows.setdefault(name, row).block() != row.block():
                 raise Trouble('%s: a second capture of the name %s, with other sums' % (path, name))
-    write_whole(words.golden, whole.text())
+    write_text(words.golden, whole.text())
     print(report.counted(len(whole.rows)))
     return SAME
 

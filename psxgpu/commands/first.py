@@ -35,12 +35,12 @@ class Counted:
 
 def run(words):
     name = title(words.capture)
-    with reading(words.capture) as source, writing(words.output) as target:
+    with writing(words.output, [words.capture]) as target, reading(words.capture) as source:
         stream = Stream(source, name)
         counted = Counted(stream)
         target.write(HEADS[stream.version])
         for record in (later_events if words.rest else first_events)(counted, words.events):
             target.write(encode(*record))
         target.write(bytes(4))
-    if counted.events < words.events:
-        raise Trouble('%s: it has %d events' % (name, counted.events))
+        if counted.events < words.events:
+            raise Trouble('%s: it has %d events' % (name, counted.events))

@@ -30,6 +30,7 @@ from array import array
 
 from psxgpu.capture import GP0, HEADS, Capture
 from psxgpu.command import Trouble, main, pour, read_whole, reading, title, writing
+from psxgpu.output import refuse_inputs
 
 MOST_GATHERED, TALL_DUMP = 65536, 2097152
 USES = {'gp0': 'gp0 WORD ..', 'gp1': 'gp1 WORD', 'read': 'read [N]', 'turn': 'turn [N]', 'skip': 'skip [N]',
@@ -64,6 +65,7 @@ class Log(Capture):
     def __init__(self, file):
         super().__init__(3)
         self.file, self.words = file, array('I')
+        self.inputs = []        # files that lines name
         self.needs = 1
 
     def keep(self, record):
@@ -95,6 +97,7 @@ def load_state(log, name, args):
     elif name == 'settings':
         log.gather([0xE1000000 + 0x01000000 * k | number(arg) & 0xFFFFFF for k, arg in enumerate(args)])
     else:
+        log.inputs.append(args[0])
         dump = read_whole(args[0])
         log.need(3 if len(dump) == TALL_DUMP else 1)
         log.version = max(log.needs, 2)
@@ -148,10 +151,10 @@ def read_log(lines, log):
 
 
 def from_log(lines, records):
-    """Writes the records of a log to a file; the version that they need."""
+    """Writes the records of a log to a file. Returns the log."""
     log = Log(records)
     read_log(lines, log)
-    return log.needs
+    return log
 
 
 def lines_of(file, name):
@@ -164,15 +167,16 @@ def lines_of(file, name):
 
 def run(words):
     name = title(words.log)
+    refuse_inputs(words.capture, [words.log])
     # The records wait in a file until all lines are read: then the version is known.
     with tempfile.TemporaryFile() as records:
         with reading(words.log) as source:
             try:
-                version = from_log(lines_of(source, name), records)
+                log = from_log(lines_of(source, name), records)
             except Bad as bad:
                 raise Trouble('%s: %s' % (name, bad))
         records.seek(0)
-        with writing(words.capture) as target:
-            target.write(HEADS[version])
+        with writing(words.capture, log.inputs) as target:
+            target.write(HEADS[log.needs])
             pour(records, target)
             target.write(bytes(4))

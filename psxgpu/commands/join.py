@@ -33,9 +33,9 @@ def version_of(paths):
 def run(words):
     if '-' in words.captures:
         raise Trouble('standard input: files are wanted, since each is read twice')
-    size = 12
-    with writing(words.output) as target:
-        target.write(HEADS[version_of(words.captures)])
+    version, size = version_of(words.captures), 12
+    with writing(words.output, words.captures if words.output == '-' else ()) as target:
+        target.write(HEADS[version])
         for path in words.captures:
             with reading(path) as file:
                 for record in Stream(file, path):
@@ -43,5 +43,5 @@ def run(words):
                     size += len(data)
                     target.write(data)
         target.write(bytes(4))
-    if size > MOST_BYTES:
-        raise Trouble('the whole has %d bytes: a player refuses more than 2^30' % size)
+        if size > MOST_BYTES:
+            raise Trouble('the whole has %d bytes: a player refuses more than 2^30' % size)

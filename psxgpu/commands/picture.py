@@ -11,6 +11,7 @@ stands in the same dump. A target that ends in .ppm is written as PPM.
 import sys
 
 from psxgpu.command import Trouble, decimal, main
+from psxgpu.output import refuse_inputs
 from psxgpu.image import WIDTH, Image, about, cells_of, load_file, read_picture, shown, wide, write_image
 
 
@@ -55,6 +56,7 @@ def draw(cells, words):
 
 
 def run(words):
+    refuse_inputs(words.target, [words.source])
     data, is_picture = load_file(words.source)
     if is_picture:
         if words.box or words.palette or words.bits != 15:

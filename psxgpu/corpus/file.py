@@ -18,11 +18,10 @@ read up to it (`-` where none was read or asked for); `vram` the SHA-256 of vide
 many lines were read, and their SHA-256. `end` is `played`, `refused STATUS LINE`, `fails STATUS LINE`, `hangs
 SECONDS` or `crashes SIGNAL`. What the player does not give has no line.
 """
-import os
 from dataclasses import dataclass, field
 from typing import List, Optional, Tuple
 
-from psxgpu.command import Trouble, named
+from psxgpu.command import Trouble, named, write_whole
 
 VERSION = 1
 HEAD = 'psxgpu-corpus'
@@ -92,19 +91,13 @@ class Sums:
 
 
 def open_text(path, mode='r'):
-    """Names of files need not be UTF-8, so what is not comes through unchanged."""
+    """Opens a file of sums. Names of files need not be UTF-8: such bytes come through unchanged."""
     return open(path, mode, encoding='utf-8', errors='surrogateescape', newline='\n')
 
 
-def write_whole(path, text):
-    """Writes a file so that the one that was there stays until the new one is whole."""
-    part = path + '.new'
-    try:
-        with open_text(part, 'w') as file:
-            file.write(text)
-        os.replace(part, path)
-    except OSError as error:
-        raise named(error, path)
+def write_text(path, text):
+    """Writes a text so that the file that was there stays until the new one is whole."""
+    write_whole(path, text.encode('utf-8', 'surrogateescape'), is_text=True)
 
 
 def first_row(line, value):

@@ -3,7 +3,8 @@ import os
 import shutil
 import tempfile
 
-from psxgpu.command import Trouble, named, writing
+from psxgpu.command import Trouble, writing
+from psxgpu.output import refuse_inputs
 from psxgpu.corpus.scan import FLIP, copy_first, frames
 
 
@@ -21,17 +22,13 @@ def places(path, parts, opcode):
 def write_part(path, before, last, target, player):
     """Writes what stands behind event `before` up to event `last`."""
     with tempfile.TemporaryFile() as first, writing(target) as out:
-        try:
-            copy_first(path, last, first if before else out)
-            if before:
-                first.seek(0)
-                with player.run('cut %d' % before, first) as run:
-                    if run.end != 'played':
-                        raise Trouble('%s: cut %d: %s' % (path, before, run.end))
-                    shutil.copyfileobj(run.out, out)
-            out.flush()
-        except OSError as error:
-            raise named(error, target)
+        copy_first(path, last, first if before else out)
+        if before:
+            first.seek(0)
+            with player.run('cut %d' % before, first) as run:
+                if run.end != 'played':
+                    raise Trouble('%s: cut %d: %s' % (path, before, run.end))
+                shutil.copyfileobj(run.out, out)
 
 
 def split(path, parts, folder, player, opcode=FLIP):
@@ -40,9 +37,9 @@ def split(path, parts, folder, player, opcode=FLIP):
     except ValueError as error:
         raise Trouble('%s: %s' % (path, error))
     os.makedirs(folder, exist_ok=True)
-    before = 0
-    for k, last in enumerate(ends, 1):
-        name = '%03d.%s' % (k, 'snapshot' if before else 'capture')
+    names = ['%03d.%s' % (k, 'snapshot' if k > 1 else 'capture') for k in range(1, len(ends) + 1)]
+    for name in names:
+        refuse_inputs(os.path.join(folder, name), [path])
+    for name, before, last in zip(names, [0] + ends, ends):
         write_part(path, before, last, os.path.join(folder, name), player)
         print('%s: events %d to %d' % (name, before + 1, last))
-        before = last

@@ -8,7 +8,7 @@ import time
 from dataclasses import dataclass
 
 from psxgpu.command import Trouble, named, reason_of
-from psxgpu.corpus.file import Sums, open_text, read_sums, write_whole
+from psxgpu.corpus.file import Sums, open_text, read_sums, write_text
 from psxgpu.corpus.play import size_and_sum
 
 NAMES = ('*.capture', '*.snapshot', '*.cap')
@@ -102,7 +102,7 @@ class Journal:
             self.go_on(kept, captures)
         if os.path.exists(path):
             self.go_on(read_sums(path, is_whole=False), captures)
-        write_whole(path, self.sums.text())
+        write_text(path, self.sums.text())
 
     def go_on(self, kept, captures):
         if (kept.player, kept.gives) == (self.sums.player, self.sums.gives):
@@ -154,7 +154,7 @@ def play_into(path, player, captures, jobs, elsewhere=None):
             for row in played:
                 journal.add(row)
                 progress.row(row)
-        write_whole(path, journal.sums.text())
+        write_text(path, journal.sums.text())
         os.remove(journal.path)
     except (OSError, KeyboardInterrupt) as error:
         text = 'interrupted' if isinstance(error, KeyboardInterrupt) else reason_of(error)

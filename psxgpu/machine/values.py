@@ -3,9 +3,11 @@ import array
 import collections
 import ctypes
 import operator
+import os
 import struct
 
 from psxgpu.machine.library import WORD
+from psxgpu.output import write_whole
 
 
 def number(value, most=0xFFFFFFFF, name='word'):
@@ -52,8 +54,8 @@ class Snapshot(bytes):
             return cls(file.read())
 
     def write(self, path):
-        with open(path, 'wb') as file:
-            file.write(self)
+        """Writes the snapshot to a file, which appears when it is whole."""
+        write_whole(os.fspath(path), self)
 
     @property
     def rows(self):
