@@ -3,6 +3,7 @@
 `psxgpu NAME --help` says how each is called.
 Status: 0 the same, or done; 1 different, or something to look at; 2 trouble, which is one line on standard error.
 """
+import contextlib
 import importlib
 import signal
 import sys
@@ -25,7 +26,8 @@ def help_text():
 
 
 def main(words=None):
-    signal.signal(signal.SIGTERM, signal.default_int_handler)       # so that a run that is ended cleans up
+    with contextlib.suppress(ValueError):                           # not in the main thread
+        signal.signal(signal.SIGTERM, signal.default_int_handler)   # a run that is ended removes what it began
     words = sys.argv[1:] if words is None else words
     name = words[0] if words else '--help'
     if name in TOOLS:

@@ -14,32 +14,46 @@ ValueError that names the field. `Stream` of stream.py reads captures of any len
 import io
 import os
 import struct
+from typing import Iterable, Iterator, List, Optional, Sequence, Tuple, TypeVar, Union
 
 from psxgpu.output import write_whole
-from psxgpu.registers import (clear_commands, clear_interrupt, display_mode, display_on, display_start,  # noqa: F401
-                       dma_direction, draw_mode, drawing_area, drawing_offset, horizontal_range, information,
-                       mask_setting, reset, screen, texture_window, vertical_range)
-from psxgpu.stream import (BEGIN, DMA, GP0, GP1, HEADS, KINDS, MOST_READS, MOST_WORDS, RAM, READ, SKIP, STAT, TURN,  # noqa
-                    Stream, encode, is_allowed)
-from psxgpu.words import (bits, clut, copy, corner, fill, interrupt, line, load, nop, polygon, rectangle, store,  # noqa: F401
-                   texcoord, texture_page, vertex)
+from psxgpu.registers import (clear_commands, clear_interrupt, display_mode, display_on, display_start, dma_direction,
+                              draw_mode, drawing_area, drawing_offset, horizontal_range, information, mask_setting,
+                              reset, screen, texture_window, vertical_range)
+from psxgpu.stream import (BEGIN, DMA, GP0, GP1, HEADS, KINDS, MOST_READS, MOST_WORDS, RAM, READ, SKIP, STAT, TURN,
+                           Stream, encode, is_allowed)
+from psxgpu.words import (bits, clut, copy, corner, fill, interrupt, line, load, nop, polygon, rectangle, store, texcoord,
+                          texture_page, vertex)
+
+__all__ = ['BEGIN', 'BLOCKS_IN', 'BLOCKS_OUT', 'CLEAR_TABLE', 'Capture', 'DMA', 'GP0', 'GP1', 'HEADS', 'KINDS', 'LIST',
+           'OrderingTable', 'RAM', 'READ', 'SKIP', 'STAT', 'Stream', 'TURN', 'clear_commands', 'clear_interrupt',
+           'clut', 'copy', 'corner', 'display_mode', 'display_on', 'display_start', 'dma_direction', 'draw_mode',
+           'drawing_area', 'drawing_offset', 'encode', 'events', 'fill', 'flat', 'horizontal_range', 'information',
+           'interrupt', 'line', 'load', 'mask_setting', 'nop', 'polygon', 'records', 'rectangle', 'reset', 'screen',
+           'store', 'texcoord', 'texture_page', 'texture_window', 'vertex', 'vertical_range']
 
 # Values of CHCR for channel 2 and channel 6.
 LIST, BLOCKS_IN, BLOCKS_OUT, CLEAR_TABLE = 0x01000401, 0x01000201, 0x01000200, 0x11000002
+
+Self = TypeVar('Self', bound='Capture')
+Words = Union[int, Iterable[int], Iterable[Iterable[int]]]
+Plain = Tuple[int, int, List[int]]      # a record: kind, count, words
 
 
 class Capture:
     """A capture that grows record by record."""
 
-    def __init__(self, version=1):
+    def __init__(self, version: int = 1) -> None:
         self.version = version
-        self.records = []
+        self.records: List[bytes] = []
 
-    def keep(self, record):
+    def keep(self, record: bytes) -> None:
         """Takes the bytes of a record."""
         self.records.append(record)
 
-    def record(self, kind, count, words=()):
+    def record(self: Self, kind: int, count: int, words: Iterable[int] = ()) -> Self:
+        """Adds a record. Raises ValueError if the version has no such record, or a word has more than 32 bits."""
+        words = list(words)
         if kind > (DMA if self.version == 1 else SKIP):
             raise ValueError('%s records need version 2 or 3' % KINDS[kind])
         if not is_allowed(self.version, kind, count):
@@ -51,64 +65,65 @@ class Capture:
                 bits(KINDS[kind] + ' word', word, 32)
         return self
 
-    def gp0(self, *packets):
-        """Words for port GP0: numbers, or lists of them. One record; each word is an event."""
+    def gp0(self: Self, *packets: Words) -> Self:
+        """Adds words for port GP0: numbers, or lists of them. One record; each word is an event."""
         words = flat(packets)
         for at in range(0, len(words), MOST_WORDS):
             part = words[at:at + MOST_WORDS]
             self.record(GP0, len(part), part)
         return self
 
-    def gp1(self, *words):
-        """Words for port GP1, a record each."""
+    def gp1(self: Self, *words: Words) -> Self:
+        """Adds words for port GP1, a record each."""
         for word in flat(words):
             self.record(GP1, 1, (word,))
         return self
 
-    def ram(self, address, *words):
-        """Words for main memory, from this address on: a multiple of 4."""
-        words = flat(words)
-        if address % 4 or not 0 <= address <= 0x200000 - 4 * len(words):
-            raise ValueError('ram address: %x for %d words' % (address, len(words)))
-        if words:
-            self.record(RAM, len(words), [address] + words)
+    def ram(self: Self, address: int, *words: Words) -> Self:
+        """Adds words for main memory, from this address on: a multiple of 4."""
+        found = flat(words)
+        if address % 4 or not 0 <= address <= 0x200000 - 4 * len(found):
+            raise ValueError('ram address: %x for %d words' % (address, len(found)))
+        if found:
+            self.record(RAM, len(found), [address] + found)
         return self
 
-    def repeat(self, kind, n):
+    def repeat(self: Self, kind: int, n: int) -> Self:
+        """Adds n events of a kind without words."""
         while n > 0:
             self.record(kind, min(n, MOST_READS))
             n -= MOST_READS
         return self
 
-    def read(self, n=1):
-        """n reads of the data port."""
+    def read(self: Self, n: int = 1) -> Self:
+        """Adds n reads of the data port."""
         return self.repeat(READ, n)
 
-    def turn(self, n=1):
-        """n turns of the running transfer. Versions 2 and 3."""
+    def turn(self: Self, n: int = 1) -> Self:
+        """Adds n turns of the running transfer. Versions 2 and 3."""
         return self.repeat(TURN, n)
 
-    def skip(self, n=1):
-        """n reads whose words are not shown. Versions 2 and 3."""
+    def skip(self: Self, n: int = 1) -> Self:
+        """Adds n reads whose words are not shown. Versions 2 and 3."""
         return self.repeat(SKIP, n)
 
-    def stat(self, n=1):
-        """n reads of the status word."""
+    def stat(self: Self, n: int = 1) -> Self:
+        """Adds n reads of the status word."""
         for _ in range(n):
             self.record(STAT, 1)
         return self
 
-    def dma(self, channel, madr, bcr, chcr):
-        """A start of channel 2 (graphics) or 6 (ordering table), done at once."""
+    def dma(self: Self, channel: int, madr: int, bcr: int, chcr: int) -> Self:
+        """Adds a start of channel 2 (graphics) or 6 (ordering table), done at once."""
         if channel not in (2, 6):
             raise ValueError('dma channel: %d is neither 2 nor 6' % channel)
         return self.record(DMA, channel, (madr, bcr, chcr))
 
-    def begin(self, madr, bcr, chcr):
-        """A start of channel 2 that goes on at each turn. Versions 2 and 3."""
+    def begin(self: Self, madr: int, bcr: int, chcr: int) -> Self:
+        """Adds a start of channel 2 that continues at each turn. Versions 2 and 3."""
         return self.record(BEGIN, 2, (madr, bcr, chcr))
 
-    def start_from(self, dump, settings=(), display=()):
+    def start_from(self: Self, dump: bytes, settings: Iterable[int] = (), display: Sequence[int] = ()) -> Self:
         """Begins from a state that is not empty: a dump of video memory as `vram` writes it, the values of E1h to
         E6h, and words for GP1. Video memory comes in loads of 512 by 256, since some emulators (pcsxr, MAME) do not
         take a size of 0 for 1024."""
@@ -124,17 +139,18 @@ class Capture:
             self.gp0([0xE1000000 + 0x01000000 * k | bits('setting', value, 24) for k, value in enumerate(settings)])
         return self.gp1(display)
 
-    def bytes(self):
+    def bytes(self) -> bytes:
+        """Returns the file."""
         return HEADS[self.version] + b''.join(self.records) + bytes(4)
 
-    def save(self, path):
+    def save(self, path: "Union[str, os.PathLike[str]]") -> None:
         """Writes the capture to a file, which appears when it is whole."""
         write_whole(os.fspath(path), self.bytes())
 
 
-def flat(words):
-    """Numbers and lists of numbers, as one list."""
-    out = []
+def flat(words: Iterable[Words]) -> List[int]:
+    """Returns numbers and lists of numbers as one list."""
+    out: List[int] = []
     for word in words:
         if isinstance(word, int):
             out.append(word)
@@ -143,16 +159,15 @@ def flat(words):
     return out
 
 
-def records(data):
-    """Takes the bytes of a capture apart: its version, and the list of its records (kind, count, words), End left
-    out. `Stream` does the same without holding all of it."""
+def records(data: bytes) -> Tuple[int, List[Plain]]:
+    """Returns the version of a capture and the list of its records (kind, count, words), without End. `Stream` does the same without holding all of it."""
     stream = Stream(io.BytesIO(data), 'capture', exact=True)
     return stream.version, [(kind, count, words.tolist()) for kind, count, words in stream]
 
 
-def events(records):
-    """The events of records, one for each: (kind, count, words) as a record of one event."""
-    for kind, count, words in records:
+def events(found: Iterable[Plain]) -> Iterator[Plain]:
+    """Returns the events of records, each as a record of one event: (kind, count, words)."""
+    for kind, count, words in found:
         if kind == RAM:
             for k in range(count):
                 yield RAM, 1, [words[0] + 4 * k, words[1 + k]]
@@ -169,29 +184,30 @@ def events(records):
 class OrderingTable:
     """An ordering table in main memory: `clear`, `add` packets at depths, `draw`. Entry 0 is drawn last."""
 
-    def __init__(self, capture, table=0x1000, entries=256, packets=0x8000):
+    def __init__(self, capture: Capture, table: int = 0x1000, entries: int = 256, packets: int = 0x8000) -> None:
         self.capture, self.table, self.entries, self.free = capture, table, entries, packets
-        self.first = [None] * entries
+        self.first: List[Optional[int]] = [None] * entries
 
-    def entry(self, depth):
+    def entry(self, depth: int) -> int:
+        """Returns the address of the entry of a depth."""
         return self.table + 4 * depth
 
-    def clear(self):
+    def clear(self) -> None:
         """Channel 6 writes the table: each entry leads to the one before it, entry 0 ends the list."""
         self.capture.dma(6, self.entry(self.entries - 1), self.entries, CLEAR_TABLE)
         self.first = [None] * self.entries
 
-    def add(self, depth, words):
+    def add(self, depth: int, words: Words) -> None:
         """Puts a packet before those that are already at this depth, as a program does."""
-        words = flat([words])
+        found = flat([words])
         below = self.first[depth]
         if below is None:
             below = self.entry(depth - 1) if depth else 0xFFFFFF
-        self.capture.ram(self.free, len(words) << 24 | below, words)
+        self.capture.ram(self.free, len(found) << 24 | below, found)
         self.capture.ram(self.entry(depth), self.free)
         self.first[depth] = self.free
-        self.free += 4 + 4 * len(words)
+        self.free += 4 + 4 * len(found)
 
-    def draw(self):
+    def draw(self) -> None:
         """Channel 2 walks the list from the last entry on."""
         self.capture.dma(2, self.entry(self.entries - 1), 0, LIST)

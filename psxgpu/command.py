@@ -1,45 +1,75 @@
-"""What all commands of this folder share: how they are called, how they end, and how they read and write files.
+"""What all tools share: how they are called, how they end, and how they read files. `psxgpu.output` writes them.
 
-A command is a module with a text (`__doc__`), `arguments(parser)`, which adds its words, and `run(words)`, which does
-the work and answers a status. Statuses are those of `cmp`: 0 the same, or done; 1 different; 2 trouble. Trouble is one
-line on standard error: the command, the file where there is one, and the reason.
+A tool is a module of `psxgpu.commands` with a text (`__doc__`), `arguments(parser)`, which adds its arguments, and
+`run(words)`, which does the work and returns a status. Statuses are those of `cmp`: 0 the same, or done; 1 different;
+2 an error. An error is one line on standard error: the tool, the file if there is one, and the reason.
 """
 import argparse
 import contextlib
 import os
+import re
 import sys
 import tempfile
+from types import ModuleType
+from typing import IO, BinaryIO, Callable, Iterator, NoReturn, Optional, Protocol, Sequence, cast
 
+from psxgpu import progress
 from psxgpu.output import write_whole, writing
 from psxgpu.trouble import Trouble, named, reason_of, title
+
+__all__ = ['BLOCK', 'DIFFERENT', 'SAME', 'TROUBLE', 'Command', 'Trouble', 'decimal', 'guarded', 'main', 'named', 'pour',
+           'read_whole', 'reading', 'reason_of', 'seekable', 'title', 'write_whole', 'writing']
 
 SAME, DIFFERENT, TROUBLE = 0, 1, 2
 BLOCK = 1 << 20
 
 
-class Help(argparse.Action):
-    """Writes the help, and fails where it can't be written: argparse's own says nothing then."""
+class Command(Protocol):
+    """A module of `psxgpu.commands`."""
+    __doc__: Optional[str]
 
-    def __call__(self, parser, *_):
-        sys.stdout.write(parser.format_help())
+    @staticmethod
+    def arguments(parser: argparse.ArgumentParser) -> None:
+        """Adds the arguments to a parser."""
+
+    @staticmethod
+    def run(words: argparse.Namespace) -> Optional[int]:
+        """Does the work. Returns the status; None is 0."""
+
+
+class Help(argparse.Action):
+    """Writes the help. Unlike argparse's own, it fails if the help cannot be written."""
+
+    def __call__(self, parser: argparse.ArgumentParser, *_: object) -> None:
+        if sys.stdout is not None:
+            sys.stdout.write(parser.format_help())
         parser.exit()
 
 
-def status_of(module, name, words):
-    """Runs a command; its status."""
-    parser = argparse.ArgumentParser(prog=name, description=module.__doc__.split('\n', 1)[0], add_help=False,
-                                     epilog=module.__doc__.split('\n', 1)[-1].strip('\n'),
-                                     formatter_class=argparse.RawDescriptionHelpFormatter)
+class Parser(argparse.ArgumentParser):
+    """A parser whose refusal is one line: what is wrong, and where the arguments are explained."""
+
+    def error(self, message: str) -> NoReturn:
+        """Raises Trouble."""
+        raise Trouble('%s: `%s --help` explains the arguments' % (message, self.prog))
+
+
+def status_of(module: Command, name: str, words: Optional[Sequence[str]]) -> Optional[int]:
+    """Runs a tool. Returns its status."""
+    first, _, rest = (module.__doc__ or '').partition('\n')
+    parser = Parser(prog=name, description=first, epilog=rest.strip('\n'), add_help=False,
+                    formatter_class=argparse.RawDescriptionHelpFormatter)
     parser.add_argument('-h', '--help', action=Help, nargs=0, help='this text')
     module.arguments(parser)
     try:
         return module.run(parser.parse_intermixed_args(words))
-    except SystemExit as end:       # argparse: the help, or words that it does not know
-        return end.code
+    except SystemExit as end:       # argparse: the help, or arguments that it does not know
+        return cast(Optional[int], end.code)
 
 
-def guarded(name, work):
-    """Does the work; its status. No failure of a file ends in a traceback."""
+def guarded(name: str, work: Callable[[], Optional[int]]) -> int:
+    """Does the work. Returns its status. No failure of a file ends in a traceback."""
+    reason: Optional[str] = None
     try:
         status = work()
         if sys.stdout is not None:
@@ -48,7 +78,7 @@ def guarded(name, work):
     except Trouble as trouble:
         reason = str(trouble)
     except BrokenPipeError:
-        reason = None
+        pass
     except OSError as error:
         reason = reason_of(error)
     except MemoryError:
@@ -59,19 +89,19 @@ def guarded(name, work):
     with contextlib.suppress(OSError, AttributeError):
         sys.stdout.flush()
     os.dup2(os.open(os.devnull, os.O_WRONLY), 1)
-    if reason:
+    if reason and sys.stderr is not None:
         print('%s: %s' % (name, reason), file=sys.stderr)
     return TROUBLE
 
 
-def main(module, words=None, name=None):
-    """Runs a command by its words; its status."""
-    name = name or os.path.basename(module.__file__)
-    return guarded(name, lambda: status_of(module, name, words))
+def main(module: ModuleType, words: Optional[Sequence[str]] = None, name: Optional[str] = None) -> int:
+    """Runs a tool by its arguments. Returns its status."""
+    title_of_tool = name or os.path.basename(module.__file__ or module.__name__)
+    return guarded(title_of_tool, lambda: status_of(cast(Command, module), title_of_tool, words))
 
 
 @contextlib.contextmanager
-def reading(path):
+def reading(path: str) -> Iterator[BinaryIO]:
     """A file to read bytes from; `-` is standard input."""
     try:
         if path == '-' and sys.stdin is None:
@@ -79,7 +109,7 @@ def reading(path):
         if path == '-':
             yield sys.stdin.buffer
         else:
-            with open(path, 'rb') as file:
+            with open(path, 'rb') as file, progress.following(file, path):
                 yield file
     except BrokenPipeError:
         raise
@@ -87,12 +117,13 @@ def reading(path):
         raise named(error, title(path))
 
 
-def read_whole(path):
+def read_whole(path: str) -> bytes:
+    """Returns the bytes of a file; `-` is standard input."""
     with reading(path) as file:
         return file.read()
 
 
-def pour(source, target):
+def pour(source: IO[bytes], target: IO[bytes]) -> None:
     """Copies the rest of a file, block by block."""
     while True:
         block = source.read(BLOCK)
@@ -102,7 +133,7 @@ def pour(source, target):
 
 
 @contextlib.contextmanager
-def seekable(path):
+def seekable(path: str) -> Iterator[str]:
     """The path of a file with the bytes of `path`, which may be standard input or a pipe."""
     if path != '-' and os.path.isfile(path):
         yield path
@@ -114,11 +145,11 @@ def seekable(path):
         yield copy.name
 
 
-def decimal(low, high):
-    """A type of word for argparse: a decimal number in a range."""
-    def number(text):
-        value = int(text, 10) if text.lstrip('-').isdigit() else None
+def decimal(low: int, high: int) -> Callable[[str], int]:
+    """Returns a type of argument for argparse: a decimal number from `low` to `high`."""
+    def number(text: str) -> int:
+        value = int(text) if re.fullmatch('-?[0-9]{1,30}', text) else None
         if value is None or not low <= value <= high:
-            raise argparse.ArgumentTypeError('%s is no number from %d to %d' % (text, low, high))
+            raise argparse.ArgumentTypeError('%s is not a number from %d to %d' % (text, low, high))
         return value
     return number

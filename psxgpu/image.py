@@ -1,66 +1,71 @@
-"""Pictures and dumps as bytes: PNG and PPM, read and written, and dumps of video memory."""
+"""Pictures as bytes: PNG and PPM, read and written."""
 import struct
 import zlib
+from typing import Any, Callable, Dict, Iterable, Iterator, List, Tuple, TypeVar
 
 from psxgpu.command import Trouble, read_whole, title, write_whole
 
-WIDTH = 1024                                # cells of a row of video memory
 CHANNELS = {0: 1, 2: 3, 3: 1, 4: 2, 6: 4}   # bytes of a pixel, by PNG's type of colour
 SIGNATURE = b'\x89PNG\r\n\x1a\n'
+Result = TypeVar('Result')
 
 
 class Image:
     """A picture: three bytes a pixel, rows from the top."""
 
-    def __init__(self, width, height, pixels):
+    def __init__(self, width: int, height: int, pixels: bytes) -> None:
         self.width, self.height, self.pixels = width, height, pixels
 
-    def row(self, y):
+    def row(self, y: int) -> bytes:
+        """Returns the bytes of a row."""
         return self.pixels[3 * self.width * y:3 * self.width * (y + 1)]
 
 
-def chunk(kind, data):
+def chunk(kind: bytes, data: bytes) -> bytes:
+    """Returns a chunk of a PNG."""
     return struct.pack('>I', len(data)) + kind + data + struct.pack('>I', zlib.crc32(kind + data))
 
 
-def png(image):
+def png(image: Image) -> bytes:
+    """Returns a picture as PNG."""
     rows = b''.join(b'\0' + image.row(y) for y in range(image.height))
     head = struct.pack('>IIBBBBB', image.width, image.height, 8, 2, 0, 0, 0)
     return SIGNATURE + chunk(b'IHDR', head) + chunk(b'IDAT', zlib.compress(rows, 9)) + chunk(b'IEND', b'')
 
 
-def ppm(image):
+def ppm(image: Image) -> bytes:
+    """Returns a picture as PPM."""
     return b'P6\n%d %d\n255\n' % (image.width, image.height) + image.pixels
 
 
-def write_image(path, image, inputs=()):
+def write_image(path: str, image: Image, inputs: Iterable[str] = ()) -> None:
     """Writes a picture: as PPM if the name ends in `.ppm`, else as PNG. `inputs`: as `writing` has them."""
     write_whole(path, ppm(image) if path.endswith('.ppm') else png(image), inputs)
 
 
-def paeth(a, b, c):
-    """PNG's predictor: the one of left, above and above left that is nearest to a + b - c."""
+def paeth(a: int, b: int, c: int) -> int:
+    """Returns PNG's predictor: the one of left, above and above left that is nearest to a + b - c."""
     p = a + b - c
     distances = abs(p - a), abs(p - b), abs(p - c)
     return (a, b, c)[distances.index(min(distances))]
 
 
-def unfiltered(kind, row, above, step):
-    """A row of a PNG without its filter. above: the row over it; step: bytes of a pixel."""
-    row = bytearray(row)
+def unfiltered(kind: int, row: bytes, above: bytes, step: int) -> bytearray:
+    """Returns a row of a PNG without its filter. above: the row over it; step: bytes of a pixel."""
+    out = bytearray(row)
     if kind > 4:
         raise Trouble('a bad PNG: filter %d' % kind)
     if kind == 2:
         return bytearray((a + b) & 255 for a, b in zip(row, above))
-    for i in range(len(row) if kind else 0):
-        left, corner = (row[i - step], above[i - step]) if i >= step else (0, 0)
+    for i in range(len(out) if kind else 0):
+        left, corner = (out[i - step], above[i - step]) if i >= step else (0, 0)
         guess = left if kind == 1 else (left + above[i]) // 2 if kind == 3 else paeth(left, above[i], corner)
-        row[i] = (row[i] + guess) & 255
-    return row
+        out[i] = (out[i] + guess) & 255
+    return out
 
 
-def chunks(data):
-    """The chunks of a PNG: kind and bytes."""
+def chunks(data: bytes) -> Iterator[Tuple[bytes, bytes]]:
+    """Returns the chunks of a PNG: kind and bytes."""
     at = len(SIGNATURE)
     while at + 12 <= len(data):
         n, kind = struct.unpack_from('>I4s', data, at)
@@ -68,8 +73,8 @@ def chunks(data):
         at += 12 + n
 
 
-def colors(row, kind, palette):
-    """The three bytes of each pixel of a PNG's row."""
+def colors(row: bytes, kind: int, palette: bytes) -> bytes:
+    """Returns the three bytes of each pixel of a PNG's row."""
     step = CHANNELS[kind]
     if kind == 3:
         return b''.join(palette[3 * index:3 * index + 3] for index in row)
@@ -79,31 +84,34 @@ def colors(row, kind, palette):
     return bytes(out)
 
 
-def read_png(data):
-    parts = {}
-    for kind, part in chunks(data):
-        parts[kind] = parts.get(kind, b'') + part
+def read_png(data: bytes) -> Image:
+    """Returns the picture of a PNG of 8 bits a channel. Raises Trouble for others."""
+    parts: Dict[bytes, bytes] = {}
+    for name, part in chunks(data):
+        parts[name] = parts.get(name, b'') + part
     try:
         width, height, depth, kind, _, _, laced = struct.unpack('>IIBBBBB', parts[b'IHDR'])
         rows = zlib.decompress(parts[b'IDAT'])
-    except (KeyError, struct.error, zlib.error):
-        raise Trouble('a bad PNG')
+    except (KeyError, struct.error, zlib.error) as error:
+        raise Trouble('a bad PNG') from error
     if depth != 8 or laced or kind not in CHANNELS:
         raise Trouble('a PNG of %d bits a channel%s: 8 bits without interlace are read'
                       % (depth, ', interlaced' if laced else ''))
     length = width * CHANNELS[kind]
     if not width or len(rows) != (length + 1) * height:
         raise Trouble('a bad PNG: %d bytes for %d by %d' % (len(rows), width, height))
-    out, above = [], bytearray(length)
+    out: List[bytes] = []
+    above = bytearray(length)
     for at in range(0, len(rows), length + 1):
         above = unfiltered(rows[at], rows[at + 1:at + 1 + length], above, CHANNELS[kind])
         out.append(colors(above, kind, parts.get(b'PLTE', b'')))
     return Image(width, height, b''.join(out))
 
 
-def read_ppm(data):
-    """Comments and any white space may stand between the numbers."""
-    numbers, at = [], 2
+def read_ppm(data: bytes) -> Image:
+    """Returns the picture of a PPM. Comments and any white space may be between its numbers. Raises Trouble for others."""
+    numbers: List[int] = []
+    at = 2
     while len(numbers) < 3 and at < len(data):
         if data[at:at + 1] == b'#':
             at = data.find(b'\n', at) % (len(data) + 1)
@@ -124,42 +132,25 @@ def read_ppm(data):
     return Image(width, height, bytes(pixels))
 
 
-def is_picture(data):
+def is_picture(data: bytes) -> bool:
+    """Returns whether a file is a PPM or a PNG."""
     return data[:2] == b'P6' or data[:8] == SIGNATURE
 
 
-def read_picture(data):
+def read_picture(data: bytes) -> Image:
+    """Returns the picture of a PPM or a PNG."""
     return read_png(data) if data[:8] == SIGNATURE else read_ppm(data)
 
 
-def cells_of(dump):
-    """The halfwords of a dump."""
-    if not dump or len(dump) % (2 * WIDTH):
-        raise Trouble('no dump and no picture: %d bytes%s' % (len(dump), ', no rows of 2048' if dump else ''))
-    return struct.unpack('<%dH' % (len(dump) // 2), dump)
-
-
-def wide(cell):
-    """The three bytes of a cell, as `shot` makes them."""
-    channels = (cell & 31, cell >> 5 & 31, cell >> 10 & 31)
-    return bytes(8 * channel + channel // 4 for channel in channels)
-
-
-def shown(cells):
-    """The three bytes of each cell."""
-    table = {cell: wide(cell) for cell in set(cells)}
-    return b''.join(map(table.__getitem__, cells))
-
-
-def about(path, read, *arguments):
-    """What `read` gives; its trouble gets the file's name."""
+def about(path: str, read: Callable[..., Result], *arguments: Any) -> Result:
+    """Returns what `read` returns. Its errors get the name of the file."""
     try:
         return read(*arguments)
     except Trouble as trouble:
-        raise Trouble('%s: %s' % (title(path), trouble))
+        raise Trouble('%s: %s' % (title(path), trouble)) from trouble
 
 
-def load_file(path):
-    """The bytes of a file, and whether they are a picture."""
+def load_file(path: str) -> Tuple[bytes, bool]:
+    """Returns the bytes of a file, and whether they are a picture."""
     data = read_whole(path)
     return data, is_picture(data)

@@ -1,7 +1,9 @@
 """What a snapshot (`psxgpu_tool cut N`) says of what is not finished. docs/CAPTURE.md has its words."""
 import struct
+from typing import List, Sequence, Tuple
 
 from psxgpu.packets.split import name_and_length
+from psxgpu.stream import Readable
 
 STATE = 3 + 13      # height, events played, registers
 NOTHING, PACKET, PIXELS, POLYLINE = range(4)
@@ -11,29 +13,32 @@ ONE_BLOCK, LINKED_LIST = 1, 2
 class Words:
     """The words of a snapshot's state, one after another."""
 
-    def __init__(self, file):
+    def __init__(self, file: Readable) -> None:
         self.file = file
         self.file.read(8)
 
-    def take(self, n):
+    def take(self, n: int) -> Tuple[int, ...]:
+        """Returns the next n words."""
         return struct.unpack('<%dI' % n, self.file.read(4 * n))
 
-    def one(self):
+    def one(self) -> int:
+        """Returns the next word."""
         return self.take(1)[0]
 
 
-def words_left(job):
-    """Of a load or store, by its x, y, w, h and the number of the next cell."""
+def words_left(job: Sequence[int]) -> int:
+    """Returns the missing data words of a load or store, by its x, y, w, h and the number of the next cell."""
     _, _, w, h, cell = job
     return (w * h - cell + 1) // 2
 
 
-def job_text(job):
+def job_text(job: Sequence[int]) -> str:
+    """Returns size and corner of a load or store."""
     return '%d by %d cells at (%d, %d)' % (job[2], job[3], job[0], job[1])
 
 
-def pending_text(words):
-    """What GP0 waits for."""
+def pending_text(words: Words) -> List[str]:
+    """Returns what GP0 waits for."""
     kind = words.one()
     if kind == PACKET:
         packet = words.take(words.one())
@@ -50,14 +55,16 @@ def pending_text(words):
     return []
 
 
-def store_text(words):
+def store_text(words: Words) -> List[str]:
+    """Returns the store that waits for reads."""
     if not words.one():
         return []
     job = words.take(5)
     return ['a store of %s: it waits for %d reads' % (job_text(job), words_left(job))]
 
 
-def transfer_text(words):
+def transfer_text(words: Words) -> List[str]:
+    """Returns the transfer of DMA that continues at a turn."""
     kind = words.one()
     if kind == ONE_BLOCK:
         address, left, _, _ = words.take(4)
@@ -67,8 +74,8 @@ def transfer_text(words):
     return []
 
 
-def unfinished(file):
-    """A line for each thing that is not finished behind the events of a snapshot."""
+def unfinished(file: Readable) -> List[str]:
+    """Returns a line for each thing that is not finished after the events of a snapshot."""
     words = Words(file)
     words.take(STATE)
     return pending_text(words) + store_text(words) + transfer_text(words)

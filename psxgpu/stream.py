@@ -9,6 +9,7 @@ A capture that breaks the format is `Trouble`, with the byte. docs/CAPTURE.md ha
 import contextlib
 import sys
 from array import array
+from typing import Iterable, Iterator, NoReturn, Optional, Protocol, Tuple
 
 from psxgpu.command import Trouble, reading
 
@@ -18,8 +19,10 @@ NOT_FLAT = (RAM, DMA, BEGIN, TURN)
 MOST_WORDS, MOST_READS, MOST_RAM = 0xFFFFFF, 262144, 524288
 MOST = {RAM: MOST_RAM, GP0: MOST_WORDS, GP1: 1, READ: MOST_READS, STAT: 1, TURN: MOST_READS, SKIP: MOST_READS}
 HEADS = {1: b'PSXGPUC1', 2: b'PSXGPUC2', 3: b'PSXGPUC3'}
+VERSIONS = {head: version for version, head in HEADS.items()}
 SNAPSHOT = b'PSXGPUS1'
 BLOCK = 1 << 18
+Record = Tuple[int, int, 'array[int]']      # kind, count, words
 SINGLE = GP0 << 24 | 1                      # the tag of a Gp0 record with one word
 RUN = array('I', [SINGLE]) * 16384
 # What files begin with that are often taken for captures.
@@ -27,20 +30,27 @@ BEGINNINGS = {b'\x1f\x8b': 'gzip', b'\x28\xb5\x2f\xfd': 'zstd', b'\xfd7zXZ': 'xz
               b'\x89PNG': 'PNG', b'P6': 'PPM', SNAPSHOT: 'a snapshot'}
 
 
-def little(words):
-    """Turns an array between the file's order of bytes and the machine's."""
+class Readable(Protocol):
+    """What a capture is read from."""
+
+    def read(self, size: int = -1, /) -> bytes:
+        """Returns at most `size` bytes; none at the end."""
+
+
+def little(words: "array[int]") -> "array[int]":
+    """Turns an array between the file's order of bytes and the machine's. Returns it."""
     if sys.byteorder == 'big':
         words.byteswap()
     return words
 
 
-def encode(kind, count, words=()):
-    """A record as bytes."""
+def encode(kind: int, count: int, words: Iterable[int] = ()) -> bytes:
+    """Returns a record as bytes."""
     return little(array('I', [kind << 24 | count, *words])).tobytes()
 
 
-def is_allowed(version, kind, count):
-    """Whether a tag of this kind and count may stand in a capture of this version."""
+def is_allowed(version: int, kind: int, count: int) -> bool:
+    """Returns whether a tag of this kind and count is valid in a capture of this version."""
     if kind > (DMA if version == 1 else SKIP):
         return False
     if kind in (DMA, BEGIN):
@@ -48,8 +58,8 @@ def is_allowed(version, kind, count):
     return count == 0 if kind == END else 1 <= count <= MOST[kind]
 
 
-def count_of(kind, count):
-    """How many events a record is."""
+def count_of(kind: int, count: int) -> int:
+    """Returns the number of events of a record."""
     return 1 if kind in (GP1, STAT, DMA, BEGIN) else count
 
 
@@ -58,28 +68,29 @@ class Stream:
     each record, End left out. `words` is an array; that of a Ram record begins with the address. Neighbouring Gp0
     records of one word come as one, unless all are asked for as they are (`exact`)."""
 
-    def __init__(self, file, name, exact=False):
+    def __init__(self, file: Readable, name: str, exact: bool = False) -> None:
         self.file, self.name, self.exact = file, name, exact
         self.block, self.at = array('I'), 0
         self.before, self.rest = 8, 0       # bytes before the block; bytes at the end that are no word
         head = file.read(8)
-        self.version = {head: version for version, head in HEADS.items()}.get(head)
-        if self.version is None:
+        if head not in VERSIONS:
             self.refuse(head)
+        self.version = VERSIONS[head]
 
-    def refuse(self, head):
+    def refuse(self, head: bytes) -> NoReturn:
+        """Raises Trouble with what the file seems to be."""
         kinds = [kind for begin, kind in BEGINNINGS.items() if head.startswith(begin)]
         if not head:
             raise Trouble('%s: empty' % self.name)
-        raise Trouble('%s: no capture, %s' % (self.name, kinds[0] if kinds else 'it begins with %r' % head))
+        raise Trouble('%s: not a capture: %s' % (self.name, kinds[0] if kinds else 'it begins with %r' % head))
 
     @property
-    def place(self):
-        """The number of the next byte."""
+    def place(self) -> int:
+        """The byte offset of the next word."""
         return self.before + 4 * self.at
 
-    def more(self, n):
-        """Reads until n words are there."""
+    def more(self, n: int) -> None:
+        """Reads until n words are there. Raises Trouble if the file ends before."""
         self.before += 4 * self.at
         words = self.block[self.at:]
         self.at = 0
@@ -93,15 +104,16 @@ class Stream:
                               % (self.name, self.before + 4 * len(words) + self.rest))
         self.block = words
 
-    def take(self, n):
-        """The next n words."""
+    def take(self, n: int) -> "array[int]":
+        """Returns the next n words."""
         if self.at + n > len(self.block):
             self.more(n)
         self.at += n
         return self.block[self.at - n:self.at]
 
-    def singles(self):
-        """The words of the Gp0 records of one word that stand next, as many as the block has."""
+    def singles(self) -> "Optional[array[int]]":
+        """Returns the words of the next records, as far as they are Gp0 records of one word within the block. Returns None
+        if the next record is none."""
         block, at = self.block, self.at
         most = min((len(block) - at) // 2, len(RUN))
         if not most or block[at] != SINGLE:
@@ -119,7 +131,7 @@ class Stream:
         self.at = at + 2 * low
         return block[at + 1:self.at:2]
 
-    def __iter__(self):
+    def __iter__(self) -> Iterator[Record]:
         wanted = {GP1: 1, DMA: 3, BEGIN: 3}
         while True:
             if self.at == len(self.block):
@@ -147,29 +159,30 @@ class Stream:
             self.check_address(kind, count, words)
             yield kind, count, words
 
-    def beginning(self, kind, count):
-        """The events that are there of a record that is cut: each of their words is one."""
+    def beginning(self, kind: int, count: int) -> Iterator[Record]:
+        """Returns the events that are there of a record that is cut: each of their words is one."""
         words = self.block[self.at:]
         there = len(words) - (kind == RAM)
         if kind in (GP0, RAM) and there > 0:
             self.check_address(kind, count, words)
             yield kind, there, words
 
-    def check_address(self, kind, count, words):
+    def check_address(self, kind: int, count: int, words: "array[int]") -> None:
+        """Raises Trouble if a Ram record is not within main memory."""
         if kind == RAM and (words[0] % 4 or words[0] + 4 * count > 0x200000):
-            raise Trouble('%s: byte %d: no address for %d words: %08x'
+            raise Trouble('%s: byte %d: not an address for %d words: %08x'
                           % (self.name, self.place - 4 * len(words), count, words[0]))
 
 
-def is_flat(path):
-    """Whether a capture has port writes and reads alone, as far as it can be read."""
+def is_flat(path: str) -> bool:
+    """Returns whether a capture has port writes and reads alone, as far as it can be read."""
     with contextlib.suppress(Trouble), reading(path) as file:
         return not any(kind in NOT_FLAT for kind, _, _ in Stream(file, path))
     return True
 
 
-def first_events(stream, n):
-    """The records of the first n events, the last one cut where it has more."""
+def first_events(stream: Iterable[Record], n: int) -> Iterator[Record]:
+    """Returns the records of the first n events, the last one cut where it has more."""
     for kind, count, words in stream:
         if n <= 0:
             return
@@ -180,8 +193,8 @@ def first_events(stream, n):
         n -= events
 
 
-def later_events(stream, n):
-    """The records behind the first n events."""
+def later_events(stream: Iterable[Record], n: int) -> Iterator[Record]:
+    """Returns the records after the first n events."""
     for kind, count, words in stream:
         events = count_of(kind, count)
         if events > n > 0:

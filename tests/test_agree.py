@@ -3,7 +3,7 @@ import os
 import unittest
 
 from tests import support
-from psxgpu.packets.random import CLASSES
+from psxgpu.packets.generated import CLASSES
 
 
 class Agreement(support.InFolder):

@@ -11,7 +11,8 @@ import unittest
 TOP = os.path.dirname(os.path.dirname(os.path.abspath(__file__)))
 sys.path.insert(0, TOP)
 
-from psxgpu.commands import audit  # noqa: E402
+from psxgpu.__main__ import main  # noqa: E402
+from psxgpu.players import audit  # noqa: E402
 from psxgpu import capture as c  # noqa: E402
 from psxgpu.players import probes  # noqa: E402
 
@@ -85,7 +86,7 @@ class Audits(unittest.TestCase):
         capture.save(path)
         out = io.StringIO()
         with contextlib.redirect_stdout(out):
-            status = audit.main([path, self.right, theirs, *more])
+            status = main(['audit', path, self.right, theirs, *more])
         return status, out.getvalue().splitlines()[2:]
 
     def fills(self):
@@ -130,7 +131,7 @@ class Audits(unittest.TestCase):
         errors = io.StringIO()
         with contextlib.redirect_stderr(errors):
             if path:
-                self.assertEqual(audit.main([path, self.right, self.right]), 2)
+                self.assertEqual(main(['audit', path, self.right, self.right]), 2)
             else:
                 self.assertEqual(self.audit(capture, os.path.join(self.folder, theirs))[0], 2)
         return errors.getvalue()

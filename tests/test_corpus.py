@@ -4,7 +4,7 @@ import unittest
 from xml.etree import ElementTree
 
 from tests.corpus_support import Corpus, film
-from psxgpu.corpus.file import read_sums
+from psxgpu.corpus.sums import read_sums
 
 
 class Same(Corpus):

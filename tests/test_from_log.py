@@ -4,7 +4,8 @@ import unittest
 
 from tests import support
 from psxgpu import capture as c
-from psxgpu.commands.from_log import HEADS, Bad, from_log
+from psxgpu.log import Bad, from_log
+from psxgpu.stream import HEADS
 
 
 def made(lines):

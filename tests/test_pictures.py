@@ -5,8 +5,9 @@ import zlib
 
 from tests import support
 from psxgpu.command import Trouble
-from psxgpu.commands.compare import Difference, Grid, compared
-from psxgpu.image import SIGNATURE, Image, cells_of, chunk, png, ppm, read_picture, read_png, shown
+from psxgpu.difference import Difference, Grid, compared
+from psxgpu.image import SIGNATURE, Image, chunk, png, ppm, read_picture, read_png
+from psxgpu.vram import cells_of, shown
 
 
 def filtered(width, height, kind, rows, palette=b''):

@@ -8,10 +8,11 @@ from argparse import Namespace
 from tests import support
 from psxgpu import capture as c
 from psxgpu.players import player
-from psxgpu.commands.bisect import build, flattened
+from psxgpu.players.bisection import build
+from psxgpu.players.flat import flattened
 from psxgpu.packets.known import CLASSES, NAMES, is_known
 from psxgpu.packets.split import Splitter
-from psxgpu.packets.random import AREA, CLASSES as RANDOM, background
+from psxgpu.packets.generated import AREA, CLASSES as RANDOM, background
 from psxgpu.players.steps import Cutter
 from psxgpu.stream import GP0, Stream
 from psxgpu.players.two_players import Players
@@ -62,7 +63,7 @@ class Healed(support.InFolder):
 
     def check(self, path, classes):
         want = player.answer(support.PLAYER, ['vram'], path)
-        with flattened(path, 'it', support.PLAYER) as flat:
+        with flattened(path, support.PLAYER) as flat:
             steps = build(flat, 'it', classes, support.PLAYER)
         self.assertTrue(player.answer(support.PLAYER, ['vram'], steps.file.name) == want, (path, classes))
         names = {name for k in range(1, steps.count + 1) for name, _, _ in self.packets(steps, k)}

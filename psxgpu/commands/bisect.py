@@ -1,4 +1,3 @@
-#!/usr/bin/env python3
 """Finds the first packet after which two players' dumps of video memory differ.
 
     psxgpu bisect mine.capture 'psxgpu_tool vram' 'other_player vram'
@@ -18,21 +17,12 @@ bits).
 
 Status: 0 no difference, 1 one was found, 2 trouble.
 """
-import contextlib
-import itertools
-import sys
-import tempfile
-
-from psxgpu.players import player
-from psxgpu.command import DIFFERENT, SAME, decimal, main, pour, reading, seekable, title
-from psxgpu.commands.compare import compared
-from psxgpu.packets.control import control
-from psxgpu.players.heal import Healer
+from psxgpu.command import DIFFERENT, SAME, decimal, seekable, title
+from psxgpu.difference import compared
 from psxgpu.packets.known import CLASSES, NAMES
-from psxgpu.packets.fields import fields
-from psxgpu.packets.split import LOAD, Splitter
-from psxgpu.players.steps import Cutter, Steps
-from psxgpu.stream import GP0, GP1, KINDS, Stream, is_flat
+from psxgpu.players import player
+from psxgpu.players.bisection import bisect, build, step_text
+from psxgpu.players.flat import flattened
 from psxgpu.players.two_players import Players
 
 
@@ -47,80 +37,8 @@ def arguments(parser):
     player.argument(parser)
 
 
-def bisect(count, differs, narrow=lambda low, high: None):
-    """The first n with `differs(n)`, if it stays so; None where `differs` is false at the end."""
-    if not differs(count):
-        return None
-    low, high = 0, count
-    while low < high:
-        narrow(low - 1, high)
-        middle = (low + high) // 2
-        if differs(middle):
-            high = middle
-        else:
-            low = middle + 1
-    return low
-
-
-@contextlib.contextmanager
-def flattened(path, name, program):
-    """The path of a flat capture of the same words."""
-    if is_flat(path):
-        yield path
-        return
-    with tempfile.NamedTemporaryFile(prefix='psxgpu') as file:
-        with player.playing(program, ['flat'], path) as run:
-            pour(run.out, file)
-            run.expect_whole()
-        file.flush()
-        yield file.name
-
-
-def build(path, name, classes, program):
-    """The steps of a flat capture."""
-    with reading(path) as file:
-        stream = Stream(file, name)
-        steps = Steps(tempfile.NamedTemporaryFile(prefix='psxgpu'), stream.version == 3)
-        cutter = Cutter(steps.is_tall)
-        cut = Healer(path, name, program, classes).healed(cutter) if classes else cutter.steps(stream)
-        for step in cut:
-            steps.add(step, step.record(), cutter.splitter.changes)
-    steps.close()
-    return steps
-
-
-def packet_text(steps, k, path, program):
-    """The lines of `list` for step k, with the fields."""
-    splitter = Splitter(steps.is_tall)
-    splitter.registers = steps.registers_behind(k)
-    with player.playing(program, ['list'], path) as run:
-        listed = list(itertools.islice(run.out, steps.lines[k - 1], steps.lines[k]))
-    packets = splitter.push(steps.record(k)[2])
-    for line, (name, words, _) in itertools.zip_longest(listed, packets, fillvalue=(None, [], 0)):
-        yield line.decode().strip()
-        yield from ('    ' + text for text in fields(name, words, splitter.registers))
-
-
-def step_text(steps, k, path, program):
-    """What step k is: lines."""
-    kind, _, words = steps.record(k)
-    if steps.lines[k] > steps.lines[k - 1]:
-        return list(packet_text(steps, k, path, program))
-    before = max((j for j in range(k) if steps.lines[j] < steps.lines[k]), default=None)
-    lines = [] if before is None else list(packet_text(steps, before + 1, path, program))
-    if kind == GP1:
-        text = 'gp1 %08x: %s' % (words[0], control(words[0]))
-    elif kind != GP0:
-        text = KINDS[kind].lower()
-    elif lines and lines[0].split()[1] == LOAD:
-        return lines + ['    its data words, %d together' % len(words)]
-    else:
-        text = '%d words of a packet that is not whole' % len(words)
-    return lines + ['and then ' + text] if lines else [text]
-
-
 def search(words, path, name, program):
-    with flattened(path, name, program) as flat:
+    with flattened(path, program) as flat:
         steps = build(flat, name, words.ignore, program)
     players = Players(words, steps, program)
     k = bisect(steps.count, players.differ, players.narrow)

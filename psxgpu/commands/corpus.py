@@ -1,4 +1,3 @@
-#!/usr/bin/env python3
 """Records what a player gives for each capture of a folder, and checks it again.
 
 `record` plays all captures of the folders, on all processors, and writes a file of sums, a block for each capture. The
@@ -19,15 +18,16 @@ import os
 import shlex
 import sys
 
-from psxgpu import command
-from psxgpu.corpus import report as report
+from psxgpu.corpus import report
 from psxgpu.command import DIFFERENT, SAME, Trouble, decimal
-from psxgpu.corpus.compare import Places, compare_sums
-from psxgpu.corpus.file import read_sums, write_text
+from psxgpu.corpus.captures import NAMES, captures_of
+from psxgpu.corpus.findings import compare_sums
+from psxgpu.corpus.sums import read_sums, write_text
 from psxgpu.corpus.glue import glue
 from psxgpu.corpus.parts import split
+from psxgpu.corpus.places import Places
 from psxgpu.corpus.play import Player
-from psxgpu.corpus.run import NAMES, captures_of, play_into
+from psxgpu.corpus.journal import play_into
 from psxgpu.corpus.scan import FLIP, MARK
 from psxgpu.players.player import find
 
@@ -130,7 +130,3 @@ def run(words):
     else:
         return {'record': record, 'check': check, 'join': join}[words.action](words)
     return SAME
-
-
-if __name__ == '__main__':
-    sys.exit(command.main(sys.modules[__name__]))

@@ -1,4 +1,3 @@
-#!/usr/bin/env python3
 """Writes the first N events of a capture as a capture of their own, or those behind them.
 
     psxgpu first 300 mine.capture > begin.capture

@@ -1,4 +1,3 @@
-#!/usr/bin/env python3
 """Joins captures of one session end to end: the events of the first, then those of the second, and so on.
 
     psxgpu join begin.capture rest.capture > whole.capture

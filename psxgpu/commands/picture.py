@@ -1,4 +1,3 @@
-#!/usr/bin/env python3
 """Turns a dump of video memory or a PPM into a PNG.
 
     psxgpu_tool vram < mine.capture > vram.bin
@@ -8,11 +7,10 @@
 A dump is drawn as cells of 15 bits, or as texels of 4 or 8 bits (four or two a cell): in gray, or by a palette that
 stands in the same dump. A target that ends in .ppm is written as PPM.
 """
-import sys
-
-from psxgpu.command import Trouble, decimal, main
+from psxgpu.command import Trouble, decimal
+from psxgpu.image import Image, about, load_file, read_picture, write_image
 from psxgpu.output import refuse_inputs
-from psxgpu.image import WIDTH, Image, about, cells_of, load_file, read_picture, shown, wide, write_image
+from psxgpu.vram import WIDTH, cells_of, palette_of, shown, texels
 
 
 def arguments(parser):
@@ -23,24 +21,6 @@ def arguments(parser):
                         help='the first cell of the palette')
     parser.add_argument('--box', type=decimal(0, 1024), nargs=4, metavar=('X', 'Y', 'W', 'H'),
                         help='the cells to draw, all if left out')
-
-
-def palette_of(cells, bits, place):
-    """The three bytes of each index."""
-    if place is None:
-        return [bytes([index * 255 // ((1 << bits) - 1)] * 3) for index in range(1 << bits)]
-    x, y = place
-    row = cells[WIDTH * y:WIDTH * (y + 1)]
-    if not row:
-        raise Trouble('palette y: %d, the dump has %d rows' % (y, len(cells) // WIDTH))
-    return [wide(row[(x + index) % WIDTH]) for index in range(1 << bits)]
-
-
-def texels(cells, bits, palette):
-    """The three bytes of each texel of these cells."""
-    shifts = range(0, 16, bits)
-    table = {cell: b''.join(palette[cell >> shift & (1 << bits) - 1] for shift in shifts) for cell in set(cells)}
-    return b''.join(map(table.__getitem__, cells))
 
 
 def draw(cells, words):

@@ -1,0 +1,1 @@
+"""Folders of captures: what a player gives for each is recorded as sums, and checked again."""

@@ -1,10 +1,11 @@
-"""Joins what a player wrote on the parts of a recording to what it writes on the whole.
+"""Joins what a player wrote for the parts of a recording to what it writes for the whole.
 
-At its end a player tells more than the events ask for: `play` the status word, `sums` and `frames` the shown picture
-and `sums` the sum of video memory. So of each part but the last this is left out. A part ends behind a frame, and the
-picture at its end is that frame once more; where that frame shows no picture, there is none at the end either.
+At its end a player writes more than the events ask for: `play` the status word, `sums` and `frames` the shown picture
+and `sums` the sum of video memory. So this is left out of each part except the last. A part ends after a frame, and the
+picture at its end is that frame once more. If that frame shows no picture, there is none at the end either.
 """
 import os
+from typing import BinaryIO, List, Sequence, Tuple
 
 from psxgpu.command import Trouble, reading
 from psxgpu.corpus.scan import copy_bytes
@@ -12,26 +13,27 @@ from psxgpu.corpus.scan import copy_bytes
 TAIL = 1 << 12
 
 
-def tail_lines(file):
-    """The last lines of a file, each with its place."""
+def tail_lines(file: BinaryIO) -> List[Tuple[int, bytes]]:
+    """Returns the last lines of a file, each with its byte offset."""
     size = file.seek(0, os.SEEK_END)
-    file.seek(max(0, size - TAIL))
-    at, lines = file.tell(), []
+    at = file.seek(max(0, size - TAIL))
+    lines = []
     for line in file.read().splitlines(True):
         lines.append((at, line))
         at += len(line)
     return lines
 
 
-def end_of_words(file):
+def end_of_words(file: BinaryIO) -> int:
+    """Returns the byte offset of the status word."""
     at, line = tail_lines(file)[-1]
     if not line.startswith(b'status '):
         raise ValueError('it does not end with a status')
     return at
 
 
-def end_of_sums(file):
-    """The place of the frame at the end: it is the frame before it once more, at the same event or the next."""
+def end_of_sums(file: BinaryIO) -> int:
+    """Returns the byte offset of the frame at the end: it is the frame before it once more, at the same event or the next."""
     *frames, (end, line) = tail_lines(file)[-3:]
     if not line.startswith(b'vram '):
         raise ValueError('it does not end with the sum of video memory')
@@ -42,8 +44,8 @@ def end_of_sums(file):
     return end
 
 
-def end_of_frames(file):
-    """The place of the last picture."""
+def end_of_frames(file: BinaryIO) -> int:
+    """Returns the byte offset of the last picture."""
     at = last = 0
     size = file.seek(0, os.SEEK_END)
     while at < size:
@@ -58,14 +60,16 @@ def end_of_frames(file):
     return last
 
 
-def end_of_list(file):
+def end_of_list(file: BinaryIO) -> int:
+    """Returns the length of the file."""
     return file.seek(0, os.SEEK_END)
 
 
 ENDS = {'play': end_of_words, 'sums': end_of_sums, 'frames': end_of_frames, 'list': end_of_list}
 
 
-def glue(word, paths, out):
+def glue(word: str, paths: Sequence[str], out: BinaryIO) -> None:
+    """Writes the whole of what a player wrote for each part. `word`: its command."""
     if word not in ENDS:
         raise Trouble('glue %s: one of %s' % (word, ' '.join(ENDS)))
     for k, path in enumerate(paths, 1):
@@ -73,6 +77,6 @@ def glue(word, paths, out):
             try:
                 end = ENDS[word](file) if k < len(paths) else file.seek(0, os.SEEK_END)
             except (ValueError, IndexError) as error:
-                raise Trouble('%s: not what `%s` writes: %s' % (path, word, error))
+                raise Trouble('%s: not what `%s` writes: %s' % (path, word, error)) from error
             file.seek(0)
             copy_bytes(file, out, end)

@@ -1,26 +1,33 @@
-"""Cuts a recording behind some of its frames: the first part is a capture, the others are snapshots that go on."""
+"""Cuts a recording after some of its frames: the first part is a capture, the others are snapshots that continue it."""
 import os
 import shutil
 import tempfile
+from typing import List, Sequence
 
 from psxgpu.command import Trouble, writing
-from psxgpu.output import refuse_inputs
+from psxgpu.corpus.play import Player
 from psxgpu.corpus.scan import FLIP, copy_first, frames
+from psxgpu.output import refuse_inputs
 
 
-def places(path, parts, opcode):
-    """The events behind which it is cut: those of frames, as evenly as these lie."""
+def nearest(events: Sequence[int], want: int) -> int:
+    """Returns the event that is nearest to `want`."""
+    return min(events, key=lambda event: abs(event - want))
+
+
+def places(path: str, parts: int, opcode: int) -> List[int]:
+    """Returns the events after which it is cut: those of frames, as evenly as possible, and the last."""
     found, last = frames(path, opcode)
     found = [event for event in found if event < last]
     wanted = [last * k // parts for k in range(1, parts)]
-    chosen = sorted({min(found, key=lambda event: abs(event - want)) for want in wanted} if found else set())
+    chosen = sorted({nearest(found, want) for want in wanted} if found else set())
     if len(chosen) + 1 < parts:
         raise Trouble('%s: %d frames, too few for %d parts' % (path, len(found), parts))
     return chosen + [last]
 
 
-def write_part(path, before, last, target, player):
-    """Writes what stands behind event `before` up to event `last`."""
+def write_part(path: str, before: int, last: int, target: str, player: Player) -> None:
+    """Writes the events after `before` up to `last`."""
     with tempfile.TemporaryFile() as first, writing(target) as out:
         copy_first(path, last, first if before else out)
         if before:
@@ -31,11 +38,12 @@ def write_part(path, before, last, target, player):
                 shutil.copyfileobj(run.out, out)
 
 
-def split(path, parts, folder, player, opcode=FLIP):
+def split(path: str, parts: int, folder: str, player: Player, opcode: int = FLIP) -> None:
+    """Writes the parts of a recording into a folder, and prints their names."""
     try:
         ends = places(path, parts, opcode)
     except ValueError as error:
-        raise Trouble('%s: %s' % (path, error))
+        raise Trouble('%s: %s' % (path, error)) from error
     os.makedirs(folder, exist_ok=True)
     names = ['%03d.%s' % (k, 'snapshot' if k > 1 else 'capture') for k in range(1, len(ends) + 1)]
     for name in names:

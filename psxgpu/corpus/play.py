@@ -1,4 +1,4 @@
-"""Plays one capture by a player, and takes the sums of what it gives."""
+"""Plays one capture by a player, and takes the sums of what it writes."""
 import contextlib
 import hashlib
 import os
@@ -10,9 +10,11 @@ import subprocess
 import tempfile
 import threading
 import time
+from typing import IO, Iterable, List, Optional, Sequence, Tuple
 
 from psxgpu.command import Trouble, named
-from psxgpu.corpus.file import Frame, Row
+from psxgpu.corpus.captures import Capture
+from psxgpu.corpus.sums import Frame, Row
 from psxgpu.corpus.scan import reads_before
 
 PIECE = 1 << 16
@@ -27,10 +29,10 @@ OUTSIDE = ('crashes SIGKILL', 'crashes SIGTERM')
 
 
 class Run:
-    """One run of a player: how it ended, and what it wrote, as a file. To be used with `with`."""
+    """One run of a player: how it ended (`end`), and what it wrote, as a file (`out`). To be used with `with`."""
 
-    def __init__(self, words, source, limit):
-        self.out = tempfile.SpooledTemporaryFile(HELD)
+    def __init__(self, words: List[str], source: IO[bytes], limit: float) -> None:
+        self.out: IO[bytes] = tempfile.SpooledTemporaryFile(HELD)   # pylint: disable=consider-using-with
         with tempfile.TemporaryFile() as err:
             self.child = subprocess.Popen(words, stdin=source, stdout=subprocess.PIPE, stderr=err,
                                           start_new_session=True)
@@ -50,70 +52,73 @@ class Run:
             error = err.read(4096).decode('utf-8', 'replace')
         self.end = 'hangs %g' % limit if self.is_late else ending(status, error)
 
-    def stop(self):
+    def stop(self) -> None:
+        """Ends a player that takes too long."""
         self.is_late = True
         self.kill()
 
-    def kill(self):
+    def kill(self) -> None:
         """Ends the player and what it has started, which are a session of their own."""
         with contextlib.suppress(ProcessLookupError):
             os.killpg(self.child.pid, signal.SIGKILL)
 
-    def take(self, pipe):
+    def take(self, pipe: IO[bytes]) -> None:
+        """Reads what the player writes up to its end."""
         try:
-            for piece in iter(lambda: pipe.read1(PIECE), b''):
+            for piece in iter(lambda: os.read(pipe.fileno(), PIECE), b''):
                 self.out.write(piece)
             self.out.seek(0)
         except OSError as error:
-            raise named(error, tempfile.gettempdir())
+            raise named(error, tempfile.gettempdir()) from None
 
-    def __enter__(self):
+    def __enter__(self) -> 'Run':
         return self
 
-    def __exit__(self, *_):
+    def __exit__(self, *_: object) -> None:
         self.out.close()
 
 
-def ending(status, error):
-    """How a player ended, in words of a file of sums."""
+def ending(status: int, error: str) -> str:
+    """Returns how a player ended, in words of a file of sums."""
     if status == 0:
         return 'played'
     if status < 0:
         return 'crashes ' + signal.Signals(-status).name
     line = ' '.join(error.strip().split('\n')[0].split())
-    return '%s %d %s' % ('refused' if status == 2 else 'fails', status, line or 'without a word')
+    return '%s %d %s' % ('refused' if status == 2 else 'fails', status, line or 'without a message')
 
 
 class Player:
     """A command, to which the word `sums`, `vram` or `play` is added."""
 
-    def __init__(self, command, limit=60, gives=('vram',)):
+    def __init__(self, command: str, limit: float = 60, gives: Sequence[str] = ('vram',)) -> None:
         self.words = shlex.split(command)
         if not self.words or shutil.which(self.words[0]) is None:
-            raise Trouble('%s: no such player' % command)
+            raise Trouble('%s: there is no such player' % command)
         self.limit = limit
         self.has_sums = self.answer('sums') != ''
         self.gives = tuple(it for it in GIVES if it in gives and (self.has_sums or it not in FRAMES))
         self.sums = 'sums marks' if 'marks' in gives else 'sums'
 
-    def run(self, word, source):
+    def run(self, word: str, source: IO[bytes]) -> Run:
+        """Runs the player on a capture."""
         return Run(self.words + word.split(), source, self.limit)
 
-    def answer(self, word):
-        """The first line of what it writes on a capture without an event; nothing where it does not play that."""
+    def answer(self, word: str) -> str:
+        """Returns the first line that it writes for a capture without events; nothing if it does not play that."""
         with tempfile.TemporaryFile() as source:
             source.write(EMPTY)
             source.seek(0)
             with self.run(word, source) as run:
                 return run.out.readline().decode('utf-8', 'replace').strip() if run.end == 'played' else ''
 
-    def identity(self):
-        """Its version, and a sum of the program's file, so that what two builds give is not mixed."""
-        with open(shutil.which(self.words[0]), 'rb') as file:
+    def identity(self) -> str:
+        """Returns its version, and a sum of the program's file, so that what two builds write is not mixed."""
+        with open(shutil.which(self.words[0]) or self.words[0], 'rb') as file:
             return '%s %s' % (self.answer('--version') or os.path.basename(self.words[0]), sum_of(file)[:16])
 
-    def row(self, capture):
-        """The row of a capture. One whose player was killed from outside is played once more."""
+    def row(self, capture: Capture) -> Row:
+        """Returns the row of a capture. One whose player was killed from outside is played once more."""
         start = time.monotonic()
         row = self.played(capture)
         if row.end in OUTSIDE:
@@ -121,7 +126,8 @@ class Player:
         row.seconds = time.monotonic() - start
         return row
 
-    def played(self, capture):
+    def played(self, capture: Capture) -> Row:
+        """Plays a capture. Returns its row."""
         row = Row(capture.name, *size_and_sum(capture.path))
         ends = []
         with open(capture.path, 'rb') as source:
@@ -132,7 +138,8 @@ class Player:
         row.end = next((end for end in ends if end != 'played'), 'played')
         return row
 
-    def take_pictures(self, row, source):
+    def take_pictures(self, row: Row, source: IO[bytes]) -> str:
+        """Adds the sums of pictures and of video memory. Returns how the player ended."""
         source.seek(0)
         with self.run(self.sums if self.has_sums else 'vram', source) as run:
             if self.has_sums:
@@ -141,24 +148,25 @@ class Player:
                 row.vram = sum_of(run.out)
             return run.end
 
-    def read_sums(self, row, lines):
+    def read_sums(self, row: Row, lines: Iterable[bytes]) -> None:
+        """Adds the lines that `sums` writes."""
         for line in lines:
             frame, memory = FRAME.fullmatch(line), MEMORY.fullmatch(line)
             if frame and set(FRAMES) & set(self.gives):
-                row.frames.append(Frame(*map(int, frame.groups()[:3]), frame[4].decode()))
+                row.frames.append(Frame(int(frame[1]), int(frame[2]), int(frame[3]), frame[4].decode()))
             elif memory and 'vram' in self.gives:
                 row.vram = memory[1].decode()
 
     @staticmethod
-    def ends_of_frames(row, path):
-        """How many bytes `play` has written when each frame is shown."""
+    def ends_of_frames(row: Row, path: str) -> List[int]:
+        """Returns how many bytes `play` has written when each frame is shown."""
         try:
             return [LINE * count for count in reads_before(path, [frame.event for frame in row.frames])]
         except ValueError:      # the player takes for a capture what is none
             return [0] * len(row.frames)
 
-    def take_words(self, row, source, path):
-        """The sum of what `play` writes, and its sum up to each frame."""
+    def take_words(self, row: Row, source: IO[bytes], path: str) -> str:
+        """Adds the sum of what `play` writes, and its sum up to each frame. Returns how the player ended."""
         source.seek(0)
         with self.run('play', source) as run:
             size = run.out.seek(0, os.SEEK_END)
@@ -173,8 +181,8 @@ class Player:
             return run.end
 
 
-def feed(total, file, count=None):
-    """Adds bytes to a sum; how many lines they were."""
+def feed(total: "hashlib._Hash", file: IO[bytes], count: Optional[int] = None) -> int:
+    """Adds bytes of a file to a sum. Returns the number of their lines."""
     lines = 0
     while count is None or count > 0:
         piece = file.read(PIECE if count is None else min(PIECE, count))
@@ -186,13 +194,15 @@ def feed(total, file, count=None):
     return lines
 
 
-def sum_of(file):
+def sum_of(file: IO[bytes]) -> str:
+    """Returns the SHA-256 of the rest of a file."""
     total = hashlib.sha256()
     feed(total, file)
     return total.hexdigest()
 
 
-def size_and_sum(path):
+def size_and_sum(path: str) -> Tuple[int, str]:
+    """Returns the bytes of a file and their SHA-256."""
     with open(path, 'rb') as file:
         total = sum_of(file)
         return file.tell(), total

@@ -1,5 +1,6 @@
 """Skims the records of a capture or of a snapshot: what they are and how many events they have, not their words."""
 import struct
+from typing import IO, Iterator, List, Optional, Tuple
 
 from psxgpu.stream import BEGIN, DMA, GP0, GP1, HEADS, RAM, READ, SNAPSHOT, STAT, count_of
 
@@ -9,15 +10,16 @@ FLIP, MARK = 0x05, 0x3F       # words of GP1 that end a frame: a new display sta
 BLOCK = 1 << 20
 
 
-def take_words(file, n):
+def take_words(file: IO[bytes], n: int) -> Tuple[int, ...]:
+    """Returns the next n words. Raises ValueError if the file ends before."""
     data = file.read(4 * n)
     if len(data) < 4 * n:
         raise ValueError('it ends early')
     return struct.unpack('<%dI' % n, data)
 
 
-def past_state(file):
-    """Reads a snapshot's state up to its first record. Answers the number of events played before."""
+def past_state(file: IO[bytes]) -> int:
+    """Reads a snapshot's state up to its first record. Returns the number of events played before."""
     height, low, high = take_words(file, 3)
     take_words(file, 13)
     pending, = take_words(file, 1)
@@ -34,18 +36,18 @@ def past_state(file):
     return high << 32 | low
 
 
-def past_head(file):
-    """Reads up to the first record. Answers the number of events before it; ValueError where it is no capture."""
+def past_head(file: IO[bytes]) -> int:
+    """Reads up to the first record. Returns the number of events before it. Raises ValueError if it is not a capture."""
     head = file.read(8)
     if head == SNAPSHOT:
         return past_state(file)
     if head not in HEADS.values():
-        raise ValueError('no capture')
+        raise ValueError('not a capture')
     return 0
 
 
-def records(file):
-    """The records up to End: (kind, number of events, number of words behind the tag)."""
+def records(file: IO[bytes]) -> Iterator[Tuple[int, int, int]]:
+    """Returns the records up to End: kind, number of events, number of words after the tag."""
     while True:
         tag, = take_words(file, 1)
         kind, count = tag >> 24, tag & 0xFFFFFF
@@ -57,9 +59,10 @@ def records(file):
         file.seek(at + 4 * words)
 
 
-def reads_before(path, events):
-    """For each number of a rising list of events, how many lines `play` has written when that event is done."""
-    counts, reads = [], 0
+def reads_before(path: str, events: List[int]) -> List[int]:
+    """Returns for each number of a rising list of events how many lines `play` has written when that event is done."""
+    counts: List[int] = []
+    reads = 0
     with open(path, 'rb') as file:
         done = past_head(file)
         for kind, size, _ in records(file):
@@ -73,8 +76,8 @@ def reads_before(path, events):
     return counts + [reads] * (len(events) - len(counts))
 
 
-def frames(path, opcode=FLIP):
-    """The events that end a frame, and the number of the last event."""
+def frames(path: str, opcode: int = FLIP) -> Tuple[List[int], int]:
+    """Returns the events that end a frame, and the number of the last event."""
     found = []
     with open(path, 'rb') as file:
         done = past_head(file)
@@ -85,7 +88,8 @@ def frames(path, opcode=FLIP):
     return found, done
 
 
-def copy_bytes(file, out, count):
+def copy_bytes(file: IO[bytes], out: IO[bytes], count: int) -> None:
+    """Copies the next `count` bytes."""
     while count > 0:
         piece = file.read(min(count, BLOCK))
         if not piece:
@@ -94,11 +98,12 @@ def copy_bytes(file, out, count):
         count -= len(piece)
 
 
-def copy_first(path, last, out):
+def copy_first(path: str, last: int, out: IO[bytes]) -> None:
     """Writes the capture or snapshot up to the event of this number, and End."""
     with open(path, 'rb') as file:
         done = past_head(file)
-        whole, rest = file.tell(), None
+        whole = file.tell()
+        rest: Optional[Tuple[int, int]] = None
         for kind, size, words in records(file):
             if done + size > last:
                 rest = kind, last - done

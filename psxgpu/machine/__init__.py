@@ -15,11 +15,15 @@ docs/LIBRARY.md has a page on this module.
 import ctypes
 import os
 import threading
+from typing import Any, List, Optional, SupportsIndex, Tuple, Union
 
-from psxgpu.machine.library import (  # noqa: F401: the module's own names as well
-    NO_ROOM, SIZE, WORD, Ended, Error, Handle, Missing, OutOfMemory, RawNote, Refused, check, library)
-from psxgpu.machine.values import (  # noqa: F401: Note, too
-    Note, Registers, Snapshot, address, bytes_of, note_of, number, words_of)
+from psxgpu.machine.library import (NO_ROOM, SIZE, WORD, Ended, Error, Handle, Missing, OutOfMemory, RawNote, Refused,
+                                    check, library)
+from psxgpu.machine.values import (Bytes, Note, Path, Registers, Snapshot, Words, address, bytes_of, note_of, number,
+                                   words_of)
+
+__all__ = ['Error', 'MODES', 'Machine', 'Missing', 'Note', 'OutOfMemory', 'Refused', 'Registers', 'Snapshot', 'library',
+           'play']
 
 MODES = {name: number for number, name in enumerate(
     ('play', 'vram', 'shot', 'list', 'report', 'frames', 'frames marks', 'sums', 'sums marks', 'pixel'))}
@@ -28,160 +32,161 @@ COLUMNS, ROWS, RAM_BYTES = 1024, (512, 1024), 0x200000
 
 
 class Machine:
-    """A machine. Every call that is no look at it is an event, or several; an argument that cannot be meant raises
-    TypeError or ValueError before anything happens. Threads may share one: a call waits for another's end."""
+    """A machine. Each call that changes it is one event or several. A bad argument raises TypeError or ValueError before
+    anything happens. Threads may share a machine: a call waits for the end of another."""
 
-    # Bytes that always suffice.
+    # Bytes that are always enough.
     VRAM_ROOM, SAVE_ROOM = 2 * COLUMNS * ROWS[1], 2 * COLUMNS * ROWS[1] + RAM_BYTES + 260
 
-    def __init__(self, tall=False):
+    def __init__(self, tall: bool = False) -> None:
         self._library, self._lock, self._handle = library(), threading.Lock(), Handle()
         self._do('new')
         if tall:
             self.set_tall()
 
-    def _do(self, name, *arguments):
+    def _do(self, name: str, *arguments: Any) -> None:
         call = getattr(self._library, name)
         with self._lock:
             code = call(self._handle, *arguments)
         check(code, next((it for it in arguments if isinstance(it, Ended)), None))
 
-    def close(self):
-        """Gives the memory back. Every call is refused from then on."""
+    def close(self) -> None:
+        """Frees the memory. Every later call is refused."""
         if hasattr(self, '_handle'):
             with self._lock:
                 self._library.free(self._handle)
 
     __del__ = close
 
-    def __enter__(self):
+    def __enter__(self) -> 'Machine':
         return self
 
-    def __exit__(self, *_):
+    def __exit__(self, *_: object) -> None:
         self.close()
 
-    def __reduce__(self):
+    def __reduce__(self) -> str:
         raise TypeError('a machine is not copied: save() it and load() the snapshot into another')
 
-    def clear(self):
-        """Back to the first state."""
+    def clear(self) -> None:
+        """Sets the first state."""
         self._do('clear')
 
-    def set_tall(self):
-        """1024 rows of video memory in place of 512."""
+    def set_tall(self) -> None:
+        """Extends video memory from 512 to 1024 rows."""
         self._do('set_tall')
 
-    def gp0(self, words):
-        """Words for GP0: a number, numbers, or bytes."""
-        words = words_of(words)
-        self._do('gp0_words', address(words), len(words))
+    def gp0(self, words: Words) -> None:
+        """Feeds words to GP0: a number, numbers, or bytes."""
+        found = words_of(words)
+        self._do('gp0_words', address(found), len(found))
 
-    def gp0_notes(self, words):
-        """The same; answers a Note for each item that they complete, but for the data words of a load."""
-        words = words_of(words)
-        room, written = (RawNote * max(len(words), 1))(), SIZE()
-        self._do('gp0_notes', address(words), len(words), room, len(words), written)
+    def gp0_notes(self, words: Words) -> List[Note]:
+        """Feeds words to GP0. Returns a Note for each item that they complete. Data words of a load have none."""
+        found = words_of(words)
+        room, written = (RawNote * max(len(found), 1))(), SIZE()
+        self._do('gp0_notes', address(found), len(found), room, len(found), written)
         return [note_of(room[k]) for k in range(written.value)]
 
-    def gp1(self, word):
-        """A word for GP1."""
+    def gp1(self, word: SupportsIndex) -> None:
+        """Feeds a word to GP1."""
         self._do('gp1', number(word))
 
-    def _word(self, name):
+    def _word(self, name: str) -> int:
         word = WORD()
         self._do(name, word)
-        return word.value
+        return int(word.value)
 
-    def read(self):
-        """The word that a read of the data port gives."""
+    def read(self) -> int:
+        """Reads the data port. Returns its word."""
         return self._word('read')
 
-    def status(self):
-        """The status word."""
+    def status(self) -> int:
+        """Returns the status word."""
         return self._word('status')
 
-    def skip(self):
-        """A read whose word is dropped."""
+    def skip(self) -> None:
+        """Reads the data port and drops the word."""
         self._do('skip')
 
-    def ram(self, start, words):
-        """Puts words into main memory, from a multiple of 4 on."""
-        start, words = number(start, RAM_BYTES, 'address'), words_of(words)
-        if start % 4 or start + 4 * len(words) > RAM_BYTES:
-            raise ValueError('address %x for %d words' % (start, len(words)))
-        self._do('ram', start, address(words), len(words))
+    def ram(self, start: SupportsIndex, words: Words) -> None:
+        """Writes words to main memory, from byte address `start` on, a multiple of 4."""
+        first, found = number(start, RAM_BYTES, 'address'), words_of(words)
+        if first % 4 or first + 4 * len(found) > RAM_BYTES:
+            raise ValueError('address %x for %d words' % (first, len(found)))
+        self._do('ram', first, address(found), len(found))
 
-    def dma(self, channel, madr, bcr, chcr):
-        """Starts channel 2 or 6, and moves all that there is to move. Raises Refused where it has a fault."""
+    def dma(self, channel: int, madr: SupportsIndex, bcr: SupportsIndex, chcr: SupportsIndex) -> None:
+        """Starts channel 2 or 6 and does the whole transfer. Raises Refused if it has a fault."""
         if channel not in CHANNELS:
             raise ValueError('channel %r' % (channel,))
         self._do('dma', channel, number(madr), number(bcr), number(chcr), Ended())
 
-    def begin(self, madr, bcr, chcr):
+    def begin(self, madr: SupportsIndex, bcr: SupportsIndex, chcr: SupportsIndex) -> None:
         """Starts channel 2; each turn() moves the next piece."""
         self._do('begin', number(madr), number(bcr), number(chcr), Ended())
 
-    def turn(self):
-        """The next piece of what begin() started."""
+    def turn(self) -> None:
+        """Moves the next piece of what begin() started."""
         self._do('turn')
 
-    def _bytes(self, name, most):
+    def _bytes(self, name: str, most: int) -> bytes:
         room, written = ctypes.create_string_buffer(most), SIZE()
         self._do(name, room, most, written)
         return ctypes.string_at(room, written.value)
 
-    def vram(self):
-        """Video memory as bytes: the cells row by row, the low byte of each first."""
+    def vram(self) -> bytes:
+        """Returns video memory as bytes: the cells row by row, the low byte of each first."""
         return self._bytes('vram', self.VRAM_ROOM)
 
-    def vram_array(self):
-        """Video memory as an array of numpy, by row and column. Raises Missing without numpy."""
+    def vram_array(self) -> Any:
+        """Returns video memory as an array of numpy, by row and column. Raises Missing without numpy."""
         try:
-            import numpy
+            import numpy  # type: ignore[import]  # pylint: disable=import-outside-toplevel
         except ImportError:
             raise Missing('vram_array needs numpy') from None
         return numpy.frombuffer(self.vram(), '<u2').reshape(-1, COLUMNS)
 
-    def cell(self, x, y):
-        """One cell of video memory."""
+    def cell(self, x: SupportsIndex, y: SupportsIndex) -> int:
+        """Returns one cell of video memory."""
         cell = ctypes.c_uint16()
         self._do('cell', number(x, COLUMNS - 1, 'column'), number(y, ROWS[1] - 1, 'row'), cell)
-        return cell.value
+        return int(cell.value)
 
-    def shape(self):
-        """Width and height of the shown picture. Raises Refused where it has no pixel."""
+    def shape(self) -> Tuple[int, int]:
+        """Returns width and height of the shown picture. Raises Refused if it has no pixel."""
         width, height = ctypes.c_uint16(), ctypes.c_uint16()
         self._do('shape', width, height)
         return width.value, height.value
 
-    def picture(self):
-        """The shown picture as PPM."""
+    def picture(self) -> bytes:
+        """Returns the shown picture as PPM."""
         width, height = self.shape()
         return self._bytes('picture', 3 * width * height + 32)
 
-    def picture_rgba(self):
-        """The shown picture as four bytes a pixel: red, green, blue, 255."""
+    def picture_rgba(self) -> bytes:
+        """Returns the shown picture as four bytes a pixel: red, green, blue, 255."""
         width, height = self.shape()
         return self._bytes('picture_rgba', 4 * width * height)
 
-    def registers(self):
+    def registers(self) -> Registers:
+        """Returns the registers."""
         words = (WORD * len(Registers._fields))()
         self._do('registers', words, len(words))
         return Registers(*words)
 
-    def save(self):
-        """The machine's state as a Snapshot."""
+    def save(self) -> Snapshot:
+        """Returns the machine's state as a Snapshot."""
         return Snapshot(self._bytes('save', self.SAVE_ROOM))
 
-    def load(self, snapshot):
-        """Becomes the state of a snapshot, or of its bytes. Raises Refused, and stays, where they are none."""
+    def load(self, snapshot: Bytes) -> None:
+        """Sets the state of a snapshot. If it is none, raises Refused and changes nothing."""
         data = bytes_of(snapshot)
         self._do('load', data, len(data), Ended())
 
 
-def play(source, mode='vram', cell=None):
-    """What `psxgpu_tool` writes with this mode of a capture or a snapshot, given as a path or as bytes. `cell` is
-    (x, y), for `pixel`. Raises Refused where the program refuses it; its `output` has what was written before."""
+def play(source: Union[Path, Bytes], mode: str = 'vram', cell: Optional[Tuple[int, int]] = None) -> bytes:
+    """Returns what `psxgpu_tool` writes with this mode of a capture or a snapshot, given as a path or as bytes. `cell` is
+    (x, y), for `pixel`. Raises Refused if the program refuses it; its `output` is what was written before."""
     if mode not in MODES:
         raise ValueError('mode %r is none of: %s' % (mode, ', '.join(MODES)))
     if (cell is not None) != (mode == 'pixel'):

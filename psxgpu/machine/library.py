@@ -1,4 +1,4 @@
-"""The calls of libpsxgpu by ctypes, and what they answer: what `psxgpu.machine` stands on.
+"""The calls of libpsxgpu by ctypes, and their errors: what `psxgpu.machine` is made of.
 
 The library is the file that the environment's PSXGPU_LIB names, else the one beside this file, in the checkout's out/,
 or in the system. It is loaded with the first call.
@@ -6,6 +6,7 @@ or in the system. It is loaded with the first call.
 import ctypes
 import functools
 import os
+from typing import Any, List, Optional
 
 NAME = 'libpsxgpu.so.1'
 NO_PICTURE, NO_ROOM, NO_MEMORY = 10, 11, 13
@@ -32,7 +33,7 @@ WORDS = {
 
 
 class Error(Exception):
-    """What this module raises for what the library answers. The text is the program's line."""
+    """An error of the library. Its text is the program's line."""
 
 
 class Missing(Error):
@@ -44,9 +45,9 @@ class OutOfMemory(Error, MemoryError):
 
 
 class Refused(Error):
-    """The library did not do it, and the machine is as before. `output` has what was due of `play` up to there."""
+    """The library refused a call and left the machine unchanged. `output`: what `play` wrote before the refusal."""
 
-    def __init__(self, code, event=0, place=0, word=0, output=b''):
+    def __init__(self, code: int, event: int = 0, place: int = 0, word: int = 0, output: bytes = b'') -> None:
         text = WORDS.get(code, 'code %d' % code).format(event=event, place=place, word=word)
         super().__init__('psxgpu: ' + text.replace(' at event 0', ''))
         self.code, self.event, self.place, self.word, self.output = code, event, place, word, output
@@ -57,15 +58,18 @@ for error in (Error, Missing, OutOfMemory, Refused):
 
 
 class Handle(ctypes.Structure):
+    """psxgpu_machine of c/psxgpu.h."""
     _fields_ = [('at', ctypes.c_void_p), ('open', ctypes.c_uint32)]
 
 
 class Ended(ctypes.Structure):
+    """psxgpu_ended of c/psxgpu.h."""
     _fields_ = [('written', ctypes.c_size_t), ('event', ctypes.c_uint64), ('place', ctypes.c_uint64),
                 ('word', ctypes.c_uint32), ('code', ctypes.c_uint32)]
 
 
 class RawNote(ctypes.Structure):
+    """psxgpu_note of c/psxgpu.h."""
     _fields_ = [('event', ctypes.c_uint64), ('word', ctypes.c_size_t), ('head', ctypes.c_uint32),
                 ('class_number', ctypes.c_uint16), ('has_area', ctypes.c_uint16)]
     _fields_ += [(name, ctypes.c_int32) for name in ('x1', 'y1', 'x2', 'y2')]
@@ -94,7 +98,7 @@ CALLS = {
 class Library:
     """The loaded library: each call by its name, without `psxgpu_`."""
 
-    def __init__(self, path):
+    def __init__(self, path: str) -> None:
         loaded = ctypes.CDLL(path)
         self.path = path
         for name, kinds in CALLS.items():
@@ -103,12 +107,16 @@ class Library:
                 call.argtypes, call.restype = kinds, None if name == 'free' else WORD
                 setattr(self, name, call)
 
-    def __getattr__(self, name):
+    def has(self, name: str) -> bool:
+        """Returns whether the library has a call."""
+        return name in vars(self)
+
+    def __getattr__(self, name: str) -> Any:
         raise Missing('%s has no psxgpu_%s' % (self.path, name))
 
 
-def places():
-    """Where the library may be; the first that can be loaded is taken."""
+def places() -> List[str]:
+    """Returns where the library may be. The first that can be loaded is used."""
     if os.environ.get('PSXGPU_LIB'):
         return [os.environ['PSXGPU_LIB']]
     package = os.path.dirname(os.path.dirname(os.path.abspath(__file__)))
@@ -116,8 +124,8 @@ def places():
 
 
 @functools.lru_cache(maxsize=None)
-def library():
-    """The library, loaded once. Raises Missing where there is none."""
+def library() -> Library:
+    """Returns the library, loaded once. Raises Missing if there is none."""
     causes = []
     for path in places():
         try:
@@ -127,10 +135,10 @@ def library():
     raise Missing('no libpsxgpu: ' + '; '.join(causes))
 
 
-def check(code, ended=None, output=b''):
-    """Raises what a call's code says, if it is not 0."""
+def check(code: int, ended: Optional[Ended] = None, output: bytes = b'') -> None:
+    """Raises the error of a call's code, if it is not 0."""
     if code == NO_MEMORY:
         raise OutOfMemory('psxgpu: memory')
     if code:
-        told = (ended.event, ended.place, ended.word) if ended else ()
-        raise Refused(code, *told, output=output)
+        event, place, word = (ended.event, ended.place, ended.word) if ended else (0, 0, 0)
+        raise Refused(code, event, place, word, output)

@@ -1,47 +1,50 @@
-"""What `psxgpu.machine` takes and gives: words, bytes, snapshots, registers, notes."""
+"""Arguments and results of `psxgpu.machine`: words, bytes, snapshots, registers, notes."""
 import array
-import collections
 import ctypes
 import operator
 import os
 import struct
+from typing import Iterable, NamedTuple, Optional, SupportsIndex, Tuple, Union
 
-from psxgpu.machine.library import WORD
+from psxgpu.machine.library import WORD, RawNote
 from psxgpu.output import write_whole
 
+Bytes = Union[bytes, bytearray, memoryview]
+Words = Union[SupportsIndex, Iterable[int], Bytes]
+Path = Union[str, 'os.PathLike[str]']
 
-def number(value, most=0xFFFFFFFF, name='word'):
-    """The value, if it is a whole number from 0 on and not too large."""
+
+def number(value: SupportsIndex, most: int = 0xFFFFFFFF, name: str = 'word') -> int:
+    """Returns a whole number. Raises ValueError with `name` if it is not from 0 to `most`."""
     value = operator.index(value)
     if not 0 <= value <= most:
         raise ValueError('%s %d is not in 0 to %d' % (name, value, most))
     return value
 
 
-def words_of(words):
-    """Words of 32 bits side by side: of one number, of numbers, or of bytes, the low byte of each word first."""
+def words_of(words: Words) -> "array.array[int]":
+    """Returns an array of words of 32 bits: of one number, of numbers, or of bytes, the low byte of each word first."""
     if isinstance(words, (bytes, bytearray, memoryview)):
         found = array.array('I')
         found.frombytes(words)    # ValueError where they are no words of four bytes
         return found
-    if hasattr(words, '__index__'):
-        words = [number(words)]
+    numbers = [number(words)] if isinstance(words, SupportsIndex) else words
     try:
-        return array.array('I', words)
+        return array.array('I', numbers)
     except OverflowError:
         raise ValueError('a word is not in 0 to 4294967295') from None
 
 
-def address(words):
-    """Where they lie. The pointer of no words is not null either."""
+def address(words: "array.array[int]") -> int:
+    """Returns the address of words. The one of no words is not null either."""
     return words.buffer_info()[0] or ctypes.addressof(NO_WORDS)
 
 
 NO_WORDS = WORD()
 
 
-def bytes_of(data):
-    """The bytes of what holds bytes."""
+def bytes_of(data: Bytes) -> bytes:
+    """Returns bytes as such."""
     return data if isinstance(data, bytes) else memoryview(data).tobytes()
 
 
@@ -49,37 +52,55 @@ class Snapshot(bytes):
     """A machine's state: the bytes of a file that `psxgpu_tool` plays."""
 
     @classmethod
-    def read(cls, path):
+    def read(cls, path: Path) -> "Snapshot":
+        """Returns the snapshot of a file."""
         with open(path, 'rb') as file:
             return cls(file.read())
 
-    def write(self, path):
+    def write(self, path: Path) -> None:
         """Writes the snapshot to a file, which appears when it is whole."""
         write_whole(os.fspath(path), self)
 
     @property
-    def rows(self):
-        """How many rows video memory has."""
-        return struct.unpack_from('<I', self, 8)[0]
+    def rows(self) -> int:
+        """The rows of video memory: 512 or 1024."""
+        return int(struct.unpack_from('<I', self, 8)[0])
 
     @property
-    def events(self):
-        """How many events were played."""
-        return struct.unpack_from('<Q', self, 12)[0]
+    def events(self) -> int:
+        """The number of events that were played."""
+        return int(struct.unpack_from('<Q', self, 12)[0])
 
 
-Registers = collections.namedtuple('Registers', (
-    'draw_mode texture_window area_start area_end offset mask_setting flags dma_direction display_start '
-    'horizontal_range vertical_range display_mode latch'))
-Registers.__doc__ = """The registers as words: the values of E1h to E6h, flags (bit 0 interrupt, bit 1 display off), and
-what GP1 has set; the latch is what a read of the data port gives."""
+class Registers(NamedTuple):
+    """The registers as words: the values of E1h to E6h, flags (bit 0 interrupt, bit 1 display off), and what GP1 has set.
+    The latch is the word that a read of the data port returns."""
+    draw_mode: int
+    texture_window: int
+    area_start: int
+    area_end: int
+    offset: int
+    mask_setting: int
+    flags: int
+    dma_direction: int
+    display_start: int
+    horizontal_range: int
+    vertical_range: int
+    display_mode: int
+    latch: int
 
-Note = collections.namedtuple('Note', 'event class_number head area word')
-Note.__doc__ = """An item that has taken effect: the event that completed it, its class (docs/CAPTURE.md), its first
-word, the corners (x1, y1, x2, y2) of what it may change, or None, and the place of its last word in the call."""
+
+class Note(NamedTuple):
+    """An item that has taken effect: the event that completed it, its class (docs/CAPTURE.md), its first word, the corners
+    (x1, y1, x2, y2) of the cells that it may change, or None, and the index of its last word in the call."""
+    event: int
+    class_number: int
+    head: int
+    area: Optional[Tuple[int, int, int, int]]
+    word: int
 
 
-def note_of(raw):
-    """A note of the library's as one of Python's."""
+def note_of(raw: RawNote) -> Note:
+    """Returns a note of the library as one of Python."""
     area = (raw.x1, raw.y1, raw.x2, raw.y2) if raw.has_area else None
     return Note(raw.event, raw.class_number, raw.head, area, raw.word)

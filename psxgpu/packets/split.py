@@ -1,4 +1,5 @@
 """Cuts the words of GP0 into packets, as docs/CAPTURE.md has them, and keeps what E1h to E6h set."""
+from typing import Iterator, List, Optional, Sequence, Tuple
 
 FILL, POLYGON, LINE, RECTANGLE, COPY, LOAD, STORE, ENVIRONMENT, NOP, IRQ, FINISH = (
     'fill', 'polygon', 'line', 'rectangle', 'copy', 'load', 'store', 'environment', 'nop', 'irq', 'finish')
@@ -8,12 +9,13 @@ RESETS = (0, 1)         # opcodes of GP1 that end what is unfinished
 # The bits that E1h to E6h keep, in video memory of 512 and of 1024 rows.
 KEPT = {False: (0x37FF, 0xFFFFF, 0x7FFFF, 0x7FFFF, 0x3FFFFF, 3),
         True: (0x3FFF, 0xFFFFF, 0xFFFFF, 0xFFFFF, 0x3FFFFF, 3)}
+Packet = Tuple[str, List[int]]          # name, words
 PAGE = {False: 0x1FF, True: 0x9FF}      # the bits of E1h that a textured polygon sets
 
 
-def name_and_length(word):
-    """The name of the packet that a word begins, as `list` has it, and its words; of a polyline those up to its second
-    vertex."""
+def name_and_length(word: int) -> Tuple[str, int]:
+    """Returns the name of the packet that a word begins, as `list` has it, and the number of its words; of a polyline those up to its
+    second vertex."""
     opcode = word >> 24
     kind = opcode >> 5
     if kind == 0:
@@ -30,45 +32,49 @@ def name_and_length(word):
     return TRANSFERS[kind]
 
 
-def cells_of(size):
-    """The cells of a copy, load or store: a size of 0 stands for the greatest."""
+def cells_of(size: int) -> Tuple[int, int]:
+    """Returns width and height of a copy, load or store in cells: a size of 0 is the greatest."""
     return (((size & 0xFFFF) - 1 & 0x3FF) + 1, ((size >> 16) - 1 & 0x1FF) + 1)
 
 
-def data_words(size):
-    """How many words a transfer of this size has."""
+def data_words(size: int) -> int:
+    """Returns the number of data words of a transfer of this size."""
     w, h = cells_of(size)
     return (w * h + 1) // 2
 
 
 class Splitter:
-    """Takes words as they come. `push` gives the packets that they complete: (name, words, how many words of this push
-    were taken with it). A joint of a polyline is a packet of the command, the colour and vertex that it goes on from,
-    and its own colour and vertex."""
+    """Takes words as they come. A joint of a polyline is a packet of the command, the colour and vertex that it starts
+    from, and its own colour and vertex. `registers`: the values of E1h to E6h; `pixels`: data words that an open load
+    still takes; `changes`: how often a register was set."""
 
-    def __init__(self, is_tall=False):
+    def __init__(self, is_tall: bool = False) -> None:
         self.kept, self.page = dict(zip(range(0xE1, 0xE7), KEPT[is_tall])), PAGE[is_tall]
         self.registers = dict.fromkeys(range(0xE1, 0xE7), 0)
-        self.changes = 0        # how often a register was set
-        self.clear()
+        self.changes = self.wanted = self.command = self.pixels = 0
+        self.words: List[int] = []
+        self.name = ''
+        self.last: Optional[Sequence[int]] = None       # colour and vertex from which an open polyline continues
 
-    def clear(self):
-        """What is unfinished is dropped, as by GP1(00h) and GP1(01h)."""
-        self.words, self.wanted, self.name = [], 0, None
-        self.pixels = 0         # data words that an open load still takes
-        self.last = None        # the words of the last vertex of an open polyline: (colour, vertex)
+    def clear(self) -> None:
+        """Drops what is unfinished, as GP1(00h) and GP1(01h) do."""
+        self.words, self.wanted, self.name = [], 0, ''
+        self.pixels, self.last = 0, None
 
-    def is_idle(self):
+    def is_idle(self) -> bool:
+        """Returns whether the next word begins a packet."""
         return not (self.words or self.pixels or self.last)
 
-    def control(self, word):
+    def control(self, word: int) -> None:
+        """Takes a word for GP1."""
         if word >> 24 & 0x3F in RESETS:
             self.clear()
         if not word >> 24 & 0x3F:
             self.registers = dict.fromkeys(self.registers, 0)
             self.changes += 1
 
-    def push(self, words):
+    def push(self, words: Sequence[int]) -> Iterator[Tuple[str, List[int], int]]:
+        """Returns the packets that `words` complete: name, words, and how many of `words` were taken with it."""
         at, end = 0, len(words)
         while at < end:
             if self.pixels:
@@ -78,7 +84,7 @@ class Splitter:
                 continue
             if self.last:
                 at += 1
-                packet = self.joint(words[at - 1])
+                packet = self.joint(words[at - 1], self.last)
             else:
                 if not self.words:
                     self.name, self.wanted = name_and_length(words[at])
@@ -89,8 +95,8 @@ class Splitter:
             if packet:
                 yield (*packet, at)
 
-    def whole(self):
-        """The packet whose words are all there."""
+    def whole(self) -> Packet:
+        """Returns the packet whose words are all there."""
         words, self.words = self.words, []
         opcode = words[0] >> 24
         if self.name == ENVIRONMENT:
@@ -106,8 +112,8 @@ class Splitter:
             self.command, self.last = words[0], words[-2:] if opcode & SHADED else (words[0], words[-1])
         return self.name, words
 
-    def joint(self, word):
-        """A word behind a vertex of a polyline."""
+    def joint(self, word: int, last: Sequence[int]) -> Optional[Packet]:
+        """Takes a word after the vertex `last` of a polyline. Returns the packet that it completes, if any."""
         is_shaded = self.command >> 24 & SHADED
         if not self.words and word & 0xF000F000 == 0x50005000:
             self.last = None
@@ -115,6 +121,6 @@ class Splitter:
         self.words.append(word)
         if len(self.words) < (2 if is_shaded else 1):
             return None
-        before, self.last = self.last, tuple(self.words) if is_shaded else (self.last[0], word)
+        self.last = tuple(self.words) if is_shaded else (last[0], word)
         self.words = []
-        return LINE, [self.command, *before, *self.last]
+        return LINE, [self.command, *last, *self.last]

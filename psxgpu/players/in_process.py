@@ -1,14 +1,15 @@
 """psxgpu_tool without a process for each run: by libpsxgpu, where it is found."""
 import os
 import shlex
+from typing import Optional, Tuple
 
 from psxgpu import machine
 
 MODES = set(machine.MODES) - {'pixel'}
 
 
-def mode_of(command):
-    """The mode of the shell command `psxgpu_tool MODE`, if the library plays it."""
+def mode_of(command: str) -> Optional[str]:
+    """Returns the mode of the shell command `psxgpu_tool MODE` if the library plays it, else None."""
     try:
         words = shlex.split(command)
     except ValueError:
@@ -17,7 +18,7 @@ def mode_of(command):
     if not words or os.path.basename(words[0]) != 'psxgpu_tool' or mode not in MODES:
         return None
     try:
-        return mode if machine.library().play else None
+        return mode if machine.library().has('play') else None
     except machine.Missing:
         return None
 
@@ -25,10 +26,11 @@ def mode_of(command):
 class Played:
     """Such a run on the capture of a path, in the form of a process: it is played when it is waited for."""
 
-    def __init__(self, command, path):
-        self.mode, self.path, self.returncode = mode_of(command), path, None
+    def __init__(self, mode: str, path: str) -> None:
+        self.mode, self.path, self.returncode = mode, path, 0
 
-    def communicate(self):
+    def communicate(self) -> Tuple[bytes, bytes]:
+        """Plays the capture. Returns what the program writes on standard output and on standard error."""
         try:
             out, err, self.returncode = machine.play(self.path, self.mode), b'', 0
         except machine.Refused as bad:

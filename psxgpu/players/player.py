@@ -1,73 +1,79 @@
-"""Finds psxgpu_tool and runs it: what the tools know of a capture beyond its records, the program says."""
+"""Finds psxgpu_tool and runs it: whatever the tools know of a capture beyond its records is the program's answer."""
+import argparse
 import contextlib
 import os
 import shutil
 import subprocess
 import tempfile
+from typing import IO, Iterator, List, Optional, Union
 
-from psxgpu.command import Trouble
+from psxgpu import progress
+from psxgpu.command import Trouble, pour
 
-BUILT = os.path.join(os.path.dirname(os.path.dirname(os.path.dirname(os.path.abspath(__file__)))), 'crates', 'psxgpu_tool', 'out',
-                     'psxgpu_tool')
+TOP = os.path.dirname(os.path.dirname(os.path.dirname(os.path.abspath(__file__))))
+BUILT = os.path.join(TOP, 'crates', 'psxgpu_tool', 'out', 'psxgpu_tool')
 REFUSED = 2
 
 
-def argument(parser):
+def argument(parser: argparse.ArgumentParser) -> None:
+    """Adds the argument that names psxgpu_tool."""
     parser.add_argument('--player', metavar='PROGRAM',
-                        help='psxgpu_tool; else that of $PLAYER, of the path, or the one that is built here')
+                        help='psxgpu_tool to use (default: that of $PLAYER, of the path, or of the checkout)')
 
 
-def find(given=None):
-    """The path of the program."""
+def find(given: Optional[str] = None) -> str:
+    """Returns the path of the program: `given`, or the one that is found. Raises Trouble if there is none."""
     for path in (given, os.environ.get('PLAYER'), shutil.which('psxgpu_tool'), BUILT):
         if path and os.access(path, os.X_OK) and os.path.isfile(path):
             return path
         if path and path == given:
-            raise Trouble('%s: no program' % given)
+            raise Trouble('%s: not a program' % given)
     raise Trouble('psxgpu_tool is not on the path: build it with `make run`, or name it with --player')
 
 
-def failure(status, err):
-    """What a run that did not end well said."""
+def failure(status: int, err: bytes) -> str:
+    """Returns the first line of a run that did not end with 0."""
     lines = err.decode(errors='replace').splitlines()
-    return lines[0] if lines else 'status %d, without a word' % status
+    return lines[0] if lines else 'status %d, without a message' % status
 
 
 class Run:
-    """One run of the program on a file, or on what another run writes. `out` is what it writes, to be read as it comes;
-    `end` waits for the end, and gives the status."""
+    """One run of the program on a file, or on what another run writes. `out` is what it writes, to be read as it comes.
+    `err`: a file for standard error, which the caller closes."""
 
-    def __init__(self, player, words, source):
-        self.err = tempfile.TemporaryFile()
+    def __init__(self, player: str, words: List[str], source: IO[bytes], err: IO[bytes]) -> None:
+        self.err = err
         try:
-            self.child = subprocess.Popen([player] + words, stdin=source, stdout=subprocess.PIPE, stderr=self.err)
+            self.child = subprocess.Popen([player] + words, stdin=source, stdout=subprocess.PIPE, stderr=err)
         except OSError as error:
-            raise Trouble('%s: %s' % (player, error.strerror))
+            raise Trouble('%s: %s' % (player, error.strerror)) from error
+        assert self.child.stdout is not None
         self.out = self.child.stdout
 
-    def end(self):
+    def end(self) -> int:
+        """Waits for the end. Returns the status."""
         self.out.close()
         return self.child.wait()
 
-    def said(self):
-        """The lines on standard error, after the end."""
+    def said(self) -> bytes:
+        """Returns what is on standard error, after the end."""
         self.err.seek(0)
         return self.err.read()
 
-    def expect_whole(self):
-        """Trouble where the run did not end with 0."""
+    def expect_whole(self) -> None:
+        """Waits for the end. Raises Trouble if the status is not 0."""
         status = self.end()
         if status:
             raise Trouble(failure(status, self.said()))
 
 
 @contextlib.contextmanager
-def playing(player, words, source):
-    """A run that is ended with the block. source: a path, or a file."""
+def playing(player: str, words: List[str], source: Union[str, IO[bytes]]) -> Iterator[Run]:
+    """A run that ends with the block. `source`: a path, or a file."""
     with contextlib.ExitStack() as stack:
-        if isinstance(source, str):
-            source = stack.enter_context(open(source, 'rb'))
-        run = Run(player, words, source)
+        file = stack.enter_context(open(source, 'rb')) if isinstance(source, str) else source
+        stack.enter_context(progress.following(file, source if isinstance(source, str) else 'psxgpu_tool'))
+        run = Run(player, words, file, stack.enter_context(tempfile.TemporaryFile()))
         try:
             yield run
         finally:
@@ -75,17 +81,17 @@ def playing(player, words, source):
             if run.child.poll() is None:
                 run.child.terminate()
             run.child.wait()
-            run.err.close()
 
 
-def answer(player, words, path):
-    """What a short run writes."""
-    with open(path, 'rb') as source:
-        return subprocess.run([player] + words, stdin=source, stdout=subprocess.PIPE, stderr=subprocess.DEVNULL).stdout
+def answer(player: str, words: List[str], path: str) -> bytes:
+    """Returns what a run writes on standard output. Its status does not matter."""
+    with playing(player, words, path) as run:
+        return run.out.read()
 
 
-def refusal(player, path):
-    """The line with which the program refuses a capture; empty where it plays it."""
-    with open(path, 'rb') as source:
-        done = subprocess.run([player, 'play'], stdin=source, stdout=subprocess.DEVNULL, stderr=subprocess.PIPE)
-    return failure(done.returncode, done.stderr) if done.returncode else ''
+def refusal(player: str, path: str) -> str:
+    """Returns the line with which the program refuses a capture; empty if it plays it."""
+    with open(os.devnull, 'wb') as nothing, playing(player, ['play'], path) as run:
+        pour(run.out, nothing)
+        status = run.end()
+        return failure(status, run.said()) if status else ''

@@ -1,36 +1,40 @@
-"""Looks into a capture: behind its packets what they drew is read, and loaded. For audit.py."""
+"""Looks into a capture: after its packets, what they drew is read and loaded. `psxgpu.players.audit` compares it."""
 import array
-import collections
-import struct
+import io
+from typing import Dict, Iterator, List, NamedTuple, Optional, Sequence, Tuple
 
-from psxgpu.capture import GP0, GP1, READ, SKIP, STAT, records
 from psxgpu.command import Trouble
+from psxgpu.stream import GP0, GP1, READ, SKIP, STAT, Stream
 
 HEAD, END = b'PSXGPUC1', bytes(4)
 AROUND = 2  # cells around an area that are looked at, too
 DRAWN = ('polygon', 'line', 'polyline', 'rectangle')
-Target = collections.namedtuple('Target', 'event name word box cells mask')
+Box = Tuple[int, int, int, int]     # left, top, right and bottom cell
 
 
-class Bad(Trouble):
-    """What is wrong with the capture or a player, for the user."""
+class Target(NamedTuple):
+    """A packet that can be judged: the cells that are looked at, how many it draws, and the mask setting after it."""
+    event: int
+    name: str
+    word: int
+    box: Box
+    cells: int
+    mask: int
 
 
-class Stream:
-    """A flat capture with a record for each event: `ends[n]` is the place behind event n, `lines[n]` how many lines
-    `play` has written by then."""
+class Events:
+    """A flat capture with a record for each event: `ends[n]` is the place after event n in words, `lines[n]` how many
+    lines `play` has written by then."""
 
-    def __init__(self, data):
-        try:
-            version, found = records(data)
-        except struct.error:
-            raise Bad('a capture that ends too early')
-        if version == 3:
-            raise Bad('a capture of the tall profile, which version 1 does not have')
+    def __init__(self, data: bytes, name: str = 'capture') -> None:
+        self.name = name
+        found = Stream(io.BytesIO(data), name)
+        if found.version == 3:
+            raise Trouble('%s: a capture of the tall profile, which version 1 does not have' % name)
         self.stream, self.kinds, self.ends, self.lines = array.array('I'), [0], [0], [0]
         for kind, count, words in found:
             if kind not in (GP0, GP1, READ, STAT, SKIP):
-                raise Bad('not flat: `psxgpu_tool flat` makes it so')
+                raise Trouble('%s: not flat: `psxgpu_tool flat` makes it so' % name)
             for k in range(count):
                 kind = READ if kind == SKIP else kind
                 self.stream.append(kind << 24 | 1)
@@ -40,12 +44,12 @@ class Stream:
                 self.ends.append(len(self.stream))
                 self.lines.append(self.lines[-1] + (kind in (READ, STAT)))
 
-    def clears(self, event):
-        """Is it a control word that ends what is open?"""
+    def clears(self, event: int) -> bool:
+        """Returns whether an event is a control word that drops what is unfinished."""
         return self.kinds[event] == GP1 and self.stream[self.ends[event] - 1] >> 24 & 0x3F < 2
 
-    def after(self, event, kind, count):
-        """The event that is the count-th of this kind behind an event; None where it does not come."""
+    def after(self, event: int, kind: int, count: int) -> Optional[int]:
+        """Returns the event that is the count-th of this kind after `event`, or None if there is none."""
         while count:
             event += 1
             if event == len(self.kinds) or self.clears(event):
@@ -54,18 +58,20 @@ class Stream:
         return event
 
 
-def joined(one, other):
+def joined(one: Optional[Box], other: Optional[Box]) -> Optional[Box]:
+    """Returns the box around two boxes."""
     if not one or not other:
         return one or other
-    return [min(one[0], other[0]), min(one[1], other[1]), max(one[2], other[2]), max(one[3], other[3])]
+    return min(one[0], other[0]), min(one[1], other[1]), max(one[2], other[2]), max(one[3], other[3])
 
 
-def packets(listing):
-    """(event, name, word, box, mask) of each packet; the segments of a polyline are one."""
-    mask, line_word, line_box = 0, 0, None
+def packets(listing: bytes) -> Iterator[Tuple[int, str, int, Optional[Box], int]]:
+    """Returns event, name, word, box and mask setting of each packet of a listing. A polyline is one packet."""
+    mask, line_word = 0, 0
+    line_box: Optional[Box] = None
     for line in listing.decode().splitlines():
-        event, name, word, *area = line.split()
-        event, word, box = int(event), int(word, 16), None if area == ['-'] else [int(number) for number in area]
+        number, name, first, *area = line.split()
+        event, word, box = int(number), int(first, 16), area_of(area)
         if name == 'line' and word >> 27 & 1:
             line_word, line_box = word, joined(line_box, box)
             continue
@@ -76,16 +82,25 @@ def packets(listing):
         yield event, name, word, box, mask
 
 
-def seen_box(name, box):
-    """The cells that are looked at: an even number in a row."""
+def area_of(words: Sequence[str]) -> Optional[Box]:
+    """Returns the area of a packet in a listing, or None if it has none."""
+    if len(words) != 4:
+        return None
+    x1, y1, x2, y2 = map(int, words)
+    return x1, y1, x2, y2
+
+
+def seen_box(name: str, box: Box) -> Box:
+    """Returns the cells that are looked at: an even number in a row."""
     around = AROUND if name in DRAWN else 0
     return (max(box[0] - around, 0) & ~1, max(box[1] - around, 0), min(box[2] + around, 1023) | 1,
             min(box[3] + around, 511))
 
 
-def targets(stream, listing):
-    """The packets that can be judged, by the event behind which that is done. None are in the midst of a store."""
-    out, busy = {}, 0
+def targets(stream: Events, listing: bytes) -> Dict[int, Target]:
+    """Returns the packets that can be judged, by the event after which that is done. None is in the midst of a store."""
+    out: Dict[int, Target] = {}
+    busy = 0
     for event, name, word, box, mask in packets(listing):
         if name == 'store' and box:
             cells = (box[2] - box[0] + 1) * (box[3] - box[1] + 1)
@@ -99,20 +114,21 @@ def targets(stream, listing):
     return out
 
 
-def size(box):
+def size(box: Box) -> int:
+    """Returns the number of cells of a box."""
     return (box[2] - box[0] + 1) * (box[3] - box[1] + 1)
 
 
-def load(box, words, mask):
-    """The record that loads words into a box, whatever the mask setting is."""
+def load(box: Box, words: "array.array[int]", mask: int) -> "array.array[int]":
+    """Returns the record that loads words into a box, whatever the mask setting is."""
     x1, y1, x2, y2 = box
     corner, extent = y1 << 16 | x1, (y2 - y1 + 1) << 16 | x2 - x1 + 1
     head = [GP0 << 24 | len(words) + 5, 0xE6000000, 0xA0000000, corner, extent]
     return array.array('I', head) + words + array.array('I', [0xE6000000 | mask])
 
 
-def whole(dump, mask):
-    """Loads of all of video memory, in four parts, since not every player takes one of 1024 by 512."""
+def whole(dump: bytes, mask: int) -> "array.array[int]":
+    """Returns loads of all of video memory, in four parts, since not every player takes one of 1024 by 512."""
     words, out = array.array('I', dump), array.array('I')
     for left, top in ((0, 0), (512, 0), (0, 256), (512, 256)):
         part = array.array('I')
@@ -122,10 +138,13 @@ def whole(dump, mask):
     return out
 
 
-def probed(stream, found, group, before, ours=None):
-    """The capture with a store behind each target, and a load of what OURS drew where that is known. `before` is an
-    event from which on all is judged, and the loads that bring video memory to what OURS has then."""
-    out, places, lines, at = stream.stream[:stream.ends[before[0]]] + before[1], {}, 0, stream.ends[before[0]]
+def probed(stream: Events, found: Dict[int, Target], group: List[int], before: Tuple[int, "array.array[int]"],
+           ours: Optional[Dict[int, "array.array[int]"]] = None) -> Tuple[bytes, Dict[int, Tuple[int, int]]]:
+    """Returns the capture with a store after each target, and a load of what OURS drew if that is known; and for each
+    target the line and the number of its words in what `play` writes. `before` is an event from which on all is judged,
+    and the loads that bring video memory to what OURS has then."""
+    out, lines, at = stream.stream[:stream.ends[before[0]]] + before[1], 0, stream.ends[before[0]]
+    places: Dict[int, Tuple[int, int]] = {}
     for event in group:
         target = found[event]
         x1, y1, x2, y2 = target.box

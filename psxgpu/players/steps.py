@@ -1,4 +1,4 @@
-"""A flat capture as a file of steps, behind each of which it can be cut: a step is a packet, the data words that stand
+"""A flat capture as a file of steps, after each of which it can be cut: a step is a packet, the data words that are
 together in a load, or a record of another kind."""
 import contextlib
 import io
@@ -6,11 +6,13 @@ import os
 import tempfile
 from array import array
 from dataclasses import dataclass
+from typing import IO, Iterator, List, Optional, Sequence, Tuple
 
-from psxgpu.players import player
 from psxgpu.command import pour
+from psxgpu.packets.fields import Registers
 from psxgpu.packets.split import FINISH, LINE, POLYLINE, Splitter
-from psxgpu.stream import GP0, GP1, HEADS, READ, SKIP, Stream, encode
+from psxgpu.players import player
+from psxgpu.stream import GP0, GP1, HEADS, READ, SKIP, Record, Stream, encode
 
 HEAD = 8
 
@@ -18,29 +20,31 @@ HEAD = 8
 @dataclass
 class Step:
     """`name` is that of a packet, `pixels` for data words, and None for what is neither; `lines`, how many lines `list`
-    has for it; `registers` are those behind it."""
-    name: str
-    words: list
-    registers: dict
+    has for it; `registers` are those after it."""
+    name: Optional[str]
+    words: Sequence[int]
+    registers: Registers
     lines: int = 0
     kind: int = GP0
     count: int = 1
 
-    def record(self):
+    def record(self) -> bytes:
+        """Returns the step as a record."""
         return encode(self.kind, len(self.words) if self.kind == GP0 else self.count, self.words)
 
 
 class Cutter:
     """Cuts the records of a flat capture into steps. A polyline is one step, its end word the last of its words. A
-    packet whose words are apart, with other events between, comes as it stands: what was there before, without a name,
-    and its rest."""
+    packet with other events between its words becomes several steps: what was there before, without a name, and its
+    rest."""
 
-    def __init__(self, is_tall):
+    def __init__(self, is_tall: bool) -> None:
         self.splitter = Splitter(is_tall)
-        self.held, self.lines, self.is_apart = [], 0, False
+        self.held: List[int] = []
+        self.lines, self.is_apart = 0, False
 
-    def words(self, words):
-        """The steps of words for GP0; those of a packet that is not whole are held."""
+    def words(self, words: Sequence[int]) -> Iterator[Step]:
+        """Returns the steps of words for GP0; those of a packet that is not whole are held."""
         begin = 0
         if self.splitter.pixels:
             begin = min(self.splitter.pixels, len(words))
@@ -57,20 +61,21 @@ class Cutter:
                     yield Step('pixels', words[end:begin], self.splitter.registers)
         self.held.extend(words[begin:])
 
-    def whole(self, name):
-        name = None if self.is_apart else LINE if name == FINISH else name
-        step = Step(name, self.held, self.splitter.registers, self.lines)
+    def whole(self, name: str) -> Step:
+        """Returns the step of a packet, from the words that are held."""
+        step = Step(None if self.is_apart else LINE if name == FINISH else name, self.held, self.splitter.registers, self.lines)
         self.held, self.lines, self.is_apart = [], 0, False
         return step
 
-    def rest(self):
-        """What is held, where another event comes before the packet is whole."""
+    def rest(self) -> Iterator[Step]:
+        """Returns what is held, if another event comes before the packet is whole."""
         if self.held:
             step = Step(None, self.held, self.splitter.registers, self.lines)
             self.held, self.lines, self.is_apart = [], 0, True
             yield step
 
-    def steps(self, stream):
+    def steps(self, stream: Stream) -> Iterator[Step]:
+        """Returns the steps of a flat capture."""
         for kind, count, words in stream:
             if kind == GP0:
                 yield from self.words(words)
@@ -84,17 +89,18 @@ class Cutter:
 
 
 class Prefixes:
-    """A file that can be made to end behind a step. ends: the places behind the steps from `first` on."""
+    """A file that can be made to end after a step. `ends`: the byte offsets after the steps from `first` on."""
 
-    def __init__(self, file, ends, first=0):
+    def __init__(self, file: "tempfile._TemporaryFileWrapper[bytes]", ends: Sequence[int], first: int = 0) -> None:
         self.file, self.ends, self.first = file, ends, first
 
-    def place(self, k):
+    def place(self, k: int) -> int:
+        """Returns the byte offset after step k."""
         return self.ends[k - self.first]
 
     @contextlib.contextmanager
-    def cut(self, k):
-        """The path of the file, which ends behind step k within the block."""
+    def cut(self, k: int) -> Iterator[str]:
+        """The path of the file, which ends after step k within the block."""
         self.file.seek(self.place(k))
         kept = self.file.read(4)
         self.put(k, bytes(4))
@@ -103,26 +109,29 @@ class Prefixes:
         finally:
             self.put(k, kept)
 
-    def put(self, k, data):
+    def put(self, k: int, data: bytes) -> None:
+        """Writes bytes after step k."""
         self.file.seek(self.place(k))
         self.file.write(data)
         self.file.flush()
 
 
 class Steps:
-    """The file of steps. `ends` has the place behind each, `lines` how many lines `list` has up to it, `events` how
-    many events, `states` the registers behind it as a number of `registers`. Its version is 1, in tall video memory
+    """The file of steps, which is removed at the end of a `with`. `ends`: the byte offset after each; `lines`: how many lines `list` has up to it; `events`: how
+    many events; `states`: the registers after it as an index of `registers`. Its version is 1, in tall video memory
     3."""
 
-    def __init__(self, file, is_tall):
+    def __init__(self, file: "tempfile._TemporaryFileWrapper[bytes]", is_tall: bool) -> None:
         self.file, self.is_tall = file, is_tall
         self.ends, self.lines, self.events, self.states = (array('Q', [first]) for first in (HEAD, 0, 0, 0))
-        self.registers, self.changes = [(0,) * 6], 0
+        self.registers: List[Tuple[int, ...]] = [(0,) * 6]
+        self.changes = self.count = 0
         self.prefixes = Prefixes(file, self.ends)
+        self.later: List[IO[bytes]] = []        # files that begin at a later step
         file.write(HEADS[3 if is_tall else 1])
 
-    def add(self, step, data, changes):
-        """changes: how often registers were set up to this step."""
+    def add(self, step: Step, data: bytes, changes: int) -> None:
+        """Adds a step. `changes`: how often registers were set up to this step."""
         self.file.write(data)
         if changes != self.changes:
             self.changes = changes
@@ -132,23 +141,33 @@ class Steps:
         self.events.append(self.events[-1] + (len(step.words) if step.kind == GP0 else step.count))
         self.states.append(len(self.registers) - 1)
 
-    def close(self):
+    def __enter__(self) -> 'Steps':
+        return self
+
+    def __exit__(self, *_: object) -> None:
+        for file in (self.file, *self.later):
+            file.close()
+
+    def close(self) -> None:
+        """Ends the file."""
         self.file.write(bytes(4))
         self.file.flush()
         self.count = len(self.ends) - 1
 
-    def registers_behind(self, k):
+    def registers_behind(self, k: int) -> Registers:
+        """Returns the registers after step k."""
         return dict(zip(range(0xE1, 0xE7), self.registers[self.states[k]]))
 
-    def record(self, k):
-        """Step k, from 1: its kind, count and words."""
+    def record(self, k: int) -> Record:
+        """Returns step k, from 1: its kind, count and words."""
         self.file.seek(self.ends[k - 1])
         data = self.file.read(self.ends[k] - self.ends[k - 1])
         return next(iter(Stream(io.BytesIO(HEADS[3] + data), 'step %d' % k, exact=True)))
 
-    def ahead(self, program, low, high):
-        """The steps behind `low` up to `high`, behind a snapshot of the state that psxgpu_tool has there."""
-        file = tempfile.NamedTemporaryFile(prefix='psxgpu')
+    def ahead(self, program: str, low: int, high: int) -> Prefixes:
+        """Returns the steps after `low` up to `high`, after a snapshot of the state that psxgpu_tool has there."""
+        file = tempfile.NamedTemporaryFile(prefix='psxgpu')     # pylint: disable=consider-using-with
+        self.later.append(file)
         with self.prefixes.cut(low) as path, player.playing(program, ['cut', str(self.events[low])], path) as run:
             pour(run.out, file)
             run.expect_whole()

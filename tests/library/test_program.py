@@ -11,7 +11,7 @@ from psxgpu.players import in_process  # noqa: E402
 from tests.library import support as program
 import psxgpu  # noqa: E402
 from psxgpu.capture import BEGIN, DMA, GP0, GP1, RAM, READ, SKIP, STAT, TURN, records  # noqa: E402
-from psxgpu.commands.packets import class_name  # noqa: E402
+from psxgpu.packets.control import class_name  # noqa: E402
 
 COMMANDS = [mode for mode in psxgpu.MODES if mode != 'pixel'] + ['pixel 20 30', 'pixel 1023 511']
 

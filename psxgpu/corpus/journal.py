@@ -1,62 +1,25 @@
-"""Plays the captures of a folder on all processors, and keeps what is done in a file, so that a run can go on."""
+"""Plays the captures of a folder on all processors, and keeps what is done in a file, so that a run can be resumed."""
 import concurrent.futures
 import contextlib
-import fnmatch
 import os
 import sys
 import time
-from dataclasses import dataclass
+from typing import IO, Dict, Iterator, Optional, Sequence, Set
 
 from psxgpu.command import Trouble, named, reason_of
-from psxgpu.corpus.file import Sums, open_text, read_sums, write_text
-from psxgpu.corpus.play import size_and_sum
+from psxgpu.corpus.captures import Capture
+from psxgpu.corpus.sums import Row, Sums, open_text, read_sums, write_text
+from psxgpu.corpus.play import Player, size_and_sum
 
-NAMES = ('*.capture', '*.snapshot', '*.cap')
 WEIGHT = 20000          # what starting a player costs, in bytes of a capture
 AHEAD = 4               # captures that wait, for each one that is played
 QUIET = 30              # seconds between two lines where progress is no terminal
 
 
-@dataclass(frozen=True)
-class Capture:
-    name: str
-    path: str
-    size: int
-
-
-def captures_of(places, names=NAMES):
-    """The captures of folders, by name: the path below the folder. A place that is a file has its path as name."""
-    found = {}
-    for place in places:
-        for name, path in files_of(place, names):
-            name = name.replace(os.sep, '/')
-            if name in found:
-                raise Trouble('two captures of the name %s: %s and %s' % (name, found[name].path, path))
-            if '\n' in name:
-                raise Trouble('%r: a name of two lines cannot stand in a file of sums' % path)
-            found[name] = Capture(name, path, os.path.getsize(path))
-    if not found:
-        raise Trouble('%s: no capture (%s)' % (' '.join(places), ' '.join(names)))
-    return [found[name] for name in sorted(found)]
-
-
-def files_of(place, names):
-    if not os.path.isdir(place):
-        os.stat(place)
-        yield os.path.normpath(place), place
-        return
-    for folder, folders, files in os.walk(place):
-        folders.sort()
-        for file in sorted(files):
-            if any(fnmatch.fnmatch(file, name) for name in names):
-                path = os.path.join(folder, file)
-                yield os.path.relpath(path, place), path
-
-
 class Progress:
     """A bar on a terminal, elsewhere a line from time to time."""
 
-    def __init__(self, captures, rows, file=None):
+    def __init__(self, captures: Sequence[Capture], rows: Dict[str, Row], file: Optional[IO[str]] = None) -> None:
         self.file = file or sys.stderr
         self.is_terminal = self.file.isatty()
         self.count, self.done, self.odd = len(captures), len(rows), 0
@@ -64,7 +27,8 @@ class Progress:
         self.todo = self.whole = sum(self.left.values())
         self.start = self.told = time.monotonic()
 
-    def row(self, row):
+    def row(self, row: Row) -> None:
+        """Takes a row that was played."""
         self.done += 1
         self.odd += row.end != 'played'
         self.whole -= self.left.pop(row.name)
@@ -73,7 +37,8 @@ class Progress:
             self.told = now
             self.tell(now - self.start)
 
-    def tell(self, seconds):
+    def tell(self, seconds: float) -> None:
+        """Writes how far it is after so many seconds."""
         left = seconds * self.whole / max(1, self.todo - self.whole)
         text = '%d of %d, %d not played, %d:%02d left' % (self.done, self.count, self.odd, left // 60, left % 60)
         if self.is_terminal:
@@ -90,7 +55,7 @@ class Journal:
     """The file to which each row is added as soon as it is known. What it has already stays, and so do rows that were
     played elsewhere, where the player and the captures are those of then."""
 
-    def __init__(self, path, player, captures, elsewhere=None):
+    def __init__(self, path: str, player: Player, captures: Sequence[Capture], elsewhere: Optional[str] = None) -> None:
         self.path = path
         self.sums = Sums(player.identity(), player.gives)
         if elsewhere:
@@ -99,32 +64,34 @@ class Journal:
                 raise Trouble('%s: played by %s for %s; here is %s for %s'
                               % (elsewhere, kept.player, ' '.join(kept.gives), self.sums.player,
                                  ' '.join(player.gives)))
-            self.go_on(kept, captures)
+            self.keep(kept, captures)
         if os.path.exists(path):
-            self.go_on(read_sums(path, is_whole=False), captures)
+            self.keep(read_sums(path, is_whole=False), captures)
         write_text(path, self.sums.text())
 
-    def go_on(self, kept, captures):
+    def keep(self, kept: Sums, captures: Sequence[Capture]) -> None:
+        """Keeps the rows of an earlier run of the same player on the same captures."""
         if (kept.player, kept.gives) == (self.sums.player, self.sums.gives):
             for it in captures:
                 row = kept.rows.get(it.name)
                 if row and size_and_sum(it.path) == (row.size, row.sum):
                     self.sums.rows[it.name] = row
 
-    def add(self, row):
+    def add(self, row: Row) -> None:
+        """Adds a row to the file."""
         try:
             with open_text(self.path, 'a') as file:
                 file.write(row.block())
         except OSError as error:
-            raise named(error, self.path)
+            raise named(error, self.path) from None
         self.sums.rows[row.name] = row
 
 
-def play_all(player, captures, jobs):
-    """Plays captures, several at a time; gives each row when it is known."""
+def play_all(player: Player, captures: Sequence[Capture], jobs: int) -> Iterator[Row]:
+    """Plays captures, several at a time. Returns each row when it is known."""
     waiting = iter(captures)
     with concurrent.futures.ThreadPoolExecutor(jobs) as pool:
-        running = set()
+        running: Set["concurrent.futures.Future[Row]"] = set()
         try:
             while True:
                 for capture in waiting:
@@ -141,8 +108,8 @@ def play_all(player, captures, jobs):
                 it.cancel()
 
 
-def play_into(path, player, captures, jobs, elsewhere=None):
-    """Plays what the file beside `path` has not yet, and adds it there; then the file is `path`. Answers the sums."""
+def play_into(path: str, player: Player, captures: Sequence[Capture], jobs: int, elsewhere: Optional[str] = None) -> Sums:
+    """Plays what the file beside `path` does not have yet, and adds it there; then the file is `path`. Returns the sums."""
     journal = Journal(path + '.part', player, captures, elsewhere)
     rows = journal.sums.rows
     if rows:
@@ -159,5 +126,5 @@ def play_into(path, player, captures, jobs, elsewhere=None):
     except (OSError, KeyboardInterrupt) as error:
         text = 'interrupted' if isinstance(error, KeyboardInterrupt) else reason_of(error)
         raise Trouble('%s; %d of %d captures are kept in %s: run it again to go on'
-                      % (text, len(rows), len(captures), journal.path))
+                      % (text, len(rows), len(captures), journal.path)) from error
     return journal.sums

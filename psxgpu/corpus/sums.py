@@ -10,16 +10,16 @@
     words 3 09ab..(64 digits)
     end played
 
-Lines of text, each a word that says what it is and then its values. `gives` has what was asked for, `marks` in place
-of `frames` where frames end at a recorder's marks. Behind the head stands a block for each capture, in the order of
-the names, and each block ends with an empty line. `capture` has the file's bytes, its SHA-256 and its name below the
+Lines of text, each a keyword and its values. `gives` is what was asked for, with `marks` instead of `frames` if frames
+end at a recorder's marks. After the head there is a block for each capture, in the order of the names. Each block ends
+with an empty line. `capture` has the file's bytes, its SHA-256 and its name below the
 folder; `frame` the event, width, height and SHA-256 of a picture, and the first 16 digits of the SHA-256 of the lines
 read up to it (`-` where none was read or asked for); `vram` the SHA-256 of video memory after the end; `words` how
 many lines were read, and their SHA-256. `end` is `played`, `refused STATUS LINE`, `fails STATUS LINE`, `hangs
 SECONDS` or `crashes SIGNAL`. What the player does not give has no line.
 """
 from dataclasses import dataclass, field
-from typing import List, Optional, Tuple
+from typing import IO, Dict, List, Optional, Tuple
 
 from psxgpu.command import Trouble, named, write_whole
 
@@ -29,19 +29,21 @@ HEAD = 'psxgpu-corpus'
 
 @dataclass
 class Frame:
+    """A picture: the event after which it is shown, its size, its sum, and the sum of the lines read up to it."""
     event: int
     width: int
     height: int
     picture: str
     words: str = '-'
 
-    def line(self):
+    def line(self) -> str:
+        """Returns the line of the file."""
         return 'frame %d %d %d %s %s' % (self.event, self.width, self.height, self.picture, self.words)
 
 
 @dataclass
 class Row:
-    """What a player gave for one capture."""
+    """What a player wrote for one capture."""
     name: str
     size: int
     sum: str
@@ -51,7 +53,8 @@ class Row:
     end: str = 'played'
     seconds: float = 0.0
 
-    def block(self):
+    def block(self) -> str:
+        """Returns the lines of the file."""
         lines = ['capture %d %s %s' % (self.size, self.sum, self.name)]
         lines += [frame.line() for frame in self.frames]
         if self.vram:
@@ -60,8 +63,8 @@ class Row:
             lines.append('words %d %s' % self.words)
         return '\n'.join(lines + ['end ' + self.end, '', ''])
 
-    def take(self, kind, value):
-        """Takes a line behind the first one. ValueError where it is none."""
+    def take(self, kind: str, value: str) -> None:
+        """Adds a line after the first one. Raises ValueError if it is none."""
         if kind == 'frame':
             event, width, height, picture, words = value.split(' ')
             self.frames.append(Frame(int(event), int(width), int(height), picture, words))
@@ -81,37 +84,41 @@ class Sums:
     """A file of sums: who played, what was asked of it, and the rows by name."""
     player: str
     gives: Tuple[str, ...]
-    rows: dict = field(default_factory=dict)
+    rows: Dict[str, Row] = field(default_factory=dict)
 
-    def head(self):
+    def head(self) -> str:
+        """Returns the first lines of the file."""
         return '%s %d\nplayer %s\ngives %s\n\n' % (HEAD, VERSION, self.player, ' '.join(self.gives))
 
-    def text(self):
+    def text(self) -> str:
+        """Returns the file."""
         return self.head() + ''.join(self.rows[name].block() for name in sorted(self.rows))
 
 
-def open_text(path, mode='r'):
+def open_text(path: str, mode: str = 'r') -> IO[str]:
     """Opens a file of sums. Names of files need not be UTF-8: such bytes come through unchanged."""
     return open(path, mode, encoding='utf-8', errors='surrogateescape', newline='\n')
 
 
-def write_text(path, text):
+def write_text(path: str, text: str) -> None:
     """Writes a text so that the file that was there stays until the new one is whole."""
     write_whole(path, text.encode('utf-8', 'surrogateescape'), is_text=True)
 
 
-def first_row(line, value):
+def first_row(line: str, value: str) -> Row:
+    """Returns the row that a line begins. Raises ValueError if it begins none."""
     if line != 'capture':
         raise ValueError(line)
     size, total, name = value.split(' ', 2)
     return Row(name, int(size), total, end='')
 
 
-def read_head(lines, path):
+def read_head(lines: List[str], path: str) -> Sums:
+    """Returns the sums of a file without its rows. Raises Trouble if its head is not that of this version."""
     wanted = (HEAD, 'player', 'gives')
     found = [line.rstrip('\n').partition(' ') for line in lines[:3]]
     if not found or found[0][0] != HEAD:
-        raise Trouble('%s: no file of sums: its first line is not `%s %d`' % (path, HEAD, VERSION))
+        raise Trouble('%s: not a file of sums: its first line is not `%s %d`' % (path, HEAD, VERSION))
     if found[0][2] != str(VERSION):
         raise Trouble('%s:1: version %s; this tool knows version %d' % (path, found[0][2], VERSION))
     if tuple(kind for kind, _, _ in found) != wanted or lines[3:4] != ['\n']:
@@ -119,21 +126,23 @@ def read_head(lines, path):
     return Sums(found[1][2], tuple(found[2][2].split()))
 
 
-def read_lines(path, is_whole):
+def read_lines(path: str, is_whole: bool) -> List[str]:
+    """Returns the lines of a file. If it may be cut, a last line without its end is left out."""
     try:
         with open_text(path) as file:
             lines = file.readlines()
     except OSError as error:
-        raise named(error, path)
+        raise named(error, path) from None
     if not is_whole and lines and not lines[-1].endswith('\n'):
         lines.pop()
     return lines
 
 
-def read_sums(path, is_whole=True):
+def read_sums(path: str, is_whole: bool = True) -> Sums:
     """Reads a file of sums. One that is being written may end inside a block, which is then left out."""
     lines = read_lines(path, is_whole)
-    sums, row, ended = read_head(lines, path), None, 4
+    sums, ended, at = read_head(lines, path), 4, 4
+    row: Optional[Row] = None
     for at, line in enumerate(lines[4:], 5):
         kind, _, value = line.rstrip('\n').partition(' ')
         try:
@@ -145,8 +154,8 @@ def read_sums(path, is_whole=True):
                 sums.rows[row.name], row, ended = row, None, at
             else:
                 break
-        except ValueError:
-            raise Trouble('%s:%d: not a line of a file of sums: %s' % (path, at, line.rstrip('\n')[:60]))
+        except ValueError as error:
+            raise Trouble('%s:%d: not a line of a file of sums: %s' % (path, at, line.rstrip('\n')[:60])) from error
     if row and row.name in sums.rows:
         raise Trouble('%s:%d: a second capture of the name %s' % (path, at, row.name))
     if is_whole and ended != len(lines):

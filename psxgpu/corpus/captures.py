@@ -1,0 +1,47 @@
+"""The captures of folders, by their names below them."""
+import fnmatch
+import os
+from dataclasses import dataclass
+from typing import Dict, Iterable, Iterator, List, Sequence, Tuple
+
+from psxgpu.command import Trouble
+
+NAMES = ('*.capture', '*.snapshot', '*.cap')
+
+
+@dataclass(frozen=True)
+class Capture:
+    """A capture of a folder: its name below the folder, its path and its bytes."""
+    name: str
+    path: str
+    size: int
+
+
+def captures_of(places: Iterable[str], names: Sequence[str] = NAMES) -> List[Capture]:
+    """Returns the captures of folders, by name: the path below the folder. A place that is a file has its path as name."""
+    found: Dict[str, Capture] = {}
+    for place in places:
+        for name, path in files_of(place, names):
+            name = name.replace(os.sep, '/')
+            if name in found:
+                raise Trouble('two captures of the name %s: %s and %s' % (name, found[name].path, path))
+            if '\n' in name:
+                raise Trouble('%r: a file of sums cannot have a name of two lines' % path)
+            found[name] = Capture(name, path, os.path.getsize(path))
+    if not found:
+        raise Trouble('%s: no capture (%s)' % (' '.join(places), ' '.join(names)))
+    return [found[name] for name in sorted(found)]
+
+
+def files_of(place: str, names: Sequence[str]) -> Iterator[Tuple[str, str]]:
+    """Returns names and paths of the files of a folder, or those of a file."""
+    if not os.path.isdir(place):
+        os.stat(place)
+        yield os.path.normpath(place), place
+        return
+    for folder, folders, files in os.walk(place):
+        folders.sort()
+        for file in sorted(files):
+            if any(fnmatch.fnmatch(file, name) for name in names):
+                path = os.path.join(folder, file)
+                yield os.path.relpath(path, place), path

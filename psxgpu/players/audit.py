@@ -1,0 +1,135 @@
+"""Judges each packet of a capture by itself: both players have the same video memory before it."""
+import array
+import collections
+import subprocess
+from typing import TYPE_CHECKING, Dict, Iterator, List, Tuple
+
+from psxgpu import progress
+from psxgpu.command import Trouble
+from psxgpu.players.probes import DRAWN, END, HEAD, Events, Target, probed, size, targets, whole
+
+WORDS = 4 << 20  # words that are read and loaded in one run of a player
+Found = Dict[int, Target]
+if TYPE_CHECKING:
+    Words = array.array[int]
+else:
+    Words = array.array
+
+
+def output(player: str, command: str, data: bytes) -> bytes:
+    """Returns what a player writes for a capture. Raises Trouble if it does not end with 0."""
+    try:
+        done = subprocess.run([player, command], input=data, capture_output=True, check=False)
+    except OSError as bad:
+        raise Trouble('%s: %s' % (player, bad.strerror)) from bad
+    if done.returncode:
+        said = ' '.join(done.stderr.decode(errors='replace').split('\n')[0].split())[:200]
+        raise Trouble('%s %s: status %d: %s' % (player, command, done.returncode, said))
+    return done.stdout
+
+
+def passes(found: Found, first: int, last: int) -> Iterator[List[int]]:
+    """Returns the targets in groups that one run can take."""
+    group: List[int] = []
+    words = 0
+    for event in sorted(found):
+        if first <= found[event].event <= last:
+            group.append(event)
+            words += size(found[event].box) // 2
+            if words > WORDS:
+                yield group
+                group, words = [], 0
+    if group:
+        yield group
+
+
+def beginning(stream: Events, found: Found, group: List[int], ours: str) -> Tuple[int, Words]:
+    """Returns the event from which a group's run differs from what OURS plays, and the loads of what OURS has there: the
+    last packet before the group that could be judged."""
+    event = max((event for event in found if event < group[0]), default=0)
+    if not event:
+        return 0, array.array('I')
+    dump = output(ours, 'vram', HEAD + stream.stream[:stream.ends[event]].tobytes() + END)
+    return event, whole(dump, found[event].mask)
+
+
+def read_back(player: str, data: bytes, places: Dict[int, Tuple[int, int]]) -> Dict[int, Words]:
+    """Returns the words that a player read after each target."""
+    text = output(player, 'play', data)
+    out: Dict[int, Words] = {}
+    for event, (line, count) in places.items():
+        try:
+            words = array.array('I', bytes.fromhex(text[9 * line:9 * (line + count)].decode('ascii')))
+        except ValueError as bad:
+            raise Trouble('%s play: line %d is not a word of eight digits' % (player, line + 1)) from bad
+        if len(words) != count:
+            raise Trouble('%s play: fewer words than the capture reads' % player)
+        words.byteswap()
+        out[event] = words
+    return out
+
+
+def class_of(name: str, word: int) -> str:
+    """Returns a packet's class, for people."""
+    opcode = word >> 24
+    textured = opcode & 4 and name in ('polygon', 'rectangle')
+    shaded = opcode & 16 and name in ('polygon', 'line', 'polyline')
+    words = [('quad' if opcode & 8 else 'triangle') if name == 'polygon' else name]
+    words += ['shaded'] * bool(shaded) + ['textured'] * bool(textured) + ['raw'] * bool(textured and opcode & 1)
+    return ' '.join(words + ['semi'] * bool(opcode & 2 and name in DRAWN))
+
+
+def cells_of(words: Words) -> "array.array[int]":
+    """Returns the cells in words."""
+    return array.array('H', words.tobytes())
+
+
+def is_far(a: int, b: int) -> bool:
+    """Returns whether two cells differ by more than one step of a channel, or in bit 15."""
+    return (a >> 15 != b >> 15 or abs((a & 31) - (b & 31)) > 1 or abs((a >> 5 & 31) - (b >> 5 & 31)) > 1
+            or abs((a >> 10 & 31) - (b >> 10 & 31)) > 1)
+
+
+class Row:
+    """What was found of a class."""
+
+    def __init__(self) -> None:
+        self.packets = self.equal = self.cells = self.differ = self.far = 0
+        self.first = ''
+
+    def take(self, target: Target, ours: Words, others: Words) -> None:
+        """Adds a packet: the words that both players read after it."""
+        self.packets += 1
+        self.cells += len(ours) * 2
+        if ours == others:
+            self.equal += 1
+            return
+        mine, theirs = cells_of(ours), cells_of(others)
+        pairs = {pair: n for pair, n in collections.Counter(zip(mine, theirs)).items() if pair[0] != pair[1]}
+        count = sum(pairs.values())
+        self.differ += count
+        self.far += sum(n for pair, n in pairs.items() if is_far(*pair))
+        if not self.first:
+            k = next(k for k in range(len(mine)) if mine[k] != theirs[k])
+            x1, y1, x2, _ = target.box
+            self.first = 'event %d %08x: %d cells, first (%d, %d): %04x and %04x' % (
+                target.event, target.word, count, x1 + k % (x2 - x1 + 1), y1 + k // (x2 - x1 + 1), mine[k], theirs[k])
+
+
+def audit(data: bytes, ours: str, theirs: str, first: int, last: int, name: str = 'capture') -> Dict[str, Row]:
+    """Returns a row for each class of packets from event `first` to event `last`. Raises Trouble if there is no packet."""
+    stream = Events(data, name)
+    found = targets(stream, output(ours, 'list', HEAD + stream.stream.tobytes() + END))
+    rows: Dict[str, Row] = collections.defaultdict(Row)
+    groups = list(passes(found, first, last))
+    for group in progress.counted(groups, 'audit'):
+        before = beginning(stream, found, group, ours)
+        mine = read_back(ours, *probed(stream, found, group, before))
+        other = read_back(theirs, *probed(stream, found, group, before, mine))
+        for event in group:
+            target = found[event]
+            rows[class_of(target.name, target.word)].take(target, mine[event], other[event])
+    if not rows:
+        raise Trouble('%s: no packet to judge from event %d to event %d'
+                      % (name, first, min(last, max(first, len(stream.kinds) - 1))))
+    return rows
