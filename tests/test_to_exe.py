@@ -42,6 +42,13 @@ class ToExe(support.InFolder):
         self.assertEqual((status, out, os.path.exists(self.path('a.exe')), said.count('\n')), (2, '', False, 1), said)
         return said
 
+    def test_the_old_file_stays(self):
+        self.write('a.exe', b'old')
+        self.assertEqual(self.make(support.example('list-loop'))[0], 2)
+        self.assertEqual(self.read('a.exe'), b'old')
+        path = self.write('a.exe', Capture().stat().bytes())
+        self.assertIn('is also the input', self.make(path)[2])
+
     def test_refusals(self):
         self.assertIn('1024 rows', self.refused(support.example('tall')))
         self.assertIn('list-loop at event 8', self.refused(support.example('list-loop')))

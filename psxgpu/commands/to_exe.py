@@ -12,6 +12,7 @@ import sys
 from psxgpu.command import main, seekable, title, writing
 from psxgpu.console import Source, make
 from psxgpu.console.plan import BLANKS
+from psxgpu.output import refuse_inputs
 from psxgpu.players import player
 
 
@@ -28,9 +29,10 @@ def arguments(parser: argparse.ArgumentParser) -> None:
 def run(words: argparse.Namespace) -> None:
     """Writes the program."""
     name = title(words.capture)
+    refuse_inputs(words.out, [words.capture])
     with seekable(words.capture) as path:
         program = make(Source(player.find(words.player), path, name), words.check, words.blanks)
-    with writing(words.out) as file:
+    with writing(words.out, [words.capture]) as file:
         file.write(program.executable)
     for line in program.warnings:
         print('%s: %s' % (name, line), file=sys.stderr)
