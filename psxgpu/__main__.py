@@ -9,7 +9,8 @@ import sys
 
 from psxgpu import command
 
-TOOLS = ('corpus', 'packets', 'check', 'first', 'join', 'from-log', 'picture', 'compare', 'bisect', 'agree', 'audit')
+TOOLS = ('corpus', 'packets', 'check', 'first', 'join', 'from-log', 'from-dump', 'to-dump',
+         'picture', 'compare', 'bisect', 'agree', 'audit')
 
 
 def module_of(name):
