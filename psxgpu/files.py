@@ -10,12 +10,13 @@ import os
 import tempfile
 from typing import Iterator, Optional
 
-from psxgpu.command import pour, reading, title
+from psxgpu.command import pour, reading
 from psxgpu.dumps.format import NAME
 from psxgpu.dumps.reader import Dump
 from psxgpu.dumps.translation import Translation
 from psxgpu.packing import PACKED, Peeked, Pieces, Source, unpacked
 from psxgpu.stream import HEADS, SNAPSHOT
+from psxgpu.trouble import title
 
 RECORDINGS = (*HEADS.values(), SNAPSHOT)
 
@@ -40,7 +41,7 @@ def opened(path: str, name: Optional[str] = None) -> Iterator[Source]:
         yield as_capture(peeked, name)
 
 
-def read(path: str, name: Optional[str] = None) -> bytes:
+def read_capture(path: str, name: Optional[str] = None) -> bytes:
     """Returns all bytes of a capture or snapshot."""
     with opened(path, name) as file:
         return file.read()

@@ -12,14 +12,16 @@ import tempfile
 import zlib
 from typing import IO, Any, Callable, Iterable, Iterator, Optional, Protocol, cast
 
-from psxgpu import zstd
-from psxgpu.command import BLOCK, Trouble, pour, reading, title, writing
+from psxgpu.command import BLOCK, pour, reading
+from psxgpu.output import writing
+from psxgpu.trouble import Trouble, title
+from psxgpu.zstd import ZstdFault, zstd_reader, zstd_writer
 
 GZIP, XZ, ZSTD = b'\x1f\x8b\x08', b'\xfd7zXZ\x00', b'\x28\xb5\x2f\xfd'
 PACKED = (GZIP, XZ, ZSTD)
 ENDINGS = ('.gz', '.xz', '.zst')
 MOST_FIRST = 14                 # bytes of the longest file header that is looked for
-FAULTS = (EOFError, gzip.BadGzipFile, zlib.error, lzma.LZMAError, zstd.Fault)
+FAULTS = (EOFError, gzip.BadGzipFile, zlib.error, lzma.LZMAError, ZstdFault)
 XZ_PRESET = 1
 
 
@@ -129,7 +131,7 @@ def unpacked(path: str, name: Optional[str] = None) -> Iterator[Peeked]:
             yield Peeked(pieces_of(lzma.LZMAFile(cast(Any, peeked)), name))
         elif first.startswith(ZSTD):
             packed = stack.enter_context(on_disk(path, peeked))
-            yield Peeked(pieces_of(stack.enter_context(zstd.reader(packed, name)), name))
+            yield Peeked(pieces_of(stack.enter_context(zstd_reader(packed, name)), name))
         else:
             yield peeked
 
@@ -144,6 +146,6 @@ def packing(path: str, inputs: Iterable[str] = ()) -> Iterator[IO[bytes]]:
         elif path.endswith('.xz'):
             yield cast(IO[bytes], stack.enter_context(lzma.LZMAFile(raw, 'wb', preset=XZ_PRESET)))
         elif path.endswith('.zst'):
-            yield stack.enter_context(zstd.writer(raw, path))
+            yield stack.enter_context(zstd_writer(raw, path))
         else:
             yield raw

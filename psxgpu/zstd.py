@@ -9,13 +9,14 @@ import subprocess
 import tempfile
 from typing import IO, Any, Iterator, Optional
 
-from psxgpu.command import BLOCK, Trouble
+from psxgpu.command import BLOCK
+from psxgpu.trouble import Trouble
 
 MISSING = '%s: a zstd file: install the package zstd, or python3-zstandard'
 LEVEL = 3
 
 
-class Fault(ValueError):
+class ZstdFault(ValueError):
     """The bytes are no whole zstd file. Its text is the reason."""
 
 
@@ -26,11 +27,11 @@ class Child:
         self.child, self.said = child, said
 
     def read1(self, n: int) -> bytes:
-        """Returns at most `n` bytes. Raises `Fault` at the end of what it writes, if the program fails."""
+        """Returns at most `n` bytes. Raises `ZstdFault` at the end of what it writes, if the program fails."""
         pipe: Any = self.child.stdout
         piece: bytes = pipe.read1(n)
         if not piece and self.child.wait():
-            raise Fault(reason(self.child, self.said))
+            raise ZstdFault(reason(self.child, self.said))
         return piece
 
 
@@ -41,13 +42,13 @@ class Module:
         self.stream = stream
 
     def read1(self, n: int) -> bytes:
-        """Returns at most `n` bytes. Raises `Fault` if the packed bytes are at fault."""
+        """Returns at most `n` bytes. Raises `ZstdFault` if the packed bytes are at fault."""
         try:
             return bytes(self.stream.read1(n))
         except (OSError, MemoryError):
             raise
         except Exception as fault:      # each module has an error of its own
-            raise Fault(str(fault)) from None
+            raise ZstdFault(str(fault)) from None
 
 
 def reason(child: subprocess.Popen[bytes], said: IO[bytes]) -> str:
@@ -80,7 +81,7 @@ def started(words: list[str], name: str, **streams: Any) -> Iterator[tuple[subpr
 
 
 @contextlib.contextmanager
-def reader(packed: IO[bytes], name: str) -> Iterator[Child | Module]:
+def zstd_reader(packed: IO[bytes], name: str) -> Iterator[Child | Module]:
     """The unpacked bytes of a file of the disk, by `read1`."""
     if shutil.which('zstd'):
         with started(['-dc'], name, stdin=packed, stdout=subprocess.PIPE) as run:
@@ -95,7 +96,7 @@ def reader(packed: IO[bytes], name: str) -> Iterator[Child | Module]:
 
 
 @contextlib.contextmanager
-def writer(raw: IO[bytes], name: str) -> Iterator[IO[bytes]]:
+def zstd_writer(raw: IO[bytes], name: str) -> Iterator[IO[bytes]]:
     """A file to write to, which is packed into `raw`."""
     if shutil.which('zstd'):
         with started(['-c', '-%d' % LEVEL], name, stdin=subprocess.PIPE, stdout=raw) as (child, said):

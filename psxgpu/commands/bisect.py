@@ -22,7 +22,7 @@ import itertools
 import sys
 import tempfile
 
-from psxgpu import files
+from psxgpu.files import plain
 from psxgpu.players import player
 from psxgpu.command import DIFFERENT, SAME, decimal, main, reading, title
 from psxgpu.commands.compare import compared
@@ -125,5 +125,5 @@ def search(words, path, name, program):
 
 def run(words):
     program = player.find(words.player)
-    with files.plain(words.capture) as path:
+    with plain(words.capture) as path:
         return search(words, path, title(words.capture), program)

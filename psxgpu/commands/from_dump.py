@@ -20,10 +20,11 @@ import contextlib
 import sys
 from typing import Callable, Iterator, Optional
 
-from psxgpu.command import Trouble, title, writing
 from psxgpu.dumps.reader import Dump
 from psxgpu.dumps.translation import END, Translation
+from psxgpu.output import writing
 from psxgpu.packing import Damaged, unpacked
+from psxgpu.trouble import Trouble, title
 
 
 def arguments(parser: argparse.ArgumentParser) -> None:

@@ -15,13 +15,14 @@ from __future__ import annotations
 import argparse
 import sys
 
-from psxgpu import files
-from psxgpu.command import decimal, reading, title
+from psxgpu.command import decimal, reading
 from psxgpu.dumps.export import About, Export
+from psxgpu.files import plain
 from psxgpu.packing import packing
 from psxgpu.players import player
 from psxgpu.players.flat import flattened
 from psxgpu.stream import Stream
+from psxgpu.trouble import title
 
 
 def arguments(parser: argparse.ArgumentParser) -> None:
@@ -43,7 +44,7 @@ def run(words: argparse.Namespace) -> None:
     """Writes the dump."""
     name = title(words.capture)
     about = About(words.game, 'PAL' if words.pal else 'NTSC', words.begin, words.flips, words.all)
-    with files.plain(words.capture) as path, flattened(path, words.player) as flat, reading(flat) as source:
+    with plain(words.capture) as path, flattened(path, words.player) as flat, reading(flat) as source:
         stream = Stream(source, name)
         export = Export(stream, stream.version == 3, about)
         with packing(words.dump, [words.capture]) as target:

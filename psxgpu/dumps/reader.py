@@ -5,10 +5,10 @@ from array import array
 from collections import Counter
 from typing import Iterator
 
-from psxgpu.command import Trouble
 from psxgpu.dumps.format import HEAD, MOST_WORDS, NAME, PORT0, PORT1, READBACK, TITLES
 from psxgpu.packing import Damaged, Source
 from psxgpu.stream import BEGINNINGS, HEADS, little
+from psxgpu.trouble import Trouble
 
 BLOCK = 1 << 18                 # bytes that are read at a time
 # Types whose packets may be long. They come in parts, since each of their words is an event of its own.
