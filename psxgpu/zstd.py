@@ -4,6 +4,7 @@ from __future__ import annotations
 
 import contextlib
 import importlib
+import re
 import shutil
 import subprocess
 import tempfile
@@ -52,10 +53,10 @@ class Module:
 
 
 def reason(child: subprocess.Popen[bytes], said: IO[bytes]) -> str:
-    """Returns why the program failed: its first line, without the name of the file."""
+    """Returns why the program failed: its first line, without the name that it has for the file."""
     said.seek(0)
     line = said.read().decode(errors='replace').strip().split('\n')[0]
-    return line.rpartition(' : ')[2].strip() or 'zstd ends with status %d' % child.returncode
+    return re.sub(r'^.*/\*stdin\*\\ *: *', '', line) or 'zstd ends with status %d' % child.returncode
 
 
 def module() -> Optional[Any]:
