@@ -9,8 +9,8 @@ import sys
 
 from psxgpu import command
 
-TOOLS = ('corpus', 'packets', 'check', 'first', 'join', 'from-log', 'picture', 'compare', 'bisect', 'agree', 'audit',
-         'to-exe')
+TOOLS = ('corpus', 'packets', 'check', 'first', 'join', 'from-log', 'from-dump', 'to-dump', 'to-exe', 'picture',
+         'compare', 'bisect', 'agree', 'audit')
 
 
 def module_of(name):

@@ -17,6 +17,7 @@ import collections
 import subprocess
 import sys
 
+from psxgpu.files import read_capture
 from psxgpu.players.probes import DRAWN, END, HEAD, Bad, Stream, probed, size, targets, whole
 
 WORDS = 4 << 20  # words that are read and loaded in one run of a player
@@ -137,9 +138,7 @@ def arguments(parser):
 
 
 def run(words):
-    with open(words.capture, 'rb') as file:
-        data = file.read()
-    rows = audit(data, words.ours, words.theirs, words.first, words.last)
+    rows = audit(read_capture(words.capture), words.ours, words.theirs, words.first, words.last)
     print('| packets | number | equal | cells looked at | that differ | by more than one step |')
     print('|---|---|---|---|---|---|')
     for name, row in sorted(rows.items()):

@@ -18,21 +18,22 @@ bits).
 
 Status: 0 no difference, 1 one was found, 2 trouble.
 """
-import contextlib
 import itertools
 import sys
 import tempfile
 
+from psxgpu.files import plain
 from psxgpu.players import player
-from psxgpu.command import DIFFERENT, SAME, decimal, main, pour, reading, seekable, title
+from psxgpu.command import DIFFERENT, SAME, decimal, main, reading, title
 from psxgpu.commands.compare import compared
 from psxgpu.packets.control import control
+from psxgpu.players.flat import flattened
 from psxgpu.players.heal import Healer
 from psxgpu.packets.known import CLASSES, NAMES
 from psxgpu.packets.fields import fields
 from psxgpu.packets.split import LOAD, Splitter
 from psxgpu.players.steps import Cutter, Steps
-from psxgpu.stream import GP0, GP1, KINDS, Stream, is_flat
+from psxgpu.stream import GP0, GP1, KINDS, Stream
 from psxgpu.players.two_players import Players
 
 
@@ -60,20 +61,6 @@ def bisect(count, differs, narrow=lambda low, high: None):
         else:
             low = middle + 1
     return low
-
-
-@contextlib.contextmanager
-def flattened(path, name, program):
-    """The path of a flat capture of the same words."""
-    if is_flat(path):
-        yield path
-        return
-    with tempfile.NamedTemporaryFile(prefix='psxgpu') as file:
-        with player.playing(program, ['flat'], path) as run:
-            pour(run.out, file)
-            run.expect_whole()
-        file.flush()
-        yield file.name
 
 
 def build(path, name, classes, program):
@@ -120,7 +107,7 @@ def step_text(steps, k, path, program):
 
 
 def search(words, path, name, program):
-    with flattened(path, name, program) as flat:
+    with flattened(path, program) as flat:
         steps = build(flat, name, words.ignore, program)
     players = Players(words, steps, program)
     k = bisect(steps.count, players.differ, players.narrow)
@@ -138,5 +125,5 @@ def search(words, path, name, program):
 
 def run(words):
     program = player.find(words.player)
-    with seekable(words.capture) as path:
+    with plain(words.capture) as path:
         return search(words, path, title(words.capture), program)

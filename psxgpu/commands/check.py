@@ -13,8 +13,9 @@ import subprocess
 import sys
 import tempfile
 
+from psxgpu.files import plain
 from psxgpu.players import player
-from psxgpu.command import DIFFERENT, SAME, Trouble, main, reading, seekable, title
+from psxgpu.command import DIFFERENT, SAME, Trouble, main, reading, title
 from psxgpu.snapshot import unfinished
 from psxgpu.stream import GP1, HEADS, KINDS, Stream, count_of, encode, first_events, is_flat
 
@@ -118,7 +119,7 @@ def report(path, name, program):
 
 def run(words):
     program = player.find(words.player)
-    with seekable(words.capture) as path:
+    with plain(words.capture) as path:
         lines, is_well = report(path, title(words.capture), program)
     print('\n'.join(lines))
     return SAME if is_well else DIFFERENT

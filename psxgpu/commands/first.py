@@ -10,7 +10,8 @@ begins from the state behind the first events take `psxgpu_tool cut N`, which wr
 """
 import sys
 
-from psxgpu.command import Trouble, decimal, main, reading, title, writing
+from psxgpu.command import Trouble, decimal, main, title, writing
+from psxgpu.files import opened
 from psxgpu.stream import HEADS, Stream, count_of, encode, first_events, later_events
 
 
@@ -35,7 +36,7 @@ class Counted:
 
 def run(words):
     name = title(words.capture)
-    with writing(words.output, [words.capture]) as target, reading(words.capture) as source:
+    with writing(words.output, [words.capture]) as target, opened(words.capture) as source:
         stream = Stream(source, name)
         counted = Counted(stream)
         target.write(HEADS[stream.version])

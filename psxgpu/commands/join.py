@@ -8,7 +8,8 @@ The result has the greatest version among them; captures of 512 and of 1024 rows
 """
 import sys
 
-from psxgpu.command import Trouble, main, reading, title, writing
+from psxgpu.command import Trouble, main, title, writing
+from psxgpu.files import opened
 from psxgpu.stream import HEADS, Stream, encode
 
 MOST_BYTES = 1 << 30
@@ -23,7 +24,7 @@ def version_of(paths):
     """The version of the whole."""
     versions = {}
     for path in paths:
-        with reading(path) as file:
+        with opened(path) as file:
             versions[Stream(file, title(path)).version] = path
     if 3 in versions and len(versions) > 1:
         raise Trouble('%s and %s: 1024 and 512 rows' % (versions[3], versions[min(versions)]))
@@ -37,7 +38,7 @@ def run(words):
     with writing(words.output, words.captures if words.output == '-' else ()) as target:
         target.write(HEADS[version])
         for path in words.captures:
-            with reading(path) as file:
+            with opened(path) as file:
                 for record in Stream(file, path):
                     data = encode(*record)
                     size += len(data)

@@ -16,8 +16,9 @@ import sys
 from functools import partial
 from operator import itemgetter
 
+from psxgpu.files import plain
 from psxgpu.players import player
-from psxgpu.command import SAME, TROUBLE, Trouble, decimal, main, reading, seekable, title
+from psxgpu.command import SAME, TROUBLE, Trouble, decimal, main, reading, title
 from psxgpu.packets.control import class_name, control
 from psxgpu.packets.fields import fields
 from psxgpu.packets.split import Splitter
@@ -138,7 +139,7 @@ def show_refusal(said):
 
 def run(words):
     program = player.find(words.player)
-    with seekable(words.capture) as path:
+    with plain(words.capture) as path:
         listing = Listing(path, title(words.capture), program)
         with reading(path) as file:
             Stream(file, title(words.capture))      # a file that is no capture is trouble at once

@@ -16,6 +16,7 @@ import ctypes
 import os
 import threading
 
+from psxgpu.files import read_capture
 from psxgpu.machine.library import (  # noqa: F401: the module's own names as well
     NO_ROOM, SIZE, WORD, Ended, Error, Handle, Missing, OutOfMemory, RawNote, Refused, check, library)
 from psxgpu.machine.values import (  # noqa: F401: Note, too
@@ -180,15 +181,17 @@ class Machine:
 
 
 def play(source, mode='vram', cell=None):
-    """What `psxgpu_tool` writes with this mode of a capture or a snapshot, given as a path or as bytes. `cell` is
-    (x, y), for `pixel`. Raises Refused where the program refuses it; its `output` has what was written before."""
+    """What `psxgpu_tool` writes with this mode of a capture or a snapshot, given as a path or as bytes. A path may also be
+    that of a GPU dump, and of a packed file (.gz, .xz, .zst). `cell` is (x, y), for `pixel`. Raises Refused where the
+    program refuses it; its `output` has what was written before. Raises ValueError if a packed file or a dump is at
+    fault."""
     if mode not in MODES:
         raise ValueError('mode %r is none of: %s' % (mode, ', '.join(MODES)))
     if (cell is not None) != (mode == 'pixel'):
         raise ValueError('a cell belongs to the mode pixel')
     x, y = cell or (0, 0)
     corner = number(x, COLUMNS - 1, 'column') | number(y, ROWS[1] - 1, 'row') << 16
-    data = Snapshot.read(source) if isinstance(source, (str, os.PathLike)) else bytes_of(source)
+    data = read_capture(os.fsdecode(source)) if isinstance(source, (str, os.PathLike)) else bytes_of(source)
     code, room, ended = NO_ROOM, 2 << 20, Ended()
     while code == NO_ROOM:
         room *= 2
