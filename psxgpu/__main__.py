@@ -1,31 +1,38 @@
 """The tools of this project as one command: psxgpu NAME .. (from a checkout: python3 -m psxgpu NAME ..).
 
-`psxgpu NAME --help` says how each is called.
-Status: 0 the same, or done; 1 different, or something to look at; 2 trouble, which is one line on standard error.
+`psxgpu NAME --help` explains the arguments of a tool, `psxgpu --version` prints the version.
+Status: 0 the same, or done; 1 different, or something to look at; 2 an error, which is one line on standard error.
 """
 import contextlib
+import difflib
 import importlib
+import os
 import signal
 import sys
+from types import ModuleType
+from typing import List, Optional
 
-from psxgpu import command
+from psxgpu import __version__, command
 
-TOOLS = ('corpus', 'packets', 'check', 'first', 'join', 'from-log', 'picture', 'compare', 'bisect', 'agree', 'audit')
+TOOLS = ('corpus', 'packets', 'check', 'first', 'join', 'mend', 'from-log', 'from-dump', 'to-dump', 'to-exe', 'picture',
+         'film', 'compare', 'bisect', 'agree', 'audit')
 
 
-def module_of(name):
+def module_of(name: str) -> ModuleType:
     """Returns the module of a tool."""
     return importlib.import_module('psxgpu.commands.' + name.replace('-', '_'))
 
 
-def help_text():
-    lines = [__doc__.strip(), '']
+def help_text() -> str:
+    """Returns the text of the command: the tools, a line each."""
+    lines = [(__doc__ or '').strip(), '']
     for name in TOOLS:
-        lines.append('  %-10s %s' % (name, module_of(name).__doc__.split('\n', 1)[0]))
+        lines.append('  %-10s %s' % (name, (module_of(name).__doc__ or '').split('\n', 1)[0]))
     return '\n'.join(lines)
 
 
-def main(words=None):
+def main(words: Optional[List[str]] = None) -> int:
+    """Runs a tool by its name and arguments. Returns the status."""
     with contextlib.suppress(ValueError):                           # not in the main thread
         signal.signal(signal.SIGTERM, signal.default_int_handler)   # a run that is ended removes what it began
     words = sys.argv[1:] if words is None else words
@@ -35,13 +42,18 @@ def main(words=None):
     return command.guarded('psxgpu', lambda: answer(name))
 
 
-def answer(name):
-    """The help, or the line for a name that there is not."""
+def answer(name: str) -> None:
+    """Prints the help or the version. Raises Trouble for another word."""
     if name in ('-h', '--help', 'help'):
         print(help_text())
-        return 0
-    print('psxgpu: no tool %s; one of %s' % (name, ', '.join(TOOLS)), file=sys.stderr)
-    return 2
+    elif name in ('--version', '-V', 'version'):
+        print('psxgpu ' + __version__)
+    elif os.path.exists(name):
+        raise command.Trouble('%s is a file: the name of a tool comes before it, as in psxgpu check %s' % (name, name))
+    else:
+        near = difflib.get_close_matches(name, TOOLS, 1)
+        raise command.Trouble('there is no tool %r%s: the tools are %s'
+                              % (name, ', perhaps %s' % near[0] if near else '', ', '.join(TOOLS)))
 
 
 if __name__ == '__main__':

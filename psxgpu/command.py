@@ -17,11 +17,18 @@ from psxgpu import progress
 from psxgpu.output import write_whole, writing
 from psxgpu.trouble import Trouble, named, reason_of, title
 
-__all__ = ['BLOCK', 'DIFFERENT', 'SAME', 'TROUBLE', 'Command', 'Trouble', 'decimal', 'guarded', 'main', 'named', 'pour',
+__all__ = ['BLOCK', 'DIFFERENT', 'SAME', 'TROUBLE', 'Command', 'Readable', 'Trouble', 'decimal', 'guarded', 'main', 'named', 'pour',
            'read_whole', 'reading', 'reason_of', 'seekable', 'title', 'write_whole', 'writing']
 
 SAME, DIFFERENT, TROUBLE = 0, 1, 2
 BLOCK = 1 << 20
+
+
+class Readable(Protocol):
+    """What bytes are read from."""
+
+    def read(self, size: int = -1, /) -> bytes:
+        """Returns at most `size` bytes; none at the end."""
 
 
 class Command(Protocol):
@@ -123,7 +130,7 @@ def read_whole(path: str) -> bytes:
         return file.read()
 
 
-def pour(source: IO[bytes], target: IO[bytes]) -> None:
+def pour(source: Readable, target: IO[bytes]) -> None:
     """Copies the rest of a file, block by block."""
     while True:
         block = source.read(BLOCK)

@@ -4,11 +4,11 @@ import re
 import tempfile
 from typing import Dict, Iterator, List, Optional, Tuple
 
-from psxgpu.command import Trouble, reading
+from psxgpu.command import Readable, Trouble, reading
 from psxgpu.players import player
 from psxgpu.players.flat import flattened
 from psxgpu.snapshot import unfinished
-from psxgpu.stream import GP1, HEADS, KINDS, Readable, Stream, count_of, encode, first_events
+from psxgpu.stream import GP1, HEADS, KINDS, Stream, count_of, encode, first_events
 
 DISPLAY_START = 5
 CLASSES = ('fills and words that do nothing', 'polygons', 'segments of lines', 'rectangles', 'copies', 'loads',

@@ -88,9 +88,9 @@ class Difference:
         if not self.count:
             return ['equal']
         x, y = self.places[0]
-        cells = [grid.text(grid.cell(grid.row(y), x)) for grid in (self.ours, self.theirs)]
+        one, other = (grid.text(grid.cell(grid.row(y), x)) for grid in (self.ours, self.theirs))
         columns = [x for x, _ in self.places]
-        return ['first differing cell: (%d, %d): %s and %s' % (x, y, *cells),
+        return ['first differing cell: (%d, %d): %s and %s' % (x, y, one, other),
                 'cells that differ: %d' % self.count,
                 'their box: %d %d %d %d' % (min(columns), y, max(columns), self.places[-1][1]),
                 'by steps: ' + self.bands()]

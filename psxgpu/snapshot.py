@@ -2,8 +2,8 @@
 import struct
 from typing import List, Sequence, Tuple
 
+from psxgpu.command import Readable
 from psxgpu.packets.split import name_and_length
-from psxgpu.stream import Readable
 
 STATE = 3 + 13      # height, events played, registers
 NOTHING, PACKET, PIXELS, POLYLINE = range(4)

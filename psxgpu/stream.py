@@ -9,9 +9,9 @@ A capture that breaks the format is `Trouble`, with the byte. docs/CAPTURE.md ha
 import contextlib
 import sys
 from array import array
-from typing import Iterable, Iterator, NoReturn, Optional, Protocol, Tuple
+from typing import Iterable, Iterator, NoReturn, Optional, Tuple
 
-from psxgpu.command import Trouble, reading
+from psxgpu.command import Readable, Trouble, reading
 
 END, RAM, GP0, GP1, READ, STAT, DMA, BEGIN, TURN, SKIP = range(10)
 KINDS = ('End', 'Ram', 'Gp0', 'Gp1', 'Read', 'Stat', 'Dma', 'Begin', 'Turn', 'Skip')
@@ -28,13 +28,6 @@ RUN = array('I', [SINGLE]) * 16384
 # What files begin with that are often taken for captures.
 BEGINNINGS = {b'\x1f\x8b': 'gzip', b'\x28\xb5\x2f\xfd': 'zstd', b'\xfd7zXZ': 'xz', b'PK\x03\x04': 'zip',
               b'\x89PNG': 'PNG', b'P6': 'PPM', SNAPSHOT: 'a snapshot'}
-
-
-class Readable(Protocol):
-    """What a capture is read from."""
-
-    def read(self, size: int = -1, /) -> bytes:
-        """Returns at most `size` bytes; none at the end."""
 
 
 def little(words: "array[int]") -> "array[int]":

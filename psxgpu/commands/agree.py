@@ -1,49 +1,53 @@
-"""Plays random captures by two players, class by class, and says in how many the dumps agree.
+"""Plays random captures by two players, class by class, and prints in how many the dumps agree.
 
     psxgpu agree psxgpu_tool other_player
     psxgpu agree psxgpu_tool other_player 10 fills 'lines, sloped'
     psxgpu agree --classes
 
-A player is a program that takes `vram < capture` (a capture of version 1 without Ram and Dma records). Of the captures
-that differ the table has the share of the cells that either player changed. docs/EMULATORS.md says why each class is
-there. Status: 0 all agree, 1 some differ, 2 trouble, also where a player gave no dump.
+A player is a program that takes `vram < capture` (a capture of version 1 without Ram and Dma records). For the captures
+that differ the table has the share of the cells that either player changed. docs/EMULATORS.md has the reason for each
+class. Status: 0 all agree, 1 some differ, 2 an error, also if a player wrote no dump.
 """
+import argparse
 import os
 import shutil
 import tempfile
 
-from psxgpu.command import DIFFERENT, SAME, TROUBLE, Trouble, decimal
+from psxgpu.command import DIFFERENT, SAME, Trouble, decimal
 from psxgpu.packets.generated import CLASSES
 from psxgpu.players.agreement import Score, compare_class
 
 
-def arguments(parser):
-    parser.add_argument('ours', nargs='?', help='a program')
-    parser.add_argument('theirs', nargs='?', help='another')
-    parser.add_argument('captures', nargs='?', type=decimal(1, 1000000), default=100,
-                        help='of each class, 100 if left out')
-    parser.add_argument('names', nargs='*', metavar='class', help='the classes, all if left out')
+def arguments(parser: argparse.ArgumentParser) -> None:
+    """Adds the arguments of this tool."""
+    parser.add_argument('ours', nargs='?', metavar='OURS', help='a program')
+    parser.add_argument('theirs', nargs='?', metavar='THEIRS', help='another')
+    parser.add_argument('captures', nargs='?', type=decimal(1, 1000000), default=100, metavar='CAPTURES',
+                        help='the captures of each class (default: 100)')
+    parser.add_argument('names', nargs='*', metavar='CLASS', help='the classes (default: all)')
     parser.add_argument('--classes', action='store_true', help='list the classes')
 
 
-def run(words):
+def run(words: argparse.Namespace) -> int:
+    """Prints the table."""
     if words.classes:
         print('\n'.join(CLASSES))
         return SAME
     if not words.theirs:
-        raise Trouble('two players are wanted')
+        raise Trouble('name two players')
     unknown = [name for name in words.names if name not in CLASSES]
     if unknown:
-        raise Trouble('%s: no class; --classes lists them' % unknown[0])
+        raise Trouble('there is no class %r: the classes are %s' % (unknown[0], '; '.join(CLASSES)))
+    programs = [shutil.which(program) or program for program in (words.ours, words.theirs)]
     scores = []
     print('| class | captures | equal | cells that differ in the others |')
     print('|---|---|---|---|')
     with tempfile.TemporaryDirectory() as folder:
         for name in words.names or CLASSES:
             scores.append(Score(name, words.captures))
-            programs = [shutil.which(program) or program for program in (words.ours, words.theirs)]
             compare_class(scores[-1], programs, os.path.join(folder, 'capture'))
             print(scores[-1].line(), flush=True)
-    if any(score.lost for score in scores):
-        return TROUBLE
+    lost = sum(score.lost for score in scores)
+    if lost:
+        raise Trouble('a player wrote no dump for %d of %d captures' % (lost, sum(score.captures for score in scores)))
     return DIFFERENT if any(score.equal < score.captures for score in scores) else SAME

@@ -17,8 +17,12 @@ bits).
 
 Status: 0 no difference, 1 one was found, 2 trouble.
 """
-from psxgpu.command import DIFFERENT, SAME, decimal, seekable, title
+import argparse
+
+from psxgpu import progress
+from psxgpu.command import DIFFERENT, SAME, decimal, title
 from psxgpu.difference import compared
+from psxgpu.files import plain
 from psxgpu.packets.known import CLASSES, NAMES
 from psxgpu.players import player
 from psxgpu.players.bisection import bisect, build, step_text
@@ -26,35 +30,40 @@ from psxgpu.players.flat import flattened
 from psxgpu.players.two_players import Players
 
 
-def arguments(parser):
-    parser.add_argument('capture', help='a capture; - is standard input')
-    parser.add_argument('ours', help='a shell command: capture in, dump out')
-    parser.add_argument('theirs', help='another')
+def arguments(parser: argparse.ArgumentParser) -> None:
+    """Adds the arguments of this tool."""
+    parser.add_argument('capture', metavar='CAPTURE', help='a capture or a dump of a GPU; - is standard input')
+    parser.add_argument('ours', metavar='OURS', help='a shell command: it reads a capture and writes a dump')
+    parser.add_argument('theirs', metavar='THEIRS', help='another')
     parser.add_argument('--tolerance', type=decimal(0, 31), default=0, metavar='N',
                         help='cells whose channels are at most N steps apart count as equal')
     parser.add_argument('--ignore', action='append', choices=sorted(CLASSES) + list(NAMES), default=[], metavar='CLASS',
-                        help='a class of packets whose differences are known')
+                        help='a class of packets whose differences are known, some of: '
+                             + ', '.join(sorted(CLASSES) + list(NAMES)))
     player.argument(parser)
 
 
-def search(words, path, name, program):
-    with flattened(path, program) as flat:
-        steps = build(flat, name, words.ignore, program)
-    players = Players(words, steps, program)
-    k = bisect(steps.count, players.differ, players.narrow)
-    if k is None:
-        print('no difference behind %d packets' % steps.lines[steps.count])
-        return SAME
-    if k == 0:
-        print('they differ before the first packet')
-        return DIFFERENT
-    print('they differ from here on, packet %d of %d:' % (steps.lines[k], steps.lines[steps.count]))
-    print('\n'.join(step_text(steps, k, path, program)))
-    print('\n'.join(compared(*players.dumps(k), words.tolerance).lines()))
+def search(words: argparse.Namespace, path: str, name: str, program: str) -> int:
+    """Prints the first packet after which the dumps differ. Returns the status."""
+    with flattened(path, program) as flat, build(flat, name, words.ignore, program) as steps:
+        players = Players(words, steps, program)
+        with progress.shown(name, is_quiet=True):
+            k = bisect(steps.count, players.differ, players.narrow)
+        if k is None:
+            print('no difference behind %d packets' % steps.lines[steps.count])
+            return SAME
+        if k == 0:
+            print('they differ before the first packet')
+            return DIFFERENT
+        print('they differ from here on, packet %d of %d:' % (steps.lines[k], steps.lines[steps.count]))
+        print('\n'.join(step_text(steps, k, path, program)))
+        ours, theirs = players.dumps(k)
+        print('\n'.join(compared(ours, theirs, words.tolerance).lines()))
     return DIFFERENT
 
 
-def run(words):
+def run(words: argparse.Namespace) -> int:
+    """Prints the first packet after which the dumps differ."""
     program = player.find(words.player)
-    with seekable(words.capture) as path:
+    with plain(words.capture) as path:
         return search(words, path, title(words.capture), program)

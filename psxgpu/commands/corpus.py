@@ -1,82 +1,90 @@
-"""Records what a player gives for each capture of a folder, and checks it again.
+"""Records what a player writes for each capture of a folder, and checks it again.
+
+    psxgpu corpus record captures --golden captures.sums
+    psxgpu corpus check captures --golden captures.sums --player ./new --reference ./old
+    psxgpu corpus split long.capture --parts 8 --into parts
 
 `record` plays all captures of the folders, on all processors, and writes a file of sums, a block for each capture. The
 player is a command to which `sums`, `vram` or `play` is added, with the capture on standard input; what it does not
 know is left out. `check` plays them again and reports what is not as recorded, on standard output and as report.txt,
-junit.xml and report.html in the folder of the report. With a reference, a player that gives what was recorded, it finds
+junit.xml and report.html in the folder of the report. With a reference, a player that writes what was recorded, it finds
 the first packet and draws the difference. `join` makes one file of sums of several, as when each machine played a part.
-`split` cuts a recording behind some of its frames into parts that are played side by side, and `glue` makes of what the
-player wrote on each of them what it writes on the whole. docs/CORPUS.md shows all of it.
+`split` cuts a recording after some of its frames into parts that are played side by side, and `glue` makes of what the
+player wrote for each of them what it writes for the whole. docs/CORPUS.md shows all of it.
 
-A run that was interrupted goes on where it was. Status: 0 the same, or done; 1 something differs; 2 trouble.
-
-    corpus.py record captures --golden captures.sums
-    corpus.py check captures --golden captures.sums --player ./new --reference ./old
-    corpus.py split long.capture --parts 8 --into parts
+A run that was interrupted continues where it was. Status: 0 the same, or done; 1 something differs; 2 an error, also if
+the player plays no capture.
 """
+import argparse
 import os
 import shlex
 import sys
+from typing import List
 
+from psxgpu.command import DIFFERENT, SAME, Trouble, decimal, writing
 from psxgpu.corpus import report
-from psxgpu.command import DIFFERENT, SAME, Trouble, decimal
-from psxgpu.corpus.captures import NAMES, captures_of
+from psxgpu.corpus.captures import NAMES, Capture, captures_of
 from psxgpu.corpus.findings import compare_sums
-from psxgpu.corpus.sums import read_sums, write_text
 from psxgpu.corpus.glue import glue
+from psxgpu.corpus.journal import play_into
 from psxgpu.corpus.parts import split
 from psxgpu.corpus.places import Places
 from psxgpu.corpus.play import Player
-from psxgpu.corpus.journal import play_into
 from psxgpu.corpus.scan import FLIP, MARK
+from psxgpu.corpus.sums import Sums, read_sums, write_text
 from psxgpu.players.player import find
 
-
 USUAL = ('frames', 'vram', 'words')
-# What each action has to be told beside its places.
+# The arguments that each action needs beside its places.
 WANTED = {'record': ('golden',), 'check': ('golden',), 'join': ('golden',), 'split': ('parts', 'into'), 'glue': ()}
 
 
-def arguments(parser):
-    parser.add_argument('action', choices=list(WANTED))
+def arguments(parser: argparse.ArgumentParser) -> None:
+    """Adds the arguments of this tool."""
+    parser.add_argument('action', choices=list(WANTED), metavar='ACTION', help=', '.join(WANTED))
     parser.add_argument('places', nargs='+', metavar='PLACE',
                         help='record, check: folders, or files, which are named as they are written here; join: files '
-                             'of sums; split: a capture; glue: play, list, frames or sums, and what it wrote on each')
+                             'of sums; split: a capture; glue: play, list, frames or sums, and what it wrote for each')
     parser.add_argument('--golden', metavar='FILE', help='record, check, join: the file of sums')
     parser.add_argument('--player', metavar='COMMAND',
-                        help='else psxgpu_tool: that of $PLAYER, of the path, or the one that is built here')
+                        help='the player (default: psxgpu_tool of $PLAYER, of the path, or of the checkout)')
     parser.add_argument('--limit', type=decimal(1, 86400), default=60, metavar='SECONDS',
-                        help='for one run of the player; one that takes longer hangs (default: 60)')
+                        help='for one run of the player; one that takes longer hangs (default: %(default)s)')
     parser.add_argument('--jobs', type=decimal(1, 1000), default=len(os.sched_getaffinity(0)), metavar='N',
                         help='players at a time (default: one for each processor)')
     parser.add_argument('--gives', default=','.join(USUAL), metavar='LIST',
                         help='what is asked for: some of %(default)s')
     parser.add_argument('--marks', action='store_true',
                         help='record, split: frames end at marks (GP1 3Fh) and not at new display starts')
-    parser.add_argument('--names', action='append', metavar='PATTERN', help='default: ' + ' '.join(NAMES))
-    parser.add_argument('--reference', metavar='COMMAND', help='check: a player that gives what was recorded')
-    parser.add_argument('--report', default='corpus-report', metavar='FOLDER', help='check: default %(default)s')
+    parser.add_argument('--names', action='append', metavar='PATTERN',
+                        help='record, check: names of captures (default: %s)' % ' '.join(NAMES))
+    parser.add_argument('--reference', metavar='COMMAND', help='check: a player that writes what was recorded')
+    parser.add_argument('--report', default='corpus-report', metavar='FOLDER',
+                        help='check: the folder of the report (default: %(default)s)')
     parser.add_argument('--played', metavar='FILE', help='check: what was played elsewhere; the rest is played here')
     parser.add_argument('--pictures', type=decimal(0, 100000), default=50, metavar='N',
-                        help='check: at most (default: %(default)s)')
+                        help='check: at most so many pictures in the report (default: %(default)s)')
     parser.add_argument('--parts', type=decimal(2, 1000), metavar='N', help='split: how many')
     parser.add_argument('--into', metavar='FOLDER', help='split: where the parts go')
 
 
-def player_of(words, marks=False):
+def player_of(words: argparse.Namespace, marks: bool = False) -> Player:
+    """Returns the player that the arguments name."""
     gives = [it for it in words.gives.split(',') if it]
     if not gives or not set(gives) <= set(USUAL):
-        raise Trouble('--gives %s: some of %s' % (words.gives, ','.join(USUAL)))
+        raise Trouble('--gives %s: name some of %s' % (words.gives, ','.join(USUAL)))
     if marks and 'frames' in gives:
         gives[gives.index('frames')] = 'marks'
     return Player(words.player or shlex.quote(find()), words.limit, gives)
 
 
-def captures(words):
+def captures(words: argparse.Namespace) -> List[Capture]:
+    """Returns the captures that the arguments name."""
     return captures_of(words.places, words.names or NAMES)
 
 
-def record(words):
+def record(words: argparse.Namespace) -> int:
+    """Writes the file of sums. Returns the status."""
     sums = play_into(words.golden, player_of(words, words.marks), captures(words), words.jobs)
     ends = [row.end.split()[0] for row in sums.rows.values()]
     kinds = ['%d %s' % (ends.count(kind), kind) for kind in sorted(set(ends))]
@@ -84,7 +92,8 @@ def record(words):
     return DIFFERENT if {'hangs', 'crashes', 'fails'} & set(ends) else SAME
 
 
-def check(words):
+def check(words: argparse.Namespace) -> int:
+    """Plays the captures again and writes the report. Returns the status."""
     want = read_sums(words.golden)
     os.makedirs(words.report, exist_ok=True)
     player, found = player_of(words, 'marks' in want.gives), captures(words)
@@ -102,11 +111,11 @@ def check(words):
     return SAME if all(it.kind == 'same' for it in findings) else DIFFERENT
 
 
-def join(words):
-    whole = None
-    for path in words.places:
+def join(words: argparse.Namespace) -> int:
+    """Writes one file of sums of several. Returns the status."""
+    whole: Sums = read_sums(words.places[0])
+    for path in words.places[1:]:
         sums = read_sums(path)
-        whole = whole or sums
         if (sums.player, sums.gives) != (whole.player, whole.gives):
             raise Trouble('%s: played by %s, and %s by %s' % (path, sums.player, words.places[0], whole.player))
         for name, row in sums.rows.items():
@@ -117,7 +126,8 @@ def join(words):
     return SAME
 
 
-def run(words):
+def run(words: argparse.Namespace) -> int:
+    """Does the action."""
     missing = ['--' + name for name in WANTED[words.action] if getattr(words, name) is None]
     if missing:
         raise Trouble('%s needs %s' % (words.action, ' and '.join(missing)))
@@ -126,7 +136,9 @@ def run(words):
             raise Trouble('split takes one capture')
         split(words.places[0], words.parts, words.into, player_of(words), MARK if words.marks else FLIP)
     elif words.action == 'glue':
-        glue(words.places[0], words.places[1:], sys.stdout.buffer)
+        with writing('-', words.places[1:], is_text=words.places[0] != 'frames') as out:
+            glue(words.places[0], words.places[1:], out)
     else:
-        return {'record': record, 'check': check, 'join': join}[words.action](words)
+        actions = {'record': record, 'check': check, 'join': join}
+        return actions[words.action](words)
     return SAME

@@ -1,40 +1,45 @@
-"""Writes the first N events of a capture as a capture of their own, or those behind them.
+"""Writes the first N events of a capture as a capture of their own, or those after them.
 
     psxgpu first 300 mine.capture > begin.capture
     psxgpu first 300 mine.capture --rest > rest.capture
 
-`join.py begin.capture rest.capture` has the events of the whole again. The rest alone begins from zeros: for one that
-begins from the state behind the first events take `psxgpu_tool cut N`, which writes a snapshot. Status: 0 written,
-2 trouble, also where the capture has fewer than N events.
+`psxgpu join begin.capture rest.capture` has the events of the whole again. The rest alone begins from zeros: for one that
+begins from the state after the first events take `psxgpu_tool cut N`, which writes a snapshot. Status: 0 written,
+2 an error, also if the capture has fewer than N events. Then no file is written, and an old one stays.
 """
-import sys
+import argparse
+from typing import Iterable, Iterator
 
-from psxgpu.command import Trouble, decimal, main, reading, title, writing
-from psxgpu.stream import HEADS, Stream, count_of, encode, first_events, later_events
+from psxgpu.command import Trouble, decimal, title, writing
+from psxgpu.files import opened
+from psxgpu.stream import HEADS, Record, Stream, count_of, encode, first_events, later_events
 
 
-def arguments(parser):
-    parser.add_argument('events', type=decimal(0, 1 << 62), metavar='N', help='how many events')
-    parser.add_argument('capture', nargs='?', default='-', help='the capture; standard input if left out')
-    parser.add_argument('output', nargs='?', default='-', help='what is written; standard output if left out')
-    parser.add_argument('--rest', action='store_true', help='write the events behind the first N')
+def arguments(parser: argparse.ArgumentParser) -> None:
+    """Adds the arguments of this tool."""
+    parser.add_argument('events', type=decimal(0, 1 << 62), metavar='N', help='the number of events')
+    parser.add_argument('capture', nargs='?', default='-', metavar='CAPTURE', help='standard input if left out')
+    parser.add_argument('output', nargs='?', default='-', metavar='OUTPUT',
+                        help='the capture to write; standard output if left out')
+    parser.add_argument('--rest', action='store_true', help='write the events after the first N')
 
 
 class Counted:
-    """The records of a stream, and how many events they are."""
+    """The records of a stream, and the number of events that were read of it."""
 
-    def __init__(self, stream):
+    def __init__(self, stream: Iterable[Record]) -> None:
         self.stream, self.events = stream, 0
 
-    def __iter__(self):
+    def __iter__(self) -> Iterator[Record]:
         for record in self.stream:
             self.events += count_of(*record[:2])
             yield record
 
 
-def run(words):
+def run(words: argparse.Namespace) -> None:
+    """Writes the events."""
     name = title(words.capture)
-    with writing(words.output, [words.capture]) as target, reading(words.capture) as source:
+    with writing(words.output, [words.capture]) as target, opened(words.capture) as source:
         stream = Stream(source, name)
         counted = Counted(stream)
         target.write(HEADS[stream.version])

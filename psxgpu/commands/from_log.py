@@ -11,18 +11,20 @@ One event a line, numbers in hexadecimal without 0x, # begins a comment:
     stat                     a read of 1F801814h
     ram ADDRESS WORD ..      main memory, before the DMA that reads it
     dma 2|6 MADR BCR CHCR    a start of channel 2 or 6, done at once
-    begin MADR BCR CHCR      a start of channel 2 that goes on at each turn
+    begin MADR BCR CHCR      a start of channel 2 that continues at each turn
     turn [N], skip [N]       turns of it; reads whose words are not shown
     version 3                tall video memory
 
 A log that begins in the middle of a game has the state first, in this order:
 
-    vram FILE                a dump of video memory: 1,048,576 bytes, or 2,097,152, which need version 3
+    vram FILE                a dump of video memory: 1,048,576 bytes, or 2,097,152, which needs version 3
     settings E1 .. E6        the six values that are in force
     display GP1 ..           control words: display mode, ranges, start, DMA direction, on or off
 
-The capture has version 1 where it can, 2 where begin, turn or skip needs it, and 3 where a line asks for it.
+The capture has version 1 if it can, 2 if begin, turn or skip needs it, and 3 if a line asks for it. Status: 0 written,
+2 an error.
 """
+import argparse
 import tempfile
 
 from psxgpu.command import Trouble, pour, reading, title, writing
@@ -31,21 +33,23 @@ from psxgpu.output import refuse_inputs
 from psxgpu.stream import HEADS
 
 
-def arguments(parser):
-    parser.add_argument('log', nargs='?', default='-', help='the log; standard input if left out')
-    parser.add_argument('capture', nargs='?', default='-', help='the capture; standard output if left out')
+def arguments(parser: argparse.ArgumentParser) -> None:
+    """Adds the arguments of this tool."""
+    parser.add_argument('log', nargs='?', default='-', metavar='LOG', help='the log; standard input if left out')
+    parser.add_argument('capture', nargs='?', default='-', metavar='CAPTURE',
+                        help='the capture to write; standard output if left out')
 
 
-def run(words):
+def run(words: argparse.Namespace) -> None:
+    """Writes the capture. Its records wait in a file until all lines are read: then the version is known."""
     name = title(words.log)
     refuse_inputs(words.capture, [words.log])
-    # The records wait in a file until all lines are read: then the version is known.
     with tempfile.TemporaryFile() as records:
         with reading(words.log) as source:
             try:
                 log = from_log(lines_of(source, name), records)
             except Bad as bad:
-                raise Trouble('%s: %s' % (name, bad))
+                raise Trouble('%s: %s' % (name, bad)) from bad
         records.seek(0)
         with writing(words.capture, log.inputs) as target:
             target.write(HEADS[log.needs])

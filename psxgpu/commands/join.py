@@ -1,42 +1,48 @@
 """Joins captures of one session end to end: the events of the first, then those of the second, and so on.
 
     psxgpu join begin.capture rest.capture > whole.capture
+    psxgpu join whole.capture next.capture -o whole.capture
 
-The result has the greatest version among them; captures of 512 and of 1024 rows (version 3) do not go together. Status:
-0 written, 2 trouble, also where the result has more than 2^30 bytes, which a player refuses.
+The result has the greatest version among them. Captures of 512 and of 1024 rows (version 3) cannot be joined. Status:
+0 written, 2 an error, also if the result has more than 2^30 bytes, which a player refuses.
 """
-import sys
+import argparse
+from typing import Dict, Iterable
 
-from psxgpu.command import Trouble, main, reading, title, writing
+from psxgpu.command import Trouble, title, writing
+from psxgpu.files import opened
 from psxgpu.stream import HEADS, Stream, encode
 
 MOST_BYTES = 1 << 30
 
 
-def arguments(parser):
-    parser.add_argument('captures', nargs='+', metavar='CAPTURE', help='captures in the order of the session')
-    parser.add_argument('-o', '--output', default='-', help='what is written; standard output if left out')
+def arguments(parser: argparse.ArgumentParser) -> None:
+    """Adds the arguments of this tool."""
+    parser.add_argument('captures', nargs='+', metavar='CAPTURE', help='the captures in the order of the session')
+    parser.add_argument('-o', '--output', default='-', metavar='OUTPUT',
+                        help='the capture to write, which may be one of them; standard output if left out')
 
 
-def version_of(paths):
-    """The version of the whole."""
-    versions = {}
+def version_of(paths: Iterable[str]) -> int:
+    """Returns the version of the whole. Raises Trouble if the captures cannot be joined."""
+    versions: Dict[int, str] = {}
     for path in paths:
-        with reading(path) as file:
+        with opened(path) as file:
             versions[Stream(file, title(path)).version] = path
     if 3 in versions and len(versions) > 1:
         raise Trouble('%s and %s: 1024 and 512 rows' % (versions[3], versions[min(versions)]))
     return max(versions)
 
 
-def run(words):
+def run(words: argparse.Namespace) -> None:
+    """Writes the whole."""
     if '-' in words.captures:
-        raise Trouble('standard input: files are wanted, since each is read twice')
+        raise Trouble('standard input: name files, since each is read twice')
     version, size = version_of(words.captures), 12
     with writing(words.output, words.captures if words.output == '-' else ()) as target:
         target.write(HEADS[version])
         for path in words.captures:
-            with reading(path) as file:
+            with opened(path) as file:
                 for record in Stream(file, path):
                     data = encode(*record)
                     size += len(data)

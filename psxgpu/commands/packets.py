@@ -4,46 +4,53 @@
     psxgpu packets mine.capture --name polygon --name dma --cell 100 96
     psxgpu packets mine.capture --events 3000 4000 --line
 
-A packet begins with the line that `psxgpu_tool list` writes for it; its fields stand below, or behind it with --line.
-psxgpu_tool says which packets there are and their areas; where it refuses the capture, its line and the last packets
-before it end the list. Status: 0 all was listed, 2 trouble or refused.
+A packet begins with the line that `psxgpu_tool list` writes for it. Its fields follow on lines of their own, or on the
+same line with --line. psxgpu_tool decides which packets there are and their areas; if it refuses the capture, its line
+and the last packets before it end the list. Status: 0 all was listed, 2 an error, a refusal, or nothing to list.
 """
+import argparse
 import re
 import sys
 
-from psxgpu.command import SAME, TROUBLE, decimal, reading, seekable, title
+from psxgpu import progress
+from psxgpu.command import SAME, TROUBLE, Trouble, decimal, reading, title
+from psxgpu.files import plain
 from psxgpu.packets.control import class_name
-from psxgpu.packets.listing import Listing, holds
+from psxgpu.packets.listing import NAMES, Entry, Listing, holds
 from psxgpu.players import player
 from psxgpu.stream import Stream
 
 
-def arguments(parser):
-    parser.add_argument('capture', help='a capture; - is standard input')
-    parser.add_argument('--name', action='append', help='only these: a name of list, or gp1, read, stat, dma, ..')
+def arguments(parser: argparse.ArgumentParser) -> None:
+    """Adds the arguments of this tool."""
+    parser.add_argument('capture', metavar='CAPTURE', help='a capture or a dump of a GPU; - is standard input')
+    parser.add_argument('--name', action='append', choices=NAMES, metavar='NAME',
+                        help='only these packets and events, some of: ' + ', '.join(NAMES))
     parser.add_argument('--cell', type=decimal(0, 1023), nargs=2, metavar=('X', 'Y'),
-                        help='only packets whose area holds this cell')
+                        help='only packets whose area has this cell')
     parser.add_argument('--events', type=decimal(1, 1 << 62), nargs=2, metavar=('FIRST', 'LAST'),
                         help='only these events')
     parser.add_argument('--line', action='store_true', help='all of a packet on one line')
     player.argument(parser)
 
 
-def is_asked_for(words, entry):
-    event, _, name, area, _, _ = entry
-    if words.name and name not in words.name or words.cell and not holds(area, words.cell):
+def is_asked_for(words: argparse.Namespace, entry: Entry) -> bool:
+    """Returns whether an entry is to be listed."""
+    if words.name and entry.name not in words.name or words.cell and not holds(entry.area, words.cell):
         return False
-    return not words.events or words.events[0] <= event <= words.events[1]
+    return not words.events or bool(words.events[0] <= entry.event <= words.events[1])
 
 
-def entry_text(texts, on_one_line):
+def entry_text(entry: Entry, on_one_line: bool) -> str:
+    """Returns an entry with its fields."""
+    fields = entry.fields()
     if on_one_line:
-        return ' | '.join([texts[0]] + (['; '.join(texts[1:])] if texts[1:] else []))
-    return '\n    '.join(texts)
+        return ' | '.join([entry.line] + (['; '.join(fields)] if fields else []))
+    return '\n    '.join([entry.line, *fields])
 
 
-def show_refusal(said):
-    """The player's line, and the last packets before it as `list` writes them."""
+def show_refusal(said: str) -> None:
+    """Prints the player's line, and the last packets before it as `list` writes them."""
     sys.stdout.flush()
     for line in said.splitlines():
         last = re.fullmatch(r'psxgpu: last (\d+) (\d+) (\d+)', line)
@@ -53,16 +60,24 @@ def show_refusal(said):
         print(line, file=sys.stderr)
 
 
-def run(words):
-    program = player.find(words.player)
-    with seekable(words.capture) as path:
-        listing = Listing(path, title(words.capture), program)
+def run(words: argparse.Namespace) -> int:
+    """Prints the list."""
+    if words.events and words.events[0] > words.events[1]:
+        raise Trouble('--events %d %d: the first comes after the last' % tuple(words.events))
+    program, name = player.find(words.player), title(words.capture)
+    count = 0
+    with plain(words.capture) as path:
         with reading(path) as file:
-            Stream(file, title(words.capture))      # a file that is no capture is trouble at once
-        for entry in listing:
-            if is_asked_for(words, entry):
-                print(entry_text([entry[4]] + entry[5](), words.line))
+            Stream(file, name)          # a file that is not a capture is refused at once
+        listing = Listing(path, name, program)
+        with progress.shown(name):
+            for entry in listing:
+                if is_asked_for(words, entry):
+                    print(entry_text(entry, words.line))
+                    count += 1
     if listing.refusal:
         show_refusal(listing.refusal)
         return TROUBLE
+    if not count and (words.name or words.cell or words.events):
+        raise Trouble('%s: nothing to list: no packet or event is as asked for' % name)
     return SAME

@@ -4,18 +4,22 @@
     psxgpu picture vram.bin vram.png
     psxgpu picture vram.bin page.png --bits 4 --palette 0 480 --box 640 0 64 256
 
-A dump is drawn as cells of 15 bits, or as texels of 4 or 8 bits (four or two a cell): in gray, or by a palette that
-stands in the same dump. A target that ends in .ppm is written as PPM.
+A dump is drawn as cells of 15 bits, or as texels of 4 or 8 bits (four or two a cell): in gray, or by a palette of the
+same dump. A picture whose name ends in .ppm is written as PPM. Status: 0 written, 2 an error.
 """
+import argparse
+from typing import Sequence
+
 from psxgpu.command import Trouble, decimal
 from psxgpu.image import Image, about, load_file, read_picture, write_image
 from psxgpu.output import refuse_inputs
 from psxgpu.vram import WIDTH, cells_of, palette_of, shown, texels
 
 
-def arguments(parser):
-    parser.add_argument('source', help='a dump, a PPM or a PNG; - is standard input')
-    parser.add_argument('target', help='the picture to write')
+def arguments(parser: argparse.ArgumentParser) -> None:
+    """Adds the arguments of this tool."""
+    parser.add_argument('source', metavar='SOURCE', help='a dump, a PPM or a PNG; - is standard input')
+    parser.add_argument('target', metavar='PICTURE', help='the picture to write; - is standard output')
     parser.add_argument('--bits', type=int, choices=(4, 8, 15), default=15, help='bits of a texel of the dump')
     parser.add_argument('--palette', type=decimal(0, 1023), nargs=2, metavar=('X', 'Y'),
                         help='the first cell of the palette')
@@ -23,8 +27,8 @@ def arguments(parser):
                         help='the cells to draw, all if left out')
 
 
-def draw(cells, words):
-    """The picture of a dump."""
+def draw(cells: Sequence[int], words: argparse.Namespace) -> Image:
+    """Returns the picture of a dump."""
     height = len(cells) // WIDTH
     x, y, w, h = words.box or (0, 0, WIDTH, height)
     if not (w and h and x + w <= WIDTH and y + h <= height):
@@ -35,7 +39,8 @@ def draw(cells, words):
     return Image(w * 16 // words.bits, h, texels(part, words.bits, palette_of(cells, words.bits, words.palette)))
 
 
-def run(words):
+def run(words: argparse.Namespace) -> None:
+    """Writes the picture."""
     refuse_inputs(words.target, [words.source])
     data, is_picture = load_file(words.source)
     if is_picture:

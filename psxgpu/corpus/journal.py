@@ -4,7 +4,7 @@ import contextlib
 import os
 import sys
 import time
-from typing import IO, Dict, Iterator, Optional, Sequence, Set
+from typing import IO, Dict, Generator, Optional, Sequence, Set
 
 from psxgpu.command import Trouble, named, reason_of
 from psxgpu.corpus.captures import Capture
@@ -87,7 +87,7 @@ class Journal:
         self.sums.rows[row.name] = row
 
 
-def play_all(player: Player, captures: Sequence[Capture], jobs: int) -> Iterator[Row]:
+def play_all(player: Player, captures: Sequence[Capture], jobs: int) -> Generator[Row, None, None]:
     """Plays captures, several at a time. Returns each row when it is known."""
     waiting = iter(captures)
     with concurrent.futures.ThreadPoolExecutor(jobs) as pool:

@@ -66,8 +66,8 @@ class Places:
         sides = [self.given(player, 'play', path, last).decode('ascii', 'replace').splitlines()
                  for player in (self.player, reference)]
         at = next((k for k, (a, b) in enumerate(zip(*sides)) if a != b), min(map(len, sides)))
-        words = [lines[at] if at < len(lines) else 'none' for lines in sides]
-        finding.lines.append('first differing word: line %d: %s and %s' % (at + 1, *words))
+        one, other = (lines[at] if at < len(lines) else 'none' for lines in sides)
+        finding.lines.append('first differing word: line %d: %s and %s' % (at + 1, one, other))
 
     def packet(self, path: str, event: int, reference: Player) -> str:
         """Returns the line of `list` for an event. A data word of a load has none: then it is that of the load."""

@@ -10,7 +10,7 @@ import subprocess
 import tempfile
 import threading
 import time
-from typing import IO, Iterable, List, Optional, Sequence, Tuple
+from typing import IO, Iterable, List, Optional, Sequence, Tuple, cast
 
 from psxgpu.command import Trouble, named
 from psxgpu.corpus.captures import Capture
@@ -39,14 +39,15 @@ class Run:
             self.is_late = False
             clock = threading.Timer(limit, self.stop)
             clock.start()
+            out = cast(IO[bytes], self.child.stdout)
             try:
-                self.take(self.child.stdout)
+                self.take(out)
             except BaseException:
                 self.kill()
                 raise
             finally:
                 clock.cancel()
-                self.child.stdout.close()
+                out.close()
                 status = self.child.wait()
             err.seek(0)
             error = err.read(4096).decode('utf-8', 'replace')

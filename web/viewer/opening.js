@@ -1,5 +1,7 @@
 // Opens a file as a recording: unpacks it where it is compressed, and takes it apart as its bytes come.
 
+import { DUMP_HEADER, captureOf, isDump } from './dump.js';
+import { DumpFault } from './dump_records.js';
 import { Flattener } from './flatten.js';
 import { MainMemory } from './dma.js';
 import { outlineOf } from './outline.js';
@@ -18,19 +20,24 @@ const [TRUNCATED, BAD_SNAPSHOT] = [3, 12];
 
 export class Stopped extends Error {}
 
-const PACKINGS = [{ name: 'gzip', first: [0x1F, 0x8B] }, { name: 'zstd', first: [0x28, 0xB5, 0x2F, 0xFD] }];
+// What a packed file begins with, and the program that unpacks it outside of the page.
+const PACKINGS = [{ name: 'gzip', first: [0x1F, 0x8B], program: 'gzip -d' },
+    { name: 'zstd', first: [0x28, 0xB5, 0x2F, 0xFD], program: 'zstd -d' },
+    { name: 'xz', first: [0xFD, 0x37, 0x7A, 0x58, 0x5A], program: 'xz -d' },
+    { name: 'zip', first: [0x50, 0x4B, 3, 4], program: 'unzip' }];
+const MOST_FIRST = 5;
 
-function unpacking(name) {
+function unpacking({ name, program }) {
     try {
         return new DecompressionStream(name);
     } catch {
-        throw new Error(`this browser cannot unpack ${name}: unpack the file first`);
+        throw new Error(`this browser cannot unpack ${name}: unpack the file first, as with ${program}`);
     }
 }
 
 // The bytes of a file as a stream, unpacked; `taken` is told how many bytes of the file were taken.
 async function streamOf(blob, taken) {
-    const first = new Uint8Array(await blob.slice(0, 4).arrayBuffer());
+    const first = new Uint8Array(await blob.slice(0, MOST_FIRST).arrayBuffer());
     const packing = PACKINGS.find(({ first: mark }) => mark.every((byte, k) => first[k] === byte));
     let count = 0;
     const counted = blob.stream().pipeThrough(new TransformStream({
@@ -40,11 +47,26 @@ async function streamOf(blob, taken) {
             out.enqueue(chunk);
         },
     }));
-    return { packing, stream: packing ? counted.pipeThrough(unpacking(packing.name)) : counted };
+    return { packing, stream: packing ? counted.pipeThrough(unpacking(packing)) : counted };
+}
+
+// The bytes of a file, piece by piece, as those of a capture or snapshot: unpacked, and translated if it is a GPU dump.
+export async function* bytesOf(blob, taken = () => {}) {
+    const pieces = unpackedOf(blob, taken);
+    try {
+        const first = await gather(pieces, new Uint8Array(0), DUMP_HEADER);
+        if (isDump(first)) yield* captureOf(first, pieces);
+        else {
+            yield first;
+            yield* pieces;
+        }
+    } finally {
+        pieces.return();
+    }
 }
 
 // The unpacked bytes of a file, piece by piece.
-export async function* bytesOf(blob, taken = () => {}) {
+async function* unpackedOf(blob, taken) {
     const { packing, stream } = await streamOf(blob, taken);
     const source = stream.getReader();
     try {
@@ -127,7 +149,7 @@ export async function openFile(blob, name, library, { progress = () => {}, signa
     try {
         await takeAll(started, pieces, signal);
     } catch (fault) {
-        if (fault instanceof Refusal) fault.before = recording;
+        if (fault instanceof Refusal || fault instanceof DumpFault) fault.before = recording;
         throw fault;
     } finally {
         pieces.return();

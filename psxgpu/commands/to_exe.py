@@ -1,0 +1,42 @@
+"""Makes a test program for the console of a capture: a PS-X EXE, for any emulator or a PlayStation.
+
+    psxgpu to-exe mine.capture -o mine.exe              what the capture does, and the picture at its end
+    psxgpu to-exe mine.capture -o mine.exe --check      and then what differs from psxgpu_tool: on the screen and the TTY
+
+No compiler is needed. docs/CONSOLE.md says how to run the program. Status 0: written, with a line on standard error for
+each thing that consoles may do otherwise; 2: trouble.
+"""
+import argparse
+import sys
+
+from psxgpu.command import main, seekable, title, writing
+from psxgpu.console import Source, make
+from psxgpu.console.plan import BLANKS
+from psxgpu.output import refuse_inputs
+from psxgpu.players import player
+
+
+def arguments(parser: argparse.ArgumentParser) -> None:
+    """Adds the words of the command."""
+    parser.add_argument('capture', metavar='CAPTURE', help='a capture of version 1 or 2; - is standard input')
+    parser.add_argument('-o', dest='out', metavar='EXE', required=True, help='the program; - is standard output')
+    parser.add_argument('--check', action='store_true', help='the program says what differs')
+    parser.add_argument('--blanks', choices=tuple(BLANKS), default='marks',
+                        help='wait for a vertical blank at each mark (default), at each flip, or at none')
+    player.argument(parser)
+
+
+def run(words: argparse.Namespace) -> None:
+    """Writes the program."""
+    name = title(words.capture)
+    refuse_inputs(words.out, [words.capture])
+    with seekable(words.capture) as path:
+        program = make(Source(player.find(words.player), path, name), words.check, words.blanks)
+    with writing(words.out, [words.capture]) as file:
+        file.write(program.executable)
+    for line in program.warnings:
+        print('%s: %s' % (name, line), file=sys.stderr)
+
+
+if __name__ == '__main__':
+    sys.exit(main(sys.modules[__name__]))

@@ -1,0 +1,28 @@
+"""Test programs for the console: a capture as a PS-X EXE that runs on emulators and on a PlayStation.
+
+    from psxgpu.console import executable
+    exe = executable(capture, check=True)
+
+docs/CONSOLE.md says what such a program does.
+"""
+import tempfile
+from typing import Optional
+
+from psxgpu.console.convert import Program, Source, make
+from psxgpu.players import player
+
+__all__ = ['Program', 'Source', 'executable', 'make']
+
+
+def executable(capture: bytes, check: bool = False, blanks: str = 'marks', tool: Optional[str] = None) -> bytes:
+    """Returns the bytes of the PS-X EXE that does to the GPU what a capture does.
+
+    check: the program compares video memory and reads at its end, and says what differs.
+    blanks: it waits for a vertical blank at 'marks', at 'flips' or at 'none'.
+    tool: the path of psxgpu_tool; else that of $PLAYER, of the path, or the one that is built here.
+    Trouble, with the reason, if a console cannot run the capture.
+    """
+    with tempfile.NamedTemporaryFile(prefix='psxgpu') as file:
+        file.write(capture)
+        file.flush()
+        return make(Source(player.find(tool), file.name, 'capture'), check, blanks).executable

@@ -1,0 +1,109 @@
+"""The image of a test program: the player, its tables, and the orders."""
+import os
+import struct
+from array import array
+from typing import Iterable, Optional
+
+from psxgpu.command import Trouble
+from psxgpu.console import page, sums
+from psxgpu.console.assembler import assemble
+from psxgpu.console.orders import WORDED, Kind, Orders
+from psxgpu.console.plan import Plan
+from psxgpu.packets.split import name_and_length
+from psxgpu.stream import little
+
+FOLDER = os.path.join(os.path.dirname(os.path.abspath(__file__)), 'program')
+SOURCES = 'begin', 'ports', 'reads', 'sums', 'text'
+ADDRESS, STACK, MOST = 0x80010000, 0x801FFF00, 0x1E8000     # the program, its stack, and its most bytes
+SECTOR = 2048                                               # an EXE consists of whole ones
+NAMES = {'MAP_X': page.MAP_X, 'MAP_Y': page.MAP_Y, 'WORDED': int(WORDED)}
+# GP1: what a reset sets besides its flags. The reset of pcsxr leaves the start and the ranges of the display as they are.
+RESET = 0x04000000, 0x05000000, 0x06C00200, 0x07040010, 0x08000000
+DISPLAY_ON, RESET_ALL = 0x03000000, 0x00000000
+SHOWN = 120                                                 # vertical blanks before the check
+
+
+def listed(label: str, directive: str, values: Iterable[object]) -> str:
+    """Returns a line with values after a label."""
+    return '%s: %s %s\n' % (label, directive, ', '.join(map(str, values)))
+
+
+def source(cells: Optional[bytes] = None) -> str:
+    """Returns the text of the program up to its orders. `cells`: video memory as it has to be."""
+    text = ''
+    for name in SOURCES:
+        with open(os.path.join(FOLDER, name + '.s')) as file:
+            text += file.read()
+    text += '.align 2\n'
+    text += listed('kinds', '.word', (kind.name.lower() for kind in Kind))
+    text += listed('sum_table', '.word', sums.table())
+    text += listed('wanted_sums', '.word', sums.parts(cells) if cells else [0])
+    text += listed('glyphs', '.half', (page.glyph(chr(code)) for code in range(32, 91)))
+    text += listed('lengths', '.byte', (name_and_length(opcode << 24)[1] for opcode in range(256)))
+    for k, line in enumerate(page.LINES):
+        text += 'line%d: .ascii "%s"\ndigits%d: .ascii "000%s\\0"\n' % (k, line.before, k, line.after)
+    return text + '.align 2\norders:\n'
+
+
+class Image:
+    """A program that grows record by record. With `cells`, video memory after the capture, it checks at its end."""
+
+    def __init__(self, blanks: str, cells: Optional[bytes] = None) -> None:
+        self.code, self.labels = assemble(source(cells), ADDRESS, NAMES)
+        self.orders = Orders(self.labels['orders'])
+        self.plan = Plan(self.orders, blanks)
+        self.checks = cells is not None
+        self.begin()
+
+    def begin(self) -> None:
+        """Appends what makes the state after a reset: registers, and video memory of zeros."""
+        for word in (RESET_ALL, *RESET):
+            self.orders.add(Kind.CONTROL_NOW, 1, (word,))
+        for corner in (0, 0x200, 0x1000000, 0x1000200):
+            self.orders.grow(Kind.PACKETS, array('I', (0x02000000, corner, 0x1000200)))
+        self.orders.grow(Kind.PACKETS, array('I', (opcode << 24 for opcode in range(0xE1, 0xE7))))
+
+    def take(self, kind: int, count: int, words: 'array[int]') -> None:
+        """Appends a record. Trouble if there is no more room."""
+        self.plan.take(kind, count, words)
+        self.expect_room()
+
+    def expect_room(self) -> None:
+        """Trouble if the program is larger than main memory."""
+        if len(self.code) + 4 * len(self.orders.words) > MOST:
+            raise Trouble('a console has no memory for more than %d bytes of orders' % MOST)
+
+    def end(self, reads: int) -> None:
+        """Appends what follows the capture. `reads`: the CRC of the words that it reads."""
+        if self.plan.is_off:
+            self.orders.add(Kind.CONTROL_NOW, 1, (DISPLAY_ON,))
+            if self.plan.is_idle():     # a fill without cells: pcsxr shows video memory when something is drawn
+                self.orders.add(Kind.PACKETS, 3, (0x02000000, 0, 0))
+        if self.checks:
+            self.report(reads)
+        self.orders.add(Kind.END)
+        self.expect_room()
+
+    def report(self, reads: int) -> None:
+        """Appends the check, the page of what differs, and its lines for the TTY."""
+        orders = self.orders
+        orders.add(Kind.BLANK, SHOWN)
+        orders.add(Kind.CONTROL_LATE, 1, (RESET_ALL,))
+        orders.add(Kind.CHECK_READS, 0, (reads,))
+        orders.add(Kind.SUMS)
+        for word in (*page.SCREEN, DISPLAY_ON):
+            orders.add(Kind.CONTROL, 1, (word,))
+        orders.add(Kind.PACKETS, len(page.GROUND), page.GROUND)
+        orders.add(Kind.MAP)
+        for k, line in enumerate(page.LINES):
+            names = 'line%d' % k, line.number, 'digits%d' % k
+            orders.add(Kind.TEXT, 0, (page.row(k), *(self.labels[name] for name in names)))
+        for k in range(len(page.LINES)):
+            orders.add(Kind.SAY, 0, (self.labels['line%d' % k],))
+
+    def executable(self) -> bytes:
+        """Returns the PS-X EXE: a head of one sector, and the program."""
+        body = self.code + little(self.orders.words[:]).tobytes()
+        body += bytes(-len(body) % SECTOR)
+        head = b'PS-X EXE' + bytes(8) + struct.pack('<10I', ADDRESS, 0, ADDRESS, len(body), 0, 0, 0, 0, STACK, 0)
+        return head.ljust(SECTOR, b'\0') + body

@@ -1,0 +1,116 @@
+"""Files of zstd (.zst), read and written by the program `zstd`, or by a module where there is no program: Python's own
+from 3.14 on, or `zstandard`. If there is none of them, `Trouble` names the package."""
+from __future__ import annotations
+
+import contextlib
+import importlib
+import re
+import shutil
+import subprocess
+import tempfile
+from typing import IO, Any, Iterator, Optional
+
+from psxgpu.command import BLOCK
+from psxgpu.trouble import Trouble
+
+MISSING = '%s: a zstd file: install the package zstd, or python3-zstandard'
+LEVEL = 3
+
+
+class ZstdFault(ValueError):
+    """The bytes are no whole zstd file. Its text is the reason."""
+
+
+class Child:
+    """What a run of the program writes, to be read as it comes."""
+
+    def __init__(self, child: subprocess.Popen[bytes], said: IO[bytes]) -> None:
+        self.child, self.said = child, said
+
+    def read1(self, n: int) -> bytes:
+        """Returns at most `n` bytes. Raises `ZstdFault` at the end of what it writes, if the program fails."""
+        pipe: Any = self.child.stdout
+        piece: bytes = pipe.read1(n)
+        if not piece and self.child.wait():
+            raise ZstdFault(reason(self.child, self.said))
+        return piece
+
+
+class Module:
+    """What a module unpacks."""
+
+    def __init__(self, stream: Any) -> None:
+        self.stream = stream
+
+    def read1(self, n: int) -> bytes:
+        """Returns at most `n` bytes. Raises `ZstdFault` if the packed bytes are at fault."""
+        try:
+            return bytes(self.stream.read1(n))
+        except (OSError, MemoryError):
+            raise
+        except Exception as fault:      # each module has an error of its own
+            raise ZstdFault(str(fault)) from None
+
+
+def reason(child: subprocess.Popen[bytes], said: IO[bytes]) -> str:
+    """Returns why the program failed: its first line, without the name that it has for the file."""
+    said.seek(0)
+    line = said.read().decode(errors='replace').strip().split('\n')[0]
+    return re.sub(r'^.*/\*stdin\*\\ *: *', '', line) or 'zstd ends with status %d' % child.returncode
+
+
+def module() -> Optional[Any]:
+    """Returns a module that knows zstd, if there is one."""
+    for name in ('compression.zstd', 'zstandard'):
+        with contextlib.suppress(ImportError):
+            return importlib.import_module(name)
+    return None
+
+
+@contextlib.contextmanager
+def started(words: list[str], name: str, **streams: Any) -> Iterator[tuple[subprocess.Popen[bytes], IO[bytes]]]:
+    """A run of the program, ended with the block, and what it says."""
+    with tempfile.TemporaryFile(prefix='psxgpu') as said:
+        child = subprocess.Popen(['zstd', '-q', *words], stderr=said, **streams)
+        try:
+            yield child, said
+        finally:
+            for pipe in filter(None, (child.stdin, child.stdout)):
+                with contextlib.suppress(BrokenPipeError):
+                    pipe.close()
+            child.wait()
+
+
+@contextlib.contextmanager
+def zstd_reader(packed: IO[bytes], name: str) -> Iterator[Child | Module]:
+    """The unpacked bytes of a file of the disk, by `read1`."""
+    if shutil.which('zstd'):
+        with started(['-dc'], name, stdin=packed, stdout=subprocess.PIPE) as run:
+            yield Child(*run)
+        return
+    found = module()
+    if found is None:
+        raise Trouble(MISSING % name)
+    opened: Any = getattr(found, 'ZstdFile', None)
+    yield Module(opened(packed) if opened else
+                 found.ZstdDecompressor().stream_reader(packed, read_size=BLOCK, read_across_frames=True))
+
+
+@contextlib.contextmanager
+def zstd_writer(raw: IO[bytes], name: str) -> Iterator[IO[bytes]]:
+    """A file to write to, which is packed into `raw`."""
+    if shutil.which('zstd'):
+        with started(['-c', '-%d' % LEVEL], name, stdin=subprocess.PIPE, stdout=raw) as (child, said):
+            assert child.stdin
+            yield child.stdin
+            child.stdin.close()
+            if child.wait():
+                raise Trouble('%s: %s' % (name, reason(child, said)))
+        return
+    found = module()
+    if found is None:
+        raise Trouble(MISSING % name)
+    opened: Any = getattr(found, 'ZstdFile', None)
+    with (opened(raw, 'wb', level=LEVEL) if opened else
+          found.ZstdCompressor(LEVEL).stream_writer(raw, closefd=False)) as file:
+        yield file

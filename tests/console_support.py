@@ -1,0 +1,67 @@
+"""What the tests of the console's programs share."""
+import io
+import os
+import struct
+import subprocess
+
+from psxgpu.console import image
+from psxgpu.console.assembler import assemble
+from psxgpu.console.orders import AGAIN, SAME, WORDED, Kind
+from psxgpu.stream import GP0, GP1, READ, SKIP, Stream
+from tests import support
+
+BEGINS = 6 + 12 + 6             # events of Image.begin
+MARK = 0x3F
+
+
+def events(path):
+    """What reaches the ports: ('gp0', word), ('gp1', word), ('read',). Marks and polls are left out."""
+    flat = subprocess.run([support.PLAYER, 'flat', path], stdout=subprocess.PIPE, check=True).stdout
+    return events_of(flat)
+
+
+def events_of(flat):
+    """The same of the bytes of a flat capture."""
+    out = []
+    for kind, count, words in Stream(io.BytesIO(flat), 'capture'):
+        if kind == GP0:
+            out += [('gp0', word) for word in words]
+        elif kind == GP1 and words[0] >> 24 & 0x3F != MARK:
+            out.append(('gp1', words[0]))
+        elif kind in (READ, SKIP):
+            out += [('read',)] * count
+    return out
+
+
+def follow(program):
+    """What the orders of a program without a check write and read, as the player does it."""
+    _, labels = assemble(image.source(), image.ADDRESS, image.NAMES)
+    body = struct.unpack('<%dI' % (len(program) // 4 - 512), program[2048:])
+    at, out = (labels['orders'] - image.ADDRESS) // 4, []
+    while True:
+        tag = body[at]
+        kind, flags, n = tag >> 24 & 0x3F, tag >> 24 & 0xC0, tag & 0xFFFFFF
+        at += 1
+        if kind == Kind.END:
+            return out
+        if kind < WORDED:
+            words = body[at:at + n]
+            if flags == SAME:
+                words = body[at:at + 1] * n
+            elif flags == AGAIN:
+                index = (body[at] - image.ADDRESS) // 4
+                words = body[index:index + n]
+            at += 1 if flags else n
+            out += [('gp1' if kind >= Kind.CONTROL else 'gp0', word) for word in words]
+        elif kind <= Kind.READ_LOOSE:
+            out += [('read',)] * n
+
+
+def build_processor(folder):
+    """The path of the bare console, built."""
+    path = os.path.join(folder, 'processor')
+    here = os.path.join(support.TOP, 'tests', 'console')
+    sources = [os.path.join(here, name) for name in ('processor.c', 'gpu.c')]
+    subprocess.run(['gcc', '-std=gnu99', '-Wall', '-Wextra', '-Werror', '-O2', '-I',
+                    os.path.join(support.TOP, 'recorder'), *sources, '-o', path], check=True)
+    return path

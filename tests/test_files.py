@@ -1,0 +1,176 @@
+"""Captures, snapshots and dumps, plain and packed: opened by what they contain, and packed by their names."""
+import contextlib
+import gzip
+import importlib.util
+import io
+import lzma
+import os
+import shutil
+import subprocess
+import unittest
+from unittest import mock
+
+from tests import support
+from tests.dumps_support import HAND_MADE
+from psxgpu import capture as c
+from psxgpu.dumps.reader import Dump
+from psxgpu.dumps.translation import Translation
+from psxgpu.files import is_recording, opened, plain, read_capture
+from psxgpu.packing import Damaged, Peeked, Pieces, packing, unpacked
+from psxgpu.trouble import Trouble
+
+HAS_ZSTD = shutil.which('zstd') is not None
+HAS_MODULE = any(importlib.util.find_spec(name.split('.')[0]) and importlib.util.find_spec(name)
+                 for name in ('zstandard', 'compression.zstd'))
+CAPTURE = c.Capture().gp0(c.load(0, 0, 64, 64, [(7 * k * k) & 0xFFFF for k in range(4096)])).stat().bytes()
+SNAPSHOT = b'PSXGPUS1' + bytes(100)
+
+
+def zstd(data):
+    return subprocess.run(['zstd', '-qc'], input=data, stdout=subprocess.PIPE, check=True).stdout
+
+
+PACKERS = {'gz': gzip.compress, 'xz': lzma.compress, **({'zst': zstd} if HAS_ZSTD else {})}
+
+
+@contextlib.contextmanager
+def without_program():
+    """A machine without the program zstd."""
+    with mock.patch.dict(os.environ, PATH='/nonexistent'):
+        yield
+
+
+class Opened(support.InFolder):
+    def test_by_content(self):
+        """Whatever a file is called and however it is packed. What is none of ours comes as it is."""
+        for data, wanted in ((CAPTURE, CAPTURE), (SNAPSHOT, SNAPSHOT), (b'', b''), (b'x', b'x'), (b'\x1f\x8b', b'\x1f\x8b'),
+                             (HAND_MADE, self.capture_of(HAND_MADE))):
+            self.assertEqual(read_capture(self.write('a.capture', data)), wanted)
+            for kind, pack in PACKERS.items():
+                with self.subTest(kind, data=data[:8]):
+                    path = self.write('b.capture', pack(data))
+                    self.assertEqual(read_capture(path), wanted)
+                    self.assertEqual(is_recording(path), data in (CAPTURE, SNAPSHOT, HAND_MADE))
+                    with plain(path) as copy, open(copy, 'rb') as file:
+                        self.assertEqual(file.read(), wanted)
+                    self.assertFalse(os.path.exists(copy))
+        path = self.write('a.capture', CAPTURE)
+        with plain(path) as same:
+            self.assertEqual(same, path)
+
+    @staticmethod
+    def capture_of(data):
+        """The bytes of a dump's capture."""
+        return b''.join(Translation(Dump(io.BytesIO(data), 'dump')))
+
+    def test_several_members(self):
+        """Packed files one after another are one file."""
+        for kind, pack in PACKERS.items():
+            path = self.write('a', pack(CAPTURE[:1000]) + pack(CAPTURE[1000:]))
+            self.assertEqual(read_capture(path), CAPTURE, kind)
+
+    def test_standard_input(self):
+        for kind, pack in PACKERS.items():
+            path = self.write('a', pack(CAPTURE))
+            with open(path, 'rb') as file:
+                done = support.run_tool('first', '4', stdin=file, text=False)
+            self.assertEqual((done.returncode, done.stdout, done.stderr),
+                             (0, c.Capture().gp0(c.load(0, 0, 64, 64, [(7 * k * k) & 0xFFFF for k in range(4096)])[:4])
+                              .bytes(), b''), kind)
+
+    def test_damaged(self):
+        """What is before the fault comes first."""
+        for kind, pack in PACKERS.items():
+            whole = pack(CAPTURE)
+            for data in (whole[:-5], whole[:len(whole) // 2], whole[:20], *([whole + b'x'] if kind != 'xz' else [])):
+                path, got = self.write('a', data), []
+                with self.subTest(kind, size=len(data)):
+                    with self.assertRaisesRegex(Damaged, '^name: damaged: .') as bad, opened(path, 'name') as file:
+                        got.extend(iter(lambda: file.read(100), b''))
+                    self.assertNotIn('\n', str(bad.exception))
+                    self.assertTrue(CAPTURE.startswith(b''.join(got)))
+                    if len(data) > len(whole) - 9 and kind != 'zst':     # which has one block here
+                        self.assertTrue(got)
+
+    def test_every_tool_reads_dumps(self):
+        path = self.write('a.psxgpu', HAND_MADE)
+        for words in (['first', '2', path], ['join', path, path]):
+            done = support.run_tool(*words, text=False)
+            self.assertEqual((done.returncode, done.stdout[:8], done.stderr), (0, b'PSXGPUC1', b''))
+        done = support.run_tool('first', '2', self.write('cut.psxgpu', HAND_MADE[:51]))
+        self.assertEqual((done.returncode, done.stderr.count('\n')), (2, 1), done.stderr)
+        self.assertIn('cut.psxgpu: byte 51: the dump ends inside a packet', done.stderr)
+
+
+@unittest.skipUnless(HAS_ZSTD, 'no program zstd')
+class Zstd(support.InFolder):
+    def test_no_zstd(self):
+        """The line names the package."""
+        path = self.write('a.zst', zstd(CAPTURE))
+        with without_program(), mock.patch('psxgpu.zstd.module', lambda: None):
+            with self.assertRaisesRegex(Trouble, '^%s: a zstd file: install the package zstd, or python3-' % path):
+                read_capture(path)
+            with self.assertRaisesRegex(Trouble, 'b.zst: a zstd file: install'), packing(self.path('b.zst')) as file:
+                file.write(b'x')
+        self.assertFalse(os.path.exists(self.path('b.zst')))
+
+    @unittest.skipUnless(HAS_MODULE, 'no module for zstd')
+    def test_module(self):
+        path = self.write('a.zst', zstd(CAPTURE[:100]) + zstd(CAPTURE[100:]))
+        with without_program():
+            self.assertEqual(read_capture(path), CAPTURE)
+            with self.assertRaisesRegex(Damaged, 'name: damaged: '):
+                read_capture(self.write('b.zst', zstd(CAPTURE)[:-9]), 'name')
+            with packing(self.path('c.zst')) as file:
+                file.write(CAPTURE)
+        self.assertEqual(read_capture(self.path('c.zst')), CAPTURE)
+
+
+class Packing(support.InFolder):
+    def test_by_name(self):
+        for ending, begin in (('', CAPTURE[:4]), ('.gz', b'\x1f\x8b'), ('.xz', b'\xfd7zXZ'),
+                              *([('.zst', b'\x28\xb5\x2f\xfd')] if HAS_ZSTD else [])):
+            for name in ('a', 'b'):
+                with packing(self.path(name + ending)) as file:
+                    file.write(CAPTURE)
+            self.assertTrue(self.read('a' + ending).startswith(begin))
+            self.assertEqual(self.read('a' + ending), self.read('b' + ending))
+            with unpacked(self.path('a' + ending)) as file:
+                self.assertEqual(file.read(), CAPTURE)
+
+    def test_a_fault_leaves_no_file(self):
+        for ending in ('.gz', '.xz', '.zst'):
+            path = self.write('a' + ending, b'kept')
+            with self.assertRaises(KeyError), packing(path) as file:
+                file.write(b'x')
+                raise KeyError
+            self.assertEqual(self.read('a' + ending), b'kept')
+
+
+class Parts(unittest.TestCase):
+    def test_peeked(self):
+        for sizes in ([-1], [0, 3, 3, -1], [6, 2, -1], [100], [1] * 9):
+            file, out = Peeked(io.BytesIO(b'abcdefgh'), 6), b''
+            self.assertEqual(file.first, b'abcdef')
+            for size in sizes:
+                out += file.read(size)
+            self.assertEqual(out, b'abcdefgh')
+
+    def test_pieces(self):
+        """The bytes before a fault come first."""
+        def failing():
+            yield b'abc'
+            raise Damaged('here')
+        pieces = failing()
+        file = Pieces(lambda: next(pieces))
+        self.assertEqual(file.read(2), b'ab')
+        self.assertEqual(file.read(5), b'c')
+        for _ in range(2):
+            with self.assertRaisesRegex(Damaged, 'here'):
+                file.read(1)
+        file = Pieces(iter((b'abc', b'de', b'')).__next__)
+        self.assertEqual([file.read(4), file.read(4)], [b'abcd', b'e'])
+
+
+if __name__ == '__main__':
+    unittest.main()
