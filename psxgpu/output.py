@@ -10,7 +10,7 @@ import os
 import re
 import stat
 import sys
-from typing import BinaryIO, Iterable, Iterator, Optional, cast
+from typing import BinaryIO, Iterable, Iterator, Optional, Tuple, cast
 
 from psxgpu.trouble import Trouble, named
 
@@ -65,49 +65,69 @@ def straight(descriptor: int, title: str, is_text: bool) -> Iterator[BinaryIO]:
 
 
 @contextlib.contextmanager
-def part_of(path: str, mode: int) -> Iterator[BinaryIO]:
-    """A new file in the folder of `path`, which is renamed to `path` at the end of the block. If the block raises, it
-    is removed."""
+def part_of(path: str, old: Optional[os.stat_result]) -> Iterator[Tuple[str, int]]:
+    """A new file in the folder of `path`, with the same ending: its path and its descriptor, which the block closes.
+    It is renamed to `path` at the end of the block. If the block raises, it is removed. `old`: as in `replacing`."""
     target = os.path.realpath(path)
-    part = os.path.join(os.path.dirname(target), '.psxgpu-%s.part' % os.urandom(6).hex())
+    part = os.path.join(os.path.dirname(target), '.psxgpu-%s.part%s' % (os.urandom(6).hex(), os.path.splitext(path)[1]))
     try:
-        descriptor = os.open(part, os.O_WRONLY | os.O_CREAT | os.O_EXCL, mode)
-        with io.BufferedWriter(Written(descriptor, path)) as file:
-            yield cast(BinaryIO, file)
+        descriptor = os.open(part, os.O_WRONLY | os.O_CREAT | os.O_EXCL, stat.S_IMODE(old.st_mode) if old else 0o666)
+        yield part, descriptor
         os.replace(part, target)
-    except BaseException:
+    except BaseException as error:
         with contextlib.suppress(OSError):
             os.remove(part)
+        if isinstance(error, OSError) and error.filename == part:
+            error.filename, error.filename2 = path, None
         raise
 
 
-def take_place(file: BinaryIO, old: os.stat_result) -> None:
+def take_place(descriptor: int, old: Optional[os.stat_result]) -> None:
     """Gives a new file the owner and the mode bits of the old one, as far as the user may, and puts it on the disk."""
-    file.flush()
-    with contextlib.suppress(OSError):
-        os.fchown(file.fileno(), old.st_uid, old.st_gid)
-    with contextlib.suppress(OSError):
-        os.fchmod(file.fileno(), stat.S_IMODE(old.st_mode))
-    os.fsync(file.fileno())
+    if old:
+        with contextlib.suppress(OSError):
+            os.fchown(descriptor, old.st_uid, old.st_gid)
+        with contextlib.suppress(OSError):
+            os.fchmod(descriptor, stat.S_IMODE(old.st_mode))
+        os.fsync(descriptor)
+
+
+def refuse_name(path: str, old: Optional[os.stat_result]) -> None:
+    """Raises OSError if a regular file cannot have this name, or an old one may not be written."""
+    number = 0
+    if not os.path.basename(path):
+        number = errno.EISDIR if path else errno.ENOENT
+    elif old and not os.access(path, os.W_OK):
+        number = errno.EACCES
+    if number:
+        raise OSError(number, os.strerror(number), path)
 
 
 @contextlib.contextmanager
 def replacing(path: str, old: Optional[os.stat_result]) -> Iterator[BinaryIO]:
     """Writes a regular file. `old`: the status of the file that has the name until then."""
-    if not os.path.basename(path):
-        number = errno.EISDIR if path else errno.ENOENT
-        raise OSError(number, os.strerror(number), path)
-    if old and not os.access(path, os.W_OK):
-        raise OSError(errno.EACCES, os.strerror(errno.EACCES), path)
-    try:
-        with part_of(path, stat.S_IMODE(old.st_mode) if old else 0o666) as file:
-            yield file
-            if old:
-                take_place(file, old)
-    except OSError as error:
-        if str(error.filename).endswith('.part'):
-            error.filename, error.filename2 = path, None
-        raise
+    refuse_name(path, old)
+    with part_of(path, old) as (_, descriptor), io.BufferedWriter(Written(descriptor, path)) as file:
+        yield cast(BinaryIO, file)
+        file.flush()
+        take_place(descriptor, old)
+
+
+@contextlib.contextmanager
+def written_by_name(path: str, inputs: Iterable[str] = ()) -> Iterator[str]:
+    """The path of a file for a program to write, with the ending of `path`. It becomes `path` at the end of the block, as
+    with `writing`. Raises Trouble if `path` is one of `inputs`, a device, a pipe or `-`."""
+    refuse_inputs(path, inputs)
+    old = status_of(path, None)
+    if stream_of(path) is not None or old and not stat.S_ISREG(old.st_mode):
+        raise Trouble('%s: name a file: it is not written straight through' % path)
+    refuse_name(path, old)
+    with part_of(path, old) as (part, descriptor):
+        try:
+            yield part
+            take_place(descriptor, old)
+        finally:
+            os.close(descriptor)
 
 
 @contextlib.contextmanager

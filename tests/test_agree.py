@@ -24,13 +24,16 @@ class Agreement(support.InFolder):
         self.assertEqual(self.agree(zeros, zeros, '2', 'fills'), (0, ['| fills | 2 | 2 |  |'], ''))
         status, lines, _ = self.agree(zeros, one, '2', 'fills')
         self.assertEqual((status, lines[0]), (1, '| fills | 2 | 0 | 100.00 % |'))
-        self.assertEqual(self.agree(zeros, nothing, '1', 'fills'), (2, ['| fills | 1 | 0 |  (1 without a dump) |'], ''))
+        self.assertEqual(self.agree(zeros, nothing, '1', 'fills'), (
+            2, ['| fills | 1 | 0 |  (1 without a dump) |'], 'psxgpu agree: a player wrote no dump for 1 of 1 captures\n'))
 
     def test_trouble(self):
         for words, reason in ((['none', 'none', '1', 'fills'], 'none: No such file or directory'),
-                              (['a', 'b', '1', 'draws'], 'draws: no class; --classes lists them'),
-                              ([], 'two players are wanted')):
-            self.assertEqual(self.agree(*words)[::2], (2, 'psxgpu agree: %s\n' % reason))
+                              (['a', 'b', '1', 'draws'], "there is no class 'draws': the classes are fills; loads; "),
+                              ([], 'name two players')):
+            status, _, said = self.agree(*words)
+            self.assertEqual((status, said.count('\n')), (2, 1))
+            self.assertTrue(said.startswith('psxgpu agree: ' + reason), said)
 
     def test_classes(self):
         done = support.run_tool('agree', '--classes')

@@ -136,6 +136,19 @@ class Audits(unittest.TestCase):
                 self.assertEqual(self.audit(capture, os.path.join(self.folder, theirs))[0], 2)
         return errors.getvalue()
 
+    def test_no_packet(self):
+        """An audit that judges nothing is not green."""
+        for words in (['--first', '100'], ['--first', '9', '--last', '3'], ['--last', '2']):
+            errors = io.StringIO()
+            with contextlib.redirect_stderr(errors):
+                self.assertEqual(self.audit(self.fills(), self.right, *words), (2, []))
+            self.assertIn('a.capture: no packet to judge from event', errors.getvalue())
+
+    def test_foreign_player(self):
+        """What is not a list of packets is refused in one line."""
+        self.right = self.program('talks', '#!/bin/sh\ncat > /dev/null; echo one two\n')
+        self.assertIn('talks list: not a list of packets', self.refusal(self.fills(), 'talks'))
+
     def test_refusals(self):
         self.assertIn('not flat', self.refusal(c.Capture(2).ram(0, 1)))
         self.assertIn('tall profile', self.refusal(c.Capture(3).gp0(1)))
@@ -147,7 +160,7 @@ class Audits(unittest.TestCase):
         for data in (b'no capture', b'PSXGPUC2\1'):
             with open(path, 'wb') as file:
                 file.write(data)
-            self.assertIn('audit: ', self.refusal(None, path=path))
+            self.assertIn('psxgpu audit: %s: ' % path, self.refusal(None, path=path))
 
 
 class Listings(unittest.TestCase):
@@ -155,8 +168,8 @@ class Listings(unittest.TestCase):
         listing = b'3 line 48000000 1 2 3 4\n4 line 48000000 -\n5 line 48000000 0 3 2 9\n6 finish 55555555 -\n' \
                   b'7 environment e6000003 -\n8 rectangle 60000000 5 5 6 6\n'
         self.assertEqual(list(probes.packets(listing)), [
-            (6, 'polyline', 0x48000000, [0, 2, 3, 9], 0), (7, 'environment', 0xE6000003, None, 3),
-            (8, 'rectangle', 0x60000000, [5, 5, 6, 6], 3)])
+            (6, 'polyline', 0x48000000, (0, 2, 3, 9), 0), (7, 'environment', 0xE6000003, None, 3),
+            (8, 'rectangle', 0x60000000, (5, 5, 6, 6), 3)])
 
     def test_boxes(self):
         self.assertEqual(probes.seen_box('polygon', [1, 1, 1022, 511]), (0, 0, 1023, 511))

@@ -25,14 +25,14 @@ class Bad(Corpus):
 
     def test_no_player(self):
         self.two()
-        self.expect(2, '', './none: no such player', 'record', 'in', '--golden', 'golden', '--player', './none')
+        self.expect(2, '', './none: there is no such player', 'record', 'in', '--golden', 'golden', '--player', './none')
 
     def test_golden_files(self):
         self.two()
         self.record()
         text = self.text('golden')
         bad = {'psxgpu-corpus 2' + text[15:]: 'golden:1: version 2; this tool knows version 1',
-               'hello\n': 'golden: no file of sums', '': 'golden: no file of sums',
+               'hello\n': 'golden: not a file of sums', '': 'golden: not a file of sums',
                text[:200]: r'golden:\d+: ', text[:-1]: r'golden:\d+: the file ends inside a capture',
                text + text.split('\n\n', 1)[1]: r'golden:\d+: a second capture of the name a.capture',
                text.replace('words', 'sounds'): r'golden:\d+: not a line of a file of sums: sounds'}

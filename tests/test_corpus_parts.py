@@ -56,7 +56,7 @@ class Parts(Corpus):
         film(1).save(self.path('a.capture'))
         self.expect(2, '', 'a.capture: 0 frames, too few for 2 parts', 'split', 'a.capture', '--parts', '2', '--into',
                     'parts', '--player', './small')
-        self.expect(2, '', 'small: no capture', 'split', 'small', '--parts', '2', '--into', 'parts', '--player',
+        self.expect(2, '', 'small: not a capture', 'split', 'small', '--parts', '2', '--into', 'parts', '--player',
                     './small')
 
 

@@ -38,11 +38,11 @@ class Logs(support.InFolder):
             self.assertEqual(c.records(made(log))[0], version)
 
     def test_bad_lines(self):
-        for line, reason in (('gp0', 'expected `gp0 WORD ..`'), ('gp0 x', 'x is no hexadecimal number'),
-                             ('gp0 100000000', '100000000 is no number of 32 bits'), ('gp1 1 2', 'expected `gp1 WORD`'),
+        for line, reason in (('gp0', 'expected `gp0 WORD ..`'), ('gp0 x', 'x is not a hexadecimal number'),
+                             ('gp0 100000000', '100000000 is not a number of 32 bits'), ('gp1 1 2', 'expected `gp1 WORD`'),
                              ('ram 1 0', 'ram address: 1'), ('dma 3 0 0 0', 'dma channel: 3'),
-                             ('write 1', '`write` names no event'), ('read -1', '-1 is no number'),
-                             ('settings 1 2', 'expected `settings'), ('read a', 'a is no decimal number')):
+                             ('write 1', '`write` names no event'), ('read -1', '-1 is not a number'),
+                             ('settings 1 2', 'expected `settings'), ('read a', 'a is not a decimal number')):
             with self.assertRaises(Bad) as caught:
                 made(['stat', line])
             self.assertTrue(str(caught.exception).startswith('line 2: %s' % reason), caught.exception)
@@ -51,9 +51,9 @@ class Logs(support.InFolder):
     def test_script(self):
         done = support.run_tool('from-log', input='stat\nread 0x\n')
         self.assertEqual((done.returncode, done.stdout), (2, ''))
-        self.assertEqual(done.stderr, 'psxgpu from-log: standard input: line 2: 0x is no decimal number: read 0x\n')
+        self.assertEqual(done.stderr, 'psxgpu from-log: standard input: line 2: 0x is not a decimal number: read 0x\n')
         done = support.run_tool('from-log', self.write('log', b'stat\n\xff\n'))
-        self.assertIn('line 2 is no text', done.stderr)
+        self.assertIn('line 2 is not text', done.stderr)
         done = support.run_tool('from-log', self.write('log', 'stat\n'), self.path('out'))
         self.assertEqual((done.returncode, self.read('out')), (0, c.Capture().stat().bytes()))
 

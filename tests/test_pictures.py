@@ -54,7 +54,7 @@ class Files(unittest.TestCase):
         cells = cells_of(struct.pack('<H', 0x7C1F) * 1024)
         self.assertEqual((len(cells), shown(cells[:1])), (1024, b'\xff\x00\xff'))
         for bad in (b'', bytes(2047)):
-            self.assertRaisesRegex(Trouble, 'no dump', cells_of, bad)
+            self.assertRaisesRegex(Trouble, 'neither a dump', cells_of, bad)
 
 
 class Drawn(support.InFolder):
@@ -80,7 +80,7 @@ class Drawn(support.InFolder):
             self.assertEqual((done.returncode, done.stderr.count('\n')), (2, 1), done.stderr)
         self.write('dump', b'')
         done = support.run_tool('picture', self.path('dump'), self.path('out.png'))
-        self.assertEqual((done.returncode, done.stderr), (2, 'psxgpu picture: %s: no dump and no picture: 0 bytes\n'
+        self.assertEqual((done.returncode, done.stderr), (2, 'psxgpu picture: %s: neither a dump nor a picture: 0 bytes\n'
                                                           % self.path('dump')))
 
 

@@ -52,7 +52,7 @@ class ToExe(support.InFolder):
     def test_refusals(self):
         self.assertIn('1024 rows', self.refused(support.example('tall')))
         self.assertIn('list-loop at event 8', self.refused(support.example('list-loop')))
-        self.assertIn('no capture, a snapshot', self.refused(self.write('s', b'PSXGPUS1' + bytes(64))))
+        self.assertIn('not a capture: a snapshot', self.refused(self.write('s', b'PSXGPUS1' + bytes(64))))
         r = random.Random(1)
         cells = [r.getrandbits(16) for _ in range(1 << 17)]
         large = Capture()

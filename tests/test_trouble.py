@@ -38,7 +38,7 @@ class Trouble(support.InFolder):
         for tool in READERS:
             with self.subTest(tool):
                 path = self.write('foreign', b'PK\x03\x04' + bytes(100))
-                self.assertIn('no capture, zip', self.ends(tool, self.words(tool, path)))
+                self.assertIn('not a capture: zip', self.ends(tool, self.words(tool, path)))
                 path = self.write('damaged', b'\x1f\x8b\x08' + bytes(100))
                 self.assertIn('damaged: damaged: ', self.ends(tool, self.words(tool, path)))
                 self.assertIn('empty', self.ends(tool, self.words(tool, self.write('nothing', b''))))

@@ -108,6 +108,17 @@ def play_all(player: Player, captures: Sequence[Capture], jobs: int) -> Generato
                 it.cancel()
 
 
+class Nothing(Trouble):
+    """The player played no capture."""
+
+
+def expect_played(rows: Dict[str, Row]) -> None:
+    """Raises Nothing if the player wrote nothing for any capture: then there is nothing to compare."""
+    if rows and all(row.is_empty() for row in rows.values()):
+        name = min(rows)
+        raise Nothing('the player plays no capture: %s: %s' % (name, rows[name].end))
+
+
 def play_into(path: str, player: Player, captures: Sequence[Capture], jobs: int, elsewhere: Optional[str] = None) -> Sums:
     """Plays what the file beside `path` does not have yet, and adds it there; then the file is `path`. Returns the sums."""
     journal = Journal(path + '.part', player, captures, elsewhere)
@@ -121,8 +132,12 @@ def play_into(path: str, player: Player, captures: Sequence[Capture], jobs: int,
             for row in played:
                 journal.add(row)
                 progress.row(row)
+        expect_played(rows)
         write_text(path, journal.sums.text())
         os.remove(journal.path)
+    except Nothing:
+        os.remove(journal.path)
+        raise
     except (OSError, KeyboardInterrupt) as error:
         text = 'interrupted' if isinstance(error, KeyboardInterrupt) else reason_of(error)
         raise Trouble('%s; %d of %d captures are kept in %s: run it again to go on'

@@ -18,6 +18,7 @@ read up to it (`-` where none was read or asked for); `vram` the SHA-256 of vide
 many lines were read, and their SHA-256. `end` is `played`, `refused STATUS LINE`, `fails STATUS LINE`, `hangs
 SECONDS` or `crashes SIGNAL`. What the player does not give has no line.
 """
+import hashlib
 from dataclasses import dataclass, field
 from typing import IO, Dict, List, Optional, Tuple
 
@@ -25,6 +26,7 @@ from psxgpu.command import Trouble, named, write_whole
 
 VERSION = 1
 HEAD = 'psxgpu-corpus'
+NOTHING = hashlib.sha256().hexdigest()      # the sum of an empty file
 
 
 @dataclass
@@ -62,6 +64,10 @@ class Row:
         if self.words:
             lines.append('words %d %s' % self.words)
         return '\n'.join(lines + ['end ' + self.end, '', ''])
+
+    def is_empty(self) -> bool:
+        """Returns whether the player wrote nothing for the capture."""
+        return not (self.frames or self.vram not in (None, NOTHING) or self.words and self.words[0])
 
     def take(self, kind: str, value: str) -> None:
         """Adds a line after the first one. Raises ValueError if it is none."""

@@ -13,6 +13,7 @@ from psxgpu.packets.split import (COPY, ENVIRONMENT, FILL, FINISH, IRQ, LINE, LO
 from psxgpu.players import player
 from psxgpu.stream import BEGIN, DMA, GP0, GP1, KINDS, RAM, SKIP, STAT, Stream, count_of, is_flat
 
+LINE_OF_LIST = re.compile(r'(\d{1,20}) (\w+) ([0-9a-f]{8})((?: \d{1,4}){4}| -)')
 PORT_FIRST, PACKET_SECOND = 0, 1        # a DMA start comes before its packets
 # The names that entries can have: those of packets, and of events at the ports.
 NAMES = (FILL, POLYGON, LINE, RECTANGLE, COPY, LOAD, STORE, ENVIRONMENT, NOP, IRQ, FINISH,
@@ -60,12 +61,8 @@ class Listing:
                 file: IO[bytes] = stack.enter_context(reading(self.path))
             else:
                 file = stack.enter_context(player.playing(self.player, ['flat'], self.path)).out
-            for line, (_, words, registers) in zip(map(bytes.decode, listed.out), packets_of(file, self.name)):
-                event, name, word, *area = line.split()
-                if int(word, 16) != words[0]:
-                    raise Trouble('%s: %s and the words %s' % (self.name, line.strip(), fields(name, words, registers)))
-                yield Entry(int(event), PACKET_SECOND, name, area, line.strip(),
-                            partial(fields, name, words, registers))
+            for line, (_, words, registers) in zip(listed.out, packets_of(file, self.name)):
+                yield packet_entry(line.decode(errors='replace').strip(), words, registers, self.name)
             if listed.end():
                 self.refuse(listed.said().decode(errors='replace'))
 
@@ -88,6 +85,15 @@ class Listing:
 
     def __iter__(self) -> Iterator[Entry]:
         return iter(heapq.merge(self.ports(), self.packets(), key=lambda entry: entry[:2]))
+
+
+def packet_entry(line: str, words: List[int], registers: Registers, capture: str) -> Entry:
+    """Returns the entry of a packet. Raises Trouble if the player's line is not that of the words."""
+    found = LINE_OF_LIST.fullmatch(line)
+    if not found or int(found[3], 16) != words[0]:
+        raise Trouble('%s: the player lists `%s` and not a packet of %08x' % (capture, line[:60], words[0]))
+    name = found[2]
+    return Entry(int(found[1]), PACKET_SECOND, name, found[4].split(), line, partial(fields, name, words, registers))
 
 
 def port_texts(event: int, kind: int, count: int, words: Sequence[int]) -> Tuple[str, Callable[[], List[str]]]:

@@ -8,6 +8,7 @@ from psxgpu import progress
 from psxgpu.command import Trouble
 from psxgpu.players.probes import DRAWN, END, HEAD, Events, Target, probed, size, targets, whole
 
+DUMP = 1 << 20
 WORDS = 4 << 20  # words that are read and loaded in one run of a player
 Found = Dict[int, Target]
 if TYPE_CHECKING:
@@ -50,6 +51,8 @@ def beginning(stream: Events, found: Found, group: List[int], ours: str) -> Tupl
     if not event:
         return 0, array.array('I')
     dump = output(ours, 'vram', HEAD + stream.stream[:stream.ends[event]].tobytes() + END)
+    if len(dump) != DUMP:
+        raise Trouble('%s vram: %d bytes, which is not a dump' % (ours, len(dump)))
     return event, whole(dump, found[event].mask)
 
 
@@ -119,7 +122,11 @@ class Row:
 def audit(data: bytes, ours: str, theirs: str, first: int, last: int, name: str = 'capture') -> Dict[str, Row]:
     """Returns a row for each class of packets from event `first` to event `last`. Raises Trouble if there is no packet."""
     stream = Events(data, name)
-    found = targets(stream, output(ours, 'list', HEAD + stream.stream.tobytes() + END))
+    listing = output(ours, 'list', HEAD + stream.stream.tobytes() + END)
+    try:
+        found = targets(stream, listing)
+    except (ValueError, IndexError) as bad:
+        raise Trouble('%s list: not a list of packets: %s' % (ours, bad)) from bad
     rows: Dict[str, Row] = collections.defaultdict(Row)
     groups = list(passes(found, first, last))
     for group in progress.counted(groups, 'audit'):

@@ -1,0 +1,45 @@
+"""Makes a film of the pictures that a capture shows.
+
+    psxgpu film mine.capture film.mp4
+    psxgpu film game.psxgpu.zst film.mp4 --rate 50 --scale 3
+
+A frame ends at each mark (GP1(3Fh), which recorders set at a vertical blank) or, in a capture without marks, at each
+flip: a write of the display start. The film has the size that most frames have, times the scale; the others are scaled
+to it. It is made by ffmpeg, in a format that players show (yuv420p). Status: 0 written, 2 an error.
+"""
+import argparse
+
+from psxgpu.command import Trouble, decimal, title
+from psxgpu.files import plain
+from psxgpu.film import encode, find_ffmpeg, frames_of
+from psxgpu.output import refuse_inputs, written_by_name
+from psxgpu.players import player
+
+
+def arguments(parser: argparse.ArgumentParser) -> None:
+    """Adds the arguments of this tool."""
+    parser.add_argument('capture', metavar='CAPTURE', help='a capture or a dump of a GPU; - is standard input')
+    parser.add_argument('film', metavar='FILM', help='the film to write; the end of its name decides the format')
+    parser.add_argument('--rate', type=decimal(1, 1000), default=60, metavar='N',
+                        help='frames a second (default: %(default)s)')
+    parser.add_argument('--scale', type=decimal(1, 16), default=2, metavar='N',
+                        help='how large a pixel is (default: %(default)s)')
+    parser.add_argument('--flips', action='store_true', help='a frame ends at each flip, also if there are marks')
+    parser.add_argument('--ffmpeg', metavar='PROGRAM', help='ffmpeg (default: that of the path)')
+    player.argument(parser)
+
+
+def run(words: argparse.Namespace) -> None:
+    """Writes the film."""
+    program, ffmpeg, name = player.find(words.player), find_ffmpeg(words.ffmpeg), title(words.capture)
+    refuse_inputs(words.film, [words.capture])
+    with plain(words.capture) as path, written_by_name(words.film, [words.capture]) as target:
+        try:
+            ends, (width, height) = frames_of(program, path, words.flips)
+        except Trouble as trouble:
+            raise Trouble('%s: %s' % (name, trouble)) from trouble
+        # Both sides of a picture of yuv420p are even.
+        size = (words.scale * width + 1) // 2 * 2, (words.scale * height + 1) // 2 * 2
+        with player.playing(program, ['frames', *ends], path) as run_of_frames:
+            encode(ffmpeg, run_of_frames.out, words.rate, size, target)
+            run_of_frames.expect_whole()
