@@ -6,7 +6,7 @@ from typing import List, NamedTuple, Optional, Sequence, Tuple
 
 from psxgpu.command import write_whole
 from psxgpu.difference import Difference, beside, compared
-from psxgpu.image import Image, shown, write_image
+from psxgpu.image import Image, write_image
 from psxgpu.packets.known import CLASSES
 from psxgpu.players.named import dump_of, ending
 from psxgpu.reduce.faults import BreaksDown, DumpsDiffer, WordsDiffer
@@ -14,6 +14,7 @@ from psxgpu.reduce.reducer import Reducer, known_classes
 from psxgpu.reduce.state import COLUMNS, box_cells
 from psxgpu.reduce.texts import described, log_lines, script
 from psxgpu.reduce.units import Unit
+from psxgpu.vram import shown
 
 MOST_LINES = 10             # of the report
 MOST_TEXT = 110             # characters of a line

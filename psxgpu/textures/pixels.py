@@ -7,7 +7,8 @@ import struct
 import zlib
 from typing import Dict, Iterable, List, Optional, Tuple
 
-from psxgpu.image import SIGNATURE, chunk, wide
+from psxgpu.image import SIGNATURE, chunk
+from psxgpu.vram import wide
 from psxgpu.textures.collect import Used
 from psxgpu.textures.sources import Source
 
