@@ -1,5 +1,5 @@
 // The trusted edge: std's readers and writers as a source and a sink, which tell no bytes.
-ghost use Rattle.std.specs.Prelude.{◌≡◌, ◌≤◌, None};
+ghost use Rattle.std.specs.Prelude.{◌≡◌, ◌≤◌, ◌-◌, None};
 
 use crate::device::{Failed, Sink, Source};
 use crate::retry::{read_again, write_again};
@@ -37,6 +37,9 @@ impl<R: Read> Source for ReadEdge<R> {
     ghost left = { λ _. None };
 
     ghost faults = { λ edge. edge.faults };
+
+    // those that it keeps
+    ghost at_hand = { λ edge. edge.end - edge.start };
 
     fn read(&mut self, buf: &mut [u8]) -> Result<usize, Failed> {
         if self.start == self.end {
