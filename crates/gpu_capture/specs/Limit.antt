@@ -12,7 +12,7 @@ pub record TakesFew : Type 0 where
   pub rest : (p : Progress) (taken : List ℕ) → 1 ≤ p.version → p.place % 4 ≡ 0 → p.place ≤ limit → AreNeeded p taken
       → p.place + length taken ≤ limit
 
--- Behind the head the next event waits for no byte of a source that has so many at hand: it is one that is still to be
+-- After the head the next event waits for no byte of a source that has so many at hand: it is one that is still to be
 -- given, and takes none, or they are as many as the longest record of one event has.
 abbrev pub IsAtHand : Progress → (at_hand : ℕ) → Type 0
 IsAtHand p at_hand = p.left ≡ 0 → 16 ≤ at_hand
