@@ -12,7 +12,8 @@ use gathered_out::Gathered;
 use gpu_capture::EventReader;
 
 /// Writes what is gathered before a read that may have to wait, where all was last written at this place of the reader:
-/// so whenever the next event has to wait for a byte, nothing is gathered. The answer is the place where it was written last, or the number of the first piece that lacks a byte.
+/// so whenever the next event has to wait for a byte, nothing is gathered. The answer is the place where it was written
+/// last, or the number of the first piece that lacks a byte.
 pub fn write_at_pause<S: Source, K: Sink>(
     reader: &EventReader,
     source: &S,
