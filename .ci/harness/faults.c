@@ -1,8 +1,8 @@
 /* Lets one call of a program fail, or all of them do little: loaded before a program by .ci/harness/faults.py.
 
    FAULT_KIND is memory, read, write or error (a write to standard error), and FAULT_AT the number of the call that
-   fails, from 1 on; `short` lets each read give and each write take one byte. At the end the numbers of the calls are
-   written to the file FAULT_COUNTS. */
+   fails, from 1 on; `short` lets each read give and each write take one byte, and `signal` lets a signal interrupt each
+   read and each write once. At the end the numbers of the calls are written to the file FAULT_COUNTS. */
 #define _GNU_SOURCE
 #include <errno.h>
 #include <stdio.h>
@@ -23,6 +23,7 @@ static const char *const names[KINDS] = {"memory", "read", "write", "error"};
 static unsigned long calls[KINDS];
 static unsigned long at[KINDS];
 static int is_short;
+static int has_signals;
 
 __attribute__((constructor)) static void begin(void)
 {
@@ -32,6 +33,7 @@ __attribute__((constructor)) static void begin(void)
         if (strcmp(name, names[kind]) == 0)
             at[kind] = strtoul(number, NULL, 10);
     is_short = name && strcmp(name, "short") == 0;
+    has_signals = name && strcmp(name, "signal") == 0;
     memset(calls, 0, sizeof calls);
 }
 
@@ -55,6 +57,16 @@ static int fails(enum kind kind, int code)
     if (++calls[kind] != at[kind])
         return 0;
     errno = code;
+    return 1;
+}
+
+/* Says whether a signal interrupts a call on one of the standard streams: each first of two. */
+static int is_interrupted(int file)
+{
+    static int turns[3];
+    if (!has_signals || file < 0 || file > 2 || !(turns[file] ^= 1))
+        return 0;
+    errno = EINTR;
     return 1;
 }
 
@@ -88,6 +100,8 @@ int posix_memalign(void **to, size_t alignment, size_t size)
 
 ssize_t read(int file, void *buffer, size_t size)
 {
+    if (is_interrupted(file))
+        return -1;
     if (file == 0 && fails(READ, EIO))
         return -1;
     return syscall(SYS_read, file, buffer, is_short && size > 1 ? 1 : size);
@@ -95,6 +109,8 @@ ssize_t read(int file, void *buffer, size_t size)
 
 ssize_t write(int file, const void *buffer, size_t size)
 {
+    if (is_interrupted(file))
+        return -1;
     if (file == 1 && fails(WRITE, ENOSPC))
         return -1;
     if (file == 2 && fails(ERROR, EIO))

@@ -4,14 +4,15 @@
     python3 .ci/harness/faults.py PLAYER CAPTURE .. [-- COMMAND ..]
 
 For each capture (or snapshot) and each command (play, if none is given; `cut 3` is one word), the run is tried as it
-is, and then once for each growth of memory that is refused, for each read and each write that fails, and with reads and
-writes of one byte each. What must come: without memory status 5, nothing read and nothing on standard output, or, where
-a smaller growth serves as well and is asked for next, all as it was; where a read fails status 3, where a write fails
-status 4, and in both cases a part of what is written otherwise; where standard error fails, or the pieces are short,
-the same status and the same output. The calls are made to fail by .ci/harness/faults.c, which gcc makes a library of that is
-loaded before the player. Then the disk is full behind some bytes of the output: status 4, with exactly these bytes, and for
-`list`, `pixel`, `flat` and `cut` the event is the one at which the next byte is due, by the line that lacks it or by what
-the command writes of the first events alone. The last line is `N passed, M failed`. Without gcc the exit status is 77.
+is, and then once for each growth of memory that is refused, for each read and each write that fails, with reads and
+writes of one byte each, and with a signal that interrupts each read and each write once. What must come: without
+memory status 5, nothing read and nothing on standard output, or, where a smaller growth serves as well and is asked
+for next, all as it was; where a read fails status 3, where a write fails status 4, and in both cases a part of what is
+written otherwise; where standard error fails, the pieces are short or a signal interrupts, the same status and the
+same output. The calls are made to fail by .ci/harness/faults.c, which gcc makes a library of that is loaded before the
+player. Then the disk is full behind some bytes of the output: status 4, with exactly these bytes, and for `list`,
+`pixel`, `flat` and `cut` the event is the one at which the next byte is due, by the line that lacks it or by what the
+command writes of the first events alone. The last line is `N passed, M failed`. Without gcc the exit status is 77.
 """
 import os
 import resource
@@ -144,6 +145,7 @@ def trials(was):
         for at in range(1, was.calls[kind] + 1):
             yield kind, at, judge
     yield 'short', 0, as_it_was
+    yield 'signal', 0, as_it_was
 
 
 def tried(library, folder, player, capture, command):

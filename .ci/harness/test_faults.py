@@ -65,7 +65,8 @@ class Judges(unittest.TestCase):
 
     def test_each_call_is_tried(self):
         self.assertEqual([it[:2] for it in trials(WAS)],
-                         [('memory', 1), ('memory', 2), ('read', 1), ('write', 1), ('write', 2), ('short', 0)])
+                         [('memory', 1), ('memory', 2), ('read', 1), ('write', 1), ('write', 2), ('short', 0),
+                          ('signal', 0)])
 
 
 class Words(unittest.TestCase):

@@ -35,6 +35,7 @@ pub(crate) fn words_at_once<S: Source>(
     requires { size + 4 ≤ 2 ^ 30 }
     ensures near { reader.now.progress.place < since + 4096 → reader.now.progress.place + 4 * result < since + 4096 }
     ensures fits { size + 8 * result + 4 ≤ 2 ^ 30 }
+    ensures waits { 4 * result ≤ S.at_hand source.now }
 {
     let near = since.saturating_add(4095).saturating_sub(reader.place()) / 4;
     let fitting = (LIMIT - 4 - size) / 8;

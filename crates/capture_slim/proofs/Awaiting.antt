@@ -1,11 +1,12 @@
 -- How far a capture was read, where the reader has answered an event that is not passed on yet, or a stop.
 use Rattle.std.proofs.Common.{◌≡◌, ◌≤◌, ◌<◌, ◌⊎◌, inl, inr, ◌+◌, ◌^◌, ◌++◌, max, ℕ, List, [], ◌∷◌, Option, Result, Ok}
 use Rattle.std.proofs.Common.{Err, OnOk, IfOk, IfErr, length, refl, ap, sym, ◌∙◌, subst, arith, nat_lt, true, take}
-use Rattle.std.proofs.Common.{drop}
-use Rattle.std.proofs.lemmas.Bool.{cases_Bool}
+use Rattle.std.proofs.Common.{drop, min, length-append, ◌-◌}
+use Rattle.std.proofs.lemmas.Bool.{cases_Bool, cases_lt}
+use Rattle.std.proofs.lemmas.List.{take-append-le}
 use Rattle.dev_io.specs.Device.{prepended, appended, Rose}
 use Rattle.dev_io.proofs.Parts.{prepended-nil, taken_on}
-use Rattle.gpu_capture.specs.Capture.{Captured, capture, then_events, opened, numbered_version, heads}
+use Rattle.gpu_capture.specs.Capture.{Captured, capture, limit, then_events, opened, numbered_version, heads}
 use Rattle.gpu_capture.specs.Head.{head_among}
 use Rattle.gpu_capture.specs.Reader.{Takes, StopsAt, IsReadFault, IsStart, capture_from}
 use Rattle.gpu_capture.specs.Reader.{standing, work_left, tag_due}
@@ -13,36 +14,45 @@ use Rattle.gpu_capture.specs.declared.event.Event.{Event}
 use Rattle.gpu_capture.specs.declared.event.Stop.{Stop}
 use Rattle.gpu_capture.specs.declared.event.Stop.TheVariants.{End}
 use Rattle.gpu_capture.specs.declared.progress.Progress.{Progress}
+use Rattle.gpu_capture.proofs.Taken.{taken_count}
 use Rattle.gpu_capture.proofs.Versions.{version_from}
 use Rattle.event_play.specs.Ends.{IsNotEnd}
+use Rattle.event_play.specs.Pausing.{Pauses, most_behind}
 use Rattle.event_play.specs.Ports.{IsAtPorts}
 use Rattle.dead_drawing.specs.Laws.{height_for}
 use Rattle.dead_drawing.specs.Slim.{slim_events}
 use Rattle.dead_drawing.proofs.PacketLaw.{ports_append}
-use Rattle.gpu_capture.specs.Reading.{AreNeeded, SaysFirst}
+use Rattle.gpu_capture.specs.Reading.{AreFewBehind, AreNeeded, SaysFirst}
 use Rattle.gpu_capture.proofs.Needed.{Answers, answers}
 use Rattle.gpu_capture.proofs.Needed.{none_needed, needed_on, needed_end, says_on, stop_says}
 use Rattle.gpu_capture.proofs.Needed.{takes_version, stops_version}
 use Rattle.capture_slim.specs.Came.{Came, EndsEvent, EndsRefused, EndsPushed, EndsStop, FailsAny, FailsLast, HasCount}
-use Rattle.capture_slim.specs.Came.{and_event}
-use Rattle.capture_slim.specs.File.{IsDraft, begun}
+use Rattle.capture_slim.specs.Came.{FailsBehind, GathersFrom, and_event, window_for}
+use Rattle.capture_slim.specs.File.{AreFrom, IsDraft, LacksFrom, begun, output_of}
+use Rattle.capture_slim.specs.Stream.{leaving, outs, window_behind}
 use Rattle.gathered_out.specs.Pieces.{Piece}
+use Rattle.gathered_out.specs.Puts.{BreaksWriting, holding}
+use Rattle.gathered_out.proofs.Pieces.{none_gathered, only_gathered}
 use Rattle.capture_slim.specs.Passing.{Streams, streams, Way, StopsBehind, RefusesNext, SaysEnding, said_of}
 use Rattle.capture_slim.specs.Passing.{EndsSlim, Passed, WritesAll}
-use Rattle.capture_slim.specs.Window.{Window, first_window}
+use Rattle.capture_slim.specs.Window.{Window, first_window, pushed, waiting}
 use Rattle.capture_slim.specs.declared.ending.SlimEnding.{SlimEnding}
 use Rattle.capture_slim.specs.declared.ending.SlimEnding.TheVariants.{Done, Stopped, NotFlat, TooLong, WriteFailed}
 use Rattle.capture_slim.specs.declared.file.Draft.{Draft}
 use Rattle.capture_slim.specs.declared.file.SlimFile.{SlimFile}
 use Rattle.event_play.proofs.Awaiting.{events_left}
-use Rattle.capture_slim.proofs.Firsts.{counted}
-use Rattle.capture_slim.proofs.Files.{first_draft, written_most}
+use Rattle.event_play.proofs.Behind.{IsReading}
+use Rattle.capture_slim.proofs.Firsts.{counted, fails_among, gone, outs_more, rest, rest_refused, size, waiting_size}
+use Rattle.capture_slim.proofs.Files.{first_draft, out_draft, written_most}
+use Rattle.capture_slim.proofs.Late.{Since, few_last, few_later, few_wait, from_off, none_or_full, since_first}
+use Rattle.capture_slim.proofs.Late.{since_here, since_more}
+use Rattle.capture_slim.proofs.Rests.{fails_wider}
 use Rattle.capture_slim.proofs.ReadAgain.{is_slim}
 use Rattle.capture_slim.proofs.TooMuch.{is_too_long}
 
 -- the version of the file is that of the capture, or 1 where no head was read
-pub record Awaits (version : ℕ) (before now : Streams) (window : Window) (draft : Draft) (count : ℕ) (new : Progress)
-    (next : Result Event Stop) : Type 0 where
+pub record Awaits (version : ℕ) (before now : Streams) (window : Window) (draft : Draft) (count since : ℕ)
+    (new : Progress) (next : Result Event Stop) : Type 0 where
   pub left : Option (List ℕ)
   pub old : Progress
   pub taken : List ℕ
@@ -50,23 +60,28 @@ pub record Awaits (version : ℕ) (before now : Streams) (window : Window) (draf
   pub events : List Event
   pub says : (rest : List ℕ) → capture (taken ++ rest) ≡ then_events events (capture_from old rest)
   pub needed : AreNeeded capture events taken
+  pub reading : IsReading old taken events
+  pub near : old.place < since + 4096
+  pub least : ℕ
+  pub from : GathersFrom least window draft count
+  pub last : Since events taken least since
   pub came : Came (record { version = version; events = events; base = before.held }) window draft count now.held
   pub named : (events ≡ []) ⊎ (1 ≤ new.version)
   pub same : version ≡ max new.version 1
   pub answer : Answers old new left now.left next
 
 -- an answer that is known
-pub awaits_is : (version : ℕ) (before now : Streams) (window : Window) (draft : Draft) (count : ℕ) (new : Progress)
+pub awaits_is : (version : ℕ) (before now : Streams) (window : Window) (draft : Draft) (count since : ℕ) (new : Progress)
     (next given : Result Event Stop)
-    → next ≡ given → Awaits version before now window draft count new next
-    → Awaits version before now window draft count new given
-awaits_is version before now window draft count new next given is at =
-    let P : Result Event Stop → Type 0 = λ n. Awaits version before now window draft count new n in subst P is at
+    → next ≡ given → Awaits version before now window draft count since new next
+    → Awaits version before now window draft count since new given
+awaits_is version before now window draft count since new next given is at =
+    let P : Result Event Stop → Type 0 = λ n. Awaits version before now window draft count since new n in subst P is at
 
-pub count_is : (version : ℕ) (before now : Streams) (window : Window) (draft : Draft) (count : ℕ) (new : Progress)
+pub count_is : (version : ℕ) (before now : Streams) (window : Window) (draft : Draft) (count since : ℕ) (new : Progress)
     (next : Result Event Stop)
-    → Awaits version before now window draft count new next → count < 2 ^ 60 → HasCount window count
-count_is version before now window draft count new next at few =
+    → Awaits version before now window draft count since new next → count < 2 ^ 60 → HasCount window count
+count_is version before now window draft count since new next at few =
     record { most = omega (arith, counted _ window draft count now.held at.came); few = few }
 
 -- ---- how many events may come
@@ -108,7 +123,7 @@ pub starts : (before : Streams) (left : Option (List ℕ)) (faults : ℕ) (windo
     → IfOk next (λ event. Takes (standing first before.left) (standing new left) (event ∷ []))
     → OnOk next (1 ≤ new.version)
     → IfErr next (λ stop. StopsAt (standing first before.left) (standing new left) stop)
-    → Awaits version before (streams left faults before.held) window draft 0 new next
+    → Awaits version before (streams left faults before.held) window draft 0 0 new next
 starts before left faults window first new version draft next file_is none is window_is same takes answered stops =
     record {
       left = before.left;
@@ -118,6 +133,14 @@ starts before left faults window first new version draft next file_is none is wi
       events = [];
       says = λ rest. rw is.version refl;
       needed = none_needed [] refl;
+      reading = inl (is, refl, refl);
+      near = let place = is.place in omega (arith, place);
+      least = 0;
+      from = record {
+        gathered = let P : List Piece → Type 0 = λ ps. AreFrom 0 ps in subst P (sym none) tt;
+        later = omega (arith, ap (λ (w : Window). length (waiting w)) window_is);
+      };
+      last = since_first 0;
       came = record {
         ports = tt;
         words = tt;
@@ -135,13 +158,99 @@ starts before left faults window first new version draft next file_is none is wi
       answer = answers first new before.left left next takes answered stops;
     }
 
+-- ---- a pause
+
+abbrev with_pieces : Draft → List Piece → Draft
+with_pieces draft pieces = record { file = draft.file; gathered = pieces }
+
+-- few bytes were taken since all was written, or it is written here
+pub record Paused (passed : Passed) (taken : List ℕ) (window : Window) (draft : Draft) (count since : ℕ) (p : Progress)
+    (held : Option (List ℕ)) : Type 0 where
+  pub came : Came passed window draft count held
+  pub least : ℕ
+  pub from : GathersFrom least window draft count
+  pub last : Since passed.events taken least since
+  pub near : p.place < since + 4096
+
+module _ (passed : Passed) (taken : List ℕ) (window : Window) (draft : Draft) (count : ℕ) (held : Option (List ℕ))
+    (came : Came passed window draft count held) where
+  wait_few : length (waiting window) ≤ 4096
+  wait_few =
+      let same = ap (λ (w : Window). length (waiting w)) came.window_is in
+      omega (arith, same, few_wait (height_for passed.version) passed.events came.ports)
+
+  pauses_on : (pieces : List Piece) (least since at : ℕ) (p : Progress) (now : Option (List ℕ))
+      → GathersFrom least window draft count → Since passed.events taken least since
+      → length taken ≡ min p.place limit → Pauses p.place since (holding held draft.gathered) (holding now pieces) at
+      → Paused passed taken window (with_pieces draft pieces) count at p now
+  pauses_on pieces least since at p now from last place_is (inl on) = record {
+    came = rw (on.2, on.3) came;
+    least = least;
+    from = rw on.2 from;
+    last = rw on.0 last;
+    near = let same = on.0 in let near = on.1 in omega (arith, same, near);
+  }
+  pauses_on pieces least since at p now from last place_is (inr written) =
+      let all = outs passed.events (window_for passed) in
+      let P : List Piece → Type 0 = λ ps. IsDraft (with_pieces draft ps) passed.base now all in
+      let Q : List Piece → Type 0 = λ ps. AreFrom (count + 1 - length (waiting window)) ps in
+      let same = written.0 in
+      let counts = counted passed window draft count held came in
+      record {
+        came = record {
+          ports = came.ports;
+          words = came.words;
+          version_is = came.version_is;
+          window_is = came.window_is;
+          count_is = came.count_is;
+          draft_is = subst P (sym written.1)
+              (out_draft draft.file draft.gathered [] passed.base held now all came.draft_is
+              (none_gathered held now draft.gathered
+              (written.2.stands held draft.gathered (only_gathered held draft.gathered))));
+        };
+        least = count + 1 - length (waiting window);
+        from = record { gathered = subst Q (sym written.1) tt; later = omega (arith, counts) };
+        last = rw same (since_here passed.events taken (count + 1 - length (waiting window)) p.place place_is
+            (omega (arith, wait_few, counts, came.count_is)));
+        near = omega (arith, same);
+      }
+
+  -- the writing of what is gathered broke off: at a record that was due at the last event or before
+  breaks_any : (now : Option (List ℕ)) (lacking : ℕ) → BreaksWriting held now draft.gathered lacking
+      → FailsBehind passed now lacking (WriteFailed lacking)
+  breaks_any now lacking breaks =
+      let off = breaks.off held draft.gathered (only_gathered held draft.gathered) in
+      let known = came.draft_is.lacks now lacking off in
+      let output = output_of draft passed.base now in
+      let first = gone passed window draft count held came in
+      let last = rest passed window draft count held came in
+      let any = rest_refused passed window draft count held came now (WriteFailed lacking) wait_few
+      (fails_wider output first last lacking (WriteFailed lacking) known) in
+      let among = fails_among output first lacking (WriteFailed lacking) known in
+      let some = known.number_is in
+      record {
+        due = elim (none_or_full passed.events (window_for passed)) [
+          | inl none ↦ absurd (omega (arith, among, some, ap length none))
+          | inr full ↦ omega (
+            arith,
+            among,
+            full,
+            waiting_size window,
+            counted passed window draft count held came,
+            ap size came.window_is,
+            came.count_is,
+          )
+        ];
+        fails = any.fails;
+      }
+
 -- one event more was passed on, and the reader has answered again
-module _ (version : ℕ) (before now : Streams) (window : Window) (draft : Draft) (count : ℕ) (new : Progress) (e : Event)
-    (at : Awaits version before now window draft count new (Ok e)) where
+module _ (version : ℕ) (before now : Streams) (window : Window) (draft : Draft) (count since : ℕ) (new : Progress)
+    (e : Event) (at : Awaits version before now window draft count since new (Ok e)) where
   abbrev passed : Passed
   passed = record { version = version; events = at.events; base = before.held }
 
-  takes : Takes (standing at.old at.left) (standing new now.left) (e ∷ [])
+  pub takes : Takes (standing at.old at.left) (standing new now.left) (e ∷ [])
   takes = at.answer.0
 
   version_is : new.version ≡ version
@@ -171,14 +280,42 @@ module _ (version : ℕ) (before now : Streams) (window : Window) (draft : Draft
   next_version newer left (Err stop) answer =
       stops_version new newer.version stop answer.taken left answer.says at.answer.1
 
+  all_place : length (at.taken ++ takes.taken) ≡ min new.place limit
+  all_place = taken_count new (at.events ++ e ∷ []) (at.taken ++ takes.taken) at.answer.1 all_says
+
+  last_on : Since (at.events ++ e ∷ []) (at.taken ++ takes.taken) at.least since
+  last_on = since_more at.events e at.taken takes.taken at.least since at.last all_needed
+
+  -- what is gathered behind the event is as late as what was before it
+  from_on : (next_window : Window) (next_draft : Draft) (held : Option (List ℕ))
+      → Came (and_event passed e) next_window next_draft (count + 1) held → AreFrom at.least next_draft.gathered
+      → GathersFrom at.least next_window next_draft (count + 1)
+  from_on next_window next_draft held came from =
+      let w = window_for passed in
+      let more = ap length (outs_more at.events e w) in
+      let long = length-append (outs at.events w) (leaving (pushed (window_behind at.events w) e)) in
+      let counts = counted passed window draft count now.held at.came in
+      let counts_now = counted (and_event passed e) next_window next_draft (count + 1) held came in
+      record { gathered = from; later = omega (arith, at.from.later, more, long, counts, counts_now) }
+
+  pub paused_on : (next_window : Window) (next_draft : Draft) (pieces : List Piece) (place : ℕ)
+      (held held_now : Option (List ℕ)) → Came (and_event passed e) next_window next_draft (count + 1) held
+      → AreFrom at.least next_draft.gathered
+      → Pauses new.place since (holding held next_draft.gathered) (holding held_now pieces) place
+      → Paused (and_event passed e) (at.taken ++ takes.taken) next_window (with_pieces next_draft pieces) (count + 1)
+      place new held_now
+  paused_on next_window next_draft pieces place held held_now came from pauses =
+      pauses_on (and_event passed e) (at.taken ++ takes.taken) next_window next_draft (count + 1) held came pieces
+      at.least since place new held_now (from_on next_window next_draft held came from) last_on all_place pauses
+
   pub goes_on : (newer : Progress) (left held : Option (List ℕ)) (faults : ℕ) (next_window : Window)
-      (next_draft : Draft) (next : Result Event Stop)
-      → Came (and_event passed e) next_window next_draft (count + 1) held
+      (next_draft : Draft) (place : ℕ) (next : Result Event Stop)
+      → Paused (and_event passed e) (at.taken ++ takes.taken) next_window next_draft (count + 1) place new held
       → IfOk next (λ event. Takes (standing new now.left) (standing newer left) (event ∷ []))
       → OnOk next (1 ≤ newer.version)
       → IfErr next (λ stop. StopsAt (standing new now.left) (standing newer left) stop)
-      → Awaits version before (streams left faults held) next_window next_draft (count + 1) newer next
-  goes_on newer left held faults next_window next_draft next came took answered stops =
+      → Awaits version before (streams left faults held) next_window next_draft (count + 1) place newer next
+  goes_on newer left held faults next_window next_draft place next paused took answered stops =
       let answer = answers new newer now.left left next took answered stops in
       let known = next_version newer left next answer in
       record {
@@ -189,30 +326,58 @@ module _ (version : ℕ) (before now : Streams) (window : Window) (draft : Draft
         events = at.events ++ e ∷ [];
         says = all_says;
         needed = all_needed;
-        came = came;
+        reading = inr at.answer.1;
+        near = paused.near;
+        least = paused.least;
+        from = paused.from;
+        last = paused.last;
+        came = paused.came;
         named = inr (omega (arith, at.answer.1, known));
         same = omega (arith, at.same, known);
         answer = answer;
       }
 
+  -- few bytes are taken behind the event at which a record was due
+  few_before : (number : ℕ) → at.least ≤ number → number + 4096 ≤ length at.events
+      → AreFewBehind capture (take (number + 4096) at.events) (at.taken ++ takes.taken) most_behind
+  few_before number from most = few_later at.old at.events at.taken takes.taken at.least since (number + 4096) at.last
+      at.reading at.says at.near takes.needed (omega (arith, from)) most
+
+  few_now : (number : ℕ) → at.least ≤ number → number + 4096 ≤ length (at.events ++ e ∷ [])
+      → AreFewBehind capture (take (number + 4096) (at.events ++ e ∷ [])) (at.taken ++ takes.taken) most_behind
+  few_now number from most =
+      let P : List Event → Type 0 = λ es. AreFewBehind capture es (at.taken ++ takes.taken) most_behind in
+      elim (cases_lt (length at.events) (number + 4096)) [
+        | inl last ↦ few_last (at.events ++ e ∷ []) (at.taken ++ takes.taken) (number + 4096) all_needed
+            (omega (arith, last, most, length-append at.events (e ∷ [])))
+        | inr before ↦ subst P (sym (take-append-le (number + 4096) at.events (e ∷ []) before))
+            (few_before number from before)
+      ]
+
   refuses : (IsAtPorts e → ⊥) → RefusesNext (way_of at.events)
   refuses refused = record { event = e; refused = refused; says = says_first at.events; needed = all_needed }
 
   refused_says : (held : Option (List ℕ)) (ending : SlimEnding) → (IsAtPorts e → ⊥) → EndsRefused passed held ending
+      → LacksFrom at.least ending
       → SaysEnding (way_of at.events) before (streams now.left now.faults held) ending
-  refused_says held (NotFlat number) refused all = (all, refuses refused)
-  refused_says held (TooLong number) refused fails = (
+  refused_says held (NotFlat number) refused all from = (all, refuses refused)
+  refused_says held (TooLong number) refused fails from = (
     record { due = inr (fails.last, inr (refuses refused)); fails = fails.fails },
     is_too_long (way_of at.events) before held number number fails.fails,
   )
-  refused_says held (WriteFailed number) refused fails =
-      inl (record { due = inr (fails.some, inr (refuses refused)); fails = fails.fails })
-  refused_says held Done refused ends = absurd ends
-  refused_says held (Stopped number stop) refused ends = absurd ends
+  refused_says held (WriteFailed number) refused fails from =
+      inl (record {
+        due = inr (fails.some, inr (refuses refused));
+        few = few_before number from;
+        fails = fails.fails;
+      })
+  refused_says held Done refused ends from = absurd ends
+  refused_says held (Stopped number stop) refused ends from = absurd ends
 
   pushed_says : (held : Option (List ℕ)) (ending : SlimEnding) → EndsPushed (and_event passed e) held ending
+      → LacksFrom at.least ending
       → SaysEnding (way_of (at.events ++ e ∷ [])) before (streams now.left now.faults held) ending
-  pushed_says held (TooLong number) fails =
+  pushed_says held (TooLong number) fails from =
       let says = says_first (at.events ++ e ∷ []) in (
         record {
           due = inl (record { number_is = fails.due; says = says; needed = all_needed });
@@ -220,39 +385,57 @@ module _ (version : ℕ) (before now : Streams) (window : Window) (draft : Draft
         },
         is_too_long (way_of (at.events ++ e ∷ [])) before held number number fails.fails,
       )
-  pushed_says held (WriteFailed number) fails =
+  pushed_says held (WriteFailed number) fails from =
       let says = says_first (at.events ++ e ∷ []) in
       inl (record {
         due = inl (record { number_is = fails.due; says = says; needed = all_needed });
+        few = few_now number from;
         fails = fails.fails;
       })
-  pushed_says held Done ends = absurd ends
-  pushed_says held (Stopped number stop) ends = absurd ends
-  pushed_says held (NotFlat number) ends = absurd ends
+  pushed_says held Done ends from = absurd ends
+  pushed_says held (Stopped number stop) ends from = absurd ends
+  pushed_says held (NotFlat number) ends from = absurd ends
+
+  -- what is gathered could not be written at a pause
+  pub pause_end : (next_window : Window) (next_draft : Draft) (held held_now : Option (List ℕ)) (lacking : ℕ)
+      → Came (and_event passed e) next_window next_draft (count + 1) held → AreFrom at.least next_draft.gathered
+      → BreaksWriting held held_now next_draft.gathered lacking
+      → EndsSlim before (streams now.left now.faults held_now) (WriteFailed lacking)
+  pause_end next_window next_draft held held_now lacking came from breaks =
+      let off = breaks.off held next_draft.gathered (only_gathered held next_draft.gathered) in
+      record {
+        way = way_of (at.events ++ e ∷ []);
+        bytes = all_taken;
+        ports = came.ports;
+        says = pushed_says held_now (WriteFailed lacking)
+            (breaks_any (and_event passed e) (at.taken ++ takes.taken) next_window next_draft (count + 1) held came
+            held_now lacking breaks)
+            (from_off at.least next_draft.gathered held held_now lacking from off);
+      }
 
   pub event_end : (held : Option (List ℕ)) (ending : SlimEnding) → EndsEvent passed e held ending
-      → EndsSlim before (streams now.left now.faults held) ending
-  event_end held ending ends =
+      → LacksFrom at.least ending → EndsSlim before (streams now.left now.faults held) ending
+  event_end held ending ends from =
       elim ends [
         | inl u ↦ record {
           way = way_of (at.events ++ e ∷ []);
           bytes = all_taken;
           ports = ports_append at.events (e ∷ []) at.came.ports (u.0, tt);
-          says = pushed_says held ending u.1;
+          says = pushed_says held ending u.1 from;
         }
         | inr u ↦ record {
           way = way_of at.events;
           bytes = all_taken;
           ports = at.came.ports;
-          says = refused_says held ending u.0 u.1;
+          says = refused_says held ending u.0 u.1 from;
         }
       ]
 
 -- ---- the reader stops
 
-module _ (version : ℕ) (before now : Streams) (window : Window) (draft : Draft) (count : ℕ) (new : Progress)
+module _ (version : ℕ) (before now : Streams) (window : Window) (draft : Draft) (count since : ℕ) (new : Progress)
     (stop : Stop)
-    (at : Awaits version before now window draft count new (Err stop)) (most : version ≤ 3)
+    (at : Awaits version before now window draft count since new (Err stop)) (most : version ≤ 3)
     (cause : IsReadFault stop → Rose before.faults now.faults) where
   stops : StopsAt (standing at.old at.left) (standing new now.left) stop
   stops = at.answer
@@ -281,18 +464,23 @@ module _ (version : ℕ) (before now : Streams) (window : Window) (draft : Draft
   end_named is =
       named_by_end (way.taken ++ []) new.version at.events [] ((ends_behind now.held is).says [])
 
+  few_stop : (number : ℕ) → at.least ≤ number → number + 4096 ≤ length at.events
+      → AreFewBehind capture (take (number + 4096) at.events) way.taken most_behind
+  few_stop number from most = few_later at.old at.events at.taken at.answer.taken at.least since (number + 4096) at.last
+      at.reading at.says at.near at.answer.needed (omega (arith, from)) most
+
   stop_is : (held : Option (List ℕ)) (ending : SlimEnding) → EndsStop (passed_as new.version at.events) stop held ending
-      → EndsSlim before (streams now.left now.faults held) ending
-  stop_is held ending ends = record {
+      → LacksFrom at.least ending → EndsSlim before (streams now.left now.faults held) ending
+  stop_is held ending ends from = record {
     way = way;
     bytes = taken_on before.left at.left now.left at.taken at.answer.taken at.bytes at.answer.bytes;
     ports = at.came.ports;
-    says = by_ending ending ends;
+    says = by_ending ending ends from;
   }
     where
       by_ending : (ending : SlimEnding) → EndsStop (passed_as new.version at.events) stop held ending
-          → SaysEnding way before (streams now.left now.faults held) ending
-      by_ending Done ends =
+          → LacksFrom at.least ending → SaysEnding way before (streams now.left now.faults held) ending
+      by_ending Done ends from =
           let behind = ends_behind held ends.0 in
           record {
             stops = behind;
@@ -301,20 +489,24 @@ module _ (version : ℕ) (before now : Streams) (window : Window) (draft : Draft
             is_slim = is_slim new.version way.taken at.events (end_named ends.0) (omega (arith, most, at.same))
                 behind.says at.came.ports at.came.words ends.2;
           }
-      by_ending (Stopped number told) ends =
+      by_ending (Stopped number told) ends from =
           let P : Stop → Type 0 = λ s. StopsBehind way s before (streams now.left now.faults held) in
           let Q : Stop → Type 0 = λ s. IsNotEnd s in
           (ends.2, subst P (sym ends.0) (stops_behind held), subst Q (sym ends.0) ends.1)
-      by_ending (TooLong number) fails = (
+      by_ending (TooLong number) fails from = (
         record { due = inr (fails.last, inl (stop, stops_behind held)); fails = fails.fails },
         is_too_long way before held number number fails.fails,
       )
-      by_ending (WriteFailed number) ends =
+      by_ending (WriteFailed number) ends from =
           elim ends [
-            | inl fails ↦ inl (record { due = inr (fails.some, inl (stop, stops_behind held)); fails = fails.fails })
+            | inl fails ↦ inl (record {
+              due = inr (fails.some, inl (stop, stops_behind held));
+              few = few_stop number from;
+              fails = fails.fails;
+            })
             | inr u ↦ inr (record { stops = ends_behind held u.0; writes = u.1 })
           ]
-      by_ending (NotFlat number) ends = absurd ends
+      by_ending (NotFlat number) ends from = absurd ends
 
   slim_none : (height : ℕ) → slim_events height [] ≡ []
   unfolding slim_events
@@ -333,35 +525,35 @@ module _ (version : ℕ) (before now : Streams) (window : Window) (draft : Draft
   }
 
   pub stop_end : (held : Option (List ℕ)) (ending : SlimEnding)
-      → EndsStop (passed_as version at.events) stop held ending
+      → EndsStop (passed_as version at.events) stop held ending → LacksFrom at.least ending
       → EndsSlim before (streams now.left now.faults held) ending
-  stop_end held ending ends = elim at.named
-      [ inl none ↦ unnamed ending none ends | inr some ↦ named_end some ending ends ]
+  stop_end held ending ends from = elim at.named
+      [ inl none ↦ unnamed ending none ends from | inr some ↦ named_end some ending ends from ]
     where
       named_end : 1 ≤ new.version → (ending : SlimEnding) → EndsStop (passed_as version at.events) stop held ending
-          → EndsSlim before (streams now.left now.faults held) ending
-      named_end some ending ends =
+          → LacksFrom at.least ending → EndsSlim before (streams now.left now.faults held) ending
+      named_end some ending ends from =
           let same : version ≡ new.version = omega (arith, at.same, some) in
           let P : ℕ → Type 0 = λ v. EndsStop (passed_as v at.events) stop held ending in
-          stop_is held ending (subst P same ends)
+          stop_is held ending (subst P same ends) from
 
       unnamed : (ending : SlimEnding) → at.events ≡ [] → EndsStop (passed_as version at.events) stop held ending
-          → EndsSlim before (streams now.left now.faults held) ending
-      unnamed Done none ends = named_end (end_named ends.0) Done ends
-      unnamed (Stopped number told) none ends =
+          → LacksFrom at.least ending → EndsSlim before (streams now.left now.faults held) ending
+      unnamed Done none ends from = named_end (end_named ends.0) Done ends from
+      unnamed (Stopped number told) none ends from =
           let P : List Event → Type 0 = λ es. WritesAll (passed_as version es) held number in
           let Q : List Event → Type 0 = λ es. WritesAll (passed_as new.version es) held number in
           stop_is held (Stopped number told)
-          (ends.0, ends.1, subst Q (sym none) (none_all number held (subst P none ends.2)))
-      unnamed (TooLong number) none fails =
+          (ends.0, ends.1, subst Q (sym none) (none_all number held (subst P none ends.2))) from
+      unnamed (TooLong number) none fails from =
           let P : List Event → Type 0 = λ es. FailsLast (passed_as version es) held number (TooLong number) in
           let last = subst P none fails in
           absurd (omega (arith, last.last.some, last.fails.number_is))
-      unnamed (WriteFailed number) none ends =
+      unnamed (WriteFailed number) none ends from =
           let P : List Event → Type 0 = λ es. FailsAny (passed_as version es) held number (WriteFailed number) in
           elim ends [
             | inl fails ↦
                 let any = subst P none fails in absurd (omega (arith, any.some, any.fails.number_is))
-            | inr u ↦ named_end (end_named u.0) (WriteFailed number) (inr u)
+            | inr u ↦ named_end (end_named u.0) (WriteFailed number) (inr u) from
           ]
-      unnamed (NotFlat number) none ends = absurd ends
+      unnamed (NotFlat number) none ends from = absurd ends

@@ -185,7 +185,7 @@ module _ (passed : Passed) (window : Window) (draft : Draft) (count : ℕ) (held
   abbrev slim : List Event
   slim = slim_of passed.version passed.events
 
-  abbrev rest : Outs
+  abbrev pub rest : Outs
   rest = all_left (waiting window)
 
   pub all_places : places (height_for passed.version) passed.events ≡ gone ++ rest

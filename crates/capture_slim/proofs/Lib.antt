@@ -1,6 +1,7 @@
 pub mod Awaiting
 pub mod Files
 pub mod Firsts
+pub mod Late
 pub mod ReadAgain
 pub mod Rests
 pub mod Ports

@@ -10,7 +10,7 @@ use Rattle.event_play.specs.Ends.{IsNotEnd}
 use Rattle.event_play.specs.Ports.{IsAtPorts, AreAtPorts}
 use Rattle.dead_drawing.specs.Dead.{window_events}
 use Rattle.dead_drawing.specs.Laws.{height_for}
-use Rattle.capture_slim.specs.File.{IsDraft, head_at}
+use Rattle.capture_slim.specs.File.{AreFrom, IsDraft, head_at}
 use Rattle.capture_slim.specs.Passing.{FailsAt, IsAmongLast, Passed, WritesAll, WritesPart, slim_file}
 use Rattle.capture_slim.specs.Stream.{outs, window_behind}
 use Rattle.capture_slim.specs.Window.{Window, first_window, waiting}
@@ -40,6 +40,11 @@ pub record Came (passed : Passed) (window : Window) (draft : Draft) (count : ℕ
   pub window_is : window ≡ window_behind passed.events (window_for passed)
   pub count_is : count ≡ length passed.events
   pub draft_is : IsDraft draft passed.base held (outs passed.events (window_for passed))
+
+-- the records that are gathered, and those of the events that wait, are of the event of this number or of later ones
+pub record GathersFrom (least : ℕ) (window : Window) (draft : Draft) (count : ℕ) : Type 0 where
+  pub gathered : AreFrom least draft.gathered
+  pub later : least + length (waiting window) ≤ count + 1
 
 -- no more events wait than came, and these are few enough to be counted
 pub record HasCount (window : Window) (count : ℕ) : Type 0 where

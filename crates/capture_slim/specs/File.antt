@@ -95,6 +95,16 @@ EndsTooLong pieces before now number (TooLong at) = (at ≡ number) × (now ≡ 
 EndsTooLong pieces before now number (WriteFailed at) = BreaksOff pieces before now at
 EndsTooLong pieces before now number ending = ⊥
 
+-- these pieces are due at the event of this number or at later ones
+abbrev pub AreFrom : (least : ℕ) → List Piece → Type 0
+AreFrom least [] = Unit {0}
+AreFrom least (p ∷ pieces) = (least ≤ p.number) × AreFrom least pieces
+
+-- where a write failed, it was at the event of this number or at a later one
+abbrev pub LacksFrom : (least : ℕ) → SlimEnding → Type 0
+LacksFrom least (WriteFailed number) = least ≤ number
+LacksFrom least ending = Unit {0}
+
 -- behind these events the record of one more would be too much, or that of one of them was not written
 abbrev pub FailsNext : Output → List (Option Event) → Event → SlimEnding → Type 0
 FailsNext output outs event (TooLong at) = (at ≡ length outs + 1) × IsTooMuch output (kept_of outs) event

@@ -1,5 +1,5 @@
 -- A capture that is written without its dead drawing as the events come (our own rule).
-use Rattle.std.specs.Prelude.{◌≡◌, ◌≤◌, ◌<◌, ◌⊎◌, ℕ, List, [], ◌∷◌, ◌++◌, ◌+◌, Option, length}
+use Rattle.std.specs.Prelude.{◌≡◌, ◌≤◌, ◌<◌, ◌⊎◌, ℕ, List, [], ◌∷◌, ◌++◌, ◌+◌, Option, length, take}
 use Rattle.dev_io.specs.Device.{prepended, appended, AppendsPart, Rose}
 use Rattle.gpu_capture.specs.Capture.{capture, limit}
 use Rattle.gpu_capture.specs.Reader.{IsReadFault}
@@ -8,13 +8,14 @@ use Rattle.gpu_capture.specs.declared.event.Event.{Event}
 use Rattle.gpu_capture.specs.declared.event.Stop.{Stop}
 use Rattle.gpu_capture.specs.declared.event.Stop.TheVariants.{End, ReadFault}
 use Rattle.event_play.specs.Ends.{IsNotEnd}
+use Rattle.event_play.specs.Pausing.{most_behind}
 use Rattle.event_play.specs.Ports.{IsAtPorts, AreAtPorts}
 use Rattle.event_play.specs.Replay.{Tale, played_capture, from_state}
 use Rattle.event_play.specs.Step.{first_machine}
 use Rattle.dead_drawing.specs.Dead.{window_events}
 use Rattle.dead_drawing.specs.Laws.{height_for}
 use Rattle.dead_drawing.specs.Slim.{slim_events}
-use Rattle.gpu_capture.specs.Reading.{AreNeeded, AreNeededToEnd, Said, SaysFirst, SaysStop}
+use Rattle.gpu_capture.specs.Reading.{AreFewBehind, AreNeeded, AreNeededToEnd, Said, SaysFirst, SaysStop}
 use Rattle.event_play.specs.Alike.{IsFlatCapture}
 use Rattle.capture_slim.specs.File.{begun, head_due, Fails, Output}
 use Rattle.capture_slim.specs.Places.{slim_first}
@@ -156,9 +157,12 @@ pub record FailsRecord (way : Way) (number : ℕ) (before now : Streams) (ending
   pub due : IsDue way number before now
   pub fails : FailsAt (passed_on way before) now.held number ending
 
--- so it is with this event of the way, whose record was due, and was not written: it is the first that lacks a byte
+-- So it is with this event of the way, whose record was due, and was not written: it is the first that lacks a byte. If
+-- it was due before the reading ended, few bytes were taken after those of the event at which it was.
 pub record LacksRecord (way : Way) (number : ℕ) (before now : Streams) : Type 0 where
   pub due : WasDue way number before now
+  pub few : number + window_events ≤ length way.events
+      → AreFewBehind capture (take (number + window_events) way.events) way.taken most_behind
   pub fails : FailsAt (passed_on way before) now.held number (WriteFailed number)
 
 -- The whole file of the events that were read is too long; and where one of this number was due before the reading

@@ -11,6 +11,7 @@ use crate::file::{Draft, SlimFile};
 use crate::slim::{finish, take_event};
 use crate::waiting::Waiting;
 use dev_io::{Sink, Source};
+use event_play::write_at_pause;
 use gathered_out::Gathered;
 use gpu_capture::EventReader;
 use px_num::OutOfMemory;
@@ -49,9 +50,11 @@ impl Slim {
     /// memory.
     ///
     /// The record of an event is due 4096 events later, or where the reading ends if that is earlier, and the head with
-    /// the first record or the End record. Records that are due are gathered and written together: so a write that
-    /// fails may show later, and is still that of the first record that lacks a byte. After every ending all that was
-    /// due before it stands. No byte was taken past what the ending needs, unless it is a failed write.
+    /// the first record or the End record. Records that are due are gathered, up to 4,096 bytes, and written together:
+    /// where there is no room for one more, before a read that may have to wait, and before every ending. So a write
+    /// that fails may show later, and is still that of the first record that lacks a byte. At most 4,112 bytes are taken
+    /// after the event at which that record was due. After every ending all that was due before it stands. No byte was
+    /// taken past what the ending needs, unless it is a failed write.
     pub fn pass<S: Source, K: Sink>(&mut self, source: &mut S, out: &mut K) -> SlimEnding
         requires { self.old ≡ first_window short_height }
         ensures ends { EndsSlim (streams (S.left source.old) (S.faults source.old) (K.held out.old))
@@ -84,6 +87,7 @@ fn pass_on<S: Source, K: Sink>(window: &mut Waiting, source: &mut S, out: &mut K
     raise(window, version);
     let mut draft = first_draft(version);
     let mut count = 0;
+    let mut since = 0;
     'events: loop {
         match next {
             Ok(event) => {
@@ -92,6 +96,10 @@ fn pass_on<S: Source, K: Sink>(window: &mut Waiting, source: &mut S, out: &mut K
                     Err(ending) => return ending,
                 }
                 count += 1;
+                match write_at_pause(&reader, source, since, &mut draft.gathered, out) {
+                    Ok(place) => since = place,
+                    Err(event) => return SlimEnding::WriteFailed { event },
+                }
                 next = reader.next(source);
             }
             Err(stop) => return finish(window, stop, &mut draft, count, out),

@@ -1,12 +1,13 @@
 // Records of events that stay, one after another.
 ghost use Rattle.std.specs.Prelude.{◌≡◌, ◌≤◌, ◌<◌, ◌+◌, ◌*◌, ◌^◌, ◌++◌, ◌∷◌, [], List, ℕ, Option, Some, length, IfErr};
-ghost use Rattle.std.specs.Prelude.{OnOk};
+ghost use Rattle.std.specs.Prelude.{MatchResult, OnOk};
 ghost use Rattle.dev_io.specs.Device.{Writes, side};
 ghost use Rattle.gpu_capture.specs.Capture.{IsVersion};
 ghost use Rattle.gpu_capture.specs.Written.{spelled, spelled_end};
 ghost use Rattle.gpu_capture.specs.declared.event.Event.{Event as SpecEvent};
 ghost use Rattle.event_play.specs.Ports.{IsAtPorts};
-ghost use Rattle.capture_slim.specs.File.{EndsTooLong, FailsNext, HasRoom, IsDraft, due, head_at, output_of};
+ghost use Rattle.capture_slim.specs.File.{AreFrom, EndsTooLong, FailsNext, HasRoom, IsDraft, LacksFrom, due, head_at};
+ghost use Rattle.capture_slim.specs.File.{output_of};
 ghost use Rattle.capture_slim.specs.Passing.{EndsWriting};
 
 use crate::ending::SlimEnding;
@@ -95,6 +96,7 @@ pub(crate) fn write_last<K: Sink>(out: &mut K, file: SlimFile) -> Result<(), Fai
 // Ends at a record that would be too much: what is gathered is written, and that may fail.
 fn end_too_long<K: Sink>(gathered: &mut Gathered, number: u64, out: &mut K) -> SlimEnding
     ensures ends { EndsTooLong gathered.old (K.held out.old) (K.held out.new) number result }
+    ensures late { (least : ℕ) → AreFrom least gathered.old → LacksFrom least result }
     ensures known { EndsWriting (K.faults out.old) (K.faults out.new) result }
     ensures faults { K.faults out.old ≤ K.faults out.new }
 {
@@ -122,6 +124,8 @@ pub(crate) fn add_record<K: Sink>(
         → IsDraft draft.old base (K.held out.old) outs
         → number ≡ length outs + 1
         → IfErr result (FailsNext (output_of draft.old base (K.held out.new)) outs event.now) }
+    ensures late { (least : ℕ) → AreFrom least draft.old.gathered → least ≤ number
+        → MatchResult result (λ _. AreFrom least draft.new.gathered) (LacksFrom least) }
     ensures few { OnOk result (draft.new.file.size + 4 ≤ 2 ^ 30) }
     ensures version { draft.new.file.version ≡ draft.old.file.version }
     ensures known { IfErr result (EndsWriting (K.faults out.old) (K.faults out.new)) }

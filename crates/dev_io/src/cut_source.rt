@@ -75,6 +75,8 @@ impl Source for CutSource {
 
     ghost faults = { λ s. s.faults };
 
+    ghost at_hand = { λ s. length s.left };
+
     fn read(&mut self, buf: &mut [u8]) -> Result<usize, Failed>
         ensures ok { IfOk result (λ n. Gives (Some self.old.left) (Some self.new.left) buf.new n) }
         ensures end { IfOk result (λ n. n ≡ 0 → 0 < length buf.new → IsAtEnd (Some self.new.left)) }
@@ -105,7 +107,8 @@ impl Source for CutSource {
     }
 
     fn ready(&self) -> usize
-        ensures { result ≡ length self.now.left }
+        ensures at_hand { result ≡ length self.now.left }
+        ensures left { result ≤ length self.now.left }
     {
         self.bytes.len() - self.at
     }

@@ -14,6 +14,9 @@ pub trait Source {
     /// How often it failed, up to 2^64 - 1.
     ghost faults: { Self → ℕ };
 
+    /// How many bytes it can give without waiting for any.
+    ghost at_hand: { Self → ℕ };
+
     /// Puts the next bytes at the front of the buffer, and says how many: 0 only where no byte is left or the buffer
     /// is empty. After a failure nothing was taken.
     fn read(&mut self, buf: &mut [u8]) -> Result<usize, Failed>
@@ -25,7 +28,8 @@ pub trait Source {
 
     /// How many bytes it can give without waiting for any: of those that are left, where they are told.
     fn ready(&self) -> usize
-        ensures { IfSome (left self.now) (λ bytes. result ≤ length bytes) };
+        ensures at_hand { result ≡ at_hand self.now }
+        ensures left { IfSome (left self.now) (λ bytes. result ≤ length bytes) };
 }
 
 /// Where bytes go.

@@ -1,11 +1,12 @@
 // The trusted edge: std's readers and writers as a source and a sink, which tell no bytes.
-ghost use Rattle.std.specs.Prelude.{◌≡◌, ◌≤◌, None};
+ghost use Rattle.std.specs.Prelude.{◌≡◌, ◌≤◌, ◌-◌, None};
 
 use crate::device::{Failed, Sink, Source};
+use crate::retry::{read_again, write_again};
 use std::io::{Read, Write};
 
 /// A reader of std as a source. It keeps 4,096 bytes and asks the reader only when none of them is left. Every error of
-/// the reader is a fault.
+/// the reader is a fault, but for a read that a signal interrupts: that is asked for again.
 #[derive(Drop)]
 pub struct ReadEdge<R: Read> {
     reader: R,
@@ -37,9 +38,12 @@ impl<R: Read> Source for ReadEdge<R> {
 
     ghost faults = { λ edge. edge.faults };
 
+    // those that it keeps
+    ghost at_hand = { λ edge. edge.end - edge.start };
+
     fn read(&mut self, buf: &mut [u8]) -> Result<usize, Failed> {
         if self.start == self.end {
-            match self.reader.read(&mut self.buffer) {
+            match read_again(&mut self.reader, &mut self.buffer) {
                 Ok(n) => {
                     self.start = 0;
                     self.end = n;
@@ -62,7 +66,7 @@ impl<R: Read> Source for ReadEdge<R> {
 }
 
 /// A writer of std as a sink. Every error of the writer is a fault, and so is a write that takes nothing of a piece
-/// that is not empty.
+/// that is not empty. A write that a signal interrupts is none: it is made again.
 #[derive(Drop)]
 pub struct WriteEdge<W: Write> {
     writer: W,
@@ -84,7 +88,7 @@ impl<W: Write> Sink for WriteEdge<W> {
     ghost faults = { λ edge. edge.faults };
 
     fn write(&mut self, piece: &[u8]) -> Result<usize, Failed> {
-        match self.writer.write(piece) {
+        match write_again(&mut self.writer, piece) {
             Ok(n) if n > 0 || piece.is_empty() => Ok(n),
             _ => {
                 self.faults = self.faults.saturating_add(1);

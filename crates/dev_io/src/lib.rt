@@ -13,6 +13,7 @@ mod fail_sink;
 mod mem_sink;
 mod mem_source;
 mod pieces;
+mod retry;
 
 pub use buffer::fill;
 pub use cut_source::CutSource;

@@ -42,6 +42,8 @@ impl Source for MemSource {
 
     ghost faults = { λ _. 0 };
 
+    ghost at_hand = { λ s. length s };
+
     fn read(&mut self, buf: &mut [u8]) -> Result<usize, Failed>
         ensures ok { IfOk result (λ n. Gives (Some self.old) (Some self.new) buf.new n) }
         ensures end { IfOk result (λ n. n ≡ 0 → 0 < length buf.new → IsAtEnd (Some self.new)) }
@@ -57,7 +59,8 @@ impl Source for MemSource {
     }
 
     fn ready(&self) -> usize
-        ensures { result ≡ length self.now }
+        ensures at_hand { result ≡ length self.now }
+        ensures left { result ≤ length self.now }
     {
         self.bytes.len() - self.at
     }

@@ -1,7 +1,8 @@
 // Lines that are gathered are written where the reading may pause, and before an ending.
-ghost use Rattle.std.specs.Prelude.{◌≤◌, ◌<◌, ◌+◌, ◌⊎◌, IfErr, IfOk, OnErr};
+ghost use Rattle.std.specs.Prelude.{◌≡◌, ◌≤◌, ◌<◌, ◌+◌, ◌⊎◌, [], IfErr, IfOk, OnErr, OnOk};
 ghost use Rattle.dev_io.specs.Device.{Rose};
 ghost use Rattle.gathered_out.specs.Puts.{BreaksWriting, holding};
+ghost use Rattle.gpu_capture.specs.Limit.{IsAtHand};
 ghost use Rattle.event_play.specs.Causes.{MayReadFault, MayWriteFault, IsEnding};
 ghost use Rattle.event_play.specs.Pausing.{EndsBehind, Pauses};
 
@@ -10,8 +11,9 @@ use dev_io::{Sink, Source};
 use gathered_out::Gathered;
 use gpu_capture::EventReader;
 
-/// Writes what is gathered before a read that may have to wait, where all was last written at this place of the reader.
-/// The answer is the place where it was written last, or the number of the first piece that lacks a byte.
+/// Writes what is gathered before a read that may have to wait, where all was last written at this place of the reader:
+/// so whenever the next event has to wait for a byte, nothing is gathered. The answer is the place where it was written
+/// last, or the number of the first piece that lacks a byte.
 pub fn write_at_pause<S: Source, K: Sink>(
     reader: &EventReader,
     source: &S,
@@ -21,6 +23,7 @@ pub fn write_at_pause<S: Source, K: Sink>(
 ) -> Result<u32, u64>
     ensures ok { IfOk result (Pauses reader.now.progress.place since
         (holding (K.held out.old) gathered.old) (holding (K.held out.new) gathered.new)) }
+    ensures waits { OnOk result ((gathered.new ≡ []) ⊎ IsAtHand reader.now.progress (S.at_hand source.now)) }
     ensures failed { IfErr result (BreaksWriting (K.held out.old) (K.held out.new) gathered.old) }
     ensures cause { OnErr result (Rose (K.faults out.old) (K.faults out.new)) }
     ensures faults { K.faults out.old ≤ K.faults out.new }

@@ -1,10 +1,11 @@
 // A capture is played to its end.
-ghost use Rattle.std.specs.Prelude.{◌≡◌, ◌≤◌, None, map, OnOk, IfErr};
+ghost use Rattle.std.specs.Prelude.{◌≡◌, ◌≤◌, ◌+◌, None, map, OnOk, IfErr};
 ghost use Rattle.dev_io.specs.Device.{Rose};
 ghost use Rattle.gpu_capture.specs.Reader.{CountsFaults, IsReadFault, standing};
 ghost use Rattle.gpu_capture.specs.Words.{TakesWords, StopsBehind, GoesOn};
 ghost use Rattle.event_play.specs.Causes.{MayReadFault, MayWriteFault, IsEnding};
 ghost use Rattle.event_play.specs.Course.{at_end};
+ghost use Rattle.event_play.specs.Lines.{IsGathered};
 ghost use Rattle.event_play.specs.Playing.{EndsPlay};
 ghost use Rattle.event_play.specs.Reading.{SuitMode};
 ghost use Rattle.event_play.specs.Replay.{Tale, script_of, script_behind, from_state, raised};
@@ -147,6 +148,8 @@ fn read_words<S: Source>(
     requires { reader.old.stop ≡ None }
     ensures goes_on { GoesOn reader.old.progress reader.new.progress }
     ensures suit { SuitMode mode reader.old.progress reader.new.progress block.new }
+    ensures waits { IsGathered mode
+        → reader.new.progress.place ≤ reader.old.progress.place + S.at_hand source.old }
     ensures takes { OnOk result (TakesWords (standing reader.old.progress (S.left source.old))
         (standing reader.new.progress (S.left source.new)) block.new) }
     ensures runs_on { OnOk result (reader.new.stop ≡ None) }

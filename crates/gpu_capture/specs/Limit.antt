@@ -12,6 +12,11 @@ pub record TakesFew : Type 0 where
   pub rest : (p : Progress) (taken : List ℕ) → 1 ≤ p.version → p.place % 4 ≡ 0 → p.place ≤ limit → AreNeeded p taken
       → p.place + length taken ≤ limit
 
+-- After the head the next event waits for no byte of a source that has so many at hand: it is one that is still to be
+-- given, and takes none, or they are as many as the longest record of one event has.
+abbrev pub IsAtHand : Progress → (at_hand : ℕ) → Type 0
+IsAtHand p at_hand = p.left ≡ 0 → 16 ≤ at_hand
+
 -- One answer of a reader takes at most 16 bytes, and with the head 24. Behind the head as many bytes were taken in all
 -- as the reader's place says, up to 2^30.
 pub record TakesFewAtOnce : Type 0 where

@@ -6,6 +6,7 @@ ghost use Rattle.gpu_capture.specs.Record.{IsEvent};
 ghost use Rattle.gpu_capture.specs.Reader.{StopsAt, Takes, CountsFaults, IsReadFault, IsStart, standing, work_left};
 ghost use Rattle.gpu_capture.specs.Reader.{tag_due};
 ghost use Rattle.gpu_capture.specs.Capture.{IsVersion};
+ghost use Rattle.gpu_capture.specs.Limit.{IsAtHand};
 ghost use Rattle.gpu_capture.specs.State.{KeepsStop};
 ghost use Rattle.gpu_capture.specs.Words.{TakesWords, StopsBehind, GoesOn, gp0_left};
 
@@ -103,7 +104,8 @@ impl EventReader {
     /// Whether what is gathered for a sink should be written before the next event is asked for: since the source may
     /// have to wait for that event, or since 4,096 bytes or more were taken behind this place.
     pub fn pauses<S: Source>(&self, source: &S, since: u32) -> bool
-        ensures { result ≡ false → self.now.progress.place < since + 4096 }
+        ensures waits { result ≡ false → IsAtHand self.now.progress (S.at_hand source.now) }
+        ensures few { result ≡ false → self.now.progress.place < since + 4096 }
     {
         let waits = self.progress.left == 0 && source.ready() < RECORD_MOST;
         waits || self.progress.place >= since.saturating_add(FEW)

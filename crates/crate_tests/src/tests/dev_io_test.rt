@@ -3,6 +3,7 @@ use dev_io::{
     CutSource, FailSink, Failed, MemSink, MemSource, ReadEdge, Source, WriteEdge, fill, write_all,
     write_pieces,
 };
+use std::io::{self, ErrorKind, Read, Write};
 use std::test::Fail;
 
 #[test]
@@ -62,5 +63,64 @@ fn the_edges_pass_bytes_on(rt: HostRuntime) -> Result<(), Fail> {
     assert_eq!(rt; buf, *b"hello\0\0\0");
     let mut out = WriteEdge::new(Vec::new(rt.alloc()));
     assert_eq!(rt; write_all(&mut out, b"hello"), Ok(()));
+    Ok(())
+}
+
+/// Bytes to be read, and those that were written; a signal interrupts each first of two calls.
+#[derive(Drop)]
+struct Interrupted {
+    left: u8,
+    written: usize,
+    interrupts: bool,
+}
+
+impl Interrupted {
+    fn turn(&mut self) -> io::Result<()> {
+        self.interrupts = !self.interrupts;
+        if self.interrupts {
+            return Err(ErrorKind::Interrupted.into());
+        }
+        Ok(())
+    }
+}
+
+impl Read for Interrupted {
+    fn read(&mut self, buf: &mut [u8]) -> io::Result<usize> {
+        self.turn()?;
+        if self.left == 0 || buf.is_empty() {
+            return Ok(0);
+        }
+        buf[0] = self.left;
+        self.left -= 1;
+        Ok(1)
+    }
+}
+
+impl Write for Interrupted {
+    fn write(&mut self, buf: &[u8]) -> io::Result<usize> {
+        self.turn()?;
+        self.written = self.written.saturating_add(buf.len());
+        Ok(buf.len())
+    }
+
+    fn flush(&mut self) -> io::Result<()> {
+        Ok(())
+    }
+}
+
+#[test]
+fn an_interrupted_call_is_made_again(rt: HostRuntime) -> Result<(), Fail> {
+    let mut device = Interrupted {
+        left: 3,
+        written: 0,
+        interrupts: false,
+    };
+    let mut source = ReadEdge::new(&mut device);
+    let mut buf = [0u8; 8];
+    assert_eq!(rt; fill(&mut source, &mut buf), Ok(3));
+    assert_eq!(rt; buf, [3, 2, 1, 0, 0, 0, 0, 0]);
+    let mut out = WriteEdge::new(&mut device);
+    assert_eq!(rt; write_all(&mut out, b"hello"), Ok(()));
+    assert_eq!(rt; device.written, 5);
     Ok(())
 }

@@ -2,7 +2,7 @@ use Rattle.std.proofs.Common.{ap, arith}
 use Rattle.std.proofs.lemmas.Result.{IfErr-weaker}
 use Rattle.capture_slim.specs.declared.file.SlimFile.{SlimFile}
 use Rattle.capture_slim.proofs.Awaiting.{starts, awaits_is, count_is, left_falls, falls_on, goes_on, event_end}
-use Rattle.capture_slim.proofs.Awaiting.{stop_end}
+use Rattle.capture_slim.proofs.Awaiting.{pause_end, paused_on, stop_end}
 use Rattle.capture_slim.proofs.pass.pass_on.Goals as goal
 
 pub events-init : goal.events-init
@@ -30,30 +30,42 @@ events-init g c = record {
 
 pub take_event-requires-clause-count : goal.take_event-requires-clause-count
 take_event-requires-clause-count g c =
-    count_is _ _ _ _ _ _ _ _ c.events.invariant.awaits (omega (arith, c.events.invariant.room))
+    count_is _ _ _ _ _ _ _ _ _ c.events.invariant.awaits (omega (arith, c.events.invariant.room))
 
 pub finish-requires-clause-count : goal.finish-requires-clause-count
 finish-requires-clause-count g c =
-    count_is _ _ _ _ _ _ _ _ c.events.invariant.awaits (omega (arith, c.events.invariant.room))
+    count_is _ _ _ _ _ _ _ _ _ c.events.invariant.awaits (omega (arith, c.events.invariant.room))
 
 pub returns-in-Err-take_event-clause-ends : goal.returns-in-Err-take_event-clause-ends
 returns-in-Err-take_event-clause-ends g c =
-    let at = awaits_is _ _ _ _ _ _ _ _ _ c.in-Ok.is c.events.invariant.awaits in
-    event_end _ _ _ _ _ _ _ c.in-Ok.event at _ c.in-Err-take_event.ending (c.in-Err-take_event.ensures.ends _ at.came)
+    let at = awaits_is _ _ _ _ _ _ _ _ _ _ c.in-Ok.is c.events.invariant.awaits in
+    event_end _ _ _ _ _ _ _ _ c.in-Ok.event at _ c.in-Err-take_event.ending
+    (c.in-Err-take_event.ensures.ends _ at.came) (c.in-Err-take_event.ensures.late _ at.least at.came at.from)
+
+pub returns-in-Err-write_at_pause-clause-ends : goal.returns-in-Err-write_at_pause-clause-ends
+returns-in-Err-write_at_pause-clause-ends g c =
+    let at = awaits_is _ _ _ _ _ _ _ _ _ _ c.in-Ok.is c.events.invariant.awaits in
+    pause_end _ _ _ _ _ _ _ _ c.in-Ok.event at c.take_event.new.window c.take_event.new.draft
+    (g.K.Sink.held c.take_event.new.out) (g.K.Sink.held c.write_at_pause.new.out) c.in-Err-write_at_pause.event
+    (c.in-Ok-take_event.ensures.ok _ at.came) (c.in-Ok-take_event.ensures.late _ at.least at.came at.from)
+    c.in-Err-write_at_pause.ensures.failed
 
 pub events-smaller : goal.events-smaller
 events-smaller g c = falls_on _ _ _ c.next-next-in-Ok.result c.in-Ok.event c.in-Ok.is c.next-next-in-Ok.ensures.forward
 
 pub events-preserved : goal.events-preserved
 events-preserved g c =
-    let at = awaits_is _ _ _ _ _ _ _ _ _ c.in-Ok.is c.events.invariant.awaits in
+    let at = awaits_is _ _ _ _ _ _ _ _ _ _ c.in-Ok.is c.events.invariant.awaits in
     let running = rw c.in-Ok.is at c.events.invariant.running in
     record {
-      awaits = goes_on _ _ _ _ _ _ _ c.in-Ok.event at c.next-next-in-Ok.new.self.progress
-          (g.S.Source.left c.next-next-in-Ok.new.source) (g.K.Sink.held c.take_event.new.out)
+      awaits = goes_on _ _ _ _ _ _ _ _ c.in-Ok.event at c.next-next-in-Ok.new.self.progress
+          (g.S.Source.left c.next-next-in-Ok.new.source) (g.K.Sink.held c.write_at_pause.new.out)
           (g.S.Source.faults c.next-next-in-Ok.new.source)
-          c.take_event.new.window c.take_event.new.draft c.next-next-in-Ok.result
-          (c.in-Ok-take_event.ensures.ok _ at.came)
+          c.take_event.new.window _ c.in-Ok-write_at_pause.place c.next-next-in-Ok.result
+          (paused_on _ _ _ _ _ _ _ _ c.in-Ok.event at c.take_event.new.window c.take_event.new.draft
+          c.write_at_pause.new.gathered c.in-Ok-write_at_pause.place (g.K.Sink.held c.take_event.new.out)
+          (g.K.Sink.held c.write_at_pause.new.out) (c.in-Ok-take_event.ensures.ok _ at.came)
+          (c.in-Ok-take_event.ensures.late _ at.least at.came at.from) c.in-Ok-write_at_pause.ensures.ok)
           c.next-next-in-Ok.ensures.takes c.next-next-in-Ok.ensures.version (c.next-next-in-Ok.ensures.stop running);
       file = c.in-Ok-take_event.ensures.room;
       room = omega (
@@ -66,11 +78,17 @@ events-preserved g c =
           (λ stop may fault. omega (arith, may fault, c.events.invariant.read_faults))
           (c.next-next-in-Ok.ensures.cause running);
       read_faults = omega (arith, c.events.invariant.read_faults, c.next-next-in-Ok.ensures.faults);
-      write_faults = omega (arith, c.events.invariant.write_faults, c.take_event.ensures.faults);
+      write_faults = omega (
+        arith,
+        c.events.invariant.write_faults,
+        c.take_event.ensures.faults,
+        c.in-Ok-write_at_pause.ensures.faults,
+      );
     }
 
 pub returns-in-Err-clause-ends : goal.returns-in-Err-clause-ends
 returns-in-Err-clause-ends g c =
-    let at = awaits_is _ _ _ _ _ _ _ _ _ c.in-Err.is c.events.invariant.awaits in
-    stop_end _ _ _ _ _ _ _ c.in-Err.stop at (omega (arith, c.version.ensures.known, c.max-version.ensures))
+    let at = awaits_is _ _ _ _ _ _ _ _ _ _ c.in-Err.is c.events.invariant.awaits in
+    stop_end _ _ _ _ _ _ _ _ c.in-Err.stop at (omega (arith, c.version.ensures.known, c.max-version.ensures))
     (rw c.in-Err.is at c.events.invariant.read_cause) _ c.finish.result (c.finish.ensures.ends _ at.came)
+    (c.finish.ensures.late at.least at.from)

@@ -12,7 +12,7 @@ invariant-events g l = record {
   awaits : Awaits l.version
       (streams (g.S.Source.left l.fn.source) (g.S.Source.faults l.fn.source) (g.K.Sink.held l.fn.out))
       (streams (g.S.Source.left l.source) (g.S.Source.faults l.source) (g.K.Sink.held l.out)) l.window l.draft l.count
-      l.reader.progress l.next;
+      l.since l.reader.progress l.next;
   file : HasRoom l.draft.file;
   room : l.count + events_left l.reader.progress l.next < 2 ^ 52;
   running : OnOk l.next (l.reader.stop ≡ None);

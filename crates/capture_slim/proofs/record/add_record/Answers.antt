@@ -2,6 +2,7 @@ use Rattle.std.proofs.Common.{◌≡◌, ◌+◌, ◌∙◌, length, ap, arith}
 use Rattle.gathered_out.proofs.Pieces.{only_gathered}
 use Rattle.capture_slim.specs.File.{due}
 use Rattle.capture_slim.proofs.Files.{added_draft, long_ends, out_draft}
+use Rattle.capture_slim.proofs.Late.{from_off, from_put}
 use Rattle.capture_slim.proofs.record.add_record.Goals as goal
 
 pub returns-then-after-gt-LIMIT-clause-ends : goal.returns-then-after-gt-LIMIT-clause-ends
@@ -13,6 +14,9 @@ returns-then-after-gt-LIMIT-clause-ends g c = λ base outs is at.
     (file.size + length c.due_bytes-bytes.result.items) at (omega (arith, long))
     (g.K.Sink.held c.end_too_long.new.out) c.end_too_long.result
     (omega (arith, c.if-after-gt-LIMIT.true)) c.end_too_long.ensures.ends
+
+pub returns-then-after-gt-LIMIT-clause-late : goal.returns-then-after-gt-LIMIT-clause-late
+returns-then-after-gt-LIMIT-clause-late g c = λ least from at. c.end_too_long.ensures.late least from
 
 pub put-requires : goal.put-requires
 put-requires g c = omega (arith, ap length c.as_slice.ensures.value, c.due_bytes-bytes.ensures.few)
@@ -37,3 +41,17 @@ returns-in-Err-clause-ends g c = λ base outs is at.
     let held = g.K.Sink.held c.args.out.now in
     let pieces = c.args.draft.now.gathered in
     is.lacks _ _ (c.in-Err.ensures.failed held pieces (only_gathered held pieces))
+
+pub returns-in-Ok-clause-late : goal.returns-in-Ok-clause-late
+returns-in-Ok-clause-late g c = λ least from at.
+    let held = g.K.Sink.held c.args.out.now in
+    let pieces = c.args.draft.now.gathered in
+    from_put least held (g.K.Sink.held c.put.new.out) pieces c.put.new.self _ from at
+    (c.in-Ok.ensures.ok held pieces (only_gathered held pieces))
+
+pub returns-in-Err-clause-late : goal.returns-in-Err-clause-late
+returns-in-Err-clause-late g c = λ least from at.
+    let held = g.K.Sink.held c.args.out.now in
+    let pieces = c.args.draft.now.gathered in
+    from_off least pieces held (g.K.Sink.held c.put.new.out) c.in-Err.event from
+    (c.in-Err.ensures.failed held pieces (only_gathered held pieces))

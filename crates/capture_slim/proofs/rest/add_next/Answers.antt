@@ -26,3 +26,9 @@ returns-in-Some-clause-ends g c = λ base outs is at.
       fails = fails;
     })
     (c.add_record.ensures.ends base outs is at)
+
+pub returns-in-None-clause-late : goal.returns-in-None-clause-late
+returns-in-None-clause-late g c = λ least from at. from
+
+pub returns-in-Some-clause-late : goal.returns-in-Some-clause-late
+returns-in-Some-clause-late g c = c.add_record.ensures.late

@@ -40,6 +40,9 @@ slots-preserved g c =
           → Type 0 = λ os. IsDraft c.add_next.new.draft base (g.K.Sink.held c.add_next.new.out) os in
           subst P (next.placed outs)
           (c.in-Ok.ensures.ok base (outs ++ all_left at.done) (at.added base outs is all_count) place);
+      late = λ least from.
+          c.in-Ok.ensures.late least (at.late least from)
+          (omega (arith, from.later, closed_long, c.len-left.ensures.value));
       few = c.in-Ok.ensures.few;
       version = c.add_next.ensures.version ∙ at.version;
       faults = omega (arith, at.faults, c.add_next.ensures.faults);
@@ -65,3 +68,12 @@ pub returns-in-Err-clause-most : goal.returns-in-Err-clause-most
 returns-in-Err-clause-most g c =
     let closed_long = ap (λ (w : Window). length w.slots + length w.words) c.close.ensures in
     omega (arith, closed_long, c.len-left.ensures.value, c.len-left.ensures.few)
+
+pub returns-clause-late : goal.returns-clause-late
+returns-clause-late g c = λ least from. c.slots.invariant.late least from
+
+pub returns-in-Err-clause-late : goal.returns-in-Err-clause-late
+returns-in-Err-clause-late g c = λ least from.
+    let closed_long = ap (λ (w : Window). length w.slots + length w.words) c.close.ensures in
+    c.in-Err.ensures.late least (c.slots.invariant.late least from)
+    (omega (arith, from.later, closed_long, c.len-left.ensures.value))

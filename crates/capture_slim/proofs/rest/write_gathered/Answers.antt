@@ -1,5 +1,6 @@
 use Rattle.std.proofs.Common.{◌∙◌}
 use Rattle.gathered_out.proofs.Pieces.{only_gathered}
+use Rattle.capture_slim.proofs.Late.{from_off}
 use Rattle.capture_slim.proofs.rest.write_gathered.Goals as goal
 
 pub returns-in-Ok-clause-ok : goal.returns-in-Ok-clause-ok
@@ -12,3 +13,7 @@ returns-in-Ok-clause-ok g c = λ base outs is. record {
 pub returns-in-Err-clause-ends : goal.returns-in-Err-clause-ends
 returns-in-Err-clause-ends g c = λ base outs last is.
     is.lacks _ _ (c.in-Err.ensures.failed _ _ (only_gathered _ _))
+
+pub returns-in-Err-clause-late : goal.returns-in-Err-clause-late
+returns-in-Err-clause-late g c = λ least from.
+    from_off least _ _ _ c.in-Err.event from (c.in-Err.ensures.failed _ _ (only_gathered _ _))

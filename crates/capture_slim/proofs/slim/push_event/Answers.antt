@@ -5,7 +5,7 @@ use Rattle.capture_slim.specs.File.{IsDraft}
 use Rattle.capture_slim.specs.Stream.{leaving}
 use Rattle.capture_slim.specs.Window.{pushed}
 use Rattle.capture_slim.proofs.Files.{passed_draft}
-use Rattle.capture_slim.proofs.Firsts.{size, waiting_size, pushed_size, leaves_size, comes, gone, leaves_one, now_fails}
+use Rattle.capture_slim.proofs.Firsts.{counted, size, waiting_size, pushed_size, leaves_size, comes, gone, leaves_one, now_fails}
 use Rattle.capture_slim.proofs.Firsts.{number_is}
 use Rattle.capture_slim.proofs.slim.push_event.Goals as goal
 
@@ -54,3 +54,14 @@ returns-in-Some-clause-ends g c = λ passed came.
     (now_fails _ _ _ _ _ came c.args.event c.push.new.self c.push.ensures.now c.requires.port c.holds_words.ensures
     c.in-Some.left c.len.result left c.len.ensures.value c.len.ensures.few (g.K.Sink.held c.add_record.new.out))
     (c.add_record.ensures.ends passed.base (gone _ _ _ _ _ came) came.draft_is place)
+
+pub returns-in-None-clause-late : goal.returns-in-None-clause-late
+returns-in-None-clause-late g c = λ passed least came from. from.gathered
+
+pub returns-in-Some-clause-late : goal.returns-in-Some-clause-late
+returns-in-Some-clause-late g c = λ passed least came from.
+    let left = ap (λ (o : Option Event). option_to_list o) (sym c.in-Some.is) ∙ c.push.ensures.left in
+    let place = number_is _ _ _ _ _ came c.args.event c.push.new.self c.push.ensures.now c.requires.port
+    c.holds_words.ensures c.in-Some.left c.len.result left c.len.ensures.value c.len.ensures.few in
+    c.add_record.ensures.late least from.gathered
+    (omega (arith, place, counted _ _ _ _ _ came, from.later))

@@ -10,3 +10,6 @@ pub returns-in-Err-clause-ends : goal.returns-in-Err-clause-ends
 returns-in-Err-clause-ends g c = λ passed came.
     rest_refused _ _ _ _ _ came _ c.in-Err.ending c.write_rest.ensures.most
     (c.in-Err.ensures.ends passed.base (gone _ _ _ _ _ came) came.draft_is (events_count _ _ _ _ _ came))
+
+pub returns-in-Err-clause-late : goal.returns-in-Err-clause-late
+returns-in-Err-clause-late g c = λ least from. c.in-Err.ensures.late least from
