@@ -47,6 +47,7 @@ bench: $(PLAYER)
 lib: out/libpsxgpu.a out/$(SONAME)
 
 $(PROVED): $(SOURCES)
+	@python3 packaging/build_progress.py --top psxgpu_c $(JOBS)
 	cd crates/psxgpu_c && rt lib
 
 out/heap.o: c/heap.c
