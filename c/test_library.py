@@ -2,8 +2,8 @@
 """The library from C and C++, after `make lib`: PLAYER=psxgpu_tool python3 c/test_library.py
 
 example.c as C and as C++, with the static and with the shared library; events.c, which plays captures call by call,
-with sanitizers on its side, against the program; failing.c, in which each allocation fails in turn; counts.c, which saves
-machines near the most events that a snapshot counts."""
+with sanitizers on its side, against the program; failing.c, in which each allocation fails in turn; counts.c, which
+saves machines near the most events that a snapshot counts."""
 import os
 import re
 import subprocess

@@ -68,7 +68,8 @@ abbrev snapshot_in : RigState → Snapshot
 snapshot_in rig = record { outline = outline_of rig; m = rig.gpu.parts.m; ram = rig.ram }
 
 saved_opens : (rig : RigState) → IsWritable rig → opened (saved rig)
-    ≡ Restored (snapshot_in rig) (first_place + length (snap_bytes (outline_of rig) rig.gpu.parts.m rig.ram)) spelled_end
+    ≡ Restored (snapshot_in rig) (first_place + length (snap_bytes (outline_of rig) rig.gpu.parts.m rig.ram))
+    spelled_end
 unfolding rig_bytes
 saved_opens rig is = spelled_opens (snapshot_in rig) spelled_end
     (record { outline = is.outline; words = is.words; memories = is.memories })
