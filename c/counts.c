@@ -31,7 +31,7 @@ static void try_counts(psxgpu *gpu) {
     expect(psxgpu_save(gpu, second, ROOM, &again) == 0, "the most events are not saved");
     expect(again == length && memcmp(first, second, length) == 0, "other bytes are saved than were loaded");
 
-    expect(psxgpu_gp0(gpu, 0) == 0, "a word is refused behind the most events");
+    expect(psxgpu_gp0(gpu, 0) == 0, "a word is refused after the most events");
     memset(second, FILL, ROOM);
     expect(psxgpu_save(gpu, second, ROOM, &none) == PSXGPU_TOO_MANY_EVENTS, "an event too many is saved");
     expect(none == 0 && second[0] == FILL && memcmp(second, second + 1, ROOM - 1) == 0, "the room is written");
