@@ -55,7 +55,8 @@ enum {
     PSXGPU_BAD_MODE = 16,     /* no mode has this number */
     PSXGPU_NO_CELL = 17,      /* video memory has no such cell */
     PSXGPU_BAD_ADDRESS = 18,  /* main memory has no words there */
-    PSXGPU_BAD_CHANNEL = 19   /* a channel other than 2 and 6 */
+    PSXGPU_BAD_CHANNEL = 19,  /* a channel other than 2 and 6 */
+    PSXGPU_TOO_MANY_EVENTS = 20 /* 2^63 events or more were played: a snapshot counts no more than 2^63 - 1 */
 };
 
 /* How a call ended that has more to say than its code. A field that its code does not name is 0. */
@@ -177,8 +178,8 @@ uint32_t psxgpu_registers(psxgpu *gpu, uint32_t *words, size_t room);
 /* ---- snapshots */
 
 /* The machine as a snapshot with no record behind its state, the file that `psxgpu_tool cut` writes after the same
- * events: every command that plays reads it. `written`: how many bytes; 0 where it is refused.
- * CLOSED, NO_ROOM, NO_MEMORY. */
+ * events: every command that plays reads it, and psxgpu_load makes this machine of it. `written`: how many bytes; 0
+ * where it is refused. CLOSED, TOO_MANY_EVENTS, NO_ROOM, NO_MEMORY. */
 uint32_t psxgpu_save(psxgpu *gpu, uint8_t *out, size_t room, size_t *written);
 
 #define PSXGPU_SAVE_ROOM 4194564 /* bytes that always suffice */
@@ -206,8 +207,8 @@ enum {
 
 /* Plays the capture or snapshot in the `length` bytes at `capture`, and puts what the mode asks for into `out`.
  * `cell` is x | y << 16, for PIXEL alone. Where it is refused, `out` has the first ended->written bytes of what was
- * due, as the command writes them, and ended->event is the number of the event that was refused. NO_ROOM: `out` is
- * full, and more was due. Bytes of `out` from ended->written on stay. `ended` is written always.
+ * due, as the command writes them, and ended->event is the number of the event that was refused. NO_ROOM comes only
+ * where `out` is full and more was due. Bytes of `out` from ended->written on stay. `ended` is written always.
  * BAD_MODE, NO_MEMORY, NOT_CAPTURE, TRUNCATED, BAD_RECORD, TOO_LONG, BAD_SNAPSHOT, BAD_DMA, DMA_TOO_LONG, LIST_LOOP,
  * NO_PICTURE, NO_ROOM. */
 uint32_t psxgpu_play(uint32_t mode, uint32_t cell, const uint8_t *capture, size_t length, uint8_t *out, size_t room,

@@ -2,7 +2,8 @@
 """The library from C and C++, after `make lib`: PLAYER=psxgpu_tool python3 c/test_library.py
 
 example.c as C and as C++, with the static and with the shared library; events.c, which plays captures call by call,
-with sanitizers on its side, against the program; failing.c, in which each allocation fails in turn."""
+with sanitizers on its side, against the program; failing.c, in which each allocation fails in turn; counts.c, which
+saves machines near the most events that a snapshot counts."""
 import os
 import re
 import subprocess
@@ -55,6 +56,11 @@ class Library(unittest.TestCase):
         told = self.run_in_folder(path)
         self.assertTrue(told.endswith('0 failures\n'), told)
         self.assertGreaterEqual(len(re.findall(': [1-9][0-9]* allocations', told)), 4, told)
+
+    def test_counts(self):
+        """A machine with more events than a snapshot counts is not saved, and what is saved loads again."""
+        path = self.build('counts', [*C, *SANITIZED], 'counts.c', [ARCHIVE])
+        self.assertEqual(self.run_in_folder(path), '')
 
     def test_shared_library(self):
         """It has its name, and shows the calls of the header alone."""

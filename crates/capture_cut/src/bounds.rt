@@ -11,7 +11,7 @@ use event_play::Rig;
 use gp0_words::Pending;
 
 /// The state of a rig is within the bounds, and its values fit their words. It does nothing.
-pub(crate) fn keep_bounds(rig: &Rig)
+pub fn keep_bounds(rig: &Rig)
     requires cells { AreCells rig.now.gpu.parts.m }
     ensures { rig.now.played < 2 ^ 63 → IsWritable rig.now }
 {

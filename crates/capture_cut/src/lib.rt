@@ -11,6 +11,7 @@ mod rest;
 mod state;
 mod whole;
 
+pub use bounds::keep_bounds;
 pub use ending::CutEnding;
-pub use state::write_state;
+pub use state::{state_size, write_state};
 pub use whole::cut;

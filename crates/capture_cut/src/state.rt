@@ -34,7 +34,7 @@ pub fn write_state<K: Sink, L: Ledger>(
 }
 
 /// How many bytes the head and the state have.
-pub(crate) fn state_size(rig: &Rig) -> u32
+pub fn state_size(rig: &Rig) -> u32
     ensures value { result ≡ length (rig_bytes rig.now) }
     ensures few { result ≤ 2 ^ 23 }
 {

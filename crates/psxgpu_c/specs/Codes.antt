@@ -49,6 +49,7 @@ refused refusal.NoCell = numbers 17 0 0 0
 refused refusal.BadAddress = numbers 18 0 0 0
 refused refusal.BadChannel = numbers 19 0 0 0
 refused refusal.BadMode = numbers 16 0 0 0
+refused refusal.TooManyEvents = numbers 20 0 0 0
 refused (refusal.Faulted event fault) = at_fault event fault
 refused (refusal.Unopened fault) = unopened fault
 

@@ -3,6 +3,7 @@ pub mod Codes
 pub mod Handle
 pub mod Memory
 pub mod Notes
+pub mod Room
 pub mod Saved
 pub mod Shown
 pub mod Whole

@@ -1,13 +1,17 @@
 -- A machine as a snapshot in memory, and back.
-use Rattle.std.specs.Prelude.{◌≡◌, ◌⊎◌, ◌++◌, ℕ, List, Option, Some, None}
+use Rattle.std.specs.Prelude.{◌≡◌, ◌⊎◌, ◌++◌, ◌^◌, ℕ, Bool, true, false, List, Option, Some, None, Result, Err, OnOk}
+use Rattle.std.specs.Prelude.{nat_lt}
 use Rattle.capture_cut.specs.File.{rig_bytes}
-use Rattle.event_play.specs.RigState.{RigState}
-use Rattle.gpu_capture.specs.State.{ReaderState}
+use Rattle.event_play.specs.Replay.{Tale, raised}
+use Rattle.event_play.specs.RigState.{RigState, Stands, StandsFor, first_rig}
 use Rattle.gpu_capture.specs.Written.{spelled_end}
-use Rattle.gpu_snapshot.specs.Intake.{intake}
-use Rattle.gpu_snapshot.specs.Opening.{OpensCapture, OpensState, Refuses}
+use Rattle.gpu_capture.specs.declared.event.Stop.TheVariants as stop
+use Rattle.gpu_snapshot.specs.Opened.{Opened, Captured, Restored, Unknown, BreaksOff, BadWord, opened}
+use Rattle.gpu_snapshot.specs.Restored.{machine_in, rig_in}
 use Rattle.snapshot_words.specs.declared.fault.SnapFault.{SnapFault}
+use Rattle.snapshot_words.specs.declared.fault.SnapFault.TheVariants as snap
 use Rattle.psxgpu_c.specs.Codes.{told_by}
+use Rattle.psxgpu_c.specs.Shown.{Puts}
 use Rattle.psxgpu_c.specs.declared.ended.Ended.{Ended}
 use Rattle.psxgpu_c.specs.declared.refusal.Refusal.{Refusal}
 use Rattle.psxgpu_c.specs.declared.refusal.Refusal.TheVariants as refusal
@@ -16,34 +20,38 @@ use Rattle.psxgpu_c.specs.declared.refusal.Refusal.TheVariants as refusal
 abbrev pub saved : RigState → List ℕ
 saved rig = rig_bytes rig ++ spelled_end
 
--- ---- back
+-- fewer events were played than 2^63: a snapshot counts no more
+abbrev pub can_be_saved : RigState → Bool
+can_be_saved rig = nat_lt rig.played (2 ^ 63)
 
--- the rig is what opening these bytes gives, a state or the beginning of a capture
-pub record Opens (bytes : List ℕ) (rig : RigState) : Type 0 where
-  pub left : List ℕ
-  pub reader : ReaderState
-  pub steps : ℕ
-  pub steps_now : ℕ
-  pub is : OpensCapture (intake (Some bytes) steps) (intake (Some left) steps_now) rig reader
-      ⊎ OpensState (intake (Some bytes) steps) (intake (Some left) steps_now) rig reader
+-- ---- loading
 
--- opening these bytes is refused so
-pub record IsUnopened (bytes : List ℕ) (why : SnapFault) : Type 0 where
-  pub left : List ℕ
-  pub steps : ℕ
-  pub steps_now : ℕ
-  pub is : Refuses (intake (Some bytes) steps) (intake (Some left) steps_now) why
+-- the rig is what these bytes are: the state of a snapshot, or the first one in the profile of a capture
+abbrev pub IsOpened : Opened → RigState → Type 0
+IsOpened (Captured version rest) rig =
+    ((t : Tale) → StandsFor first_rig t → StandsFor rig (raised t version)) × (rig.played ≡ 0)
+IsOpened (Restored s place rest) rig = (rig ≡ rig_in s) × Stands rig (machine_in s)
+IsOpened other rig = ⊥
 
--- the rig was opened, or it is as it was, for this cause
-abbrev pub Loads : (was rig : RigState) → (bytes : List ℕ) → (why : Option Refusal) → Type 0
-Loads was rig bytes None = Opens bytes rig
-Loads was rig bytes (Some refusal.NoMemory) = rig ≡ was
-Loads was rig bytes (Some (refusal.Unopened why)) = (rig ≡ was) × IsUnopened bytes why
-Loads was rig bytes (Some other) = ⊥
+-- why bytes are not opened, by what they are
+abbrev pub fault_of : Opened → Option SnapFault
+fault_of (Captured version rest) = None
+fault_of (Restored s place rest) = None
+fault_of (Unknown place rest) = Some (snap.Stop (stop.NotCapture place))
+fault_of (BreaksOff place) = Some (snap.Stop (stop.Truncated place))
+fault_of (BadWord place word) = Some (snap.Bad place word)
+
+-- The rig is what the bytes are. Or it is as it was, because they are neither a snapshot nor a capture, or memory ran
+-- out.
+abbrev pub Loads : (bytes : List ℕ) → (was rig : RigState) → (why : Option Refusal) → Type 0
+Loads bytes was rig None = IsOpened (opened bytes) rig
+Loads bytes was rig (Some refusal.NoMemory) = rig ≡ was
+Loads bytes was rig (Some (refusal.Unopened fault)) = (rig ≡ was) × (fault_of (opened bytes) ≡ Some fault)
+Loads bytes was rig (Some other) = ⊥
 
 -- the same of a handle
 abbrev pub LoadsHeld : (before now : Option RigState) → (bytes : List ℕ) → (why : Option Refusal) → Type 0
-LoadsHeld (Some was) (Some rig) bytes why = Loads was rig bytes why
+LoadsHeld (Some was) (Some rig) bytes why = Loads bytes was rig why
 LoadsHeld (Some was) None bytes why = ⊥
 LoadsHeld None now bytes why = (now ≡ None) × (why ≡ Some refusal.Closed)
 
@@ -52,3 +60,24 @@ pub record TellsLoad (before now : Option RigState) (bytes : List ℕ) (told : E
   pub why : Option Refusal
   pub loads : LoadsHeld before now bytes why
   pub is_told : told ≡ told_by why
+
+-- ---- saving
+
+-- Whatever machine loads these bytes becomes this one, unless memory runs out.
+abbrev pub AreLoadedAs : RigState → (bytes : List ℕ) → Type 0
+AreLoadedAs rig bytes = (was now : RigState) (why : Option Refusal) → Loads bytes was now why
+    → ((why ≡ None) × (now ≡ rig)) ⊎ ((why ≡ Some refusal.NoMemory) × (now ≡ was))
+
+-- What is saved of the rig was put in front, and loads as the rig. Or there is too little room, or memory ran out; or a
+-- snapshot can't count its events.
+abbrev pub SavesWhere : (can : Bool) → RigState → (before now : List ℕ) → Result ℕ Refusal → Type 0
+SavesWhere true rig before now answer = Puts (saved rig) before now answer × OnOk answer (AreLoadedAs rig (saved rig))
+SavesWhere false rig before now answer = (answer ≡ Err refusal.TooManyEvents) × (now ≡ before)
+
+abbrev pub Saves : RigState → (before now : List ℕ) → Result ℕ Refusal → Type 0
+Saves rig before now answer = SavesWhere (can_be_saved rig) rig before now answer
+
+-- the same of a handle
+abbrev pub SavesHeld : Option RigState → (before now : List ℕ) → Result ℕ Refusal → Type 0
+SavesHeld None before now answer = (answer ≡ Err refusal.Closed) × (now ≡ before)
+SavesHeld (Some rig) before now answer = Saves rig before now answer

@@ -1,6 +1,6 @@
 -- What playing a capture or a snapshot in memory does.
 use Rattle.std.specs.Prelude.{◌≡◌, ◌⊎◌, ◌/◌, ◌%◌, ◌^◌, ℕ, List, [], ◌∷◌, Option, Some, None, slice_get}
-use Rattle.std.specs.Prelude.{length}
+use Rattle.std.specs.Prelude.{length, replicate}
 use Rattle.event_play.specs.Replay.{from_state}
 use Rattle.event_play.specs.Step.{first_machine}
 use Rattle.event_play.specs.Streams.{streams}
@@ -9,7 +9,7 @@ use Rattle.event_play.specs.declared.ending.Ending.TheVariants as ending
 use Rattle.event_play.specs.declared.ending.Mode.{Mode}
 use Rattle.event_play.specs.declared.ending.Mode.TheVariants as mode
 use Rattle.event_play.specs.declared.ending.Moment.TheVariants as moment
-use Rattle.gpu_snapshot.specs.PlayAny.{EndsAny}
+use Rattle.gpu_snapshot.specs.PlayAny.{AnyMayReadFault, AnyMayWriteFault, EndsAny}
 use Rattle.gpu_snapshot.specs.declared.ending.AnyEnding.{AnyEnding}
 use Rattle.gpu_snapshot.specs.declared.ending.AnyEnding.TheVariants as any
 use Rattle.gpu_taps.specs.Tally.{Reading}
@@ -47,10 +47,15 @@ at_end (any.BadSnapshot byte word) = at_place 12 1 byte word
 
 -- ---- playing
 
--- A new machine played these bytes, with taps of which nothing more is said here than that they heard every note: what
--- it wrote stands in front, and how it ended is told.
-pub record PlaysInto (m : Mode) (bytes before now : List ℕ) (told : Ended) : Type 0 where
-  pub first : List Reading
+-- what the taps of a report say before the first note: no note of any class, none of the last ones, and no area
+abbrev pub new_taps : List Reading
+new_taps = record { kind = 0; numbers = replicate 10 0 }
+    ∷ record { kind = 1; numbers = [] }
+    ∷ record { kind = 2; numbers = replicate 3 0 } ∷ []
+
+-- A new machine played these bytes, with taps that said this before: what it wrote stands in front, and how it ended is
+-- told. No source failed, and no more could be written only where the room is full.
+pub record PlaysInto (m : Mode) (first : List Reading) (bytes before now : List ℕ) (told : Ended) : Type 0 where
   pub end : AnyEnding
   pub left : List ℕ
   pub held : List ℕ
@@ -59,6 +64,8 @@ pub record PlaysInto (m : Mode) (bytes before now : List ℕ) (told : Ended) : T
   pub steps_now : ℕ
   pub ends : EndsAny m (from_state first_machine 0) (streams (Some bytes) (Some []) first steps)
       (streams (Some left) (Some held) heard steps_now) end
+  pub never_fails : AnyMayReadFault end → ⊥
+  pub full : AnyMayWriteFault end → length held ≡ length before
   pub front : StandsInFront held before now
   pub is_told : told ≡ record (at_end end) { written = length held }
 
@@ -66,4 +73,4 @@ pub record PlaysInto (m : Mode) (bytes before now : List ℕ) (told : Ended) : T
 abbrev pub PlaysMode : Option Mode → (bytes before now : List ℕ) → (told : Ended) → Type 0
 PlaysMode None bytes before now told = (told ≡ refused refusal.BadMode) × (now ≡ before)
 PlaysMode (Some m) bytes before now told =
-    PlaysInto m bytes before now told ⊎ ((told ≡ refused refusal.NoMemory) × (now ≡ before))
+    PlaysInto m new_taps bytes before now told ⊎ ((told ≡ refused refusal.NoMemory) × (now ≡ before))

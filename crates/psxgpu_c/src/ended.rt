@@ -44,6 +44,7 @@ pub(crate) fn of_refusal(why: Refusal) -> Ended
         Refusal::BadAddress => numbers(18, 0, 0, 0),
         Refusal::BadChannel => numbers(19, 0, 0, 0),
         Refusal::BadMode => numbers(16, 0, 0, 0),
+        Refusal::TooManyEvents => numbers(20, 0, 0, 0),
         Refusal::Faulted { event, fault } => of_fault(event, fault),
         Refusal::Unopened { fault } => of_unopened(fault),
     }

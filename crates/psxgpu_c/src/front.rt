@@ -1,7 +1,7 @@
 // Values that are put in front of a caller's.
 ghost use Rattle.psxgpu_c.specs.Codes.{code_of};
-ghost use Rattle.std.specs.Prelude.{◌≡◌};
-ghost use Rattle.psxgpu_c.specs.Shown.{Puts, count_of};
+ghost use Rattle.std.specs.Prelude.{◌≡◌, ◌≤◌, length};
+ghost use Rattle.psxgpu_c.specs.Shown.{Puts, StandsInFront, count_of};
 
 use crate::ended::code_for;
 use crate::refusal::Refusal;
@@ -10,12 +10,19 @@ use crate::refusal::Refusal;
 pub(crate) fn put_front(out: &mut [u8], bytes: &[u8]) -> Result<usize, Refusal>
     ensures { Puts bytes.now out.old out.new result }
 {
-    let n = bytes.len();
-    if n > out.len() {
+    if bytes.len() > out.len() {
         return Err(Refusal::NoRoom);
     }
-    out[..n].copy_from_slice(bytes);
-    Ok(n)
+    put_all(out, bytes);
+    Ok(bytes.len())
+}
+
+/// Puts bytes in front, for which there is room.
+pub(crate) fn put_all(out: &mut [u8], bytes: &[u8])
+    requires { length bytes.now ≤ length out.old }
+    ensures { StandsInFront bytes.now out.old out.new }
+{
+    out[..bytes.len()].copy_from_slice(bytes);
 }
 
 /// Puts words in front, if there is room, and answers how many they are.

@@ -18,6 +18,7 @@ mod pictures;
 mod ports;
 mod refusal;
 mod rgba;
+mod room_sink;
 mod run;
 mod slice_source;
 mod snapshots;

@@ -23,6 +23,8 @@ pub enum Refusal {
     BadChannel,
     /// No mode has this number.
     BadMode,
+    /// More events were played than a snapshot counts.
+    TooManyEvents,
     /// The event of this number has a fault.
     Faulted { event: u64, fault: EventFault },
     /// The bytes are not opened.

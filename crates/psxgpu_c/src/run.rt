@@ -1,13 +1,13 @@
 // A run over bytes of a caller.
-ghost use Rattle.std.specs.Prelude.{◌≡◌, ◌<◌};
+ghost use Rattle.std.specs.Prelude.{◌≡◌, ◌<◌, map};
 ghost use Rattle.std.specs.Option.{MatchOption};
-ghost use Rattle.psxgpu_c.specs.Whole.{PlaysInto, at_end};
+ghost use Rattle.psxgpu_c.specs.Whole.{PlaysInto, at_end, new_taps};
 
 use crate::ended::Ended;
-use crate::front::put_front;
+use crate::front::put_all;
+use crate::room_sink::RoomSink;
 use crate::slice_source::SliceSource;
 use crate::whole::at_end;
-use dev_io::MemSink;
 use event_play::{Mode, Rig};
 use gpu_snapshot::{AnyEnding, play_any};
 use gpu_taps::{Counts, Cover, Listener, Tap, Trace};
@@ -19,7 +19,7 @@ use vram_store::Steps;
 /// Plays a capture or a snapshot with a new machine, and puts what it writes in front. None where memory runs out.
 pub(crate) fn play_over(alloc: Global, mode: Mode, capture: &[u8], out: &mut [u8]) -> Option<Ended>
     ensures { MatchOption result (out.new ≡ out.old) (λ told.
-        PlaysInto mode capture.now out.old out.new told) }
+        PlaysInto mode new_taps capture.now out.old out.new told) }
 {
     play_report::<Brand>(alloc, mode, capture, out, Blank::new(1))
 }
@@ -36,7 +36,7 @@ fn play_report<L: Ledger>(
     requires parts { blank.parts ≡ L.parts }
     requires some { 0 < blank.parts }
     ensures { MatchOption result (out.new ≡ out.old) (λ told.
-        PlaysInto mode capture.now out.old out.new told) }
+        PlaysInto mode new_taps capture.now out.old out.new told) }
 {
     let mut steps = Steps::<L>::new(blank);
     let Ok(trace) = Trace::new(alloc) else {
@@ -74,21 +74,19 @@ fn play_into<T: Listener, L: Ledger>(
     steps: &mut Steps<L>,
 ) -> Option<Ended>
     ensures { MatchOption result (out.new ≡ out.old) (λ told.
-        PlaysInto mode capture.now out.old out.new told) }
+        PlaysInto mode (map T.heard taps.old.items) capture.now out.old out.new told) }
 {
     let Ok(rig) = Rig::new(alloc) else {
         return None;
     };
-    let Ok(mut sink) = MemSink::new(alloc, out.len()) else {
+    let Ok(mut sink) = RoomSink::new(alloc, out.len()) else {
         return None;
     };
     let mut source = SliceSource::new(capture);
     let end = play_any(rig, &mut source, &mut sink, mode, taps, steps);
     let bytes = sink.bytes();
-    match put_front(out, bytes) {
-        Ok(_) => Some(told(end, bytes.len())),
-        Err(_) => None,
-    }
+    put_all(out, bytes);
+    Some(told(end, bytes.len()))
 }
 
 // How playing ended, and how many bytes it wrote.

@@ -1,8 +1,8 @@
 // The machine of a handle as a snapshot in memory, and back.
-ghost use Rattle.std.specs.Prelude.{◌≡◌, Some};
+ghost use Rattle.std.specs.Prelude.{◌≡◌};
 ghost use Rattle.psxgpu_c.specs.Codes.{told_by};
-ghost use Rattle.psxgpu_c.specs.Saved.{LoadsHeld, TellsLoad, saved};
-ghost use Rattle.psxgpu_c.specs.Shown.{Tells, Views};
+ghost use Rattle.psxgpu_c.specs.Saved.{LoadsHeld, SavesHeld, TellsLoad};
+ghost use Rattle.psxgpu_c.specs.Shown.{Tells};
 
 use crate::ended::{Ended, numbers, of_refusal};
 use crate::front::tell;
@@ -19,14 +19,14 @@ pub extern "C" fn psxgpu_save(
     out: &mut [u8],
     written: &mut usize,
 ) -> u32
-    ensures bytes { Tells (Views gpu.old.held.value (λ rig. Some (saved rig)) out.old out.new) result written.new }
+    ensures bytes { Tells (SavesHeld gpu.old.held.value out.old out.new) result written.new }
     ensures same { gpu.new.held.value ≡ gpu.old.held.value }
 {
     tell(saved_of(alloc, gpu, out), written)
 }
 
 fn saved_of(alloc: Global, gpu: &mut Psxgpu, out: &mut [u8]) -> Result<usize, Refusal>
-    ensures bytes { Views gpu.old.held.value (λ rig. Some (saved rig)) out.old out.new result }
+    ensures bytes { SavesHeld gpu.old.held.value out.old out.new result }
     ensures same { gpu.new.held.value ≡ gpu.old.held.value }
 {
     match gpu.take(alloc) {

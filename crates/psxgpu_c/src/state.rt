@@ -1,13 +1,15 @@
 // A rig as a snapshot in memory, and back.
-ghost use Rattle.std.specs.Prelude.{◌≡◌, ◌<◌, Some};
-ghost use Rattle.psxgpu_c.specs.Saved.{Loads, saved};
-ghost use Rattle.psxgpu_c.specs.Shown.{PutsDue};
+ghost use Rattle.std.specs.Prelude.{◌≡◌, ◌<◌, OnOk, length};
+ghost use Rattle.dev_io.specs.Device.{Writes, side};
+ghost use Rattle.psxgpu_c.specs.Saved.{Loads, Saves, saved};
+ghost use Rattle.snapshot_words.specs.Outline.{AreCells};
 
-use crate::front::put_front;
+use crate::front::put_all;
 use crate::refusal::Refusal;
+use crate::room_sink::RoomSink;
 use crate::slice_source::SliceSource;
-use capture_cut::write_state;
-use dev_io::MemSink;
+use capture_cut::{keep_bounds, state_size, write_state};
+use dev_io::{Failed, Sink};
 use event_play::Rig;
 use gpu_capture::write_end;
 use gpu_snapshot::open;
@@ -16,13 +18,15 @@ use std::marker::Brand;
 use std::sync::ledger::{Blank, Ledger};
 use vram_store::Steps;
 
-/// How many bytes a snapshot with no record has at most: 2^8 before its memories, 2^21 in each of these, and 4 in the
-/// End record.
-const MOST_SAVED: usize = 256 + 2 * 2_097_152 + 4;
+/// How many events a snapshot counts at most.
+const MOST_EVENTS: u64 = 0x7fff_ffff_ffff_ffff;
+
+/// How many bytes an End record has.
+const END_SIZE: usize = 4;
 
 /// Puts a snapshot of a rig in front, with no record behind its state.
 pub(crate) fn put_saved(alloc: Global, rig: &Rig, out: &mut [u8]) -> Result<usize, Refusal>
-    ensures { PutsDue (Some (saved rig.now)) out.old out.new result }
+    ensures { Saves rig.now out.old out.new result }
 {
     put_snapshot::<Brand>(alloc, rig, out, Blank::new(1))
 }
@@ -36,24 +40,50 @@ fn put_snapshot<L: Ledger>(
     requires name { blank.name ≡ L.name }
     requires parts { blank.parts ≡ L.parts }
     requires some { 0 < blank.parts }
-    ensures { PutsDue (Some (saved rig.now)) out.old out.new result }
+    ensures { Saves rig.now out.old out.new result }
 {
+    if rig.played() > MOST_EVENTS {
+        return Err(Refusal::TooManyEvents);
+    }
+    let size = saved_size(rig);
+    if size > out.len() {
+        return Err(Refusal::NoRoom);
+    }
     let mut steps = Steps::<L>::new(blank);
-    let Ok(mut sink) = MemSink::new(alloc, MOST_SAVED) else {
+    let Ok(mut sink) = RoomSink::new(alloc, size) else {
         return Err(Refusal::NoMemory);
     };
-    let Ok(()) = write_state(rig, &mut sink, &mut steps) else {
-        return Err(Refusal::NoMemory);
-    };
-    let Ok(()) = write_end(&mut sink) else {
-        return Err(Refusal::NoMemory);
-    };
-    put_front(out, sink.bytes())
+    let result = write_saved(rig, &mut sink, &mut steps);
+    let bytes = sink.bytes();
+    let Ok(()) = result else { unreachable!() };
+    keep_bounds(rig);
+    put_all(out, bytes);
+    Ok(size)
+}
+
+// How many bytes the snapshot of a rig has.
+fn saved_size(rig: &Rig) -> usize
+    ensures { result ≡ length (saved rig.now) }
+{
+    state_size(rig) as usize + END_SIZE
+}
+
+// Writes the snapshot of a rig.
+fn write_saved<K: Sink, L: Ledger>(
+    rig: &Rig,
+    out: &mut K,
+    steps: &mut Steps<L>,
+) -> Result<(), Failed>
+    ensures writes { Writes (side K.held K.faults) out.old out.new (saved rig.now) result }
+    ensures cells { OnOk result (AreCells rig.now.gpu.parts.m) }
+{
+    write_state(rig, out, steps)?;
+    write_end(out)
 }
 
 /// Makes a rig the state of a snapshot, or the beginning of a capture, and answers why it does not.
 pub(crate) fn load(alloc: Global, rig: &mut Rig, bytes: &[u8]) -> Option<Refusal>
-    ensures { Loads rig.old rig.new bytes.now result }
+    ensures { Loads bytes.now rig.old rig.new result }
 {
     open_over::<Brand>(alloc, rig, bytes, Blank::new(1))
 }
@@ -62,7 +92,7 @@ fn open_over<L: Ledger>(alloc: Global, rig: &mut Rig, bytes: &[u8], blank: Blank
     requires name { blank.name ≡ L.name }
     requires parts { blank.parts ≡ L.parts }
     requires some { 0 < blank.parts }
-    ensures { Loads rig.old rig.new bytes.now result }
+    ensures { Loads bytes.now rig.old rig.new result }
 {
     let mut steps = Steps::<L>::new(blank);
     let Ok(first) = Rig::new(alloc) else {
