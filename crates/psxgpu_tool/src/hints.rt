@@ -150,21 +150,17 @@ pub fn refusal_hint(
     first: &[u8],
 ) -> Result<Option<String>, AllocError> {
     let hint = match refusal_of(lines) {
-        Some(("not-capture", _)) => return owned(alloc, input_hint(first)),
-        Some(("truncated", _)) if first.len() < HEAD => return owned(alloc, input_hint(first)),
-        Some(("truncated", next)) => truncation_hint(alloc, next.saturating_sub(1), first)?,
+        Some(("truncated", next)) if HEAD <= first.len() => {
+            truncation_hint(alloc, next.saturating_sub(1), first)?
+        }
         Some(("cut-past-end", next)) => past_end_hint(alloc, next.saturating_sub(1))?,
+        Some(("truncated" | "not-capture", _)) => match input_hint(first) {
+            Some(hint) => String::from_str(alloc, hint)?,
+            None => return Ok(None),
+        },
         _ => return Ok(None),
     };
     Ok(Some(hint))
-}
-
-// The same text as a string.
-fn owned(alloc: Global, text: Option<&str>) -> Result<Option<String>, AllocError> {
-    match text {
-        Some(text) => Ok(Some(String::from_str(alloc, text)?)),
-        None => Ok(None),
-    }
 }
 
 // What is said of a capture of this many events that cannot be cut after so late an event.
