@@ -4,9 +4,11 @@ pub mod First
 pub mod Flats
 pub mod Generating
 pub mod Heights
+pub mod LastWord
 pub mod Lines
 pub mod Running
 pub mod Slims
 pub mod Sums
+pub mod TakenApart
 pub mod Told
 pub mod Words

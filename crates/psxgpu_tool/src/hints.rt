@@ -1,43 +1,194 @@
-// What a person at a terminal is told beside the lines that programs read.
+// What a person at a terminal is told after the lines that programs read.
+ghost use Rattle.std.specs.Prelude.{◌≡◌, ◌≤◌, ◌⊎◌, ◌↔◌, None, IsTrue, codes, nat_eq};
+ghost use Rattle.std.specs.List.{starts_with};
 
-/// What is wrong with words that name no command.
-pub fn usage_hint(words: &Vec<String>) -> &'static str {
+use crate::typed::after_reader;
+use std::alloc::{AllocError, Global};
+use strsim::osa_distance;
+
+/// The words that stand for arguments that are not UTF-8: one that names no command.
+pub const NOT_UTF8: &str = "\u{fffd}";
+
+/// The names of the commands, in the order of the help.
+const NAMES: [&str; 14] = [
+    "play",
+    "vram",
+    "shot",
+    "frames",
+    "sums",
+    "list",
+    "pixel",
+    "report",
+    "flat",
+    "slim",
+    "cut",
+    "demo",
+    "--help",
+    "--version",
+];
+
+/// The distance of a name that is taken for a slip: two letters added, left out, changed or exchanged.
+const FARTHEST: usize = 2;
+
+/// Returns what is wrong with arguments that name no command. `is_there`: whether the first of them is the name of an
+/// existing file.
+pub fn usage_hint(alloc: Global, words: &[String], is_there: bool) -> Result<String, AllocError> {
     let Some(first) = words.first() else {
-        return "no command was given";
+        return String::from_str(alloc, "no command was given");
     };
-    match first.as_str() {
-        "cut" => "cut takes a number of events, 1 to 4294967295, and perhaps a file",
-        "demo" => "demo takes a number of packets, 1 to 100000",
-        "pixel" => "pixel takes a column and a row, each 0 to 1023, and perhaps a file",
-        "frames" | "sums" => "behind frames and sums may stand the word marks, and a file",
-        "play" | "vram" | "shot" | "list" | "report" | "flat" | "slim" => {
-            "a word too many: behind this command a file may stand, and nothing else"
-        }
-        "--help" | "--version" => "a word too many: this command stands alone",
-        _ => "there is no such command",
+    let name = first.as_str();
+    if name == NOT_UTF8 {
+        return String::from_str(
+            alloc,
+            "an argument is not UTF-8: redirect a file of such a name, as in psxgpu_tool list < FILE",
+        );
+    }
+    if let Some(last) = after_reader(words) {
+        return format!(in alloc; "there is no file {last:?}");
+    }
+    match wrong_arguments(name) {
+        Some(wrong) => String::from_str(alloc, wrong),
+        None if is_there => format!(in alloc;
+            "{name} is a file: a command comes first, as in psxgpu_tool list {name}"
+        ),
+        None => unknown_hint(alloc, name),
     }
 }
 
-/// What an input seems to be whose first bytes are those of no capture.
-pub fn input_hint(first: &[u8]) -> Option<&'static str> {
-    if first.is_empty() {
+// What is wrong with arguments that begin with this name, if a command has it.
+fn wrong_arguments(name: &str) -> Option<&'static str> {
+    match name {
+        "cut" => Some("cut takes a number of events, 1 to 4294967295, and at most a file name"),
+        "demo" => Some("demo takes a number of packets, 1 to 100000"),
+        "pixel" => Some("pixel takes a column and a row, each 0 to 1023, and at most a file name"),
+        "frames" => Some("frames takes at most the word marks and a file name"),
+        "sums" => Some("sums takes at most the word marks and a file name"),
+        "play" | "vram" | "shot" | "list" | "report" | "flat" | "slim" => {
+            Some("too many arguments: this command takes at most a file name")
+        }
+        "--help" | "--version" => Some("too many arguments: this command takes none"),
+        _ => None,
+    }
+}
+
+// What is said of a name that no command has.
+fn unknown_hint(alloc: Global, name: &str) -> Result<String, AllocError> {
+    match nearest_name(alloc, name)? {
+        Some(nearest) => format!(in alloc;
+            "there is no command {name:?}; the nearest is {nearest}"
+        ),
+        None => format!(in alloc; "there is no command {name:?}"),
+    }
+}
+
+// The name of a command that is nearest to this one, if it is near.
+fn nearest_name(alloc: Global, name: &str) -> Result<Option<&'static str>, AllocError> {
+    let mut nearest = None;
+    let mut least = FARTHEST;
+    for known in NAMES {
+        let distance = osa_distance(alloc, name, known)?;
+        if distance <= least && distance < known.len() {
+            nearest = Some(known);
+            least = distance.saturating_sub(1);
+        }
+    }
+    Ok(nearest)
+}
+
+/// How many bytes the header of a capture has.
+const HEAD: usize = 8;
+
+// What an input seems to be whose first bytes are not those of a capture.
+fn input_hint(first: &[u8]) -> Option<&'static str>
+    ensures { IsTrue (starts_with nat_eq first.now (codes "PSXGPUC")) → result ≡ None }
+{
+    if first.starts_with(b"PSXGPUC") {
+        None
+    } else if first.is_empty() {
         Some("the input is empty")
-    } else if first.starts_with(b"\x1f\x8b") {
-        Some("the input is compressed: try gzip -dc FILE | psxgpu_tool ..")
-    } else if first.starts_with(b"\x28\xb5\x2f\xfd") {
-        Some("the input is compressed: try zstd -dc FILE | psxgpu_tool ..")
-    } else if first.starts_with(b"\x89PNG") || first.starts_with(b"P6\n") {
-        Some("the input is a picture: a capture is wanted")
+    } else if first.starts_with(b"PSXGPUDUMPv1") {
+        Some("the input is a GPU dump of DuckStation or PCSX-Redux: psxgpu from-dump FILE")
     } else if first.starts_with(b"PSXGPUS") {
-        Some("the input is a snapshot: flat, slim and cut read captures alone")
-    } else if !first.starts_with(b"PSXGPU") && first.iter().all(|&byte| is_text(byte)) {
-        Some("the input is text: tools/from_log.py makes a capture of a log")
+        Some("the input is a snapshot: flat, slim and cut read only captures")
+    } else if first.starts_with(b"PSXGPU") || b"PSXGPU".starts_with(first) {
+        None
+    } else if first.starts_with(b"\x89PNG") || first.starts_with(b"P6\n") {
+        Some("the input is a picture, not a capture")
+    } else if first.iter().all(|&byte| is_text(byte)) {
+        Some("the input is text: psxgpu from-log FILE makes a capture of a log")
+    } else {
+        compression_hint(first)
+    }
+}
+
+// What unpacks an input of these first bytes, if it is compressed.
+fn compression_hint(first: &[u8]) -> Option<&'static str> {
+    if first.starts_with(b"\x1f\x8b") {
+        Some("the input is compressed: gzip -dc FILE | psxgpu_tool COMMAND")
+    } else if first.starts_with(b"\x28\xb5\x2f\xfd") {
+        Some("the input is compressed: zstd -dc FILE | psxgpu_tool COMMAND")
+    } else if first.starts_with(b"\xfd7zXZ") {
+        Some("the input is compressed: xz -dc FILE | psxgpu_tool COMMAND")
+    } else if first.starts_with(b"PK\x03\x04") {
+        Some("the input is a zip archive: unzip -p FILE | psxgpu_tool COMMAND")
     } else {
         None
     }
 }
 
 // Whether a byte is one that text has.
-fn is_text(byte: u8) -> bool {
-    byte == b'\n' || byte == b'\r' || byte == b'\t' || (b' '..=b'~').contains(&byte)
+fn is_text(byte: u8) -> bool
+    ensures { IsTrue result ↔ ((byte ≡ 9) ⊎ ((byte ≡ 10) ⊎ ((byte ≡ 13) ⊎ ((32 ≤ byte) × (byte ≤ 126))))) }
+{
+    byte == b'\t' || byte == b'\n' || byte == b'\r' || (b' '..=b'~').contains(&byte)
+}
+
+/// Returns what a refusal means for a person. `lines`: what was written of it. `first`: the first bytes of the input.
+pub fn refusal_hint(
+    alloc: Global,
+    lines: &str,
+    first: &[u8],
+) -> Result<Option<String>, AllocError> {
+    let hint = match refusal_of(lines) {
+        Some(("truncated", next)) if HEAD <= first.len() => {
+            truncation_hint(alloc, next.saturating_sub(1), first)?
+        }
+        Some(("cut-past-end", next)) => past_end_hint(alloc, next.saturating_sub(1))?,
+        Some(("truncated" | "not-capture", _)) => match input_hint(first) {
+            Some(hint) => String::from_str(alloc, hint)?,
+            None => return Ok(None),
+        },
+        _ => return Ok(None),
+    };
+    Ok(Some(hint))
+}
+
+// What is said of a capture of this many events that cannot be cut after so late an event.
+fn past_end_hint(alloc: Global, events: u64) -> Result<String, AllocError> {
+    match events {
+        0 => String::from_str(alloc, "the capture has no events"),
+        1 => String::from_str(alloc, "the capture has 1 event: cut takes 1"),
+        _ => format!(in alloc; "the capture has {events} events: cut takes 1 to {events}"),
+    }
+}
+
+// What is said of an input that ends after this many complete events.
+fn truncation_hint(alloc: Global, events: u64, first: &[u8]) -> Result<String, AllocError> {
+    if events == 0 {
+        String::from_str(alloc, "the input ends before its first event is complete")
+    } else if first.starts_with(b"PSXGPUC") {
+        format!(in alloc;
+            "everything up to event {events} was processed: psxgpu mend FILE completes the capture"
+        )
+    } else {
+        format!(in alloc; "everything up to event {events} was processed")
+    }
+}
+
+// The name of a refusal and the event of its first line, `psxgpu: NAME at event N ..`.
+fn refusal_of(lines: &str) -> Option<(&str, u64)> {
+    let (line, _) = lines.split_once('\n')?;
+    let (name, place) = line.strip_prefix("psxgpu: ")?.split_once(" at event ")?;
+    let event = place.split(' ').next()?;
+    Some((name, event.parse::<u64>().ok()?))
 }

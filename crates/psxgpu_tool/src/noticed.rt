@@ -1,24 +1,30 @@
-// A reader and a writer that notice what a person is told about when a run has failed.
-ghost use Rattle.std.specs.Prelude.{◌≤◌};
+// A reader and a writer that keep what a person is told if a run fails.
+ghost use Rattle.std.specs.Prelude.{◌≡◌, ◌≤◌, ◌++◌, [], List, ℕ, None, Some, length, take, IfOk, IfErr, OnOk};
+ghost use Rattle.std.specs.Io.{ReadsAtMost, WritesAtMost};
+ghost use Rattle.std.specs.Io.KnownBytes.{Keeps, ReadConsumes, WriteAppends};
+ghost use Rattle.std.specs.IoError.{raw_os_error};
 
 use std::io;
-use std::io::{Error, Read, Write};
+use std::io::{Read, Write};
 
 /// How many of the first bytes are kept.
-pub const KEPT: usize = 8;
+pub const KEPT: usize = 12;
 
-/// A reader, with the first bytes that it gave and its last error.
+/// A reader that keeps the first bytes that it returned and its last error.
 #[derive(Drop)]
 pub struct NoticedReader<R: Read> {
     reader: R,
     first: [u8; KEPT],
     len: usize,
     error: Option<i32>,
-    ghost few: { len ≤ 8 },
+    ghost few: { len ≤ 12 },
 }
 
 impl<R: Read> NoticedReader<R> {
-    pub fn new(reader: R) -> Self {
+    pub fn new(reader: R) -> Self
+        ensures first { take result.len result.first ≡ [] }
+        ensures error { result.error ≡ None }
+    {
         NoticedReader {
             reader,
             first: [0; KEPT],
@@ -27,18 +33,25 @@ impl<R: Read> NoticedReader<R> {
         }
     }
 
-    /// The first bytes that it gave.
-    pub fn first(&self) -> &[u8] {
+    /// Returns the first bytes that it returned.
+    pub fn first(&self) -> &[u8]
+        ensures { result.now ≡ take self.now.len self.now.first }
+    {
         &self.first[..self.len]
     }
 
-    /// The system's number of its last error.
-    pub fn error(&self) -> Option<i32> {
+    /// Returns the system's number of its last error.
+    pub fn error(&self) -> Option<i32>
+        ensures { result ≡ self.now.error }
+    {
         self.error
     }
 
-    // Keeps what is still wanted of the bytes that came.
-    fn keep(&mut self, came: &[u8]) {
+    // Keeps as many of these bytes as are still wanted.
+    fn keep(&mut self, came: &[u8])
+        ensures first { take self.new.len self.new.first ≡ take 12 (take self.old.len self.old.first ++ came.now) }
+        ensures reader { self.new.reader ≡ self.old.reader }
+    {
         let n = came.len().min(KEPT - self.len);
         let to = self.len + n;
         self.first[self.len..to].copy_from_slice(&came[..n]);
@@ -47,7 +60,15 @@ impl<R: Read> NoticedReader<R> {
 }
 
 impl<R: Read> Read for NoticedReader<R> {
-    fn read(&mut self, buf: &mut [u8]) -> io::Result<usize> {
+    ghost remaining = { λ noticed. R.remaining noticed.reader };
+
+    fn read(&mut self, buf: &mut [u8]) -> io::Result<usize>
+        ensures bound { ReadsAtMost result buf.new }
+        ensures bytes { ReadConsumes (R.remaining self.old.reader) (R.remaining self.new.reader) result buf.new }
+        ensures first { IfOk result (λ n. take self.new.len self.new.first
+            ≡ take 12 (take self.old.len self.old.first ++ take n buf.new)) }
+        ensures error { IfErr result (λ error. self.new.error ≡ raw_os_error error) }
+    {
         match self.reader.read(buf) {
             Ok(n) => {
                 self.keep(&buf[..n]);
@@ -61,7 +82,7 @@ impl<R: Read> Read for NoticedReader<R> {
     }
 }
 
-/// A writer, with its last error.
+/// A writer that keeps its last error.
 #[derive(Drop)]
 pub struct NoticedWriter<W: Write> {
     writer: W,
@@ -69,21 +90,31 @@ pub struct NoticedWriter<W: Write> {
 }
 
 impl<W: Write> NoticedWriter<W> {
-    pub fn new(writer: W) -> Self {
+    pub fn new(writer: W) -> Self
+        ensures { result.error ≡ None }
+    {
         NoticedWriter {
             writer,
             error: None,
         }
     }
 
-    /// The system's number of its last error.
-    pub fn error(&self) -> Option<i32> {
+    /// Returns the system's number of its last error.
+    pub fn error(&self) -> Option<i32>
+        ensures { result ≡ self.now.error }
+    {
         self.error
     }
 }
 
 impl<W: Write> Write for NoticedWriter<W> {
-    fn write(&mut self, buf: &[u8]) -> io::Result<usize> {
+    ghost contents = { λ noticed. W.contents noticed.writer };
+
+    fn write(&mut self, buf: &[u8]) -> io::Result<usize>
+        ensures bound { WritesAtMost result buf.now }
+        ensures bytes { WriteAppends (W.contents self.old.writer) (W.contents self.new.writer) result buf.now }
+        ensures error { IfErr result (λ error. self.new.error ≡ raw_os_error error) }
+    {
         match self.writer.write(buf) {
             Ok(n) => Ok(n),
             Err(error) => {
@@ -101,7 +132,7 @@ impl<W: Write> Write for NoticedWriter<W> {
 /// How many bytes a run's lines and last items have at most.
 const MOST: usize = 4096;
 
-/// The lines of a run, which are written when it has ended.
+/// The lines of a run, which are shown when it has ended. It takes 4,096 bytes.
 #[derive(Drop)]
 pub struct Lines {
     bytes: [u8; MOST],
@@ -110,20 +141,26 @@ pub struct Lines {
 }
 
 impl Lines {
-    pub fn new() -> Lines {
+    pub fn new() -> Lines
+        ensures { take result.len result.bytes ≡ [] }
+    {
         Lines {
             bytes: [0; MOST],
             len: 0,
         }
     }
 
-    /// What was written.
-    pub fn as_slice(&self) -> &[u8] {
+    /// Returns what was written.
+    pub fn as_slice(&self) -> &[u8]
+        ensures { result.now ≡ take self.now.len self.now.bytes }
+    {
         &self.bytes[..self.len]
     }
 }
 
 impl Write for Lines {
+    ghost contents = { λ lines. Some (take lines.len lines.bytes) };
+
     fn write(&mut self, buf: &[u8]) -> io::Result<usize> {
         let n = buf.len().min(MOST - self.len);
         let to = self.len + n;

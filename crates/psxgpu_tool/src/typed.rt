@@ -1,70 +1,165 @@
-// The words as a person types them: a command's own, and the file that the last of them may name.
-ghost use Rattle.std.specs.Prelude.{IfOk};
-ghost use Rattle.psxgpu_tool.specs.Typed.{IsTyped};
+// The arguments as a person types them: those of a command, and the file that the last of them may name.
+ghost use Rattle.std.specs.Prelude.{◌≡◌, ◌↔◌, ℕ, List, [], ◌∷◌, IsTrue, IfOk, map, string_bytes, codes, MatchOption};
+ghost use Rattle.psxgpu_tool.specs.Command.{AreNames};
+ghost use Rattle.psxgpu_tool.specs.Typed.{AsksForHelp, EndsInHelp, HasFile, IsAlone, IsBinary, IsFileName, IsHelpWord};
+ghost use Rattle.psxgpu_tool.specs.Typed.{EndsAfterReader};
+ghost use Rattle.psxgpu_tool.specs.Typed.{IsTyped, NamesAny, NamesSome, Reads};
 
-use crate::command::{Command, read_command};
+use crate::command::{Command, command_of};
+use crate::spelled::is_same;
 use event_play::Mode;
 use std::alloc::{AllocError, Global};
 
-/// What was typed, taken apart.
+/// Arguments, taken apart.
 #[derive(Drop)]
 pub struct Typed {
-    /// The words that `run` is given.
+    /// The arguments that `run` is given.
     pub words: Vec<String>,
-    /// The file that is read in place of standard input.
+    /// The file that is read instead of standard input.
     pub file: Option<String>,
 }
 
-/// Takes the words apart. Words that name a command are that command over standard input, so a file of the name `marks`
-/// is typed as `./marks`. Where they name none, but those before the last name one that reads, the last is its file.
-/// `-h`, `help`, and `--help` behind a word ask for the help. All others are left as they are.
-pub fn typed_of(alloc: Global, mut words: Vec<String>) -> Result<Typed, AllocError>
-    ensures { IfOk result (λ typed. IsTyped words typed.words typed.file) }
+/// Takes the arguments apart. `is_there` says whether a file of the last one's name exists.
+///
+/// 1. Arguments that name a command are this command over standard input, so a file named `marks` is typed `./marks`.
+/// 2. `help` alone, and `-h` or `--help` after other arguments, ask for the help.
+/// 3. After a command that reads a capture, an existing file or a name with a `/` or a `.` is the file to be read.
+/// 4. All other arguments are returned as they are.
+pub fn typed_of(alloc: Global, mut words: Vec<String>, is_there: bool) -> Result<Typed, AllocError>
+    ensures { IfOk result (λ typed. IsTyped is_there words.items typed.words.items typed.file) }
 {
-    if read_command(&words).is_some() {
+    if names_command(&words) {
         return Ok(Typed { words, file: None });
     }
     if asks_for_help(&words) {
-        let mut words = Vec::new(alloc);
-        words.push(String::from_str(alloc, "--help")?)?;
-        return Ok(Typed { words, file: None });
+        return Ok(Typed {
+            words: help_words(alloc)?,
+            file: None,
+        });
     }
-    let Some(last) = words.pop() else {
-        return Ok(Typed { words, file: None });
+    let file = if ends_in_file(&words, is_there) {
+        words.pop()
+    } else {
+        None
     };
-    match read_command(&words) {
-        Some(command) if reads(command) => Ok(Typed {
-            words,
-            file: Some(last),
-        }),
-        _ => {
-            words.push(last)?;
-            Ok(Typed { words, file: None })
-        }
-    }
+    Ok(Typed { words, file })
 }
 
-/// Whether the help is meant by words that name no command.
-fn asks_for_help(words: &Vec<String>) -> bool {
-    match words.as_slice() {
-        [only] => only.as_str() == "-h" || only.as_str() == "help",
-        [.., last] => last.as_str() == "--help" || last.as_str() == "-h",
+// The arguments of the help.
+fn help_words(alloc: Global) -> Result<Vec<String>, AllocError>
+    ensures { IfOk result (λ words. map string_bytes words.items ≡ codes "--help" ∷ []) }
+{
+    let mut words = Vec::new(alloc);
+    words.push(String::from_str(alloc, "--help")?)?;
+    Ok(words)
+}
+
+// Whether the arguments name a command.
+fn names_command(words: &[String]) -> bool
+    ensures { IsTrue result ↔ NamesAny words.now }
+{
+    command_of(words).is_some()
+}
+
+// Whether the arguments ask for the help, if they name no command.
+fn asks_for_help(words: &[String]) -> bool
+    ensures { IsTrue result ↔ AsksForHelp words.now }
+{
+    is_help_alone(words) || ends_in_help(words)
+}
+
+fn is_help_alone(words: &[String]) -> bool
+    ensures { IsTrue result ↔ IsAlone words.now (codes "help") }
+{
+    match words {
+        [only] => is_same(only.as_str(), "help"),
         _ => false,
     }
 }
 
-/// Whether a command reads its input.
-pub fn reads(command: Command) -> bool {
-    !matches!(
-        command,
-        Command::Demo { .. } | Command::Help | Command::Version
-    )
+fn ends_in_help(words: &[String]) -> bool
+    ensures { IsTrue result ↔ EndsInHelp words.now }
+{
+    match words {
+        [.., last] => is_help_word(last.as_str()),
+        [] => false,
+    }
 }
 
-/// Whether what a command writes is no text.
-pub fn writes_bytes(command: Command) -> bool {
+fn is_help_word(word: &str) -> bool
+    ensures { IsTrue result ↔ IsHelpWord word.now }
+{
+    is_same(word, "-h") || is_same(word, "--help")
+}
+
+// Whether the arguments are a command that reads a capture, and then the name of a file.
+fn ends_in_file(words: &[String], is_there: bool) -> bool
+    ensures { IsTrue result ↔ HasFile is_there words.now }
+{
+    match after_reader(words) {
+        Some(name) => is_file_name(name, is_there),
+        None => false,
+    }
+}
+
+/// Returns the last argument, if those before it name a command that reads a capture.
+pub fn after_reader(words: &[String]) -> Option<&str>
+    ensures { MatchOption result ((name : List ℕ) → EndsAfterReader words.now name → ⊥) (λ name. EndsAfterReader words.now name.now) }
+{
+    match words {
+        [command @ .., last] if names_reader(command) => Some(last.as_str()),
+        _ => None,
+    }
+}
+
+/// Whether a name is that of a file: `is_there`, or it has a `/` or a `.`.
+pub fn is_file_name(name: &str, is_there: bool) -> bool
+    ensures { IsTrue result ↔ IsFileName is_there name.now }
+{
+    let bytes = name.as_bytes();
+    is_there || bytes.contains(&b'/') || bytes.contains(&b'.')
+}
+
+/// Whether the arguments name a command that reads a capture.
+pub fn names_reader(words: &[String]) -> bool
+    ensures { IsTrue result ↔ NamesSome Reads words.now }
+{
+    match command_of(words) {
+        Some(command) => reads(command),
+        None => false,
+    }
+}
+
+/// Whether the arguments name a command that writes bytes that are not text.
+pub fn names_binary(words: &[String]) -> bool
+    ensures { IsTrue result ↔ NamesSome IsBinary words.now }
+{
+    match command_of(words) {
+        Some(command) => is_binary(command),
+        None => false,
+    }
+}
+
+// Whether a command reads a capture.
+fn reads(command: Command) -> bool
+    ensures { IsTrue result ↔ Reads command }
+{
     match command {
-        Command::Plays { mode } => { matches!(mode, Mode::Vram | Mode::Shot | Mode::Frames { .. }) }
+        Command::Plays { .. } | Command::Flat | Command::Slim | Command::Cut { .. } => true,
+        Command::Demo { .. } | Command::Help | Command::Version => false,
+    }
+}
+
+// Whether a command writes bytes that are not text.
+fn is_binary(command: Command) -> bool
+    ensures { IsTrue result ↔ IsBinary command }
+{
+    match command {
+        Command::Plays { mode } => match mode {
+            Mode::Vram | Mode::Shot | Mode::Frames { .. } => true,
+            Mode::Play | Mode::Sums { .. } | Mode::List | Mode::Pixel { .. } | Mode::Report =>
+                false,
+        },
         Command::Flat | Command::Slim | Command::Cut { .. } => true,
         Command::Demo { .. } | Command::Help | Command::Version => false,
     }
