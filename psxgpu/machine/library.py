@@ -29,6 +29,7 @@ WORDS = {
     17: 'no such cell',
     18: 'main memory has no words there',
     19: 'no such channel',
+    20: 'more events were played than a snapshot can count',
 }
 
 
