@@ -98,6 +98,12 @@ class Prefixes:
         """Returns the byte offset after step k."""
         return self.ends[k - self.first]
 
+    def data(self, k: int) -> bytes:
+        """Returns the bytes of the file up to step k, and End."""
+        self.file.seek(0)
+        data: bytes = self.file.read(self.place(k))
+        return data + bytes(4)
+
     @contextlib.contextmanager
     def cut(self, k: int) -> Iterator[str]:
         """The path of the file, which ends after step k within the block."""

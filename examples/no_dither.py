@@ -1,0 +1,35 @@
+#!/usr/bin/env python3
+"""A player with a fault that an emulator has: MAME knows no dither.
+
+    python3 examples/no_dither.py < mine.capture > dump
+
+It gives psxgpu_tool the same capture with bit 9 of each E1h cleared.
+"""
+import subprocess
+import sys
+
+from psxgpu.capture import Capture
+from psxgpu.packets.split import ENVIRONMENT
+from psxgpu.players import player
+from psxgpu.players.steps import Cutter
+from psxgpu.stream import GP0, Stream
+
+DITHER = 1 << 9
+
+
+def without_dither(stream):
+    """Returns the bytes of a capture without dither."""
+    out = Capture(stream.version)
+    for step in Cutter(stream.version == 3).steps(stream):
+        if step.name == ENVIRONMENT and step.words[0] >> 24 == 0xE1:
+            out.gp0(step.words[0] & ~DITHER)
+        elif step.kind == GP0:
+            out.gp0(list(step.words))
+        else:
+            out.record(step.kind, step.count, step.words)
+    return out.bytes()
+
+
+if __name__ == '__main__':
+    data = without_dither(Stream(sys.stdin.buffer, 'standard input'))
+    sys.exit(subprocess.run([player.find(), 'vram'], input=data).returncode)

@@ -1,0 +1,112 @@
+"""Finds the smallest capture on which two players still differ.
+
+    psxgpu reduce mine.capture 'psxgpu_tool vram' 'other_player vram' -o small
+    psxgpu reduce mine.capture 'psxgpu_tool vram' 'other_player vram' --event 81234 --keep
+
+A player is a shell command that reads a capture on standard input and writes a dump; docs/REDUCE.md says more. First the
+first packet after which they differ is found, as by `bisect`; with --event it is the packet of that event. What is
+before it becomes a state: loads of video memory, and settings. Then whatever is not needed is left out: loads,
+settings, words, bits, texels, size.
+
+Written are NAME.capture, NAME.log (for from-log), NAME.py (a script that makes it) and NAME.png (ours, theirs, the
+difference).
+
+With --words the words of reads and statuses are compared: `play` stands in the place of `vram` in both commands. With
+--crash the smallest capture is searched of which THEIRS gives no dump. With --ignore, packets of known classes are no
+fault, as for `bisect`, and the result has none of them. With --keep the packet stays shaded, textured, raw or
+semi-transparent as it was.
+
+Status: 0 no difference, 1 one was found, 2 an error.
+"""
+from __future__ import annotations
+
+import argparse
+import os
+import sys
+import time
+from typing import Optional
+
+from psxgpu.command import DIFFERENT, SAME, decimal, seekable, title
+from psxgpu.commands import to_exe
+from psxgpu.packets.known import CLASSES, NAMES
+from psxgpu.players import player
+from psxgpu.players.flat import flattened
+from psxgpu.players.named import player_of
+from psxgpu.players.trial_run import try_players
+from psxgpu.reduce.faults import BreaksDown, DumpsDiffer, Fault, WordsDiffer
+from psxgpu.reduce.job import Job, Wanted
+from psxgpu.reduce.report import report_lines, write_all
+from psxgpu.stream import Stream, is_flat
+
+
+def arguments(parser: argparse.ArgumentParser) -> None:
+    """Adds the arguments."""
+    parser.add_argument('capture', help='a capture; - is standard input')
+    parser.add_argument('ours', help='a shell command: capture in, dump out')
+    parser.add_argument('theirs', help='another')
+    parser.add_argument('-o', '--output', default='reduced', metavar='NAME',
+                        help='the beginning of the files\' names (default: %(default)s)')
+    parser.add_argument('--event', type=decimal(1, 1 << 62), metavar='N', help='an event of the flat capture')
+    parser.add_argument('--keep', action='store_true', help='the packet stays in its class')
+    what = parser.add_mutually_exclusive_group()
+    what.add_argument('--words', action='store_true', help='compare the words that are read, and statuses')
+    what.add_argument('--crash', action='store_true', help='their player breaks down')
+    parser.add_argument('--tolerance', type=decimal(0, 31), default=0, metavar='N',
+                        help='cells whose channels are at most N steps apart count as equal')
+    parser.add_argument('--ignore', action='append', choices=sorted(CLASSES) + list(NAMES), default=[], metavar='CLASS',
+                        help='a class of packets whose differences are known')
+    parser.add_argument('--seconds', type=decimal(1, 3600), default=60, metavar='N',
+                        help='for one run of a player (default: %(default)s)')
+    parser.add_argument('--jobs', type=decimal(1, 1000), default=len(os.sched_getaffinity(0)), metavar='N',
+                        help='players at a time (default: one for each processor)')
+    parser.add_argument('--exe', action='store_true', help='write NAME.exe, too: a program for the console')
+    player.argument(parser)
+
+
+def fault_of(words: argparse.Namespace) -> Fault:
+    """Returns what is looked for."""
+    if words.words:
+        return WordsDiffer()
+    return BreaksDown() if words.crash else DumpsDiffer(words.tolerance)
+
+
+def version_of(path: str, name: str) -> int:
+    """Returns the version that both players read: 3 for tall video memory, else 1."""
+    with open(path, 'rb') as file:
+        return 3 if Stream(file, name).version == 3 else 1
+
+
+def write_program(capture: str, name: str) -> None:
+    """Writes NAME.exe by `to-exe`."""
+    parser = argparse.ArgumentParser()
+    to_exe.arguments(parser)
+    to_exe.run(parser.parse_intermixed_args([capture, '-o', name, '--check']))
+
+
+def search(words: argparse.Namespace, path: str, name: str) -> int:
+    """Searches and writes; returns the status."""
+    ours, theirs = player_of(words.ours), player_of(words.theirs)
+    if not words.words:
+        try_players(ours, theirs, version_of(path, name), words.seconds)
+    wanted = Wanted(fault_of(words), words.ignore, words.keep, words.event, words.player)
+    begin = time.monotonic()
+    with Job(ours, theirs, wanted, words.seconds, words.jobs) as job:
+        program = None if is_flat(path) else player.find(words.player)
+        with flattened(path, program) as flat:
+            found = job.result(flat, name)
+        if found is None:
+            print('no difference')
+            return SAME
+        print('\n'.join(report_lines(found)))
+        write_all(found, words.output, ['ours: ' + words.ours, 'theirs: ' + words.theirs])
+        if words.exe:
+            write_program(words.output + '.capture', words.output + '.exe')
+        if sys.stderr.isatty():
+            print('%.1f s, %d probes' % (time.monotonic() - begin, job.prober.count), file=sys.stderr)
+    return DIFFERENT
+
+
+def run(words: argparse.Namespace) -> int:
+    """Runs the command."""
+    with seekable(words.capture) as path:
+        return search(words, path, title(words.capture))

@@ -1,0 +1,57 @@
+"""Writes each texture that a capture draws with as a PNG, in its palette, as it is when it is used.
+
+    psxgpu textures mine.capture -o textures
+
+A texture is what packets take of a page: page, depth, palette, window, and the box of their coordinates. It is written
+again if its cells or its palette have changed by then, and once if the texels are the same. A texture that is a part of
+another one is left out (--parts writes it). index.html shows all, with where they are from, the first event that draws
+with each, and how many packets do; it can be searched. sheet.png has all in one picture. Texels of 0000h, which are not
+drawn, are transparent; with --half those with bit 15 are half transparent, as in semi-transparent packets.
+
+Of a polygon the box ends before its greatest coordinate if that seems to be the edge after the last texel. With a
+texture window the box has the texels that it shows.
+
+Status: 0 written, 2 an error.
+"""
+from __future__ import annotations
+
+import argparse
+import os
+
+from psxgpu.command import seekable, title, write_whole
+from psxgpu.players import player
+from psxgpu.players.flat import flattened
+from psxgpu.players.listed import Walk
+from psxgpu.textures.collect import Collector
+from psxgpu.textures.page import page, sheet
+from psxgpu.textures.pixels import distinct, png_rgba, without_parts
+
+
+def arguments(parser: argparse.ArgumentParser) -> None:
+    """Adds the arguments."""
+    parser.add_argument('capture', help='a capture; - is standard input')
+    parser.add_argument('-o', '--output', default='textures', metavar='DIR',
+                        help='the folder to write (default: %(default)s)')
+    parser.add_argument('--parts', action='store_true', help='also those that are a part of another one')
+    parser.add_argument('--half', action='store_true', help='texels with bit 15 are half transparent')
+    player.argument(parser)
+
+
+def run(words: argparse.Namespace) -> None:
+    """Runs the command."""
+    program, name = player.find(words.player), title(words.capture)
+    with seekable(words.capture) as path, flattened(path, program) as flat:
+        collector = Collector(Walk(flat, name, program))
+        collector.go()
+        textures = distinct(collector.used(), words.half)
+    count = len(textures)
+    if not words.parts:
+        textures = without_parts(textures)
+    os.makedirs(words.output, exist_ok=True)
+    for it in textures:
+        write_whole(os.path.join(words.output, it.name), png_rgba(it.width, it.height, it.pixels))
+    write_whole(os.path.join(words.output, 'index.html'), page(os.path.basename(name), textures).encode(), is_text=True)
+    if textures:
+        write_whole(os.path.join(words.output, 'sheet.png'), sheet(textures))
+    print('%d textures, %d of them parts of others; %d questions for %d packets'
+          % (count, count - len(textures), len(collector.asked), collector.packets))

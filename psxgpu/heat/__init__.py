@@ -1,0 +1,1 @@
+"""How often cells are covered in a frame."""

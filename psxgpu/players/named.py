@@ -1,0 +1,184 @@
+"""How a user names a player, and one run of it.
+
+A player is a shell command that reads a capture on standard input. In it, the word `vram` is the place of the mode:
+`psxgpu_tool vram` becomes `psxgpu_tool play` for a tool that needs words. To a command without that word, `agree`,
+`audit` and `corpus` append the mode; `bisect` and `reduce` run it unchanged.
+
+    player = player_of('psxgpu_tool vram')
+    done = player.run('vram', data)         # data: the bytes of a capture
+    dump = dump_of(done)                    # None if it wrote no dump
+
+If the command is this project's own program and the library is there, it runs in this process.
+"""
+from __future__ import annotations
+
+import os
+import re
+import shlex
+import shutil
+import signal
+import subprocess
+from typing import List, NamedTuple, Optional
+
+from psxgpu.command import Trouble
+from psxgpu.vram import WIDTH
+from psxgpu.machine import MODES, play
+from psxgpu.machine.library import Missing, OutOfMemory, Refused, library
+from psxgpu.players import player as program
+
+OWN = 'psxgpu_tool'
+WORD = re.compile(r'(?<!\S)vram(?!\S)')
+SHELL = set('|&;<>()$`*?[]#~{}!\n')       # a command with one of these needs a shell
+SAID = 60                                   # characters of an error that a message repeats
+PREFIX = 'psxgpu: '                         # of each error of our own program
+
+
+class Done(NamedTuple):
+    """The end of a run. `status` is None if its time ran out, and negative if a signal ended it."""
+    status: Optional[int]
+    out: bytes
+    err: bytes
+
+
+class Player:
+    """Base of all players: `text` is its name in messages."""
+    text = 'a player'
+
+    def run(self, mode: str, data: bytes, seconds: Optional[float] = None) -> Done:
+        """Runs the player on the capture `data`. Ends it after `seconds`, if they are given."""
+        raise NotImplementedError
+
+
+def with_mode(command: str, mode: str, appends: bool) -> str:
+    """Returns the shell command for a mode: in the place of its last word `vram`; else, if `appends`, at its end."""
+    places = list(WORD.finditer(command))
+    if places:
+        return command[:places[-1].start()] + mode + command[places[-1].end():]
+    return '%s %s' % (command, mode) if appends else command
+
+
+def arguments_of(command: str) -> List[str]:
+    """Returns the command as arguments of a process: its own words, or those of a shell if it needs one."""
+    if not SHELL & set(command):
+        try:
+            words = shlex.split(command)
+        except ValueError:
+            raise Trouble('%s: a quote has no end' % command)
+        if words and '=' not in words[0]:
+            return words
+    return ['sh', '-c', command]
+
+
+class CommandPlayer(Player):
+    """A player that is a process of its own in each run."""
+
+    def __init__(self, command: str, appends: bool = False) -> None:
+        # A path is taken as it is, spaces and all.
+        is_path = os.path.isfile(command) and os.access(command, os.X_OK)
+        self.text, self.command, self.appends = command, shlex.quote(command) if is_path else command, appends
+
+    def arguments(self, mode: str) -> List[str]:
+        """Returns the arguments of its process."""
+        return arguments_of(with_mode(self.command, mode, self.appends))
+
+    def run(self, mode: str, data: bytes, seconds: Optional[float] = None) -> Done:
+        words = self.arguments(mode)
+        try:
+            child = subprocess.Popen(words, stdin=subprocess.PIPE, stdout=subprocess.PIPE, stderr=subprocess.PIPE,
+                                     start_new_session=True)
+        except OSError as error:
+            raise Trouble('%s: %s' % (words[0], error.strerror))
+        try:
+            out, err = child.communicate(data, seconds)
+        except subprocess.TimeoutExpired:
+            self.end(child)
+            return Done(None, b'', b'')
+        except BaseException:
+            self.end(child)
+            raise
+        return Done(child.returncode, out, err)
+
+    @staticmethod
+    def end(child: subprocess.Popen[bytes]) -> None:
+        """Ends the process and what it started, which is a session of its own."""
+        os.killpg(child.pid, signal.SIGKILL)
+        child.communicate()
+
+
+class LibraryPlayer(Player):
+    """This project's own program, played in this process by libpsxgpu."""
+
+    def __init__(self, command: str) -> None:
+        self.text = command
+
+    def run(self, mode: str, data: bytes, seconds: Optional[float] = None) -> Done:
+        try:
+            return Done(0, play(data, mode), b'')
+        except Refused as bad:
+            return Done(2, bad.output, str(bad).encode())
+        except OutOfMemory as bad:
+            return Done(5, b'', str(bad).encode())
+
+
+def is_own(words: List[str]) -> bool:
+    """Whether a command runs this project's own program: by its name alone, or by the path that `find` returns."""
+    if len(words) != 2 or os.path.basename(words[0]) != OWN or words[1] not in MODES:
+        return False
+    if words[0] == OWN:
+        return True
+    try:
+        return os.path.samefile(words[0], program.find())
+    except (OSError, Trouble):
+        return False
+
+
+def player_of(command: str, appends: bool = False) -> Player:
+    """Returns the player that a command names. `appends`: the mode is added to a command without `vram`."""
+    found = CommandPlayer(command, appends)
+    if not command.strip():
+        raise Trouble('a player without a name')
+    if is_own(found.arguments('vram')):
+        try:
+            if library().play:
+                return LibraryPlayer(command)
+        except Missing:
+            pass
+    return found
+
+
+def dump_of(done: Done) -> Optional[bytes]:
+    """Returns the dump that a run wrote, or None."""
+    return None if done.status or done.status is None or not done.out or len(done.out) % (2 * WIDTH) else done.out
+
+
+def ending(done: Done) -> str:
+    """Returns how a run ended, in a few words: `status 1, usage: ..`."""
+    if done.status is None:
+        return 'no end in time'
+    if done.status < 0:
+        return 'ended by %s' % signal.Signals(-done.status).name
+    said = done.err.decode(errors='replace').strip().splitlines()
+    if not said:
+        return 'status %d, %d bytes' % (done.status, len(done.out))
+    line = said[0][len(PREFIX):] if said[0].startswith(PREFIX) else said[0]
+    return 'status %d, %s' % (done.status, line if len(line) <= SAID else line[:SAID] + '..')
+
+
+def expect_dump(player: Player, data: bytes, seconds: Optional[float] = None) -> bytes:
+    """Returns the dump of a capture. Raises Trouble if there is none; it suggests the word `vram` if that would help."""
+    done = player.run('vram', data, seconds)
+    dump = dump_of(done)
+    if dump is not None:
+        return dump
+    meant = '%s vram' % player.text
+    hint = ''
+    if isinstance(player, CommandPlayer) and not WORD.search(player.command) and not player.appends:
+        if dump_of(CommandPlayer(meant).run('vram', data, seconds)) is not None:
+            hint = ': is %r meant?' % meant
+    raise Trouble('%s: no dump (%s)%s' % (player.text, ending(done), hint))
+
+
+def program_path(command: str) -> Optional[str]:
+    """Returns the path of the program that a command starts; None if a shell or nothing is there."""
+    words = arguments_of(command)
+    return shutil.which(words[0]) if words[0] != 'sh' or command.startswith('sh ') else None

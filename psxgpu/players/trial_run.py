@@ -1,0 +1,31 @@
+"""Says at once what is wrong with a player, before it is asked for long."""
+from __future__ import annotations
+
+from typing import Optional, Tuple
+
+from psxgpu.capture import Capture
+from psxgpu.command import Trouble
+from psxgpu.players.named import Player, expect_dump
+from psxgpu.registers import drawing_area
+from psxgpu.words import fill, load, rectangle
+
+
+def trial_captures(version: int) -> Tuple[bytes, bytes]:
+    """Returns a capture without an event, and one with a fill, a load and a rectangle."""
+    drawn = Capture(version).gp0(fill(0xFFFFFF, 0, 0, 32, 32))
+    drawn.gp0(load(64, 0, 2, 1, [0x1F, 0x3E0])).gp0(drawing_area(0, 0, 1023, 511)).gp0(rectangle(0xFF, 96, 8, 4, 4))
+    return Capture(version).bytes(), drawn.bytes()
+
+
+def try_players(ours: Player, theirs: Player, version: int = 1, seconds: Optional[float] = None) -> None:
+    """Raises Trouble if a player writes no dump, if both dumps differ in size, or if a player writes the same dump of
+    a capture that draws as of one that does not."""
+    empty, drawn = trial_captures(version)
+    sizes = []
+    for player, role in ((ours, 'our'), (theirs, 'the other')):
+        before, after = (expect_dump(player, data, seconds) for data in (empty, drawn))
+        if before == after:
+            raise Trouble('%s: %s player gives the same dump whatever it reads' % (player.text, role))
+        sizes.append(len(before))
+    if sizes[0] != sizes[1]:
+        raise Trouble('dumps of %d and %d bytes: %s, %s' % (sizes[0], sizes[1], ours.text, theirs.text))

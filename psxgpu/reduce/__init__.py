@@ -1,0 +1,1 @@
+"""The smallest capture on which two players differ."""

@@ -1,0 +1,61 @@
+"""Probes: does a capture show the fault? Several at a time, each at most once."""
+from __future__ import annotations
+
+import collections
+import concurrent.futures
+import hashlib
+import os
+from typing import Callable, Deque, Dict, Iterable, Optional, Tuple, TypeVar
+
+from psxgpu.players.named import Player
+from psxgpu.reduce.faults import Fault
+
+T = TypeVar('T')
+AHEAD = 2       # probes that wait, for each one that runs
+
+
+class Prober:
+    """Two players and a fault. `count` is the number of probes so far."""
+
+    def __init__(self, ours: Player, theirs: Player, fault: Fault, seconds: Optional[float] = None,
+                 jobs: Optional[int] = None) -> None:
+        self.ours, self.theirs, self.fault, self.seconds = ours, theirs, fault, seconds
+        self.jobs = jobs or len(os.sched_getaffinity(0))
+        self.pool = concurrent.futures.ThreadPoolExecutor(self.jobs)
+        self.known: Dict[bytes, bool] = {}
+        self.count = 0
+
+    def look(self, data: bytes) -> bool:
+        """Returns whether a capture shows the fault."""
+        return self.fault.shows(self.ours, self.theirs, data, self.seconds)
+
+    def probe(self, data: bytes) -> bool:
+        """The same, and the answer is kept."""
+        key = hashlib.sha1(data).digest()
+        if key not in self.known:
+            self.count += 1
+            self.known[key] = self.look(data)
+        return self.known[key]
+
+    def first(self, candidates: Iterable[T], bytes_of: Callable[[T], bytes]) -> Optional[T]:
+        """Returns the first candidate whose capture shows the fault, or None. Later ones are probed ahead."""
+        waiting: Deque[Tuple[T, concurrent.futures.Future[bool]]] = collections.deque()
+        try:
+            for candidate in candidates:
+                waiting.append((candidate, self.pool.submit(self.probe, bytes_of(candidate))))
+                if len(waiting) > AHEAD * self.jobs:
+                    one, job = waiting.popleft()
+                    if job.result():
+                        return one
+            while waiting:
+                one, job = waiting.popleft()
+                if job.result():
+                    return one
+            return None
+        finally:
+            for _, job in waiting:
+                job.cancel()
+
+    def close(self) -> None:
+        """Ends the threads."""
+        self.pool.shutdown(wait=False)

@@ -1,0 +1,61 @@
+"""Finds the packet at which a flat capture first shows a fault."""
+from __future__ import annotations
+
+import contextlib
+import os
+from typing import Callable, Iterator, List, NamedTuple, Optional
+
+from psxgpu.command import Trouble
+from psxgpu.players.bisection import bisect, build
+from psxgpu.players import player
+from psxgpu.players.beginning import FIRST_LOOK, beginning
+from psxgpu.players.steps import Steps
+from psxgpu.reduce.probing import Prober
+
+
+class Found(NamedTuple):
+    """The path of a flat capture, with loads in the place of ignored packets, and the number of the last event of the
+    packet that shows the fault."""
+    path: str
+    event: int
+
+
+def step_of_event(steps: Steps, name: str, event: int) -> int:
+    """Returns the number of the step that has an event."""
+    for k in range(1, steps.count + 1):
+        if steps.events[k] >= event:
+            return k
+    raise Trouble('%s: it has %d events' % (name, steps.events[-1]))
+
+
+class Search:
+    """How the first packet is searched: classes that are ignored, and an event that is given."""
+
+    def __init__(self, prober: Prober, ignore: List[str], event: Optional[int], program: Optional[str],
+                 tell: Callable[[str], None] = lambda text: None) -> None:
+        self.prober, self.ignore, self.event, self.program, self.tell = prober, ignore, event, program, tell
+
+    def steps(self, path: str, name: str) -> Steps:
+        """Returns the steps of a flat capture, ignored packets replaced by loads."""
+        program = (self.program or player.find()) if self.ignore else None
+        return build(path, name, self.ignore, program)
+
+    def shows(self, path: str) -> bool:
+        """Returns whether a flat capture shows the fault."""
+        self.tell('looking for the packet: the first %d bytes' % os.path.getsize(path))
+        if self.ignore:
+            path = self.steps(path, path).file.name
+        with open(path, 'rb') as file:
+            return self.prober.look(file.read())
+
+    @contextlib.contextmanager
+    def found(self, flat: str, name: str) -> Iterator[Optional[Found]]:
+        """Yields the first packet of a flat capture that shows the fault, or that of the given event; None if there is
+        no fault."""
+        with beginning(flat, name, self.shows, self.event or FIRST_LOOK, grows=not self.event) as (path, _):
+            steps = self.steps(path, name)
+            if self.event:
+                k: Optional[int] = step_of_event(steps, name, self.event)
+            else:
+                k = bisect(steps.count, lambda n: self.prober.look(steps.prefixes.data(n)))
+            yield Found(steps.file.name, steps.events[k]) if k is not None else None

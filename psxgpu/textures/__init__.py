@@ -1,0 +1,1 @@
+"""The textures that a capture draws with."""
