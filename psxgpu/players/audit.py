@@ -124,7 +124,7 @@ def audit(data: bytes, ours: Player, theirs: Player, first: int, last: int, name
     try:
         found = targets(stream, listing)
     except (ValueError, IndexError) as bad:
-        raise Trouble('%s list: not a list of packets: %s' % (ours, bad)) from bad
+        raise Trouble('%s list: not a list of packets: %s' % (ours.text, bad)) from bad
     rows: Dict[str, Row] = collections.defaultdict(Row)
     groups = list(passes(found, first, last))
     for group in progress.counted(groups, 'audit'):
