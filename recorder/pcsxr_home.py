@@ -1,5 +1,6 @@
 """A home folder for pcsxr, so that a recording neither reads nor changes the user's own settings."""
 import os
+from typing import Dict, Optional
 
 PLUGINS = ('libDFInput.so', 'libDFCdrom.so', 'libBladeSio1.so')
 SETTINGS = '''Bios = %(bios)s
@@ -46,7 +47,7 @@ UseFixes = 0
 '''
 
 
-def prepare(home, found, bios, interpreter, limit):
+def prepare(home: str, found: Dict[str, str], bios: Optional[str], interpreter: bool, limit: bool) -> None:
     """Lays out a home folder: settings, plugins and memory cards. `found` has the paths of the plugins."""
     base = os.path.join(home, '.pcsxr')
     for name in ('plugins', 'bios', 'memcards', 'patches', 'sstates', 'cheats'):
