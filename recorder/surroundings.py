@@ -50,6 +50,7 @@ def environment(home: str, found: Dict[str, str], arguments: argparse.Namespace)
                PSXGPU_CAPTURE=os.path.abspath(arguments.capture),
                PSXGPU_FRAMES=str(arguments.frames), PSXGPU_FROM=arguments.start, PSXGPU_SPLIT=str(arguments.split),
                PSXGPU_DMA='ram' if arguments.ram else 'flat', PSXGPU_CHECK=str(int(arguments.check)))
+    out['PSXGPU_WINDOW'] = str(int(arguments.screen))
     out.pop('PSXGPU_POLLS', None)
     if arguments.polls is not None:
         out['PSXGPU_POLLS'] = str(arguments.polls)
