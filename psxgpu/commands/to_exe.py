@@ -10,7 +10,7 @@ import argparse
 import sys
 
 from psxgpu.command import main, seekable, title, writing
-from psxgpu.console import Source, make
+from psxgpu.console import Choices, Source, make
 from psxgpu.console.plan import BLANKS
 from psxgpu.output import refuse_inputs
 from psxgpu.players import player
@@ -23,6 +23,7 @@ def arguments(parser: argparse.ArgumentParser) -> None:
     parser.add_argument('--check', action='store_true', help='the program says what differs')
     parser.add_argument('--blanks', choices=tuple(BLANKS), default='marks',
                         help='wait for a vertical blank at each mark (default), at each flip, or at none')
+    parser.add_argument('--pack', action='store_true', help='pack what the program does, even if it fits as it is')
     player.argument(parser)
 
 
@@ -31,7 +32,8 @@ def run(words: argparse.Namespace) -> None:
     name = title(words.capture)
     refuse_inputs(words.out, [words.capture])
     with seekable(words.capture) as path:
-        program = make(Source(player.find(words.player), path, name), words.check, words.blanks)
+        choices = Choices(words.check, words.blanks, words.pack)
+        program = make(Source(player.find(words.player), path, name), choices)
     with writing(words.out, [words.capture]) as file:
         file.write(program.executable)
     for line in program.warnings:

@@ -2,11 +2,11 @@
 import os
 import subprocess
 import tempfile
-from typing import List, NamedTuple
+from typing import List, NamedTuple, Optional
 
 from psxgpu.command import Trouble
 from psxgpu.console import sums
-from psxgpu.console.image import Image
+from psxgpu.console.image import Image, NoRoom
 from psxgpu.console.plan import Plan
 from psxgpu.players import player
 from psxgpu.stream import HEADS, READ, SKIP, STAT, Stream, encode
@@ -59,25 +59,43 @@ def crc_of_reads(flat: Source, plan: Plan) -> int:
     return sums.of_reads((int(line, 16) for line in lines if line != 'status'), plan.reads)
 
 
-def image_of(flat: Source, check: bool, blanks: str) -> Image:
-    """Returns the whole image of a flat capture."""
-    image = Image(blanks, flat.answer('vram') if check else None)
+class Choices(NamedTuple):
+    """How a program is made. `check`: it compares at its end. `blanks`: a name of plan.BLANKS. `packs`: its orders are
+    packed, even if there is room for them as they are."""
+    check: bool = False
+    blanks: str = 'marks'
+    packs: bool = False
+
+
+def build(flat: Source, choices: Choices, cells: Optional[bytes]) -> Program:
+    """Returns the program of a flat capture. NoRoom if main memory is too small."""
+    image = Image(choices.blanks, cells, choices.packs)
     with open(flat.path, 'rb') as file:
         for record in Stream(file, flat.name):
             image.take(*record)
-    image.end(crc_of_reads(flat, image.plan) if check else 0)
-    return image
+    image.end(crc_of_reads(flat, image.plan) if choices.check else 0)
+    return Program(image.executable(), image.plan.warnings())
 
 
-def make(source: Source, check: bool, blanks: str) -> Program:
+def build_smallest(flat: Source, choices: Choices) -> Program:
+    """Returns the program of a flat capture, packed if there is no room for it otherwise. Trouble if there is none."""
+    cells = flat.answer('vram') if choices.check else None
+    try:
+        try:
+            return build(flat, choices, cells)
+        except NoRoom:
+            if choices.packs:
+                raise
+            return build(flat, choices._replace(packs=True), cells)
+    except Trouble as trouble:
+        raise Trouble('%s: %s' % (flat.name, trouble))
+
+
+def make(source: Source, choices: Choices) -> Program:
     """Returns the test program of a capture. Trouble, with the reason, if there is none."""
     if source.version() == 3:
         raise Trouble('%s: version 3 has 1024 rows of video memory, a console 512' % source.name)
     with tempfile.TemporaryDirectory(prefix='psxgpu') as folder:
         flat = source._replace(path=os.path.join(folder, 'flat'))
         source.play(flat.path, 'flat')
-        try:
-            image = image_of(flat, check, blanks)
-        except Trouble as trouble:
-            raise Trouble('%s: %s' % (source.name, trouble))
-    return Program(image.executable(), image.plan.warnings())
+        return build_smallest(flat, choices)
