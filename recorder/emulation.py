@@ -102,7 +102,7 @@ def emulate(found: Dict[str, str], arguments: argparse.Namespace) -> Outcome:
     """Runs the program until FRAMES are recorded, the time is over, or a signal comes."""
     number, in_time = 0, True
     with tempfile.TemporaryDirectory(prefix='psxgpu_record.') as home, tempfile.TemporaryFile() as said:
-        prepare(home, found, arguments.bios, arguments.interpreter, arguments.screen)
+        prepare(home, found, arguments)
         surroundings = environment(home, found, arguments)
         disc = [] if is_program(arguments.program) else ['-cdfile']
         command = [found['pcsxr'], '-nogui', *disc, os.path.abspath(arguments.program)]

@@ -41,6 +41,8 @@ def judge(outcome: Outcome, before: Dict[str, State], arguments: argparse.Namesp
     """Prints what was recorded. Bad, with the reason, if that is not what was asked for. `before`: the files of an
     earlier recording."""
     ours = [line[len(OURS):] for line in outcome.said if line.startswith(OURS)]
+    if arguments.tty:
+        print(''.join(line + '\n' for line in outcome.said if not line.startswith(OURS)), end='')
     broken = mended(arguments.capture, before)
     failed = [line for line in ours if line.startswith(('failed: ', 'no plugin')) or ' is no ' in line]
     if failed:

@@ -8,10 +8,12 @@ docs/CONSOLE.md says what such a program does.
 import tempfile
 from typing import Optional
 
-from psxgpu.console.convert import Choices, Program, Source, make
+from psxgpu.console.convert import Choices, Program, make
+from psxgpu.console.source import Source
+from psxgpu.console.stretch import Frames
 from psxgpu.players import player
 
-__all__ = ['Choices', 'Program', 'Source', 'executable', 'make']
+__all__ = ['Choices', 'Frames', 'Program', 'Source', 'executable', 'make']
 
 
 def executable(capture: bytes, check: bool = False, blanks: str = 'marks', packs: bool = False,

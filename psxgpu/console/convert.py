@@ -1,6 +1,5 @@
 """Makes the test program of a capture, with psxgpu_tool for what the program does without DMA and what it has to show."""
 import os
-import subprocess
 import tempfile
 from typing import List, NamedTuple, Optional
 
@@ -8,7 +7,8 @@ from psxgpu.command import Trouble
 from psxgpu.console import sums
 from psxgpu.console.image import Image, NoRoom
 from psxgpu.console.plan import Plan
-from psxgpu.players import player
+from psxgpu.console.source import Source
+from psxgpu.console.stretch import Frames, write_stretch
 from psxgpu.stream import HEADS, READ, SKIP, STAT, Stream, encode
 
 
@@ -16,33 +16,6 @@ class Program(NamedTuple):
     """A PS-X EXE, and a line for each thing in it that a console may do otherwise."""
     executable: bytes
     warnings: List[str]
-
-
-class Source(NamedTuple):
-    """A capture: the built psxgpu_tool, the file, and how the file is called in messages."""
-    tool: str
-    path: str
-    name: str
-
-    def version(self) -> int:
-        """Returns the version of the capture. Trouble if it is none."""
-        with open(self.path, 'rb') as file:
-            return Stream(file, self.name).version
-
-    def play(self, path: str, *words: str) -> None:
-        """Writes into a file what a command of psxgpu_tool writes. Trouble if it refuses the capture."""
-        with open(self.path, 'rb') as source, open(path, 'wb') as target:
-            done = subprocess.run([self.tool, *words], stdin=source, stdout=target, stderr=subprocess.PIPE)
-        if done.returncode:
-            raise Trouble('%s: %s' % (self.name, player.failure(done.returncode, done.stderr)))
-
-    def answer(self, *words: str) -> bytes:
-        """Returns what a command of psxgpu_tool writes."""
-        with tempfile.TemporaryDirectory(prefix='psxgpu') as folder:
-            path = os.path.join(folder, 'answer')
-            self.play(path, *words)
-            with open(path, 'rb') as file:
-                return file.read()
 
 
 def crc_of_reads(flat: Source, plan: Plan) -> int:
@@ -61,10 +34,11 @@ def crc_of_reads(flat: Source, plan: Plan) -> int:
 
 class Choices(NamedTuple):
     """How a program is made. `check`: it compares at its end. `blanks`: a name of plan.BLANKS. `packs`: its orders are
-    packed, even if there is room for them as they are."""
+    packed, even if there is room for them as they are. `frames`: these alone, with the state before them."""
     check: bool = False
     blanks: str = 'marks'
     packs: bool = False
+    frames: Frames = Frames(0, None)
 
 
 def build(flat: Source, choices: Choices, cells: Optional[bytes]) -> Program:
@@ -81,14 +55,11 @@ def build_smallest(flat: Source, choices: Choices) -> Program:
     """Returns the program of a flat capture, packed if there is no room for it otherwise. Trouble if there is none."""
     cells = flat.answer('vram') if choices.check else None
     try:
-        try:
-            return build(flat, choices, cells)
-        except NoRoom:
-            if choices.packs:
-                raise
-            return build(flat, choices._replace(packs=True), cells)
-    except Trouble as trouble:
-        raise Trouble('%s: %s' % (flat.name, trouble))
+        return build(flat, choices, cells)
+    except NoRoom:
+        if choices.packs:
+            raise
+        return build(flat, choices._replace(packs=True), cells)
 
 
 def make(source: Source, choices: Choices) -> Program:
@@ -98,4 +69,10 @@ def make(source: Source, choices: Choices) -> Program:
     with tempfile.TemporaryDirectory(prefix='psxgpu') as folder:
         flat = source._replace(path=os.path.join(folder, 'flat'))
         source.play(flat.path, 'flat')
-        return build_smallest(flat, choices)
+        try:
+            if choices.frames != Frames(0, None):
+                whole, flat = flat, flat._replace(path=os.path.join(folder, 'stretch'))
+                write_stretch(whole, choices.frames, flat.path)
+            return build_smallest(flat, choices)
+        except Trouble as trouble:
+            raise Trouble('%s: %s' % (source.name, trouble))
