@@ -71,6 +71,8 @@ def plain(path: str, name: Optional[str] = None) -> Iterator[str]:
 
 
 def is_recording(path: str) -> bool:
-    """Returns whether a file is a capture, a snapshot or a dump, packed or not."""
+    """Returns whether a file of the disk is a capture, a snapshot or a dump, packed or not."""
+    if path == '-' or not os.path.isfile(path):
+        return False
     with unpacked(path) as peeked:
         return peeked.first.startswith((NAME, *RECORDINGS))
