@@ -121,7 +121,7 @@ def zstd_reader(packed: IO[bytes], name: str) -> Iterator[Child | Own | Frames]:
     found = module()
     if found is None:
         raise Trouble(MISSING % name)
-    yield (Own if hasattr(found, 'ZstdFile') else Frames)(found, packed)
+    yield Own(found, packed) if hasattr(found, 'ZstdFile') else Frames(found, packed)
 
 
 @contextlib.contextmanager

@@ -104,7 +104,7 @@ class Recordings(support.InFolder):
 
     def test_other_kinds(self):
         self.assertEqual(self.compare(film(1), bytes(2048)), (
-            2, 'psxgpu compare: ours and theirs: a recording and none\n'))
+            2, 'psxgpu compare: ours and theirs: one is a recording\n'))
         self.assertEqual(self.compare(film(1), film(1), '--tolerance', '3')[0], 2)
 
 

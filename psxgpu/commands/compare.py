@@ -51,6 +51,15 @@ def check_outputs(words: argparse.Namespace) -> None:
         raise Trouble('%s: the name of both pictures: name another output' % words.side)
 
 
+def are_recordings(paths: Tuple[str, str]) -> bool:
+    """Returns whether recordings are compared. What comes from a pipe is of the kind of the other file. Raises Trouble
+    if one file is a recording and the other is not."""
+    found = [is_recording(path) for path in paths]
+    if any(found) and any(not it and os.path.isfile(path) for it, path in zip(found, paths)):
+        raise Trouble('%s and %s: one is a recording' % paths)
+    return any(found)
+
+
 def shape_text(grid: Grid) -> str:
     """Returns width and height."""
     return '%d by %d' % (grid.width, grid.height)
@@ -102,10 +111,7 @@ def run(words: argparse.Namespace) -> int:
     """Prints the difference and draws it."""
     check_outputs(words)
     paths = words.ours, words.theirs
-    kinds = [is_recording(path) for path in paths]
-    if kinds[0] != kinds[1]:
-        raise Trouble('%s and %s: a recording and none' % paths)
-    if not kinds[0]:
+    if not are_recordings(paths):
         return show_difference(words, grids_of_files(paths))
     if words.tolerance:
         raise Trouble('--tolerance is for dumps of video memory and pictures')

@@ -45,7 +45,7 @@ class Frames:
             if words[0] == MEMORY:
                 self.memory = words[1]
             else:
-                yield Frame(*map(int, words[:3]), words[3])
+                yield Frame(int(words[0]), int(words[1]), int(words[2]), words[3])
         status = self.run.end()
         if status:
             self.refusal = player.failure(status, self.run.said())
