@@ -26,7 +26,8 @@ import sys
 import time
 from typing import Optional
 
-from psxgpu.command import DIFFERENT, SAME, decimal, seekable, title
+from psxgpu.command import DIFFERENT, SAME, decimal, title
+from psxgpu.files import plain
 from psxgpu.commands import to_exe
 from psxgpu.packets.known import CLASSES, NAMES
 from psxgpu.players import player
@@ -108,5 +109,5 @@ def search(words: argparse.Namespace, path: str, name: str) -> int:
 
 def run(words: argparse.Namespace) -> int:
     """Runs the command."""
-    with seekable(words.capture) as path:
+    with plain(words.capture) as path:
         return search(words, path, title(words.capture))
