@@ -1,10 +1,11 @@
 # make run builds the program and plays an example; make test passes all tests; make bench measures the program.
 # make lib builds the library for C and Python into out/, make web the module and the page for browsers into web/out/ and
 # the viewer, web/viewer.html.
+# make plugin builds the recorder and a GPU plugin for emulators over that library, in recorder/out/.
 # make install puts program, tools, manual pages, documents and, where it is built, the library below PREFIX (/usr/local);
-# make uninstall takes them away. Both may have a DESTDIR before it. make dist makes the packages, make deb those for
+# make uninstall removes them. Both may have a DESTDIR before it; PYTHON is the Python that finds the package psxgpu. make dist makes the packages, make deb those for
 # Debian. make CPU=x86-64-v3 builds the program for newer processors alone.
-.PHONY: run test bench lib web viewer install install-library uninstall dist deb
+.PHONY: run test bench lib plugin web viewer install install-library uninstall dist deb
 
 VERSION := $(shell cat VERSION 2> /dev/null)
 EXAMPLE = examples/two-fills.capture
@@ -15,6 +16,8 @@ SONAME = libpsxgpu.so.$(firstword $(subst ., ,$(VERSION)))
 SOURCES := $(shell find crates -name out -prune -o \( -name '*.rt' -o -name '*.antt' \) -print)
 
 PREFIX = /usr/local
+# The Python that finds the package psxgpu after make install.
+PYTHON := $(firstword $(wildcard /usr/bin/python3) python3)
 BIN = $(DESTDIR)$(PREFIX)/bin
 INCLUDE = $(DESTDIR)$(PREFIX)/include
 LIB = $(DESTDIR)$(PREFIX)/lib
@@ -63,6 +66,9 @@ out/$(SONAME): out/libpsxgpu.a c/psxgpu.map
 	  -Wl,--whole-archive out/libpsxgpu.a -Wl,--no-whole-archive -o $@
 	ln -sf $(SONAME) out/libpsxgpu.so
 
+plugin: out/libpsxgpu.a
+	recorder/build
+
 web: web/out/index.html viewer
 
 web/out/psxgpu.wasm: $(PROVED) c/heap.c web/memory.c web/build.py
@@ -80,20 +86,20 @@ install: $(PLAYER) $(if $(wildcard out/libpsxgpu.a),install-library)
 	install -d $(BIN) $(MAN)
 	install -m 755 $(PLAYER) $(BIN)/psxgpu_tool
 	install -m 644 man/psxgpu_tool.1 $(MAN)/psxgpu_tool.1
-	packaging/install "$(DESTDIR)" "$(PREFIX)"
+	packaging/install "$(DESTDIR)" "$(PREFIX)" "$(PYTHON)"
 
 install-library:
 	install -d $(INCLUDE) $(LIB)/pkgconfig
-	install -m 644 c/psxgpu.h $(INCLUDE)/psxgpu.h
+	install -m 644 c/psxgpu.h recorder/psxgpu_capture.h $(INCLUDE)
 	install -m 644 out/libpsxgpu.a $(LIB)/libpsxgpu.a
 	install -m 755 out/$(SONAME) $(LIB)/$(SONAME)
 	ln -sf $(SONAME) $(LIB)/libpsxgpu.so
 	sed -e 's|@PREFIX@|$(PREFIX)|' -e 's|@VERSION@|$(VERSION)|' c/psxgpu.pc.in > $(LIB)/pkgconfig/psxgpu.pc
 
 uninstall:
-	rm -f $(BIN)/psxgpu_tool $(INCLUDE)/psxgpu.h $(LIB)/libpsxgpu.a $(LIB)/$(SONAME) $(LIB)/libpsxgpu.so \
+	rm -f $(BIN)/psxgpu_tool $(INCLUDE)/psxgpu.h $(INCLUDE)/psxgpu_capture.h $(LIB)/libpsxgpu.a $(LIB)/$(SONAME) $(LIB)/libpsxgpu.so \
 	  $(LIB)/pkgconfig/psxgpu.pc $(MAN)/psxgpu_tool.1
-	packaging/install --remove "$(DESTDIR)" "$(PREFIX)"
+	packaging/install --remove "$(DESTDIR)" "$(PREFIX)" "$(PYTHON)"
 
 dist: $(PLAYER) lib
 	PLAYER=$(abspath $(PLAYER)) python3 packaging/packages.py dist

@@ -50,8 +50,9 @@ def as_debian(place):
     os.makedirs(doc)
     for name in ('README.md', 'docs', 'examples'):
         os.symlink('../../%s/%s' % (NAME, name), os.path.join(doc, name))
-    for name in ('LICENSE-MIT', 'LICENSE-APACHE'):
+    for name in ('LICENSE-MIT', 'LICENSE-APACHE'):      # the README names them
         os.remove(os.path.join(share, NAME, name))
+        os.symlink('../doc/%s/copyright' % NAME, os.path.join(share, NAME, name))
     for folder, _, names in os.walk(os.path.join(share, 'man')):
         for name in names:
             with open(os.path.join(folder, name), 'rb') as file:
@@ -61,9 +62,9 @@ def as_debian(place):
 
 
 def move_library(place, targets):
-    """Takes the library out of the tree, where it was built; answers the packages with something in them."""
+    """Takes the library out of the tree, if it was built. Returns the packages with something in them."""
     lib = os.path.join(place, 'usr/lib')
-    if not os.path.isdir(lib):
+    if not os.path.exists(os.path.join(lib, 'libpsxgpu.a')):
         return []
     major = version().split('.')[0]
     soname = 'libpsxgpu.so.' + major
@@ -72,10 +73,9 @@ def move_library(place, targets):
     os.chmod(os.path.join(lib, soname), 0o644)
     for name, target in ((soname, targets[0]), (None, targets[1])):
         os.makedirs(os.path.join(target, 'usr/lib'))
-        for it in [name] if name else os.listdir(lib):
+        for it in [name] if name else sorted(set(os.listdir(lib)) - {'python3'}):
             shutil.move(os.path.join(lib, it), os.path.join(target, 'usr/lib', it))
     shutil.move(os.path.join(place, 'usr/include'), os.path.join(targets[1], 'usr/include'))
-    os.rmdir(lib)
     write(os.path.join(targets[0], 'DEBIAN'), 'shlibs', b'libpsxgpu %s libpsxgpu%s (>= %s)\n'
           % (major.encode(), major.encode(), version().encode()))
     write(os.path.join(targets[0], 'DEBIAN'), 'triggers', TRIGGERS.encode())

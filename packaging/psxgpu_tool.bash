@@ -12,13 +12,17 @@ _psxgpu_tool() {
 }
 complete -o filenames -F _psxgpu_tool psxgpu_tool
 
-# Completion of psxgpu: its tools, and behind them files.
+# Completion of psxgpu: its tools, their options as `--help` has them, and files.
 _psxgpu() {
     local word=${COMP_WORDS[COMP_CWORD]}
     if [ "$COMP_CWORD" -eq 1 ]; then
-        mapfile -t COMPREPLY < <(compgen -W 'agree audit bisect check compare corpus first from-dump from-log heat join packets picture reduce textures to-dump to-exe' -- "$word")
+        mapfile -t COMPREPLY < <(compgen -W 'agree audit bisect check compare corpus film first from-dump from-log heat join mend packets picture reduce textures to-dump to-exe' -- "$word")
     elif [ "$COMP_CWORD" -eq 2 ] && [ "${COMP_WORDS[1]}" = corpus ]; then
         mapfile -t COMPREPLY < <(compgen -W 'record check join split glue' -- "$word")
+    elif [[ $word == -* ]]; then
+        local options
+        options=$(psxgpu "${COMP_WORDS[1]}" --help 2> /dev/null | grep -oE -e '(^ +|, )--?[a-z][a-z-]*' | tr -d ' ,')
+        mapfile -t COMPREPLY < <(compgen -W "$options" -- "$word")
     else
         mapfile -t COMPREPLY < <(compgen -f -- "$word")
     fi

@@ -17,7 +17,7 @@ class Installed(support.InFolder):
     def test_one_command(self):
         source = self.path('source')
         os.mkdir(source)
-        for name in ('pyproject.toml', 'LICENSE-MIT', 'LICENSE-APACHE'):
+        for name in ('pyproject.toml', 'setup.py', 'LICENSE-MIT', 'LICENSE-APACHE'):
             shutil.copy(os.path.join(support.TOP, name), source)
         shutil.copytree(os.path.join(support.TOP, 'psxgpu'), os.path.join(source, 'psxgpu'))
         target = self.path('target')

@@ -45,15 +45,22 @@ def commands(path):
     return found
 
 
+def in_root(name):
+    """Returns whether there is a file of this name at the top."""
+    return os.path.exists(os.path.join(ROOT, name))
+
+
 def stand_in(folder, player):
     """Lays out a copy to run in, with the player on the path."""
-    for name in ('examples', 'psxgpu', 'docs', 'bench'):
+    for name in filter(in_root, ('examples', 'psxgpu', 'docs', 'bench')):
         shutil.copytree(os.path.join(ROOT, name), os.path.join(folder, name),
                         ignore=shutil.ignore_patterns('__pycache__'))
-    for name in ('crates', 'Makefile', 'README.md'):
+    for name in filter(in_root, ('crates', 'Makefile', 'README.md')):
         os.symlink(os.path.join(ROOT, name), os.path.join(folder, name))
     os.mkdir(os.path.join(folder, 'bin'))
     os.symlink(os.path.abspath(player), os.path.join(folder, 'bin', 'psxgpu_tool'))
+    if not in_root('psxgpu'):
+        return                  # the package is installed
     tools = os.path.join(folder, 'bin', 'psxgpu')
     with open(tools, 'w') as file:
         file.write('#!/bin/sh\nPYTHONPATH="%s" exec python3 -B -m psxgpu "$@"\n' % folder)

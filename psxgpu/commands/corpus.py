@@ -4,8 +4,9 @@
     psxgpu corpus check captures --golden captures.sums --player ./new --reference ./old
     psxgpu corpus split long.capture --parts 8 --into parts
 
-`record` plays all captures of the folders, on all processors, and writes a file of sums, a block for each capture. The
-player is a command to which `sums`, `vram` or `play` is added, with the capture on standard input; what it does not
+`record` plays all captures, snapshots and GPU dumps of the folders, packed or not, on all processors, and writes a file
+of sums, a block for each. The player is a command to which `sums`, `vram` or `play` is added, with the capture on
+standard input; what it does not
 know is left out. `check` plays them again and reports what is not as recorded, on standard output and as report.txt,
 junit.xml and report.html in the folder of the report. With a reference, a player that writes what was recorded, it finds
 the first packet and draws the difference. `join` makes one file of sums of several, as when each machine played a part.
@@ -30,8 +31,10 @@ from psxgpu.corpus.journal import play_into
 from psxgpu.corpus.parts import split
 from psxgpu.corpus.places import Places
 from psxgpu.corpus.play import Player
+from psxgpu.corpus.reduced import reduce_finding
 from psxgpu.corpus.scan import FLIP, MARK
 from psxgpu.corpus.sums import Sums, read_sums, write_text
+from psxgpu.files import plain
 from psxgpu.players.player import find
 
 USUAL = ('frames', 'vram', 'words')
@@ -59,6 +62,8 @@ def arguments(parser: argparse.ArgumentParser) -> None:
     parser.add_argument('--names', action='append', metavar='PATTERN',
                         help='record, check: names of captures (default: %s)' % ' '.join(NAMES))
     parser.add_argument('--reference', metavar='COMMAND', help='check: a player that writes what was recorded')
+    parser.add_argument('--reduce', action='store_true',
+                        help='check, with --reference: write the smallest capture for each that differs')
     parser.add_argument('--report', default='corpus-report', metavar='FOLDER',
                         help='check: the folder of the report (default: %(default)s)')
     parser.add_argument('--played', metavar='FILE', help='check: what was played elsewhere; the rest is played here')
@@ -100,9 +105,13 @@ def check(words: argparse.Namespace) -> int:
     got = play_into(os.path.join(words.report, 'played.sums'), player, found, words.jobs, words.played)
     findings = compare_sums(want, got)
     paths = {it.name: it.path for it in found}
-    places = Places(player, words.reference and Player(words.reference, words.limit))
+    reference = Player(words.reference, words.limit) if words.reference else None
+    places = Places(player, reference)
     for finding in [it for it in findings if it.kind == 'different' and it.name in paths][:words.pictures]:
-        places.look(finding, paths[finding.name])
+        with plain(paths[finding.name], finding.name) as path:
+            places.look(finding, path)
+            if words.reduce and reference:
+                reduce_finding(finding, path, player, reference, words.report)
     text = report.text(findings)
     for name, data in (('report.txt', text), ('junit.xml', report.junit(findings)),
                        ('report.html', report.page(findings, want.player, got.player))):
@@ -131,6 +140,8 @@ def run(words: argparse.Namespace) -> int:
     missing = ['--' + name for name in WANTED[words.action] if getattr(words, name) is None]
     if missing:
         raise Trouble('%s needs %s' % (words.action, ' and '.join(missing)))
+    if words.reduce and not words.reference:
+        raise Trouble('--reduce needs --reference, a player that writes what was recorded')
     if words.action == 'split':
         if len(words.places) > 1:
             raise Trouble('split takes one capture')

@@ -43,13 +43,21 @@ def compare_frames(finding: Finding, want: Row, got: Row, gives: Sequence[str]) 
                              % ('its event is not' if there[0].words == there[1].words else 'the words read are not'))
 
 
+def cause_of(end: str) -> str:
+    """Returns an end without its kind, which the report names before."""
+    kind, _, rest = end.partition(' ')
+    if kind in ('refused', 'fails'):
+        return 'status ' + rest.replace(' ', ': ', 1)
+    return 'after %s seconds' % rest if kind == 'hangs' else rest
+
+
 def compare_ends(finding: Finding, want: Row, got: Row) -> None:
     """Adds the ends of two runs, if they differ."""
     if want.end == got.end:
         return
     kind = got.end.split()[0]
     finding.kind = kind if kind in FAULTS else 'different'
-    finding.lines.append(got.end if kind in FAULTS else 'played now')
+    finding.lines.append(cause_of(got.end) if kind in FAULTS else 'played now')
     finding.lines.append('recorded: ' + want.end)
 
 

@@ -3,8 +3,6 @@ import contextlib
 import hashlib
 import os
 import re
-import shlex
-import shutil
 import signal
 import subprocess
 import tempfile
@@ -16,6 +14,9 @@ from psxgpu.command import Trouble, named
 from psxgpu.corpus.captures import Capture
 from psxgpu.corpus.sums import Frame, Row
 from psxgpu.corpus.scan import reads_before
+from psxgpu.files import plain
+from psxgpu.packing import Damaged
+from psxgpu.players.named import CommandPlayer
 
 PIECE = 1 << 16
 HELD = 1 << 20                  # what is read of a player before a file takes it
@@ -90,11 +91,12 @@ def ending(status: int, error: str) -> str:
 
 
 class Player:
-    """A command, to which the word `sums`, `vram` or `play` is added."""
+    """A shell command, in which the word `vram` is the place of the mode; else the mode is added at its end."""
 
     def __init__(self, command: str, limit: float = 60, gives: Sequence[str] = ('vram',)) -> None:
-        self.words = shlex.split(command)
-        if not self.words or shutil.which(self.words[0]) is None:
+        self.command = CommandPlayer(command, appends=True)
+        self.program = self.command.program()
+        if self.program is None:
             raise Trouble('%s: there is no such player' % command)
         self.limit = limit
         self.has_sums = self.answer('sums') != ''
@@ -103,7 +105,7 @@ class Player:
 
     def run(self, word: str, source: IO[bytes]) -> Run:
         """Runs the player on a capture."""
-        return Run(self.words + word.split(), source, self.limit)
+        return Run(self.command.arguments(word), source, self.limit)
 
     def answer(self, word: str) -> str:
         """Returns the first line that it writes for a capture without events; nothing if it does not play that."""
@@ -115,8 +117,9 @@ class Player:
 
     def identity(self) -> str:
         """Returns its version, and a sum of the program's file, so that what two builds write is not mixed."""
-        with open(shutil.which(self.words[0]) or self.words[0], 'rb') as file:
-            return '%s %s' % (self.answer('--version') or os.path.basename(self.words[0]), sum_of(file)[:16])
+        program = self.program or ''
+        with open(program, 'rb') as file:
+            return '%s %s' % (self.answer('--version') or os.path.basename(program), sum_of(file)[:16])
 
     def row(self, capture: Capture) -> Row:
         """Returns the row of a capture. One whose player was killed from outside is played once more."""
@@ -128,16 +131,24 @@ class Player:
         return row
 
     def played(self, capture: Capture) -> Row:
-        """Plays a capture. Returns its row."""
+        """Plays a capture. Returns its row. The player gets it unpacked, and a dump as a capture. One that is damaged is
+        refused without it."""
         row = Row(capture.name, *size_and_sum(capture.path))
-        ends = []
-        with open(capture.path, 'rb') as source:
-            if self.gives != ('words',):
-                ends.append(self.take_pictures(row, source))
-            if 'words' in self.gives and (not ends or not ends[0].startswith(('hangs', 'crashes'))):
-                ends.append(self.take_words(row, source, capture.path))
-        row.end = next((end for end in ends if end != 'played'), 'played')
+        try:
+            with plain(capture.path, capture.name) as path, open(path, 'rb') as source:
+                row.end = self.take(row, source, path)
+        except Damaged as fault:
+            row.end = 'refused 2 %s' % fault
         return row
+
+    def take(self, row: Row, source: IO[bytes], path: str) -> str:
+        """Adds all that is asked for. Returns how the player ended: the first run that did not end well, if any."""
+        ends = []
+        if self.gives != ('words',):
+            ends.append(self.take_pictures(row, source))
+        if 'words' in self.gives and (not ends or not ends[0].startswith(('hangs', 'crashes'))):
+            ends.append(self.take_words(row, source, path))
+        return next((end for end in ends if end != 'played'), 'played')
 
     def take_pictures(self, row: Row, source: IO[bytes]) -> str:
         """Adds the sums of pictures and of video memory. Returns how the player ended."""

@@ -2,7 +2,7 @@
 import struct
 from typing import IO, Iterator, List, Optional, Tuple
 
-from psxgpu.stream import BEGIN, DMA, GP0, GP1, HEADS, RAM, READ, SNAPSHOT, STAT, count_of
+from psxgpu.stream import BEGIN, DMA, GP0, GP1, HEADS, RAM, READ, SKIP, SNAPSHOT, STAT, count_of
 
 MAIN_MEMORY = 0x200000
 MOST_PENDING = 12           # words of the longest packet
@@ -14,7 +14,7 @@ def take_words(file: IO[bytes], n: int) -> Tuple[int, ...]:
     """Returns the next n words. Raises ValueError if the file ends before."""
     data = file.read(4 * n)
     if len(data) < 4 * n:
-        raise ValueError('it ends early')
+        raise ValueError('cut at byte %d' % file.tell())
     return struct.unpack('<%dI' % n, data)
 
 
@@ -55,6 +55,8 @@ def records(file: IO[bytes]) -> Iterator[Tuple[int, int, int]]:
             return
         words = {RAM: count + 1, GP0: count, GP1: 1, DMA: 3, BEGIN: 3}.get(kind, 0)
         at = file.tell()
+        if kind > SKIP:
+            raise ValueError('byte %d: %08x begins no record' % (at - 4, tag))
         yield kind, count_of(kind, count), words
         file.seek(at + 4 * words)
 
@@ -93,7 +95,7 @@ def copy_bytes(file: IO[bytes], out: IO[bytes], count: int) -> None:
     while count > 0:
         piece = file.read(min(count, BLOCK))
         if not piece:
-            raise ValueError('it ends early')
+            raise ValueError('cut at byte %d' % file.tell())
         out.write(piece)
         count -= len(piece)
 

@@ -1,7 +1,7 @@
 """The calls of libpsxgpu by ctypes, and their errors: what `psxgpu.machine` is made of.
 
-The library is the file that the environment's PSXGPU_LIB names, else the one beside this file, in the checkout's out/,
-or in the system. It is loaded with the first call.
+The library is the file that the environment's PSXGPU_LIB names, else the one in the package, in the checkout's out/, in
+the lib/ that the package is installed in, or in the system. It is loaded with the first call.
 """
 import ctypes
 import functools
@@ -121,7 +121,8 @@ def places() -> List[str]:
     if os.environ.get('PSXGPU_LIB'):
         return [os.environ['PSXGPU_LIB']]
     package = os.path.dirname(os.path.dirname(os.path.abspath(__file__)))
-    return [os.path.join(package, NAME), os.path.join(package, '..', 'out', NAME), NAME]
+    folders = (package, os.path.join(package, '..', 'out'), os.path.join(package, '..', '..', '..'))
+    return [*(os.path.join(folder, NAME) for folder in folders), NAME]
 
 
 @functools.lru_cache(maxsize=None)
