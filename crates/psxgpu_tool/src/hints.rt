@@ -6,7 +6,7 @@ use crate::typed::after_reader;
 use std::alloc::{AllocError, Global};
 use strsim::osa_distance;
 
-/// The words that stand for arguments that are not UTF-8: one that names no command.
+/// Replaces all arguments if one of them is not UTF-8. It names no command.
 pub const NOT_UTF8: &str = "\u{fffd}";
 
 /// The names of the commands, in the order of the help.
