@@ -71,8 +71,8 @@ pub record Awaits (version : ℕ) (before now : Streams) (window : Window) (draf
   pub answer : Answers old new left now.left next
 
 -- an answer that is known
-pub awaits_is : (version : ℕ) (before now : Streams) (window : Window) (draft : Draft) (count since : ℕ) (new : Progress)
-    (next given : Result Event Stop)
+pub awaits_is : (version : ℕ) (before now : Streams) (window : Window) (draft : Draft) (count since : ℕ)
+    (new : Progress) (next given : Result Event Stop)
     → next ≡ given → Awaits version before now window draft count since new next
     → Awaits version before now window draft count since new given
 awaits_is version before now window draft count since new next given is at =

@@ -125,8 +125,8 @@ pub record Needs (events : List Event) (flushed taken : List ℕ) : Type 0 where
   pub taken_is : taken ≡ (flushed ++ between) ++ rest
   pub needed : AreNeeded capture events (flushed ++ between)
 
--- All was last written at this place of the reader; since then records of these numbers on were put, each due at an event
--- that came later.
+-- All was last written at this place of the reader. Since then records of these numbers on were put, each due at an
+-- event that came later.
 pub record Since (events : List Event) (taken : List ℕ) (least since : ℕ) : Type 0 where
   pub flushed : List ℕ
   pub behind : List ℕ

@@ -49,12 +49,12 @@ impl Slim {
     /// Reads a capture of the ports, and writes a capture of the same version without its dead drawing. It takes no
     /// memory.
     ///
-    /// The record of an event is due 4096 events later, or where the reading ends if that is earlier, and the head with
-    /// the first record or the End record. Records that are due are gathered, up to 4,096 bytes, and written together:
-    /// where there is no room for one more, before a read that may have to wait, and before every ending. So a write
-    /// that fails may show later, and is still that of the first record that lacks a byte. At most 4,112 bytes are taken
-    /// after the event at which that record was due. After every ending all that was due before it stands. No byte was
-    /// taken past what the ending needs, unless it is a failed write.
+    /// The record of an event is due 4096 events later, or at the end of the reading if that is earlier, and the head
+    /// with the first record or the End record. Records that are due are buffered, up to 4,096 bytes, and written
+    /// together: if there is no room for one more, before a read that may have to wait, and before every ending. So a
+    /// write may fail while a later event is processed; the error still names the first record that lacks a byte. At
+    /// most 4,112 bytes are taken after the event at which that record was due. After every ending all records that
+    /// were due before it are written. No byte is taken past what the ending needs, unless a write fails.
     pub fn pass<S: Source, K: Sink>(&mut self, source: &mut S, out: &mut K) -> SlimEnding
         requires { self.old ≡ first_window short_height }
         ensures ends { EndsSlim (streams (S.left source.old) (S.faults source.old) (K.held out.old))

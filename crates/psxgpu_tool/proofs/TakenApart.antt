@@ -30,7 +30,8 @@ typed_file is_there words command file unnamed silent ends = record {
   command = λ named. absurd (unnamed named);
   help = λ _ asks. absurd (silent asks);
   reading = λ _ _ others name end.
-      let parts = same_parts command others file name (sym ends.follows.parts ∙ end.follows.parts) in (parts.0, ap Some parts.1);
+      let parts = same_parts command others file name (sym ends.follows.parts ∙ end.follows.parts) in
+      (parts.0, ap Some parts.1);
   other = λ _ _ fileless. absurd (fileless (command, (file, ends)));
 }
 

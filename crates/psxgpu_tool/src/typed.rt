@@ -104,7 +104,9 @@ fn ends_in_file(words: &[String], is_there: bool) -> bool
 
 /// Returns the last argument, if those before it name a command that reads a capture.
 pub fn after_reader(words: &[String]) -> Option<&str>
-    ensures { MatchOption result ((name : List ℕ) → EndsAfterReader words.now name → ⊥) (λ name. EndsAfterReader words.now name.now) }
+    ensures { MatchOption result
+        ((name : List ℕ) → EndsAfterReader words.now name → ⊥)
+        (λ name. EndsAfterReader words.now name.now) }
 {
     match words {
         [command @ .., last] if names_reader(command) => Some(last.as_str()),

@@ -5,8 +5,8 @@ use Rattle.capture_slim.specs.File.{IsDraft}
 use Rattle.capture_slim.specs.Stream.{leaving}
 use Rattle.capture_slim.specs.Window.{pushed}
 use Rattle.capture_slim.proofs.Files.{passed_draft}
-use Rattle.capture_slim.proofs.Firsts.{counted, size, waiting_size, pushed_size, leaves_size, comes, gone, leaves_one, now_fails}
-use Rattle.capture_slim.proofs.Firsts.{number_is}
+use Rattle.capture_slim.proofs.Firsts.{counted, size, waiting_size, pushed_size, leaves_size, comes, gone, leaves_one}
+use Rattle.capture_slim.proofs.Firsts.{now_fails, number_is}
 use Rattle.capture_slim.proofs.slim.push_event.Goals as goal
 
 pub overflow_sub-number : goal.overflow_sub-number
