@@ -62,6 +62,21 @@ class Files(unittest.TestCase):
         status, out, said = piped(['play', '/no/such.capture'])
         self.assertEqual((status, out), (3, b''))
         self.assertEqual(said, ['psxgpu: /no/such.capture: No such file or directory (os error 2)'])
+        for name in ['no_such.capture', './no_such']:
+            with self.subTest(name=name):
+                status, out, said = piped(['vram', name])
+                self.assertEqual((status, out, len(said)), (3, b'', 1))
+
+    def test_a_last_word_that_is_no_file_is_usage(self):
+        for words in [['vram', 'extra'], [], ['demo', '0'], ['demo', '007'], ['demo', '100001']]:
+            with self.subTest(words=words):
+                self.assertEqual(piped(words, EMPTY), (1, b'', ['psxgpu: usage']))
+
+    def test_an_existing_file_without_a_point(self):
+        os.rename(self.name, os.path.join(self.folder.name, 'extra'))
+        run = subprocess.run([os.path.abspath(PLAYER), 'list', 'extra'], capture_output=True, cwd=self.folder.name)
+        self.assertEqual((run.returncode, run.stderr), (0, b''))
+        self.assertTrue(run.stdout)
 
     def test_words_that_ask_for_help(self):
         help_text = piped(['--help'])
@@ -81,28 +96,50 @@ class Hints(unittest.TestCase):
 
     def test_what_is_wrong_with_the_words(self):
         for words, hint in [([], 'no command was given'),
-                            (['plya'], 'there is no such command'),
-                            (['cut'], 'cut takes a number of events, 1 to 4294967295, and perhaps a file'),
+                            (['plya'], 'there is no command "plya"; the nearest is play'),
+                            (['xyzzy'], 'there is no command "xyzzy"'),
+                            (['vram', 'extra'], 'there is no file "extra"'),
+                            (['cut'], 'cut takes a number of events, 1 to 4294967295, and at most a file name'),
                             (['demo', '0'], 'demo takes a number of packets, 1 to 100000'),
-                            (['pixel', '1024', '0'], 'pixel takes a column and a row, each 0 to 1023, and perhaps a file'),
-                            (['play', 'a', 'b'], 'a word too many: behind this command a file may stand, and nothing else')]:
+                            (['pixel', '1024', '0'], 'pixel takes a column and a row, each 0 to 1023, and at most a file name'),
+                            (['play', 'a', 'b'], 'too many arguments: this command takes at most a file name'),
+                            (['--help', 'x'], 'too many arguments: this command takes none'),
+                            ([PLAYER, 'list'], '%s is a file: a command comes first, as in psxgpu_tool list %s' % (PLAYER, PLAYER)),
+                            ([b'list', b'\xff.capture'], 'an argument is not UTF-8: redirect a file of such a name, '
+                                                          'as in psxgpu_tool list < FILE')]:
             with self.subTest(words=words):
                 self.assertEqual(at_terminal(words), (1, ['psxgpu: usage', 'psxgpu: ' + hint
                                                           + '; psxgpu_tool --help lists the commands']))
 
     def test_what_the_input_seems_to_be(self):
         for data, hint in [(b'', 'the input is empty'),
-                           (b'\x1f\x8b\x08\0\0\0\0\0', 'the input is compressed: try gzip -dc FILE | psxgpu_tool ..'),
-                           (b'\x28\xb5\x2f\xfd\0\0\0\0', 'the input is compressed: try zstd -dc FILE | psxgpu_tool ..'),
-                           (b'\x89PNG\r\n\x1a\n', 'the input is a picture: a capture is wanted'),
-                           (b'gp0 e100', 'the input is text: psxgpu from-log makes a capture of a log')]:
+                           (b'PSXGPUDUMPv1....', 'the input is a GPU dump of DuckStation or PCSX-Redux: '
+                                                 'psxgpu from-dump FILE'),
+                           (b'\x1f\x8b\x08\0\0\0\0\0', 'the input is compressed: gzip -dc FILE | psxgpu_tool COMMAND'),
+                           (b'\x28\xb5\x2f\xfd\0\0\0\0', 'the input is compressed: zstd -dc FILE | psxgpu_tool COMMAND'),
+                           (b'\xfd7zXZ\0\0\0', 'the input is compressed: xz -dc FILE | psxgpu_tool COMMAND'),
+                           (b'PK\x03\x04\0\0\0\0', 'the input is a zip archive: unzip -p FILE | psxgpu_tool COMMAND'),
+                           (b'\x89PNG\r\n\x1a\n', 'the input is a picture, not a capture'),
+                           (b'gp0 e100', 'the input is text: psxgpu from-log FILE makes a capture of a log')]:
             with self.subTest(data=data):
                 status, said = at_terminal(['play'], data)
                 self.assertEqual((status, said[-1]), (2, 'psxgpu: ' + hint))
 
     def test_a_capture_has_no_hint(self):
         self.assertEqual(at_terminal(['play'], EMPTY), (0, []))
-        self.assertEqual(len(at_terminal(['play'], EMPTY[:-2])[1]), 1)
+
+    def test_what_a_refusal_means(self):
+        capture = Capture().gp0(rectangle(0xFF, 0, 0, 16, 16)).stat().bytes()
+        for words, data, hints in [(['play'], capture[:-2], ['last: 2 rectangle 780000ff',
+                                                             'everything up to event 3 was processed: '
+                                                             'psxgpu mend FILE completes the capture']),
+                                   (['play'], EMPTY[:9], ['the input ends before its first event is complete']),
+                                   (['cut', '9'], EMPTY, ['the capture has 1 event: cut takes 1']),
+                                   (['cut', '9'], capture, ['last: 2 rectangle 780000ff',
+                                                            'the capture has 3 events: cut takes 1 to 3'])]:
+            with self.subTest(words=words, hints=hints):
+                said = at_terminal(words, data)[1]
+                self.assertEqual(said[-len(hints):], ['psxgpu: ' + hint for hint in hints])
 
     def test_a_directory_and_a_full_disk(self):
         status, said = at_terminal(['play', '/'])
@@ -122,7 +159,7 @@ class Hints(unittest.TestCase):
         status, said = at_terminal(['vram'], EMPTY, theirs)
         os.close(theirs)
         os.close(ours)
-        self.assertEqual((status, said), (1, ['psxgpu: this writes no text: send it to a file or a program, as in > FILE']))
+        self.assertEqual((status, said), (1, ['psxgpu: the output is binary: redirect it to a file or a program, as in > FILE']))
 
 
 if __name__ == '__main__':
