@@ -92,7 +92,8 @@ class Files(unittest.TestCase):
 class Hints(unittest.TestCase):
     def test_programs_get_the_lines_alone(self):
         self.assertEqual(piped(['plya']), (1, b'', ['psxgpu: usage']))
-        self.assertEqual(piped(['play'], b'\x1f\x8b\x08\0\0\0\0\0'), (2, b'', ['psxgpu: not-capture at event 1 byte 0']))
+        self.assertEqual(piped(['play'], b'\x1f\x8b\x08\0\0\0\0\0'),
+                         (2, b'', ['psxgpu: not-capture at event 1 byte 0']))
 
     def test_what_is_wrong_with_the_words(self):
         for words, hint in [([], 'no command was given'),
@@ -159,7 +160,8 @@ class Hints(unittest.TestCase):
         status, said = at_terminal(['vram'], EMPTY, theirs)
         os.close(theirs)
         os.close(ours)
-        self.assertEqual((status, said), (1, ['psxgpu: the output is binary: redirect it to a file or a program, as in > FILE']))
+        self.assertEqual((status, said),
+                         (1, ['psxgpu: the output is binary: redirect it to a file or a program, as in > FILE']))
 
 
 if __name__ == '__main__':
