@@ -1,10 +1,11 @@
 # make run builds the program and plays an example; make test passes all tests; make bench measures the program.
 # make lib builds the library for C and Python into out/, make web the module and the page for browsers into web/out/ and
 # the viewer, web/viewer.html.
+# make plugin builds the recorder and a GPU plugin for emulators over that library, in recorder/out/.
 # make install puts program, tools, manual pages, documents and, where it is built, the library below PREFIX (/usr/local);
 # make uninstall removes them. Both may have a DESTDIR before it; PYTHON is the Python that finds the package psxgpu. make dist makes the packages, make deb those for
 # Debian. make CPU=x86-64-v3 builds the program for newer processors alone.
-.PHONY: run test bench lib web viewer install install-library uninstall dist deb
+.PHONY: run test bench lib plugin web viewer install install-library uninstall dist deb
 
 VERSION := $(shell cat VERSION 2> /dev/null)
 EXAMPLE = examples/two-fills.capture
@@ -63,6 +64,9 @@ out/$(SONAME): out/libpsxgpu.a c/psxgpu.map
 	$(CC) $(CFLAGS) $(LDFLAGS) -shared -Wl,-soname,$(SONAME) -Wl,--version-script=c/psxgpu.map -Wl,-z,defs \
 	  -Wl,--whole-archive out/libpsxgpu.a -Wl,--no-whole-archive -o $@
 	ln -sf $(SONAME) out/libpsxgpu.so
+
+plugin: out/libpsxgpu.a
+	recorder/build
 
 web: web/out/index.html viewer
 

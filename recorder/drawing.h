@@ -1,4 +1,7 @@
-/* The GPU plugin that draws, of the PSEmu Pro interface. What is missing in it is NULL. */
+/* The GPU plugin that draws, of the PSEmu Pro interface. What is missing in it is NULL.
+
+   GPUopen of a plugin for pcsxr has to set *display to an X display: pcsxr hands it to its plugin for the keys, which
+   breaks down if it is none. */
 #ifndef DRAWING_H
 #define DRAWING_H
 #include <stdint.h>

@@ -3,13 +3,15 @@
 import os
 import struct
 import sys
+from typing import Callable, Dict
 
 # How many words follow a record's tag, by its kind and its count.
-WORDS = {1: lambda n: n + 1, 2: lambda n: n, 3: lambda n: 1, 6: lambda n: 3, 7: lambda n: 3}
+WORDS: Dict[int, Callable[[int], int]] = {
+    1: lambda n: n + 1, 2: lambda n: n, 3: lambda n: 1, 6: lambda n: 3, 7: lambda n: 3}
 
 
-def mend(path):
-    """Puts End behind the last whole record where it is lacking. Answers whether it was."""
+def mend(path: str) -> bool:
+    """Appends End to the last whole record if it is missing. Returns whether it was."""
     with open(path, 'r+b') as file:
         if file.read(7) != b'PSXGPUC':
             raise ValueError('%s is no capture' % path)

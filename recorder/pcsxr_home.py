@@ -1,5 +1,7 @@
 """A home folder for pcsxr, so that a recording neither reads nor changes the user's own settings."""
+import argparse
 import os
+from typing import Dict
 
 PLUGINS = ('libDFInput.so', 'libDFCdrom.so', 'libBladeSio1.so')
 SETTINGS = '''Bios = %(bios)s
@@ -22,7 +24,7 @@ PsxAuto = 1
 Cdda = 1
 SlowBoot = 0
 Dbg = 0
-PsxOut = 0
+PsxOut = %(tty)d
 SpuIrq = 0
 RCntFix = 0
 VSyncWA = 0
@@ -46,7 +48,7 @@ UseFixes = 0
 '''
 
 
-def prepare(home, found, bios, interpreter, limit):
+def prepare(home: str, found: Dict[str, str], arguments: argparse.Namespace) -> None:
     """Lays out a home folder: settings, plugins and memory cards. `found` has the paths of the plugins."""
     base = os.path.join(home, '.pcsxr')
     for name in ('plugins', 'bios', 'memcards', 'patches', 'sstates', 'cheats'):
@@ -54,9 +56,9 @@ def prepare(home, found, bios, interpreter, limit):
     plugins = [os.path.join(found['plugins'], name) for name in PLUGINS]
     for path in plugins + [found['libpsxgpu_record.so'], found['libnullspu.so']]:
         os.symlink(os.path.abspath(path), os.path.join(base, 'plugins', os.path.basename(path)))
-    bios = os.path.abspath(bios) if bios else os.path.join(base, 'bios', 'HLE')
+    bios = os.path.abspath(arguments.bios) if arguments.bios else os.path.join(base, 'bios', 'HLE')
     values = {'home': home, 'bios': os.path.basename(bios), 'bios_folder': os.path.dirname(bios),
-              'cpu': interpreter, 'limit': limit}
+              'cpu': arguments.interpreter, 'limit': arguments.screen, 'tty': arguments.tty}
     with open(os.path.join(base, 'pcsxr.cfg'), 'w') as file:
         file.write(SETTINGS % values)
     with open(os.path.join(base, 'plugins', 'dfxvideo.cfg'), 'w') as file:

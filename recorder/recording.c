@@ -87,9 +87,21 @@ static void end_reads(void) {
     record.reads = NULL;
 }
 
+/* A recording was to begin, and something stayed open at each vertical blank since then: says what. */
+static void tell_open(void) {
+    const ports *p = &record.ports;
+    wanted = 0;
+    fprintf(stderr, "psxgpu_record: failed: %s: not begun, since ", settings.path);
+    if (p->data) fprintf(stderr, "a load is open: %u data words are missing\n", p->data);
+    else if (p->polyline) fprintf(stderr, "a polyline %08x is open: its end word is missing\n", p->first);
+    else if (p->need) fprintf(stderr, "a packet %08x is open: it has %u of %u words\n", p->first, p->have, p->need);
+    else fprintf(stderr, "a store is open: %u reads are missing\n", p->reads);
+}
+
 void recording_end(void) {
     const uint32_t frames = record.capture.frames;
     int error;
+    if (!runs && wanted && !failed) tell_open();
     if (!runs) return;
     runs = 0;
     error = psxgpu_capture_close(&record.capture);

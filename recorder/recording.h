@@ -22,7 +22,7 @@ void recording_open(void);
 /* A vertical blank: marks it, and begins and ends recordings. Answers 1 where the emulator is to end. */
 int recording_frame(void);
 
-/* Ends the recording that runs, and says so on standard error. */
+/* Ends the recording that runs, and says so on standard error. Also says why a recording did not begin. */
 void recording_end(void);
 
 /* The key or the signal: the recording is ended, or a new one begun, at the next vertical blank. */

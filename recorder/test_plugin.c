@@ -15,7 +15,15 @@ static uint32_t reads;
 
 long GPUinit(void) { return 0; }
 long GPUshutdown(void) { return 0; }
-long GPUopen(unsigned long *display, char *caption, char *config) { return !display && !caption && !config; }
+
+/* pcsxr has loaded libX11. */
+long GPUopen(unsigned long *display, char *caption, char *config) {
+    void *(*open_display)(const char *);
+    *(void **)&open_display = dlsym(RTLD_DEFAULT, "XOpenDisplay");
+    *display = open_display ? (unsigned long)open_display(NULL) : 0;
+    return !caption && !config;
+}
+
 long GPUclose(void) { return 0; }
 void GPUupdateLace(void) {}
 uint32_t GPUreadStatus(void) { return 0x14802000; }

@@ -63,6 +63,18 @@ class Plugin(Emulated):
         self.assertEqual(event_list(files['']), event_list(want))
         self.assertEqual(self.said, 'ended\n')
 
+    def test_something_stays_open(self):
+        """A recording begins where nothing is open, and else says at the end what was."""
+        for script, said in (('gp0 a0000000; gp0 0; gp0 40004; gp0 1', 'a load is open: 7 data words are missing'),
+                             ('gp0 48000000; gp0 1; gp0 2', 'a polyline 48000000 is open: its end word is missing'),
+                             ('gp0 20000000; gp0 1', 'a packet 20000000 is open: it has 2 of 4 words'),
+                             ('gp0 c0000000; gp0 1; gp0 30003; read', 'a store is open: 4 reads are missing')):
+            with self.subTest(said):
+                self.assertEqual(self.emulate(script + '; frame 3', **{'from': 2}), {})
+                self.assertIn('psxgpu_record: failed: %s/a: not begun, since %s\n' % (self.folder, said), self.errors)
+        files = self.emulate('gp0 20000000; frame 3; gp0 1; gp0 2; gp0 3; frame 1; stat; frame 1', **{'from': 2})
+        self.assertEqual(event_list(files[''])[-2:], event_list(Capture(2).stat().gp1(0x3F000001).bytes()))
+
     def test_parts(self):
         """The state with which a part begins does not count."""
         files = self.emulate('many 1 80000; frame 1; gp0 2; frame 1; gp0 3', split=1)

@@ -3,8 +3,9 @@ import io
 import os
 import struct
 import subprocess
+import zlib
 
-from psxgpu.console import image
+from psxgpu.console import image, packing
 from psxgpu.console.assembler import assemble
 from psxgpu.console.orders import AGAIN, SAME, WORDED, Kind
 from psxgpu.stream import GP0, GP1, READ, SKIP, Stream
@@ -33,21 +34,38 @@ def events_of(flat):
     return out
 
 
+def unpacked(body):
+    """The orders of packed orders, without the zeros after the order `more` that ends a segment."""
+    deflate, at, out = zlib.decompressobj(-15), 4, []
+    while at + 2 <= len(body):
+        size = int.from_bytes(body[at:at + 2], 'little')
+        segment = deflate.decompress(body[at + 2:at + 2 + size])
+        if len(segment) != packing.SLOT:
+            break                   # what fills the last sector
+        out += struct.unpack('<%dI' % (packing.SLOT // 4), segment)
+        at += 2 + size
+    return out
+
+
 def follow(program):
     """What the orders of a program without a check write and read, as the player does it."""
     _, labels = assemble(image.source(), image.ADDRESS, image.NAMES)
     body = struct.unpack('<%dI' % (len(program) // 4 - 512), program[2048:])
     at, out = (labels['orders'] - image.ADDRESS) // 4, []
+    if body[at] == Kind.MORE << 24:
+        body, at = unpacked(program[2048 + 4 * at:]), 0
     while True:
         tag = body[at]
         kind, flags, n = tag >> 24 & 0x3F, tag >> 24 & 0xC0, tag & 0xFFFFFF
         at += 1
         if kind == Kind.END:
             return out
-        if kind < WORDED:
+        if kind == Kind.MORE:
+            at += -at % (packing.SLOT // 4)
+        elif kind < WORDED:
             words = body[at:at + n]
             if flags == SAME:
-                words = body[at:at + 1] * n
+                words = list(body[at:at + 1]) * n
             elif flags == AGAIN:
                 index = (body[at] - image.ADDRESS) // 4
                 words = body[index:index + n]

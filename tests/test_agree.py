@@ -17,10 +17,14 @@ class Agreement(support.InFolder):
         return path
 
     def test_dumps(self):
-        """One player writes zeros, one a one in the first cell, and one nothing."""
-        zeros = self.player('zeros', 'cat > /dev/null; head -c 1048576 /dev/zero\n')
-        one = self.player('one', "cat > /dev/null; printf '\\1'; head -c 1048575 /dev/zero\n")
-        nothing = self.player('nothing', 'cat > /dev/null\n')
+        """One player writes how long its capture is, one the double, and one nothing if it is long."""
+        dump = "{ printf '%06d' $n; cat /dev/zero; } | head -c 1048576\n"
+        zeros = self.player('zeros', 'n=$(wc -c); ' + dump)
+        one = self.player('one', 'n=$(($(wc -c) * 2)); ' + dump)
+        nothing = self.player('nothing', 'n=$(wc -c); [ $n -gt 4000 ] || ' + dump)
+        same = self.player('same', 'cat > /dev/null; head -c 1048576 /dev/zero\n')
+        self.assertEqual(self.agree(zeros, same, '1', 'fills')[2], 'psxgpu agree: %s: the other player gives the same '
+                         'dump whatever it reads\n' % same)
         self.assertEqual(self.agree(zeros, zeros, '2', 'fills'), (0, ['| fills | 2 | 2 |  |'], ''))
         status, lines, _ = self.agree(zeros, one, '2', 'fills')
         self.assertEqual((status, lines[0]), (1, '| fills | 2 | 0 | 100.00 % |'))

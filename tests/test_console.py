@@ -10,13 +10,13 @@ from tests.console_support import BEGINS, events, follow
 
 @support.needs_player
 class Orders(support.InFolder):
-    def expect_alike(self, capture):
+    def expect_alike(self, capture, packs=False):
         """The program of a capture, or of the file of one, does the same; what it does after that is returned."""
         path = capture
         if isinstance(capture, Capture):
             path = self.write('a.capture', capture.bytes())
         with open(path, 'rb') as file:
-            program = console.executable(file.read())
+            program = console.executable(file.read(), packs=packs)
         self.assertEqual(program[:8], b'PS-X EXE')
         self.assertEqual(len(program) % 2048, 0)
         found, wanted = follow(program), events(path)
@@ -71,6 +71,22 @@ class Orders(support.InFolder):
         once, many = (len(console.executable(Capture().gp0([load(0, 0, 64, 64, cells)] * n).bytes())) for n in (1, 50))
         self.assertLessEqual(many - once, 2048)
         self.expect_alike(Capture().gp0([load(0, 0, 64, 64, cells)] * 3))
+
+    def test_packed(self):
+        """Orders of each kind, longer than a segment, and at each place of its end."""
+        r = random.Random(5)
+        cells = [r.getrandbits(16) for _ in range(20000)]
+        pieces = [load(0, 0, 200, 100, cells), [word for k in range(2000) for word in rectangle(k, k % 99, 2, 3, 4)],
+                  line([(k % 300, 3) for k in range(5000)], 7), load(0, 0, 200, 100, [3] * 20000), store(0, 0, 2, 2)]
+        self.expect_alike(Capture().gp0(pieces).read(2), packs=True)
+        for n in range(4080, 4096):
+            self.expect_alike(Capture().gp0(load(0, 0, 2, n, cells[:2 * n]), polygon([(0, 0), (9, 0), (0, 9)], 1)), True)
+
+    def test_packed_words_of_all_kinds_are_few(self):
+        cells = [random.Random(1).getrandbits(4) for _ in range(20000)]
+        capture = Capture().gp0([load(0, 0, 200, 100, cells)])
+        plain, packed = (len(console.executable(capture.bytes(), packs=packs)) for packs in (False, True))
+        self.assertLess(packed - 8192, (plain - 8192) / 3)
 
 
 if __name__ == '__main__':

@@ -35,7 +35,7 @@ class Assembler(support.InFolder):
     def test_gnu_as_makes_the_same_bytes(self):
         text = image.source(bytes(1 << 20))
         ours, _ = assemble(text, image.ADDRESS, image.NAMES)
-        source = self.write('a.s', '.set noreorder\n.set nomacro\n.text\n.globl start\n' + text)
+        source = self.write('a.s', '.set noreorder\n.set nomacro\n.set noat\n.text\n.globl start\n' + text)
         flags = [word for name, value in image.NAMES.items() for word in ('--defsym', '%s=%d' % (name, value))]
         made, linked, whole = map(self.path, ('a.o', 'a.elf', 'a.bin'))
         for words in (['as', '-march=r3000', '-EL', '-mno-pdr', *flags, source, '-o', made],
@@ -67,11 +67,11 @@ class Bare(support.InFolder):
                               stdout=subprocess.PIPE, check=True, text=True)
         return done.stdout.splitlines(), events_of(self.read('out'))
 
-    def expect_well(self, capture, *settings):
+    def expect_well(self, capture, *settings, **options):
         path = capture
         if isinstance(capture, Capture):
             path = self.write('a.capture', capture.bytes())
-        said, found = self.run_on_it(path, *settings)
+        said, found = self.run_on_it(path, *settings, **options)
         self.assertRegex(said[-1], WELL)
         wanted = events(path)
         self.assertEqual(found[BEGINS:BEGINS + len(wanted)], wanted)
@@ -85,6 +85,16 @@ class Bare(support.InFolder):
         for name in ('textured-frame', 'turns', 'read-back'):
             with self.subTest(name):
                 self.expect_well(support.example(name))
+
+    def test_packed(self):
+        """Blocks of deflate of each type: cells that no one can pack are stored, few words have the fixed codes."""
+        r = random.Random(2)
+        for bits in (16, 9, 1):
+            cells = [r.getrandbits(bits) for _ in range(60000)]
+            self.expect_well(Capture().gp0(load(0, 0, 300, 200, cells), [rectangle(k, k, 2, 3, 4) for k in range(99)],
+                                           load(9, 9, 300, 200, cells)), '100', packs=True)
+        self.expect_well(Capture().gp0(rectangle(1, 2, 3, 4, 5)), packs=True)
+        self.expect_well(support.example('textured-frame'), packs=True)
 
     def test_a_slow_gpu(self):
         self.expect_well(Capture().gp0([rectangle(1, 2, 3, 4, 5)] * 20), '300000')

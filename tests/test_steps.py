@@ -3,7 +3,6 @@ import io
 import random
 import sys
 import unittest
-from argparse import Namespace
 
 from tests import support
 from psxgpu import capture as c
@@ -15,6 +14,7 @@ from psxgpu.packets.split import Splitter
 from psxgpu.packets.generated import AREA, CLASSES as RANDOM, background
 from psxgpu.players.steps import Cutter
 from psxgpu.stream import GP0, Stream
+from psxgpu.players.named import player_of
 from psxgpu.players.two_players import Players
 
 
@@ -96,7 +96,7 @@ class Ahead(support.InFolder):
             capture.gp0(RANDOM['fills'](r), RANDOM['mask settings'](r)).gp0(RANDOM['loads'](r)).stat()
         ours = support.PLAYER + ' vram'
         steps = build(self.write('capture', capture.bytes()), 'it', [], support.PLAYER)
-        players = Players(Namespace(ours=ours, theirs=ours, tolerance=0), steps, support.PLAYER)
+        players = Players(player_of(ours), player_of(ours), 0, steps, support.PLAYER)
         for low in range(steps.count * 9 // 10, steps.count - 4):
             players.has_tried = False
             players.narrow(low, steps.count)
@@ -113,7 +113,7 @@ sys.exit(data[:8] != b'PSXGPUC1' or subprocess.run([%r, 'vram'], input=data).ret
 """ % support.PLAYER)
         steps = build(self.write('capture', c.Capture().gp0([0] * 100).bytes()), 'it', [], support.PLAYER)
         command = sys.executable + ' ' + theirs
-        players = Players(Namespace(ours=command, theirs=command, tolerance=0), steps, support.PLAYER)
+        players = Players(player_of(command), player_of(command), 0, steps, support.PLAYER)
         players.narrow(95, 100)
         self.assertIs(players.prefixes, steps.prefixes)
         self.assertFalse(players.differ(97))

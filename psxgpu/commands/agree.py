@@ -4,23 +4,23 @@
     psxgpu agree psxgpu_tool other_player 10 fills 'lines, sloped'
     psxgpu agree --classes
 
-A player is a program that takes `vram < capture` (a capture of version 1 without Ram and Dma records). For the captures
+A player is a shell command that reads a capture of version 1 without Ram and Dma records and writes a dump; the mode
+`vram` is added to a command without this word. For the captures
 that differ the table has the share of the cells that either player changed. docs/EMULATORS.md has the reason for each
 class. Status: 0 all agree, 1 some differ, 2 an error, also if a player wrote no dump.
 """
 import argparse
-import os
-import shutil
-import tempfile
 
 from psxgpu.command import DIFFERENT, SAME, Trouble, decimal
 from psxgpu.packets.generated import CLASSES
 from psxgpu.players.agreement import Score, compare_class
+from psxgpu.players.named import player_of
+from psxgpu.players.trial_run import try_commands
 
 
 def arguments(parser: argparse.ArgumentParser) -> None:
     """Adds the arguments of this tool."""
-    parser.add_argument('ours', nargs='?', metavar='OURS', help='a program')
+    parser.add_argument('ours', nargs='?', metavar='OURS', help='a player')
     parser.add_argument('theirs', nargs='?', metavar='THEIRS', help='another')
     parser.add_argument('captures', nargs='?', type=decimal(1, 1000000), default=100, metavar='CAPTURES',
                         help='the captures of each class (default: 100)')
@@ -38,15 +38,15 @@ def run(words: argparse.Namespace) -> int:
     unknown = [name for name in words.names if name not in CLASSES]
     if unknown:
         raise Trouble('there is no class %r: the classes are %s' % (unknown[0], '; '.join(CLASSES)))
-    programs = [shutil.which(program) or program for program in (words.ours, words.theirs)]
+    players = [player_of(command, appends=True) for command in (words.ours, words.theirs)]
+    try_commands(players[0], players[1])
     scores = []
     print('| class | captures | equal | cells that differ in the others |')
     print('|---|---|---|---|')
-    with tempfile.TemporaryDirectory() as folder:
-        for name in words.names or CLASSES:
-            scores.append(Score(name, words.captures))
-            compare_class(scores[-1], programs, os.path.join(folder, 'capture'))
-            print(scores[-1].line(), flush=True)
+    for name in words.names or CLASSES:
+        scores.append(Score(name, words.captures))
+        compare_class(scores[-1], players)
+        print(scores[-1].line(), flush=True)
     lost = sum(score.lost for score in scores)
     if lost:
         raise Trouble('a player wrote no dump for %d of %d captures' % (lost, sum(score.captures for score in scores)))

@@ -3,11 +3,15 @@
     psxgpu audit mine.capture psxgpu_tool other_player
     psxgpu audit mine.capture psxgpu_tool other_player --first 3000 --last 4000
 
-OURS is this project's player, THEIRS a program that takes `play < capture` of version 1 (Gp0, Gp1, Read, Stat records).
+OURS is this project's player, THEIRS one that knows `play` for captures of version 1 (Gp0, Gp1, Read, Stat records).
+Both are shell commands: the mode stands in the place of the word `vram`, or at the end.
 After each packet that draws, the cells in and around its area are read, and then made what OURS drew. So both players
 have the same video memory before each packet, and a difference stays in the packet that made it. The table has a line
 for each class of packets; the first packet of each class that differs follows. Packets before the first and after the
 last event are played and not judged. The capture has to be flat (`psxgpu_tool flat` makes it so).
+
+With --reduce the first packet of each class that differs is reduced as by `psxgpu reduce --event --keep`; THEIRS then
+has to know `vram`, too.
 
 Status: 0 no packet differs; 1 some do; 2 an error, also if there is no packet to judge.
 """
@@ -16,27 +20,35 @@ import argparse
 from psxgpu.command import DIFFERENT, SAME, decimal, title
 from psxgpu.files import read_capture
 from psxgpu.players.audit import audit
+from psxgpu.players.named import player_of
+from psxgpu.reduce.classes import reduce_classes
 
 
 def arguments(parser: argparse.ArgumentParser) -> None:
     """Adds the arguments of this tool."""
     parser.add_argument('capture', metavar='CAPTURE', help='a flat capture; - is standard input')
-    parser.add_argument('ours', metavar='OURS', help='the program that is right: psxgpu_tool')
-    parser.add_argument('theirs', metavar='THEIRS', help='the program to judge')
+    parser.add_argument('ours', metavar='OURS', help='the player that is right: psxgpu_tool')
+    parser.add_argument('theirs', metavar='THEIRS', help='the player to judge')
     parser.add_argument('--first', type=decimal(1, 1 << 62), default=1, metavar='EVENT',
                         help='the first event that is judged (default: 1)')
     parser.add_argument('--last', type=decimal(1, 1 << 62), default=1 << 60, metavar='EVENT',
                         help='the last event that is judged (default: that of the capture)')
+    parser.add_argument('--reduce', metavar='DIR',
+                        help='write the smallest capture for each class that differs, and index.html, a table of them')
 
 
 def run(words: argparse.Namespace) -> int:
     """Prints the table and the first packet of each class that differs."""
-    rows = audit(read_capture(words.capture), words.ours, words.theirs, words.first, words.last, title(words.capture))
+    name, data = title(words.capture), read_capture(words.capture)
+    ours, theirs = player_of(words.ours, appends=True), player_of(words.theirs, appends=True)
+    rows = audit(data, ours, theirs, words.first, words.last, name)
     print('| packets | number | equal | cells looked at | that differ | by more than one step |')
     print('|---|---|---|---|---|---|')
-    for name, row in sorted(rows.items()):
-        print('| %s | %d | %d | %d | %d | %d |' % (name, row.packets, row.equal, row.cells, row.differ, row.far))
-    for name, row in sorted(rows.items()):
+    for kind, row in sorted(rows.items()):
+        print('| %s | %d | %d | %d | %d | %d |' % (kind, row.packets, row.equal, row.cells, row.differ, row.far))
+    for kind, row in sorted(rows.items()):
         if row.first:
-            print('%s: %s' % (name, row.first))
+            print('%s: %s' % (kind, row.first))
+    if words.reduce:
+        reduce_classes(data, name, rows, ours, theirs, words.reduce)
     return DIFFERENT if any(row.differ for row in rows.values()) else SAME

@@ -18,6 +18,7 @@ bits).
 Status: 0 no difference, 1 one was found, 2 trouble.
 """
 import argparse
+import contextlib
 
 from psxgpu import progress
 from psxgpu.command import DIFFERENT, SAME, decimal, title
@@ -25,8 +26,11 @@ from psxgpu.difference import compared
 from psxgpu.files import plain
 from psxgpu.packets.known import CLASSES, NAMES
 from psxgpu.players import player
+from psxgpu.players.beginning import beginning
 from psxgpu.players.bisection import bisect, build, step_text
 from psxgpu.players.flat import flattened
+from psxgpu.players.named import player_of
+from psxgpu.players.trial_run import try_players
 from psxgpu.players.two_players import Players
 
 
@@ -45,20 +49,31 @@ def arguments(parser: argparse.ArgumentParser) -> None:
 
 def search(words: argparse.Namespace, path: str, name: str, program: str) -> int:
     """Prints the first packet after which the dumps differ. Returns the status."""
-    with flattened(path, program) as flat, build(flat, name, words.ignore, program) as steps:
-        players = Players(words, steps, program)
+    ours, theirs = player_of(words.ours), player_of(words.theirs)
+
+    def shows(beginning_path: str) -> bool:
+        """Whether the dumps of the beginning of the capture differ."""
+        with build(beginning_path, name, words.ignore, program) as steps:
+            return Players(ours, theirs, words.tolerance, steps, program).differ(steps.count)
+
+    with contextlib.ExitStack() as stack:
+        flat = stack.enter_context(flattened(path, program))
+        try_players(ours, theirs, flat)
         with progress.shown(name, is_quiet=True):
+            part, is_whole = stack.enter_context(beginning(flat, name, shows))
+            steps = stack.enter_context(build(part, name, words.ignore, program))
+            players = Players(ours, theirs, words.tolerance, steps, program)
             k = bisect(steps.count, players.differ, players.narrow)
         if k is None:
-            print('no difference behind %d packets' % steps.lines[steps.count])
+            print('no difference after %d packets' % steps.lines[steps.count])
             return SAME
         if k == 0:
             print('they differ before the first packet')
             return DIFFERENT
-        print('they differ from here on, packet %d of %d:' % (steps.lines[k], steps.lines[steps.count]))
+        print('they differ from here on, packet %d of %s%d:'
+              % (steps.lines[k], '' if is_whole else 'the first ', steps.lines[steps.count]))
         print('\n'.join(step_text(steps, k, path, program)))
-        ours, theirs = players.dumps(k)
-        print('\n'.join(compared(ours, theirs, words.tolerance).lines()))
+        print('\n'.join(compared(*players.dumps(k), words.tolerance).lines()))
     return DIFFERENT
 
 

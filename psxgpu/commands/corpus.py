@@ -30,6 +30,7 @@ from psxgpu.corpus.journal import play_into
 from psxgpu.corpus.parts import split
 from psxgpu.corpus.places import Places
 from psxgpu.corpus.play import Player
+from psxgpu.corpus.reduced import reduce_finding
 from psxgpu.corpus.scan import FLIP, MARK
 from psxgpu.corpus.sums import Sums, read_sums, write_text
 from psxgpu.players.player import find
@@ -59,6 +60,8 @@ def arguments(parser: argparse.ArgumentParser) -> None:
     parser.add_argument('--names', action='append', metavar='PATTERN',
                         help='record, check: names of captures (default: %s)' % ' '.join(NAMES))
     parser.add_argument('--reference', metavar='COMMAND', help='check: a player that writes what was recorded')
+    parser.add_argument('--reduce', action='store_true',
+                        help='check, with --reference: write the smallest capture for each that differs')
     parser.add_argument('--report', default='corpus-report', metavar='FOLDER',
                         help='check: the folder of the report (default: %(default)s)')
     parser.add_argument('--played', metavar='FILE', help='check: what was played elsewhere; the rest is played here')
@@ -100,9 +103,12 @@ def check(words: argparse.Namespace) -> int:
     got = play_into(os.path.join(words.report, 'played.sums'), player, found, words.jobs, words.played)
     findings = compare_sums(want, got)
     paths = {it.name: it.path for it in found}
-    places = Places(player, words.reference and Player(words.reference, words.limit))
+    reference = Player(words.reference, words.limit) if words.reference else None
+    places = Places(player, reference)
     for finding in [it for it in findings if it.kind == 'different' and it.name in paths][:words.pictures]:
         places.look(finding, paths[finding.name])
+        if words.reduce and reference:
+            reduce_finding(finding, paths[finding.name], player, reference, words.report)
     text = report.text(findings)
     for name, data in (('report.txt', text), ('junit.xml', report.junit(findings)),
                        ('report.html', report.page(findings, want.player, got.player))):
@@ -131,6 +137,8 @@ def run(words: argparse.Namespace) -> int:
     missing = ['--' + name for name in WANTED[words.action] if getattr(words, name) is None]
     if missing:
         raise Trouble('%s needs %s' % (words.action, ' and '.join(missing)))
+    if words.reduce and not words.reference:
+        raise Trouble('--reduce needs --reference, a player that writes what was recorded')
     if words.action == 'split':
         if len(words.places) > 1:
             raise Trouble('split takes one capture')

@@ -20,10 +20,11 @@ import argparse
 import collections
 from typing import Optional, Tuple
 
-from psxgpu.command import Trouble, decimal, seekable, title
+from psxgpu.command import Trouble, decimal, title
 from psxgpu.heat.counting import Counter, Frame
 from psxgpu.heat.picture import Counts, counts_of, picture
 from psxgpu.image import write_image
+from psxgpu.files import plain
 from psxgpu.players import player
 from psxgpu.players.flat import flattened
 from psxgpu.players.listed import Walk
@@ -70,7 +71,7 @@ def frames(counter: Counter, wanted: Optional[int]) -> Tuple[int, Optional[Count
 def run(words: argparse.Namespace) -> None:
     """Runs the command."""
     program, name = player.find(words.player), title(words.capture)
-    with seekable(words.capture) as path, flattened(path, program) as flat:
+    with plain(words.capture) as path, flattened(path, program) as flat:
         counter = Counter(Walk(flat, name, program), FLIP if words.flips else MARK)
         counter.go()
         number, counts = frames(counter, words.frame)

@@ -26,8 +26,10 @@ import sys
 import time
 from typing import Optional
 
-from psxgpu.command import DIFFERENT, SAME, decimal, seekable, title
+from psxgpu import progress
+from psxgpu.command import DIFFERENT, SAME, decimal, title
 from psxgpu.commands import to_exe
+from psxgpu.files import plain
 from psxgpu.packets.known import CLASSES, NAMES
 from psxgpu.players import player
 from psxgpu.players.flat import flattened
@@ -36,7 +38,6 @@ from psxgpu.players.trial_run import try_players
 from psxgpu.reduce.faults import BreaksDown, DumpsDiffer, Fault, WordsDiffer
 from psxgpu.reduce.job import Job, Wanted
 from psxgpu.reduce.report import report_lines, write_all
-from psxgpu.stream import Stream, is_flat
 
 
 def arguments(parser: argparse.ArgumentParser) -> None:
@@ -70,12 +71,6 @@ def fault_of(words: argparse.Namespace) -> Fault:
     return BreaksDown() if words.crash else DumpsDiffer(words.tolerance)
 
 
-def version_of(path: str, name: str) -> int:
-    """Returns the version that both players read: 3 for tall video memory, else 1."""
-    with open(path, 'rb') as file:
-        return 3 if Stream(file, name).version == 3 else 1
-
-
 def write_program(capture: str, name: str) -> None:
     """Writes NAME.exe by `to-exe`."""
     parser = argparse.ArgumentParser()
@@ -87,12 +82,12 @@ def search(words: argparse.Namespace, path: str, name: str) -> int:
     """Searches and writes; returns the status."""
     ours, theirs = player_of(words.ours), player_of(words.theirs)
     if not words.words:
-        try_players(ours, theirs, version_of(path, name), words.seconds)
+        try_players(ours, theirs, path, words.seconds)
     wanted = Wanted(fault_of(words), words.ignore, words.keep, words.event, words.player)
     begin = time.monotonic()
     with Job(ours, theirs, wanted, words.seconds, words.jobs) as job:
-        program = None if is_flat(path) else player.find(words.player)
-        with flattened(path, program) as flat:
+        with progress.shown(name, is_quiet=True) as line, flattened(path, words.player) as flat:
+            job.tell = lambda text: setattr(line, 'text', '%s: %s' % (name, text))
             found = job.result(flat, name)
         if found is None:
             print('no difference')
@@ -108,5 +103,5 @@ def search(words: argparse.Namespace, path: str, name: str) -> int:
 
 def run(words: argparse.Namespace) -> int:
     """Runs the command."""
-    with seekable(words.capture) as path:
+    with plain(words.capture) as path:
         return search(words, path, title(words.capture))

@@ -18,7 +18,8 @@ from __future__ import annotations
 import argparse
 import os
 
-from psxgpu.command import seekable, title, write_whole
+from psxgpu.command import title, write_whole
+from psxgpu.files import plain
 from psxgpu.players import player
 from psxgpu.players.flat import flattened
 from psxgpu.players.listed import Walk
@@ -40,7 +41,7 @@ def arguments(parser: argparse.ArgumentParser) -> None:
 def run(words: argparse.Namespace) -> None:
     """Runs the command."""
     program, name = player.find(words.player), title(words.capture)
-    with seekable(words.capture) as path, flattened(path, program) as flat:
+    with plain(words.capture) as path, flattened(path, program) as flat:
         collector = Collector(Walk(flat, name, program))
         collector.go()
         textures = distinct(collector.used(), words.half)

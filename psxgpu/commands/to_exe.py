@@ -9,8 +9,8 @@ each thing that consoles may do otherwise; 2: trouble.
 import argparse
 import sys
 
-from psxgpu.command import main, seekable, title, writing
-from psxgpu.console import Source, make
+from psxgpu.command import decimal, main, seekable, title, writing
+from psxgpu.console import Choices, Frames, Source, make
 from psxgpu.console.plan import BLANKS
 from psxgpu.output import refuse_inputs
 from psxgpu.players import player
@@ -23,6 +23,10 @@ def arguments(parser: argparse.ArgumentParser) -> None:
     parser.add_argument('--check', action='store_true', help='the program says what differs')
     parser.add_argument('--blanks', choices=tuple(BLANKS), default='marks',
                         help='wait for a vertical blank at each mark (default), at each flip, or at none')
+    parser.add_argument('--from', dest='first', type=decimal(0, 1 << 30), default=0, metavar='FRAME',
+                        help='begin after FRAME frames, with the state before; frames are marks, or else flips')
+    parser.add_argument('--frames', type=decimal(1, 1 << 30), metavar='N', help='N frames; all if left out')
+    parser.add_argument('--pack', action='store_true', help='pack what the program does, even if it fits as it is')
     player.argument(parser)
 
 
@@ -31,7 +35,8 @@ def run(words: argparse.Namespace) -> None:
     name = title(words.capture)
     refuse_inputs(words.out, [words.capture])
     with seekable(words.capture) as path:
-        program = make(Source(player.find(words.player), path, name), words.check, words.blanks)
+        choices = Choices(words.check, words.blanks, words.pack, Frames(words.first, words.frames))
+        program = make(Source(player.find(words.player), path, name), choices)
     with writing(words.out, [words.capture]) as file:
         file.write(program.executable)
     for line in program.warnings:

@@ -5,7 +5,7 @@ from array import array
 from typing import Iterable, Optional
 
 from psxgpu.command import Trouble
-from psxgpu.console import page, sums
+from psxgpu.console import packing, page, sums
 from psxgpu.console.assembler import assemble
 from psxgpu.console.orders import WORDED, Kind, Orders
 from psxgpu.console.plan import Plan
@@ -13,10 +13,12 @@ from psxgpu.packets.split import name_and_length
 from psxgpu.stream import little
 
 FOLDER = os.path.join(os.path.dirname(os.path.abspath(__file__)), 'program')
-SOURCES = 'begin', 'ports', 'reads', 'sums', 'text'
-ADDRESS, STACK, MOST = 0x80010000, 0x801FFF00, 0x1E8000     # the program, its stack, and its most bytes
+SOURCES = 'begin', 'ports', 'reads', 'sums', 'text', 'unpack', 'bits', 'codes', 'construct'
+ADDRESS, STACK = 0x80010000, 0x801FFF00
+# Bytes of the program at most: as it is, if it is packed, and before it is packed.
+MOST, MOST_PACKED, MOST_UNPACKED = 0x1E8000, packing.WINDOW - ADDRESS, 1 << 26
 SECTOR = 2048                                               # an EXE consists of whole ones
-NAMES = {'MAP_X': page.MAP_X, 'MAP_Y': page.MAP_Y, 'WORDED': int(WORDED)}
+NAMES = {'MAP_X': page.MAP_X, 'MAP_Y': page.MAP_Y, 'WORDED': int(WORDED), **packing.NAMES}
 # GP1: what a reset sets besides its flags. The reset of pcsxr leaves the start and the ranges of the display as they are.
 RESET = 0x04000000, 0x05000000, 0x06C00200, 0x07040010, 0x08000000
 DISPLAY_ON, RESET_ALL = 0x03000000, 0x00000000
@@ -40,17 +42,28 @@ def source(cells: Optional[bytes] = None) -> str:
     text += listed('wanted_sums', '.word', sums.parts(cells) if cells else [0])
     text += listed('glyphs', '.half', (page.glyph(chr(code)) for code in range(32, 91)))
     text += listed('lengths', '.byte', (name_and_length(opcode << 24)[1] for opcode in range(256)))
+    text += listed('length_bases', '.half', packing.LENGTHS)
+    text += listed('distance_bases', '.half', packing.distances())
+    text += listed('length_extras', '.byte', packing.LENGTH_EXTRAS)
+    text += listed('distance_extras', '.byte', packing.DISTANCE_EXTRAS)
+    text += listed('length_order', '.byte', packing.LENGTH_ORDER)
     for k, line in enumerate(page.LINES):
         text += 'line%d: .ascii "%s"\ndigits%d: .ascii "000%s\\0"\n' % (k, line.before, k, line.after)
     return text + '.align 2\norders:\n'
 
 
-class Image:
-    """A program that grows record by record. With `cells`, video memory after the capture, it checks at its end."""
+class NoRoom(Trouble):
+    """The program is larger than main memory."""
 
-    def __init__(self, blanks: str, cells: Optional[bytes] = None) -> None:
+
+class Image:
+    """A program that grows record by record. With `cells`, video memory after the capture, it checks at its end. If it
+    `packs`, its orders are packed."""
+
+    def __init__(self, blanks: str, cells: Optional[bytes] = None, packs: bool = False) -> None:
         self.code, self.labels = assemble(source(cells), ADDRESS, NAMES)
-        self.orders = Orders(self.labels['orders'])
+        self.packs = packs
+        self.orders = Orders(self.labels['orders'], packs)
         self.plan = Plan(self.orders, blanks)
         self.checks = cells is not None
         self.begin()
@@ -64,14 +77,14 @@ class Image:
         self.orders.grow(Kind.PACKETS, array('I', (opcode << 24 for opcode in range(0xE1, 0xE7))))
 
     def take(self, kind: int, count: int, words: 'array[int]') -> None:
-        """Appends a record. Trouble if there is no more room."""
+        """Appends a record. NoRoom if there is no more room."""
         self.plan.take(kind, count, words)
-        self.expect_room()
+        self.expect_room(len(self.code) + 4 * len(self.orders.words), MOST_UNPACKED if self.packs else MOST)
 
-    def expect_room(self) -> None:
-        """Trouble if the program is larger than main memory."""
-        if len(self.code) + 4 * len(self.orders.words) > MOST:
-            raise Trouble('a console has no memory for more than %d bytes of orders' % MOST)
+    def expect_room(self, size: int, most: int) -> None:
+        """NoRoom if a size is too large."""
+        if size > most:
+            raise NoRoom('a console has no memory for more than %d bytes of packed orders' % MOST_PACKED)
 
     def end(self, reads: int) -> None:
         """Appends what follows the capture. `reads`: the CRC of the words that it reads."""
@@ -82,7 +95,6 @@ class Image:
         if self.checks:
             self.report(reads)
         self.orders.add(Kind.END)
-        self.expect_room()
 
     def report(self, reads: int) -> None:
         """Appends the check, the page of what differs, and its lines for the TTY."""
@@ -102,8 +114,10 @@ class Image:
             orders.add(Kind.SAY, 0, (self.labels['line%d' % k],))
 
     def executable(self) -> bytes:
-        """Returns the PS-X EXE: a head of one sector, and the program."""
-        body = self.code + little(self.orders.words[:]).tobytes()
+        """Returns the PS-X EXE: a head of one sector, and the program. NoRoom if it is too large."""
+        words = self.orders.words
+        body = self.code + (packing.packed(words) if self.packs else little(words[:]).tobytes())
+        self.expect_room(len(body), MOST_PACKED if self.packs else MOST)
         body += bytes(-len(body) % SECTOR)
         head = b'PS-X EXE' + bytes(8) + struct.pack('<10I', ADDRESS, 0, ADDRESS, len(body), 0, 0, 0, 0, STACK, 0)
         return head.ljust(SECTOR, b'\0') + body

@@ -27,16 +27,17 @@ class Kind(enum.IntEnum):
     MAP = 15
     TEXT = 16
     SAY = 17
+    MORE = 18           # the next segment of packed orders
 
 
 WORDED = Kind.READ          # the kinds below this one have words
 
 
 class Orders:
-    """A list of orders that lies in main memory from `address` on."""
+    """A list of orders that lies in main memory from `address` on. If it is to be packed, it has no AGAIN."""
 
-    def __init__(self, address: int) -> None:
-        self.words, self.address = array('I'), address
+    def __init__(self, address: int, packs: bool) -> None:
+        self.words, self.address, self.packs = array('I'), address, packs
         self.tag: Optional[int] = None      # the index of the last tag, if that order may grow
         self.seen: Dict[bytes, int] = {}    # LEAST words, and their index in the list
 
@@ -78,6 +79,8 @@ class Orders:
         if not words:
             return
         self.grow(Kind.DATA, words)
+        if self.packs:
+            return
         for at in range(len(self.words) - len(words), len(self.words) - LEAST + 1):
             self.seen.setdefault(self.words[at:at + LEAST].tobytes(), at)
 

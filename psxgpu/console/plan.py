@@ -4,7 +4,8 @@ from typing import List, NamedTuple
 
 from psxgpu.command import Trouble
 from psxgpu.console.orders import Kind, Orders
-from psxgpu.packets.split import RESETS, STORE, Splitter, data_words, name_and_length
+from psxgpu.console.unfinished import Unfinished
+from psxgpu.packets.split import RESETS, name_and_length
 from psxgpu.stream import GP0, GP1, READ, SKIP, STAT
 
 DISPLAY, START, MARK = 0x03, 0x05, 0x3F     # opcodes of GP1
@@ -14,18 +15,18 @@ BYTES = {Kind.READ: 4, Kind.READ_LOW: 2, Kind.READ_LOOSE: 0}
 
 class Reads(NamedTuple):
     """Reads of the data port: how many, and how many bytes of each word are checked."""
-    count: int
+    number: int
     size: int
 
 
-class Plan:
+class Plan(Unfinished):
     """The orders of a capture, record by record. `blanks`: a name of BLANKS, before which words of GP1 the console
     waits for a vertical blank. Marks are not written to the GPU."""
 
     def __init__(self, orders: Orders, blanks: str) -> None:
+        super().__init__()
         self.orders, self.blank = orders, BLANKS[blanks]
-        self.splitter = Splitter()
-        self.left, self.is_odd = 0, False   # reads that the open store takes; whether its last word has one cell
+        self.is_odd = False                 # whether the last word of the open store has one cell
         self.is_off = True                  # whether the display is off
         self.reads: List[Reads] = []
         self.late = self.replaced = self.loose = 0
@@ -56,9 +57,7 @@ class Plan:
                 self.orders.grow(Kind.RAW, words[at:at + n])
             else:
                 n = self.packet(words, at)
-            for name, packet, _ in splitter.push(words[at:at + n]):
-                if name == STORE:
-                    self.store(packet[2])
+            self.push(words[at:at + n])
             at += n
 
     def packet(self, words: 'array[int]', at: int) -> int:
@@ -77,7 +76,7 @@ class Plan:
     def store(self, size: int) -> None:
         """A store is open from now on."""
         self.replaced += self.left > 0
-        self.left = data_words(size)
+        super().store(size)
         self.is_odd = bool(size & size >> 16 & 1)
 
     def gp1(self, word: int) -> None:
@@ -89,15 +88,9 @@ class Plan:
             return
         busy = Kind.CONTROL_LATE if opcode in RESETS else Kind.CONTROL_NOW
         self.orders.add(Kind.CONTROL if self.is_idle() else busy, 1, (word,))
-        self.splitter.control(word)
-        if opcode in RESETS:
-            self.left = 0
+        self.control(word)
         if opcode in (0, DISPLAY):
             self.is_off = opcode == 0 or word & 1 == 1
-
-    def is_idle(self) -> bool:
-        """Returns whether nothing is unfinished."""
-        return self.splitter.is_idle() and not self.left
 
     def read(self, count: int) -> None:
         """Appends reads of the data port."""

@@ -32,7 +32,7 @@ def parts(cells: bytes) -> List[int]:
 def of_reads(words: Iterator[int], reads: Iterable[Reads]) -> int:
     """Returns the CRC of the checked bytes of the words that are read."""
     crc = 0
-    for count, size in reads:
-        for _ in range(count):
+    for number, size in reads:
+        for _ in range(number):
             crc = zlib.crc32(struct.pack('<I', next(words))[:size], crc)
     return inverted(crc)

@@ -3,8 +3,6 @@ import contextlib
 import hashlib
 import os
 import re
-import shlex
-import shutil
 import signal
 import subprocess
 import tempfile
@@ -16,6 +14,7 @@ from psxgpu.command import Trouble, named
 from psxgpu.corpus.captures import Capture
 from psxgpu.corpus.sums import Frame, Row
 from psxgpu.corpus.scan import reads_before
+from psxgpu.players.named import CommandPlayer
 
 PIECE = 1 << 16
 HELD = 1 << 20                  # what is read of a player before a file takes it
@@ -90,11 +89,12 @@ def ending(status: int, error: str) -> str:
 
 
 class Player:
-    """A command, to which the word `sums`, `vram` or `play` is added."""
+    """A shell command, in which the word `vram` is the place of the mode; else the mode is added at its end."""
 
     def __init__(self, command: str, limit: float = 60, gives: Sequence[str] = ('vram',)) -> None:
-        self.words = shlex.split(command)
-        if not self.words or shutil.which(self.words[0]) is None:
+        self.command = CommandPlayer(command, appends=True)
+        self.program = self.command.program()
+        if self.program is None:
             raise Trouble('%s: there is no such player' % command)
         self.limit = limit
         self.has_sums = self.answer('sums') != ''
@@ -103,7 +103,7 @@ class Player:
 
     def run(self, word: str, source: IO[bytes]) -> Run:
         """Runs the player on a capture."""
-        return Run(self.words + word.split(), source, self.limit)
+        return Run(self.command.arguments(word), source, self.limit)
 
     def answer(self, word: str) -> str:
         """Returns the first line that it writes for a capture without events; nothing if it does not play that."""
@@ -115,8 +115,9 @@ class Player:
 
     def identity(self) -> str:
         """Returns its version, and a sum of the program's file, so that what two builds write is not mixed."""
-        with open(shutil.which(self.words[0]) or self.words[0], 'rb') as file:
-            return '%s %s' % (self.answer('--version') or os.path.basename(self.words[0]), sum_of(file)[:16])
+        program = self.program or ''
+        with open(program, 'rb') as file:
+            return '%s %s' % (self.answer('--version') or os.path.basename(program), sum_of(file)[:16])
 
     def row(self, capture: Capture) -> Row:
         """Returns the row of a capture. One whose player was killed from outside is played once more."""

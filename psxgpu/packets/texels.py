@@ -61,7 +61,7 @@ def texture_of(name: str, words: Sequence[int], registers: Registers) -> List[Bo
         us, vs = ((min(255, max(values) + 1), min(values)) for values in zip(*map(texcoord_of, coords)))
         return texture_boxes((us[1], us[0]), (vs[1], vs[0]), coords[0] >> 16, registers)
     _, (w, h), coord = rectangle_parts(words)
-    if not w or not h:
+    if coord is None or not w or not h:
         return []
     u, v = texcoord_of(coord)
     mode = registers[0xE1]

@@ -1,27 +1,15 @@
 """In how many random captures of a class two players agree, and how far they are apart in the others."""
 import random
 import struct
-import subprocess
 from typing import Iterator, List, Optional, Sequence, Tuple
 
 from psxgpu import progress
 from psxgpu.capture import Capture
-from psxgpu.command import Trouble
 from psxgpu.packets.generated import AREA, CLASSES, background
+from psxgpu.players.named import Player, dump_of
 
 PACKETS = 4         # of its class in each capture
 DUMP, ROW = 1048576, 2048
-
-
-def dump(program: str, path: str) -> Optional[bytes]:
-    """Returns the dump of a player, or None if it writes none."""
-    with open(path, 'rb') as capture:
-        try:
-            done = subprocess.run([program, 'vram'], stdin=capture, stdout=subprocess.PIPE, stderr=subprocess.DEVNULL,
-                                  check=False)
-        except OSError as error:
-            raise Trouble('%s: %s' % (program, error.strerror)) from error
-    return done.stdout if done.returncode == 0 and len(done.stdout) == DUMP else None
 
 
 def rows(dumps: Sequence[bytes]) -> Iterator[List[Tuple[int, ...]]]:
@@ -52,17 +40,22 @@ class Score:
         return '| %s | %d | %d | %s%s |' % (self.name, self.captures, self.equal, share, lost)
 
 
-def compare_class(score: Score, programs: Sequence[str], path: str) -> None:
-    """Plays the captures of a class. `path`: where each is written."""
+def dump(player: Player, data: bytes) -> Optional[bytes]:
+    """Returns the dump of a player, or None if it writes none of 512 rows."""
+    found = dump_of(player.run('vram', data))
+    return found if found and len(found) == DUMP else None
+
+
+def compare_class(score: Score, players: Sequence[Player]) -> None:
+    """Plays the captures of a class."""
     for seed in progress.counted(range(score.captures), score.name):
         r = random.Random('%s %d' % (score.name, seed))
         start = background(r) + AREA
-        Capture().gp0(start, [CLASSES[score.name](r) for _ in range(PACKETS)]).save(path)
-        dumps = [it for it in (dump(program, path) for program in programs) if it is not None]
-        if len(dumps) < len(programs):
+        capture = Capture().gp0(start, [CLASSES[score.name](r) for _ in range(PACKETS)])
+        dumps = [it for it in (dump(player, capture.bytes()) for player in players) if it is not None]
+        if len(dumps) < len(players):
             score.lost += 1
         elif dumps[0] == dumps[1]:
             score.equal += 1
         else:
-            Capture().gp0(start).save(path)
-            score.add(dumps, dump(programs[0], path) or bytes(DUMP))
+            score.add(dumps, dump(players[0], Capture().gp0(start).bytes()) or bytes(DUMP))

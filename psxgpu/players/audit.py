@@ -1,11 +1,11 @@
 """Judges each packet of a capture by itself: both players have the same video memory before it."""
 import array
 import collections
-import subprocess
 from typing import TYPE_CHECKING, Dict, Iterator, List, Tuple
 
 from psxgpu import progress
 from psxgpu.command import Trouble
+from psxgpu.players.named import Player, ending
 from psxgpu.players.probes import DRAWN, END, HEAD, Events, Target, probed, size, targets, whole
 
 DUMP = 1 << 20
@@ -17,16 +17,12 @@ else:
     Words = array.array
 
 
-def output(player: str, command: str, data: bytes) -> bytes:
+def output(player: Player, mode: str, data: bytes) -> bytes:
     """Returns what a player writes for a capture. Raises Trouble if it does not end with 0."""
-    try:
-        done = subprocess.run([player, command], input=data, capture_output=True, check=False)
-    except OSError as bad:
-        raise Trouble('%s: %s' % (player, bad.strerror)) from bad
-    if done.returncode:
-        said = ' '.join(done.stderr.decode(errors='replace').split('\n')[0].split())[:200]
-        raise Trouble('%s %s: status %d: %s' % (player, command, done.returncode, said))
-    return done.stdout
+    done = player.run(mode, data)
+    if done.status:
+        raise Trouble('%s, mode %s: %s' % (player.text, mode, ending(done)))
+    return done.out
 
 
 def passes(found: Found, first: int, last: int) -> Iterator[List[int]]:
@@ -44,7 +40,7 @@ def passes(found: Found, first: int, last: int) -> Iterator[List[int]]:
         yield group
 
 
-def beginning(stream: Events, found: Found, group: List[int], ours: str) -> Tuple[int, Words]:
+def beginning(stream: Events, found: Found, group: List[int], ours: Player) -> Tuple[int, Words]:
     """Returns the event from which a group's run differs from what OURS plays, and the loads of what OURS has there: the
     last packet before the group that could be judged."""
     event = max((event for event in found if event < group[0]), default=0)
@@ -56,7 +52,7 @@ def beginning(stream: Events, found: Found, group: List[int], ours: str) -> Tupl
     return event, whole(dump, found[event].mask)
 
 
-def read_back(player: str, data: bytes, places: Dict[int, Tuple[int, int]]) -> Dict[int, Words]:
+def read_back(player: Player, data: bytes, places: Dict[int, Tuple[int, int]]) -> Dict[int, Words]:
     """Returns the words that a player read after each target."""
     text = output(player, 'play', data)
     out: Dict[int, Words] = {}
@@ -64,9 +60,9 @@ def read_back(player: str, data: bytes, places: Dict[int, Tuple[int, int]]) -> D
         try:
             words = array.array('I', bytes.fromhex(text[9 * line:9 * (line + count)].decode('ascii')))
         except ValueError as bad:
-            raise Trouble('%s play: line %d is not a word of eight digits' % (player, line + 1)) from bad
+            raise Trouble('%s, mode play: line %d is not a word of eight digits' % (player.text, line + 1)) from bad
         if len(words) != count:
-            raise Trouble('%s play: fewer words than the capture reads' % player)
+            raise Trouble('%s, mode play: fewer words than the capture reads' % player.text)
         words.byteswap()
         out[event] = words
     return out
@@ -99,9 +95,10 @@ class Row:
     def __init__(self) -> None:
         self.packets = self.equal = self.cells = self.differ = self.far = 0
         self.first = ''
+        self.event = 0      # after the first packet that differs and its data words
 
-    def take(self, target: Target, ours: Words, others: Words) -> None:
-        """Adds a packet: the words that both players read after it."""
+    def take(self, target: Target, event: int, ours: Words, others: Words) -> None:
+        """Adds a packet: the words that both players read after it, which is after `event`."""
         self.packets += 1
         self.cells += len(ours) * 2
         if ours == others:
@@ -113,20 +110,21 @@ class Row:
         self.differ += count
         self.far += sum(n for pair, n in pairs.items() if is_far(*pair))
         if not self.first:
+            self.event = event
             k = next(k for k in range(len(mine)) if mine[k] != theirs[k])
             x1, y1, x2, _ = target.box
             self.first = 'event %d %08x: %d cells, first (%d, %d): %04x and %04x' % (
                 target.event, target.word, count, x1 + k % (x2 - x1 + 1), y1 + k // (x2 - x1 + 1), mine[k], theirs[k])
 
 
-def audit(data: bytes, ours: str, theirs: str, first: int, last: int, name: str = 'capture') -> Dict[str, Row]:
+def audit(data: bytes, ours: Player, theirs: Player, first: int, last: int, name: str = 'capture') -> Dict[str, Row]:
     """Returns a row for each class of packets from event `first` to event `last`. Raises Trouble if there is no packet."""
     stream = Events(data, name)
     listing = output(ours, 'list', HEAD + stream.stream.tobytes() + END)
     try:
         found = targets(stream, listing)
     except (ValueError, IndexError) as bad:
-        raise Trouble('%s list: not a list of packets: %s' % (ours, bad)) from bad
+        raise Trouble('%s list: not a list of packets: %s' % (ours.text, bad)) from bad
     rows: Dict[str, Row] = collections.defaultdict(Row)
     groups = list(passes(found, first, last))
     for group in progress.counted(groups, 'audit'):
@@ -135,7 +133,7 @@ def audit(data: bytes, ours: str, theirs: str, first: int, last: int, name: str 
         other = read_back(theirs, *probed(stream, found, group, before, mine))
         for event in group:
             target = found[event]
-            rows[class_of(target.name, target.word)].take(target, mine[event], other[event])
+            rows[class_of(target.name, target.word)].take(target, event, mine[event], other[event])
     if not rows:
         raise Trouble('%s: no packet to judge from event %d to event %d'
                       % (name, first, min(last, max(first, len(stream.kinds) - 1))))

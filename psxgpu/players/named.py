@@ -81,6 +81,11 @@ class CommandPlayer(Player):
         """Returns the arguments of its process."""
         return arguments_of(with_mode(self.command, mode, self.appends))
 
+    def program(self) -> Optional[str]:
+        """Returns the path of the program that it starts, which may be a shell; None if there is no such program."""
+        words = self.arguments('vram')
+        return shutil.which(words[0]) if words else None
+
     def run(self, mode: str, data: bytes, seconds: Optional[float] = None) -> Done:
         words = self.arguments(mode)
         try:
@@ -176,9 +181,3 @@ def expect_dump(player: Player, data: bytes, seconds: Optional[float] = None) ->
         if dump_of(CommandPlayer(meant).run('vram', data, seconds)) is not None:
             hint = ': is %r meant?' % meant
     raise Trouble('%s: no dump (%s)%s' % (player.text, ending(done), hint))
-
-
-def program_path(command: str) -> Optional[str]:
-    """Returns the path of the program that a command starts; None if a shell or nothing is there."""
-    words = arguments_of(command)
-    return shutil.which(words[0]) if words[0] != 'sh' or command.startswith('sh ') else None

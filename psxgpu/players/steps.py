@@ -6,7 +6,7 @@ import os
 import tempfile
 from array import array
 from dataclasses import dataclass
-from typing import IO, Iterator, List, Optional, Sequence, Tuple
+from typing import IO, Iterable, Iterator, List, Optional, Sequence, Tuple
 
 from psxgpu.command import pour
 from psxgpu.packets.fields import Registers
@@ -74,7 +74,7 @@ class Cutter:
             self.held, self.lines, self.is_apart = [], 0, True
             yield step
 
-    def steps(self, stream: Stream) -> Iterator[Step]:
+    def steps(self, stream: Iterable[Record]) -> Iterator[Step]:
         """Returns the steps of a flat capture."""
         for kind, count, words in stream:
             if kind == GP0:

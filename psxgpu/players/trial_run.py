@@ -4,9 +4,10 @@ from __future__ import annotations
 from typing import Optional, Tuple
 
 from psxgpu.capture import Capture
-from psxgpu.command import Trouble
+from psxgpu.command import Trouble, reading
 from psxgpu.players.named import Player, expect_dump
 from psxgpu.registers import drawing_area
+from psxgpu.stream import Stream
 from psxgpu.words import fill, load, rectangle
 
 
@@ -17,7 +18,14 @@ def trial_captures(version: int) -> Tuple[bytes, bytes]:
     return Capture(version).bytes(), drawn.bytes()
 
 
-def try_players(ours: Player, theirs: Player, version: int = 1, seconds: Optional[float] = None) -> None:
+def try_players(ours: Player, theirs: Player, path: str, seconds: Optional[float] = None) -> None:
+    """Tries both players on captures of the version that they are given of the capture `path`: 3 if it is tall, else 1."""
+    with reading(path) as file:
+        version = Stream(file, path).version
+    try_commands(ours, theirs, 3 if version == 3 else 1, seconds)
+
+
+def try_commands(ours: Player, theirs: Player, version: int = 1, seconds: Optional[float] = None) -> None:
     """Raises Trouble if a player writes no dump, if both dumps differ in size, or if a player writes the same dump of
     a capture that draws as of one that does not."""
     empty, drawn = trial_captures(version)

@@ -1,64 +1,52 @@
 """Two players on the same steps of a capture."""
-import argparse
-import subprocess
-from typing import Tuple, Union
+from __future__ import annotations
 
-from psxgpu.players import in_process
+import concurrent.futures
+from typing import Optional, Tuple
+
 from psxgpu.command import Trouble
 from psxgpu.difference import compared
+from psxgpu.players.named import Player, dump_of, expect_dump
 from psxgpu.players.steps import Steps
-from psxgpu.vram import WIDTH
 
 SPARED = 8      # a snapshot is made if at most one of so many steps is left
-Run = Union['subprocess.Popen[bytes]', in_process.Played]
+
+
+def dumps_of(ours: Player, theirs: Player, data: bytes, short: Optional[bytes] = None) -> Tuple[bytes, bytes]:
+    """Returns both dumps of a capture. Both players run at the same time. `short`: what ours plays instead."""
+    with concurrent.futures.ThreadPoolExecutor(1) as pool:
+        other = pool.submit(expect_dump, theirs, data)
+        one = expect_dump(ours, data if short is None else short)
+        out = one, other.result()
+    if len(out[0]) != len(out[1]):
+        raise Trouble('dumps of %d and %d bytes' % (len(out[0]), len(out[1])))
+    return out
+
+
+def dumps_differ(dumps: Tuple[bytes, bytes], tolerance: int) -> bool:
+    """Returns whether two dumps differ by more than a tolerance."""
+    one, other = dumps
+    return one != other and (not tolerance or compared(one, other, tolerance).count > 0)
 
 
 class Players:
-    """Two commands, and whether their dumps of a file differ."""
+    """Two players, and whether their dumps after a step differ. `program`: the path of psxgpu_tool, which makes
+    snapshots."""
 
-    def __init__(self, words: argparse.Namespace, steps: Steps, program: str) -> None:
-        self.ours: str = words.ours
-        self.theirs: str = words.theirs
-        self.tolerance: int = words.tolerance
+    def __init__(self, ours: Player, theirs: Player, tolerance: int, steps: Steps, program: str) -> None:
+        self.ours, self.theirs, self.tolerance = ours, theirs, tolerance
         self.steps, self.program = steps, program
         self.prefixes = steps.prefixes      # what ours reads
         self.has_tried = False              # whether ours was given a snapshot
 
-    def start(self, command: str, path: str) -> Run:
-        """Starts a player on a capture."""
-        mode = in_process.mode_of(command)
-        if mode:
-            return in_process.Played(mode, path)
-        with open(path, 'rb') as source:
-            return subprocess.Popen(command, shell=True, stdin=source, stdout=subprocess.PIPE, stderr=subprocess.PIPE)
-
-    def dump(self, command: str, child: Run) -> bytes:
-        """Returns the dump of a run. Raises Trouble if it wrote none."""
-        out, err = child.communicate()
-        if child.returncode or not out or len(out) % (2 * WIDTH):
-            said = err.decode(errors='replace').splitlines()[:1]
-            raise Trouble('no dump: %d bytes, status %d%s: %s' % (len(out), child.returncode,
-                                                                  ', ' + said[0] if said else '', command))
-        return out
-
     def dumps(self, k: int) -> Tuple[bytes, bytes]:
         """Returns both dumps after step k."""
-        with self.steps.prefixes.cut(k) as path:
-            theirs = self.start(self.theirs, path)
-            if self.prefixes is self.steps.prefixes:
-                ours = self.dump(self.ours, self.start(self.ours, path))
-            else:
-                with self.prefixes.cut(k) as short:
-                    ours = self.dump(self.ours, self.start(self.ours, short))
-            out = ours, self.dump(self.theirs, theirs)
-        if len(out[0]) != len(out[1]):
-            raise Trouble('dumps of %d and %d bytes' % (len(out[0]), len(out[1])))
-        return out
+        short = None if self.prefixes is self.steps.prefixes else self.prefixes.data(k)
+        return dumps_of(self.ours, self.theirs, self.steps.prefixes.data(k), short)
 
     def differ(self, k: int) -> bool:
         """Returns whether the dumps after step k differ."""
-        one, other = self.dumps(k)
-        return one != other and (not self.tolerance or compared(one, other, self.tolerance).count > 0)
+        return dumps_differ(self.dumps(k), self.tolerance)
 
     def narrow(self, low: int, high: int) -> None:
         """Lets ours begin from a snapshot after step `low`, if it reads snapshots and that leaves little to play."""
@@ -66,8 +54,6 @@ class Players:
             return
         self.has_tried = True
         prefixes = self.steps.ahead(self.program, low, high)
-        with prefixes.cut(low) as short, self.steps.prefixes.cut(low) as path:
-            children = [self.start(self.ours, name) for name in (short, path)]
-            dumps = [child.communicate()[0] for child in children]
-        if dumps[0] and dumps[0] == dumps[1]:
+        short, whole = (dump_of(self.ours.run('vram', it.data(low))) for it in (prefixes, self.steps.prefixes))
+        if short is not None and short == whole:
             self.prefixes = prefixes

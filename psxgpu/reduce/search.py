@@ -37,14 +37,15 @@ class Search:
 
     def steps(self, path: str, name: str) -> Steps:
         """Returns the steps of a flat capture, ignored packets replaced by loads."""
-        program = (self.program or player.find()) if self.ignore else None
+        program = player.find(self.program) if self.ignore else ''
         return build(path, name, self.ignore, program)
 
     def shows(self, path: str) -> bool:
         """Returns whether a flat capture shows the fault."""
         self.tell('looking for the packet: the first %d bytes' % os.path.getsize(path))
         if self.ignore:
-            path = self.steps(path, path).file.name
+            with self.steps(path, path) as steps:
+                return self.prober.look(steps.prefixes.data(steps.count))
         with open(path, 'rb') as file:
             return self.prober.look(file.read())
 
@@ -53,9 +54,12 @@ class Search:
         """Yields the first packet of a flat capture that shows the fault, or that of the given event; None if there is
         no fault."""
         with beginning(flat, name, self.shows, self.event or FIRST_LOOK, grows=not self.event) as (path, _):
-            steps = self.steps(path, name)
-            if self.event:
-                k: Optional[int] = step_of_event(steps, name, self.event)
-            else:
-                k = bisect(steps.count, lambda n: self.prober.look(steps.prefixes.data(n)))
-            yield Found(steps.file.name, steps.events[k]) if k is not None else None
+            with self.steps(path, name) as steps:
+                k = self.step(steps, name)
+                yield Found(steps.file.name, steps.events[k]) if k is not None else None
+
+    def step(self, steps: Steps, name: str) -> Optional[int]:
+        """Returns the first step after which the fault is there, or that of the given event."""
+        if self.event:
+            return step_of_event(steps, name, self.event)
+        return bisect(steps.count, lambda n: self.prober.look(steps.prefixes.data(n)))

@@ -11,7 +11,8 @@ from typing import Dict, Iterable, Iterator, List, Optional, Sequence, Tuple
 
 from psxgpu.packets.split import LOAD, Splitter, data_words
 from psxgpu.players.steps import Cutter, Step
-from psxgpu.stream import GP0, GP1, HEADS, Stream, encode
+from psxgpu.stream import GP0, GP1, HEADS, encode
+from psxgpu.stream import Record as StreamRecord
 from psxgpu.words import corner
 
 APART, CONTROL, OTHER = 'apart', 'control', 'reads'
@@ -125,8 +126,8 @@ class Gatherer:
         self.held.append(step)
         return self.unit() if idle else None
 
-    def units(self, stream: Stream) -> Iterator[Tuple[Unit, int]]:
-        """Yields each unit with the number of events up to its end."""
+    def units(self, stream: Iterable[StreamRecord]) -> Iterator[Tuple[Unit, int]]:
+        """Yields each unit of records with the number of events up to its end."""
         events = 0
         for step in self.cutter.steps(stream):
             events += len(step.words) if step.kind == GP0 else step.count

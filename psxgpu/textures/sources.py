@@ -69,7 +69,7 @@ def source_of(name: str, words: Sequence[int], registers: Dict[int, int]) -> Opt
         attribute = coords[0] >> 16
     else:
         _, (w, h), coord = rectangle_parts(words)
-        if not w or not h:
+        if coord is None or not w or not h:
             return None
         u, v = texcoord_of(coord)
         us, vs = rectangle_span(u, w, bool(page >> 12 & 1)), rectangle_span(v, h, bool(page >> 13 & 1))

@@ -1,4 +1,5 @@
-/* The GPU of the bare console: a queue of 16 words, and the status bits of psx-spx. Times are rough, and long. */
+/* The GPU of the bare console: a queue of 16 words, and the status bits of psx-spx. Times are rough, and long. It draws
+   nothing and reads 0, unless it is built with the machine of libpsxgpu (-DWITH_MACHINE). */
 #include "bare.h"
 #include "ports.h"
 #include "psxgpu_capture.h"
@@ -12,8 +13,30 @@ static ports gpu;
 static uint32_t queue[QUEUE], queued, cost;
 static uint64_t ready_at, store_at;
 
+#ifdef WITH_MACHINE
+#include "psxgpu.h"
+
+static psxgpu machine = PSXGPU_NONE;
+
+static void draw(uint32_t word) { psxgpu_gp0(&machine, word); }
+static void control_machine(uint32_t word) { psxgpu_gp1(&machine, word); }
+
+static uint32_t read_machine(void) {
+    uint32_t word = 0;
+    psxgpu_read(&machine, &word);
+    return word;
+}
+#else
+static void draw(uint32_t word) { (void)word; }
+static void control_machine(uint32_t word) { (void)word; }
+static uint32_t read_machine(void) { return 0; }
+#endif
+
 int gpu_open(const char *path, uint32_t busy) {
     cost = busy;
+#ifdef WITH_MACHINE
+    if (psxgpu_new(&machine)) return ENOMEM;
+#endif
     return psxgpu_capture_open(&capture, path);
 }
 
@@ -24,6 +47,7 @@ static uint32_t pop(void) {
     const uint32_t word = queue[0];
     memmove(queue, queue + 1, 4 * --queued);
     ports_gp0(&gpu, word);
+    draw(word);
     return word;
 }
 
@@ -75,7 +99,7 @@ uint32_t gpu_read(void) {
     psxgpu_capture_read(&capture);
     counted.early += gpu.reads ? now < store_at : step_words() > 0;
     ports_read(&gpu);
-    return 0;
+    return read_machine();
 }
 
 void gpu_write(uint32_t word) {
@@ -100,4 +124,5 @@ void gpu_control(uint32_t word) {
         ready_at = now;
     }
     ports_gp1(&gpu, word);
+    control_machine(word);
 }

@@ -43,6 +43,12 @@ static uint32_t half_at(uint32_t at) {
     return byte_at(at)[0] | (uint32_t)byte_at(at)[1] << 8;
 }
 
+static void store_half(uint32_t at, uint32_t half) {
+    if (at & 1) refuse("write", at);
+    byte_at(at)[0] = (unsigned char)half;
+    byte_at(at)[1] = (unsigned char)(half >> 8);
+}
+
 /* Counts an instruction that reads a register in the delay slot of its load. */
 static void check_delay(uint32_t late, uint32_t op, uint32_t s, uint32_t t) {
     const int uses_s = op != 2 && op != 3 && op != 15, uses_t = !op || op == 4 || op == 5 || op >= 40;
@@ -91,6 +97,7 @@ static void instruction(void) {
     case 36: loading = t; loaded = *byte_at(a + constant); to = 0; break;
     case 37: loading = t; loaded = half_at(a + constant); to = 0; break;
     case 40: *byte_at(a + constant) = (unsigned char)b; to = 0; break;
+    case 41: store_half(a + constant, b); to = 0; break;
     case 43: write_word(a + constant, b); to = 0; break;
     default: refuse("instruction", code);
     }

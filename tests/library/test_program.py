@@ -7,7 +7,7 @@ import unittest
 ROOT = os.path.dirname(os.path.dirname(os.path.dirname(os.path.abspath(__file__))))
 sys.path.insert(0, ROOT)
 
-from psxgpu.players import in_process  # noqa: E402
+from psxgpu.players.named import LibraryPlayer, player_of  # noqa: E402
 from tests.library import support as program
 import psxgpu  # noqa: E402
 from psxgpu.capture import BEGIN, DMA, GP0, GP1, RAM, READ, SKIP, STAT, TURN, records  # noqa: E402
@@ -160,12 +160,12 @@ class AgainstTheProgram(unittest.TestCase):
 
     def test_tools_play_in_their_process(self):
         path = program.EXAMPLES[0]
-        self.assertEqual(in_process.mode_of('a/folder/psxgpu_tool vram'), 'vram')
-        for command in ('other vram', 'psxgpu_tool flat', 'psxgpu_tool pixel', "psxgpu_tool 'vram", ''):
-            self.assertIsNone(in_process.mode_of(command))
-        run = in_process.Played('no/such/psxgpu_tool vram', path)
-        self.assertEqual(run.communicate(), (program.play('vram', program.bytes_at(path))[1], b''))
-        self.assertEqual(run.returncode, 0)
+        player = player_of('psxgpu_tool vram')
+        self.assertIsInstance(player, LibraryPlayer)
+        for command in ('other vram', 'another/psxgpu_tool vram', 'psxgpu_tool flat', 'psxgpu_tool vram | cat'):
+            self.assertNotIsInstance(player_of(command), LibraryPlayer)
+        done = player.run('vram', program.bytes_at(path))
+        self.assertEqual(done, (0, program.play('vram', program.bytes_at(path))[1], b''))
 
 
 if __name__ == '__main__':
