@@ -10,18 +10,18 @@ import os
 import tempfile
 from typing import Iterator, Optional
 
-from psxgpu.command import pour, reading
+from psxgpu.command import Readable, pour, reading
 from psxgpu.dumps.format import NAME
 from psxgpu.dumps.reader import Dump
 from psxgpu.dumps.translation import Translation
-from psxgpu.packing import PACKED, Peeked, Pieces, Source, unpacked
+from psxgpu.packing import PACKED, Peeked, Pieces, unpacked
 from psxgpu.stream import HEADS, SNAPSHOT
 from psxgpu.trouble import title
 
 RECORDINGS = (*HEADS.values(), SNAPSHOT)
 
 
-def as_capture(peeked: Peeked, name: str) -> Source:
+def as_capture(peeked: Peeked, name: str) -> Readable:
     """Returns the bytes of a capture or snapshot: those of the file, or what its dump is as a capture."""
     if not peeked.first.startswith(NAME):
         return peeked
@@ -30,7 +30,7 @@ def as_capture(peeked: Peeked, name: str) -> Source:
 
 
 @contextlib.contextmanager
-def opened(path: str, name: Optional[str] = None) -> Iterator[Source]:
+def opened(path: str, name: Optional[str] = None) -> Iterator[Readable]:
     """The bytes of a capture or snapshot to read; `-` is standard input.
 
     `name` is what messages call the file. While it is read, `packing.Damaged` is raised if a packed file or a dump is
@@ -71,6 +71,8 @@ def plain(path: str, name: Optional[str] = None) -> Iterator[str]:
 
 
 def is_recording(path: str) -> bool:
-    """Returns whether a file is a capture, a snapshot or a dump, packed or not."""
+    """Returns whether a file of the disk is a capture, a snapshot or a dump, packed or not."""
+    if path == '-' or not os.path.isfile(path):
+        return False
     with unpacked(path) as peeked:
         return peeked.first.startswith((NAME, *RECORDINGS))

@@ -10,9 +10,9 @@ import lzma
 import os
 import tempfile
 import zlib
-from typing import IO, Any, Callable, Iterable, Iterator, Optional, Protocol, cast
+from typing import IO, Any, Callable, Iterable, Iterator, Optional, cast
 
-from psxgpu.command import BLOCK, pour, reading
+from psxgpu.command import BLOCK, Readable, pour, reading
 from psxgpu.output import writing
 from psxgpu.trouble import Trouble, title
 from psxgpu.zstd import ZstdFault, zstd_reader, zstd_writer
@@ -25,13 +25,6 @@ FAULTS = (EOFError, gzip.BadGzipFile, zlib.error, lzma.LZMAError, ZstdFault)
 XZ_PRESET = 1
 
 
-class Source(Protocol):
-    """What bytes are read from: `n` of them, fewer only at the end, and all that are left if `n` is negative."""
-
-    def read(self, n: int = -1, /) -> bytes:
-        """Returns the next bytes."""
-
-
 class Damaged(Trouble):
     """The contents of a file are at fault, and not the machine. Its text is the reason."""
 
@@ -39,7 +32,7 @@ class Damaged(Trouble):
 class Peeked:
     """A file whose first bytes are known: `first` has them until they are read."""
 
-    def __init__(self, file: Source, count: int = MOST_FIRST) -> None:
+    def __init__(self, file: Readable, count: int = MOST_FIRST) -> None:
         self.file, self.first = file, file.read(count)
 
     def read(self, n: int = -1, /) -> bytes:

@@ -10,11 +10,11 @@ import subprocess
 import tempfile
 from typing import IO, Any, Iterator, Optional
 
-from psxgpu.command import BLOCK
 from psxgpu.trouble import Trouble
 
 MISSING = '%s: a zstd file: install the package zstd, or python3-zstandard'
 LEVEL = 3
+PART = 1 << 12                  # packed bytes that a module takes at a time: what they unpack to is held
 
 
 class ZstdFault(ValueError):
@@ -36,20 +36,50 @@ class Child:
         return piece
 
 
-class Module:
-    """What a module unpacks."""
+class Own:
+    """What Python's own module unpacks, from 3.14 on."""
 
-    def __init__(self, stream: Any) -> None:
-        self.stream = stream
+    def __init__(self, module: Any, packed: IO[bytes]) -> None:
+        self.file, self.error = module.ZstdFile(packed), module.ZstdError
 
     def read1(self, n: int) -> bytes:
         """Returns at most `n` bytes. Raises `ZstdFault` if the packed bytes are at fault."""
         try:
-            return bytes(self.stream.read1(n))
-        except (OSError, MemoryError):
-            raise
-        except Exception as fault:      # each module has an error of its own
+            return bytes(self.file.read1(n))
+        except (EOFError, self.error) as fault:
             raise ZstdFault(str(fault)) from None
+
+
+class Frames:
+    """What the module `zstandard` unpacks, frame after frame."""
+
+    def __init__(self, module: Any, packed: IO[bytes]) -> None:
+        self.module, self.packed = module, packed
+        self.frame: Optional[Any] = None
+
+    def more(self) -> bytes:
+        """Returns packed bytes for the frame, a new one if the last one has ended; nothing at the end of the file."""
+        rest: bytes = self.frame.unused_data if self.frame and self.frame.eof else b''
+        data = rest or self.packed.read(PART)
+        if not data and self.frame and not self.frame.eof:
+            raise ZstdFault('the file ends inside a frame')
+        if data and (self.frame is None or self.frame.eof):
+            self.frame = self.module.ZstdDecompressor().decompressobj()
+        return data
+
+    def read1(self, _: int) -> bytes:
+        """Returns what the next packed bytes unpack to. Raises `ZstdFault` if they are at fault."""
+        out = b''
+        while not out:
+            data = self.more()
+            if not data:
+                break
+            assert self.frame
+            try:
+                out = bytes(self.frame.decompress(data))
+            except self.module.ZstdError as fault:
+                raise ZstdFault(str(fault)) from None
+        return out
 
 
 def reason(child: subprocess.Popen[bytes], said: IO[bytes]) -> str:
@@ -68,7 +98,7 @@ def module() -> Optional[Any]:
 
 
 @contextlib.contextmanager
-def started(words: list[str], name: str, **streams: Any) -> Iterator[tuple[subprocess.Popen[bytes], IO[bytes]]]:
+def started(words: list[str], **streams: Any) -> Iterator[tuple[subprocess.Popen[bytes], IO[bytes]]]:
     """A run of the program, ended with the block, and what it says."""
     with tempfile.TemporaryFile(prefix='psxgpu') as said:
         child = subprocess.Popen(['zstd', '-q', *words], stderr=said, **streams)
@@ -82,25 +112,23 @@ def started(words: list[str], name: str, **streams: Any) -> Iterator[tuple[subpr
 
 
 @contextlib.contextmanager
-def zstd_reader(packed: IO[bytes], name: str) -> Iterator[Child | Module]:
+def zstd_reader(packed: IO[bytes], name: str) -> Iterator[Child | Own | Frames]:
     """The unpacked bytes of a file of the disk, by `read1`."""
     if shutil.which('zstd'):
-        with started(['-dc'], name, stdin=packed, stdout=subprocess.PIPE) as run:
+        with started(['-dc'], stdin=packed, stdout=subprocess.PIPE) as run:
             yield Child(*run)
         return
     found = module()
     if found is None:
         raise Trouble(MISSING % name)
-    opened: Any = getattr(found, 'ZstdFile', None)
-    yield Module(opened(packed) if opened else
-                 found.ZstdDecompressor().stream_reader(packed, read_size=BLOCK, read_across_frames=True))
+    yield Own(found, packed) if hasattr(found, 'ZstdFile') else Frames(found, packed)
 
 
 @contextlib.contextmanager
 def zstd_writer(raw: IO[bytes], name: str) -> Iterator[IO[bytes]]:
     """A file to write to, which is packed into `raw`."""
     if shutil.which('zstd'):
-        with started(['-c', '-%d' % LEVEL], name, stdin=subprocess.PIPE, stdout=raw) as (child, said):
+        with started(['-c', '-%d' % LEVEL], stdin=subprocess.PIPE, stdout=raw) as (child, said):
             assert child.stdin
             yield child.stdin
             child.stdin.close()
@@ -110,7 +138,7 @@ def zstd_writer(raw: IO[bytes], name: str) -> Iterator[IO[bytes]]:
     found = module()
     if found is None:
         raise Trouble(MISSING % name)
-    opened: Any = getattr(found, 'ZstdFile', None)
-    with (opened(raw, 'wb', level=LEVEL) if opened else
+    own: Any = getattr(found, 'ZstdFile', None)
+    with (own(raw, 'wb', level=LEVEL) if own else
           found.ZstdCompressor(LEVEL).stream_writer(raw, closefd=False)) as file:
         yield file

@@ -11,9 +11,10 @@ from psxgpu.dumps.translation import END, Translation
 from psxgpu.packing import Damaged
 from psxgpu.stream import Stream
 
-# Recordings of real programs that lie beside a checkout, where they do.
-RECORDINGS = sorted(glob.glob(os.path.join(os.path.dirname(support.TOP), 'shared', 'trials', 'real', 'captures',
-                                           '*.capture*.zst')))
+# Recordings of real programs: those of the folder that RECORDINGS names, or beside the checkout.
+RECORDINGS = sorted(glob.glob(os.path.join(
+    os.environ.get('RECORDINGS', os.path.join(os.path.dirname(support.TOP), 'shared', 'trials', 'real', 'captures')),
+    '*.capture.zst')))
 ALL_EXAMPLES = sorted(glob.glob(os.path.join(support.EXAMPLES, '*.capture*')))
 
 

@@ -117,10 +117,11 @@ class Zstd(support.InFolder):
     @unittest.skipUnless(HAS_MODULE, 'no module for zstd')
     def test_module(self):
         path = self.write('a.zst', zstd(CAPTURE[:100]) + zstd(CAPTURE[100:]))
+        cut = self.write('b.zst', zstd(CAPTURE)[:-9])
         with without_program():
             self.assertEqual(read_capture(path), CAPTURE)
             with self.assertRaisesRegex(Damaged, 'name: damaged: '):
-                read_capture(self.write('b.zst', zstd(CAPTURE)[:-9]), 'name')
+                read_capture(cut, 'name')
             with packing(self.path('c.zst')) as file:
                 file.write(CAPTURE)
         self.assertEqual(read_capture(self.path('c.zst')), CAPTURE)

@@ -1,31 +1,45 @@
-"""Compares two dumps of video memory, or two pictures (PPM, PNG).
+"""Compares two dumps of video memory, two pictures (PPM, PNG), or two recordings frame by frame.
 
     psxgpu compare ours.bin theirs.bin difference.png
     psxgpu compare ours.ppm theirs.png --tolerance 8 --side side.png
+    psxgpu compare before.capture after.psxgpu.zst difference.png
 
 Prints `equal`, or the first cell that differs, how many do, the box around them, and how many differ by how much. A
 cell's difference is that of its farthest channel, in steps: of 31 in a dump, of 255 in a picture; bit 15 of a cell
 counts as one of its own. The first picture has equal cells in dark gray and those that differ in red; that of --side
-has ours, theirs and the difference. Status: 0 equal, 1 different, 2 an error.
+has ours, theirs and the difference.
+
+Recordings are captures, snapshots or GPU dumps. psxgpu_tool makes their pictures: those after each write of the display
+start, or after each mark (--marks), and the one at the end. Printed are the number of the first frame that differs, its
+event in both recordings, and the size and SHA-256 of both pictures; then how these differ. If all frames are equal,
+video memory after the end is compared. The events may have other numbers: a status read more is no difference.
+
+Status: 0 equal, 1 different, 2 an error.
 """
 import argparse
 import os
+from typing import List, Tuple
 
 from psxgpu import progress
-from psxgpu.command import DIFFERENT, SAME, Trouble, decimal
+from psxgpu.command import DIFFERENT, SAME, Trouble, decimal, title
 from psxgpu.difference import Difference, Grid, beside
+from psxgpu.files import is_recording, plain
 from psxgpu.image import about, load_file, write_image
 from psxgpu.output import refuse_inputs
+from psxgpu.players import frames, player
 
 
 def arguments(parser: argparse.ArgumentParser) -> None:
     """Adds the arguments of this tool."""
-    parser.add_argument('ours', metavar='OURS', help='a dump or a picture; - is standard input')
+    parser.add_argument('ours', metavar='OURS', help='a dump of video memory, a picture, or a recording; - is standard input')
     parser.add_argument('theirs', metavar='THEIRS', help='another of the same kind')
     parser.add_argument('picture', nargs='?', metavar='PICTURE', help='the difference as a picture to write')
     parser.add_argument('--tolerance', type=decimal(0, 255), default=0, metavar='N',
                         help='cells whose channels are at most N steps apart count as equal')
     parser.add_argument('--side', metavar='PICTURE', help='a picture to write of ours, theirs and the difference side by side')
+    parser.add_argument('--marks', action='store_true',
+                        help='of recordings: frames end at marks (GP1 3Fh) and not at new display starts')
+    player.argument(parser)
 
 
 def check_outputs(words: argparse.Namespace) -> None:
@@ -37,16 +51,33 @@ def check_outputs(words: argparse.Namespace) -> None:
         raise Trouble('%s: the name of both pictures: name another output' % words.side)
 
 
-def run(words: argparse.Namespace) -> int:
-    """Prints the difference and draws it."""
-    check_outputs(words)
-    files = [(path, *load_file(path)) for path in (words.ours, words.theirs)]
+def are_recordings(paths: Tuple[str, str]) -> bool:
+    """Returns whether recordings are compared. What comes from a pipe is of the kind of the other file. Raises Trouble
+    if one file is a recording and the other is not."""
+    found = [is_recording(path) for path in paths]
+    if any(found) and any(not it and os.path.isfile(path) for it, path in zip(found, paths)):
+        raise Trouble('%s and %s: one is a recording' % paths)
+    return any(found)
+
+
+def shape_text(grid: Grid) -> str:
+    """Returns width and height."""
+    return '%d by %d' % (grid.width, grid.height)
+
+
+def grids_of_files(paths: Tuple[str, str]) -> List[Grid]:
+    """Returns the cells of two dumps or pictures. Raises Trouble if they are not of one kind and shape."""
+    files = [(path, *load_file(path)) for path in paths]
     grids = [about(path, Grid, data, is_picture) for path, data, is_picture in files]
     if files[0][2] != files[1][2]:
-        raise Trouble('%s and %s: a dump and a picture' % (words.ours, words.theirs))
-    shapes = ['%d by %d' % (grid.width, grid.height) for grid in grids]
-    if shapes[0] != shapes[1]:
-        raise Trouble('%s and %s: %s and %s' % (words.ours, words.theirs, *shapes))
+        raise Trouble('%s and %s: a dump and a picture' % paths)
+    if shape_text(grids[0]) != shape_text(grids[1]):
+        raise Trouble('%s and %s: %s and %s' % (*paths, *map(shape_text, grids)))
+    return grids
+
+
+def show_difference(words: argparse.Namespace, grids: List[Grid]) -> int:
+    """Prints how two grids of one shape differ, and draws it. Returns the status."""
     with progress.shown('compare', is_quiet=True):
         difference = Difference(grids[0], grids[1], words.tolerance)
     print('\n'.join(difference.lines()))
@@ -55,3 +86,33 @@ def run(words: argparse.Namespace) -> int:
     if words.side:
         write_image(words.side, beside([grid.image() for grid in grids] + [difference.image()]))
     return DIFFERENT if difference.count else SAME
+
+
+def compare_recordings(words: argparse.Namespace) -> int:
+    """Prints and draws the first difference of two recordings. Returns the status."""
+    program, names = player.find(words.player), (title(words.ours), title(words.theirs))
+    with plain(words.ours) as ours, plain(words.theirs) as theirs:
+        with progress.shown('compare', is_quiet=True):
+            finding = frames.first_difference(names, (ours, theirs), program, words.marks)
+        print('\n'.join(finding.lines))
+        if finding.is_same:
+            return SAME
+        data, is_picture = finding.contents((ours, theirs), program)
+    grids = [Grid(it, is_picture) for it in data]
+    if len(grids) == 2 and shape_text(grids[0]) == shape_text(grids[1]):
+        return show_difference(words, grids)
+    if words.picture or words.side:
+        print('no picture is written: %s' % ('the frames are not of one size' if len(grids) == 2 else
+                                             'one recording alone has the frame'))
+    return DIFFERENT
+
+
+def run(words: argparse.Namespace) -> int:
+    """Prints the difference and draws it."""
+    check_outputs(words)
+    paths = words.ours, words.theirs
+    if not are_recordings(paths):
+        return show_difference(words, grids_of_files(paths))
+    if words.tolerance:
+        raise Trouble('--tolerance is for dumps of video memory and pictures')
+    return compare_recordings(words)

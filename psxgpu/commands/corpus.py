@@ -4,8 +4,9 @@
     psxgpu corpus check captures --golden captures.sums --player ./new --reference ./old
     psxgpu corpus split long.capture --parts 8 --into parts
 
-`record` plays all captures of the folders, on all processors, and writes a file of sums, a block for each capture. The
-player is a command to which `sums`, `vram` or `play` is added, with the capture on standard input; what it does not
+`record` plays all captures, snapshots and GPU dumps of the folders, packed or not, on all processors, and writes a file
+of sums, a block for each. The player is a command to which `sums`, `vram` or `play` is added, with the capture on
+standard input; what it does not
 know is left out. `check` plays them again and reports what is not as recorded, on standard output and as report.txt,
 junit.xml and report.html in the folder of the report. With a reference, a player that writes what was recorded, it finds
 the first packet and draws the difference. `join` makes one file of sums of several, as when each machine played a part.
@@ -33,6 +34,7 @@ from psxgpu.corpus.play import Player
 from psxgpu.corpus.reduced import reduce_finding
 from psxgpu.corpus.scan import FLIP, MARK
 from psxgpu.corpus.sums import Sums, read_sums, write_text
+from psxgpu.files import plain
 from psxgpu.players.player import find
 
 USUAL = ('frames', 'vram', 'words')
@@ -106,9 +108,10 @@ def check(words: argparse.Namespace) -> int:
     reference = Player(words.reference, words.limit) if words.reference else None
     places = Places(player, reference)
     for finding in [it for it in findings if it.kind == 'different' and it.name in paths][:words.pictures]:
-        places.look(finding, paths[finding.name])
-        if words.reduce and reference:
-            reduce_finding(finding, paths[finding.name], player, reference, words.report)
+        with plain(paths[finding.name], finding.name) as path:
+            places.look(finding, path)
+            if words.reduce and reference:
+                reduce_finding(finding, path, player, reference, words.report)
     text = report.text(findings)
     for name, data in (('report.txt', text), ('junit.xml', report.junit(findings)),
                        ('report.html', report.page(findings, want.player, got.player))):

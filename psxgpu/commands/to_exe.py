@@ -9,9 +9,10 @@ each thing that consoles may do otherwise; 2: trouble.
 import argparse
 import sys
 
-from psxgpu.command import decimal, main, seekable, title, writing
+from psxgpu.command import decimal, main, title, writing
 from psxgpu.console import Choices, Frames, Source, make
 from psxgpu.console.plan import BLANKS
+from psxgpu.files import plain
 from psxgpu.output import refuse_inputs
 from psxgpu.players import player
 
@@ -34,7 +35,7 @@ def run(words: argparse.Namespace) -> None:
     """Writes the program."""
     name = title(words.capture)
     refuse_inputs(words.out, [words.capture])
-    with seekable(words.capture) as path:
+    with plain(words.capture) as path:
         choices = Choices(words.check, words.blanks, words.pack, Frames(words.first, words.frames))
         program = make(Source(player.find(words.player), path, name), choices)
     with writing(words.out, [words.capture]) as file:

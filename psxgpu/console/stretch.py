@@ -1,5 +1,8 @@
 """A stretch of a capture: some of its frames, with the state before them, as a capture of its own."""
+from __future__ import annotations
+
 import struct
+from array import array
 from typing import IO, List, NamedTuple, Optional, Tuple
 
 from psxgpu.capture import Capture
@@ -15,12 +18,12 @@ REGISTERS, CELLS, DUMP = 8 + 12, 8 + 4 * 19, 1 << 20
 
 
 class Frames(NamedTuple):
-    """Frames of a capture: `count` of them (None: all) after the first `first`."""
+    """Frames of a capture: `number` of them (None: all) after the first `first`."""
     first: int
-    count: Optional[int]
+    number: Optional[int]
 
 
-def opcode_of(record: Tuple[int, int, 'array[int]']) -> Optional[int]:  # noqa: F821
+def opcode_of(record: Tuple[int, int, array[int]]) -> Optional[int]:
     """Returns the opcode of a record of GP1."""
     return record[2][0] >> 24 & 0x3F if record[0] == GP1 else None
 
@@ -51,7 +54,7 @@ def events_of(flat: Source, frames: Frames) -> Tuple[int, int]:
             seen += is_end
             if begin is None and seen >= frames.first and unfinished.is_idle():
                 begin = events
-            if is_end and frames.count is not None and seen == frames.first + frames.count:
+            if is_end and frames.number is not None and seen == frames.first + frames.number:
                 break
     if seen < frames.first:
         raise Trouble('it has %d frames' % seen)

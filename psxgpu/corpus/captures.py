@@ -5,8 +5,10 @@ from dataclasses import dataclass
 from typing import Dict, Iterable, Iterator, List, Sequence, Tuple
 
 from psxgpu.command import Trouble
+from psxgpu.packing import ENDINGS
 
-NAMES = ('*.capture', '*.snapshot', '*.cap')
+# Names of captures. Files whose packed form ends in .gz, .xz or .zst are captures, too.
+NAMES = ('*.capture', '*.snapshot', '*.cap', '*.psxgpu')
 
 
 @dataclass(frozen=True)
@@ -29,7 +31,7 @@ def captures_of(places: Iterable[str], names: Sequence[str] = NAMES) -> List[Cap
                 raise Trouble('%r: a file of sums cannot have a name of two lines' % path)
             found[name] = Capture(name, path, os.path.getsize(path))
     if not found:
-        raise Trouble('%s: no capture (%s)' % (' '.join(places), ' '.join(names)))
+        raise Trouble('%s: no capture (%s; also with %s)' % (' '.join(places), ' '.join(names), ' '.join(ENDINGS)))
     return [found[name] for name in sorted(found)]
 
 
@@ -42,6 +44,7 @@ def files_of(place: str, names: Sequence[str]) -> Iterator[Tuple[str, str]]:
     for folder, folders, files in os.walk(place):
         folders.sort()
         for file in sorted(files):
-            if any(fnmatch.fnmatch(file, name) for name in names):
+            base, ending = os.path.splitext(file)
+            if any(fnmatch.fnmatch(file, name) or ending in ENDINGS and fnmatch.fnmatch(base, name) for name in names):
                 path = os.path.join(folder, file)
                 yield os.path.relpath(path, place), path

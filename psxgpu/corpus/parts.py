@@ -7,6 +7,7 @@ from typing import List, Sequence
 from psxgpu.command import Trouble, writing
 from psxgpu.corpus.play import Player
 from psxgpu.corpus.scan import FLIP, copy_first, frames
+from psxgpu.files import plain
 from psxgpu.output import refuse_inputs
 
 
@@ -22,32 +23,33 @@ def places(path: str, parts: int, opcode: int) -> List[int]:
     wanted = [last * k // parts for k in range(1, parts)]
     chosen = sorted({nearest(found, want) for want in wanted} if found else set())
     if len(chosen) + 1 < parts:
-        raise Trouble('%s: %d frames, too few for %d parts' % (path, len(found), parts))
+        raise ValueError('%d frames, too few for %d parts' % (len(found), parts))
     return chosen + [last]
 
 
-def write_part(path: str, before: int, last: int, target: str, player: Player) -> None:
-    """Writes the events after `before` up to `last`."""
+def write_part(path: str, name: str, before: int, last: int, target: str, player: Player) -> None:
+    """Writes the events after `before` up to `last`. `name` is what messages call the recording."""
     with tempfile.TemporaryFile() as first, writing(target) as out:
         copy_first(path, last, first if before else out)
         if before:
             first.seek(0)
             with player.run('cut %d' % before, first) as run:
                 if run.end != 'played':
-                    raise Trouble('%s: cut %d: %s' % (path, before, run.end))
+                    raise Trouble('%s: cut %d: %s' % (name, before, run.end))
                 shutil.copyfileobj(run.out, out)
 
 
 def split(path: str, parts: int, folder: str, player: Player, opcode: int = FLIP) -> None:
     """Writes the parts of a recording into a folder, and prints their names."""
-    try:
-        ends = places(path, parts, opcode)
-    except ValueError as error:
-        raise Trouble('%s: %s' % (path, error)) from error
-    os.makedirs(folder, exist_ok=True)
-    names = ['%03d.%s' % (k, 'snapshot' if k > 1 else 'capture') for k in range(1, len(ends) + 1)]
-    for name in names:
-        refuse_inputs(os.path.join(folder, name), [path])
-    for name, before, last in zip(names, [0] + ends, ends):
-        write_part(path, before, last, os.path.join(folder, name), player)
-        print('%s: events %d to %d' % (name, before + 1, last))
+    with plain(path) as whole:
+        try:
+            ends = places(whole, parts, opcode)
+        except ValueError as error:
+            raise Trouble('%s: %s' % (path, error)) from error
+        os.makedirs(folder, exist_ok=True)
+        names = ['%03d.%s' % (k, 'snapshot' if k > 1 else 'capture') for k in range(1, len(ends) + 1)]
+        for name in names:
+            refuse_inputs(os.path.join(folder, name), [path])
+        for name, before, last in zip(names, [0] + ends, ends):
+            write_part(whole, path, before, last, os.path.join(folder, name), player)
+            print('%s: events %d to %d' % (name, before + 1, last))

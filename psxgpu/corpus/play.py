@@ -14,6 +14,8 @@ from psxgpu.command import Trouble, named
 from psxgpu.corpus.captures import Capture
 from psxgpu.corpus.sums import Frame, Row
 from psxgpu.corpus.scan import reads_before
+from psxgpu.files import plain
+from psxgpu.packing import Damaged
 from psxgpu.players.named import CommandPlayer
 
 PIECE = 1 << 16
@@ -129,16 +131,24 @@ class Player:
         return row
 
     def played(self, capture: Capture) -> Row:
-        """Plays a capture. Returns its row."""
+        """Plays a capture. Returns its row. The player gets it unpacked, and a dump as a capture. One that is damaged is
+        refused without it."""
         row = Row(capture.name, *size_and_sum(capture.path))
-        ends = []
-        with open(capture.path, 'rb') as source:
-            if self.gives != ('words',):
-                ends.append(self.take_pictures(row, source))
-            if 'words' in self.gives and (not ends or not ends[0].startswith(('hangs', 'crashes'))):
-                ends.append(self.take_words(row, source, capture.path))
-        row.end = next((end for end in ends if end != 'played'), 'played')
+        try:
+            with plain(capture.path, capture.name) as path, open(path, 'rb') as source:
+                row.end = self.take(row, source, path)
+        except Damaged as fault:
+            row.end = 'refused 2 %s' % fault
         return row
+
+    def take(self, row: Row, source: IO[bytes], path: str) -> str:
+        """Adds all that is asked for. Returns how the player ended: the first run that did not end well, if any."""
+        ends = []
+        if self.gives != ('words',):
+            ends.append(self.take_pictures(row, source))
+        if 'words' in self.gives and (not ends or not ends[0].startswith(('hangs', 'crashes'))):
+            ends.append(self.take_words(row, source, path))
+        return next((end for end in ends if end != 'played'), 'played')
 
     def take_pictures(self, row: Row, source: IO[bytes]) -> str:
         """Adds the sums of pictures and of video memory. Returns how the player ended."""

@@ -5,8 +5,9 @@ from array import array
 from collections import Counter
 from typing import Iterator
 
+from psxgpu.command import Readable
 from psxgpu.dumps.format import HEAD, MOST_WORDS, NAME, PORT0, PORT1, READBACK, TITLES
-from psxgpu.packing import Damaged, Source
+from psxgpu.packing import Damaged
 from psxgpu.stream import BEGINNINGS, HEADS, little
 from psxgpu.trouble import Trouble
 
@@ -24,7 +25,7 @@ class Dump:
     the words for a port before that come first. `place` is the byte of the last packet.
     """
 
-    def __init__(self, file: Source, name: str) -> None:
+    def __init__(self, file: Readable, name: str) -> None:
         self.file, self.name = file, name
         self.block, self.at = array('I'), 0
         self.before, self.rest = len(HEAD), b''     # bytes before the block; bytes at its end that are no word

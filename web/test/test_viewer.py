@@ -157,7 +157,8 @@ class Viewer(unittest.TestCase):
         self.assertEqual(self.page.ask('memory'), sum_of(program('vram', data=data)[0]))
         self.assertIn('damaged', self.page.load(gzip.compress(data)[:500]))
         told = self.page.load(in_zstd(data))
-        self.assertEqual(told, True if self.page.ask('unpacks', 'zstd') else 'a.capture: this browser cannot unpack zstd: unpack the file first')
+        self.assertEqual(told, True if self.page.ask('unpacks', 'zstd') else
+                         'a.capture: this browser cannot unpack zstd: unpack the file first, as with zstd -d')
         self.assertIn('truncated', self.page.load(gzip.compress(data[:500])))
 
 
