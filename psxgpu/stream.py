@@ -9,7 +9,7 @@ A capture that breaks the format is `Trouble`, with the byte. docs/CAPTURE.md ha
 import contextlib
 import sys
 from array import array
-from typing import Iterable, Iterator, NoReturn, Optional, Tuple
+from typing import Dict, Iterable, Iterator, NoReturn, Optional, Tuple
 
 from psxgpu.command import Readable, Trouble, reading
 
@@ -23,6 +23,9 @@ VERSIONS = {head: version for version, head in HEADS.items()}
 SNAPSHOT = b'PSXGPUS1'
 BLOCK = 1 << 18
 Record = Tuple[int, int, 'array[int]']      # kind, count, words
+WANTED = {GP1: 1, DMA: 3, BEGIN: 3}         # words of other records than Gp0 and Ram
+MOST_SIZES = 4096
+NONE = (END, 0, 0)
 SINGLE = GP0 << 24 | 1                      # the tag of a Gp0 record with one word
 RUN = array('I', [SINGLE]) * 16384
 # What files begin with that are often taken for captures.
@@ -65,6 +68,7 @@ class Stream:
         self.file, self.name, self.exact = file, name, exact
         self.block, self.at = array('I'), 0
         self.before, self.rest = 8, 0       # bytes before the block; bytes at the end that are no word
+        self.sizes: Dict[int, Tuple[int, int, int]] = {}    # by tag, of tags that were met
         head = file.read(8)
         if head not in VERSIONS:
             self.refuse(head)
@@ -108,9 +112,9 @@ class Stream:
         """Returns the words of the next records, as far as they are Gp0 records of one word within the block. Returns None
         if the next record is none."""
         block, at = self.block, self.at
-        most = min((len(block) - at) // 2, len(RUN))
-        if not most or block[at] != SINGLE:
+        if at + 1 >= len(block) or block[at] != SINGLE:
             return None
+        most = min((len(block) - at) // 2, len(RUN))
         low, n = 1, 4
         while n < most and block[at:at + 2 * n:2] == RUN[:n]:
             low, n = n, 4 * n
@@ -124,32 +128,63 @@ class Stream:
         self.at = at + 2 * low
         return block[at + 1:self.at:2]
 
-    def __iter__(self) -> Iterator[Record]:
-        wanted = {GP1: 1, DMA: 3, BEGIN: 3}
-        while True:
-            if self.at == len(self.block):
-                self.more(1)
-            words = self.singles()
-            if words and self.exact:
-                yield from ((GP0, 1, array('I', (word,))) for word in words)
-            elif words:
-                yield GP0, len(words), words
-            if words:
-                continue
-            place = self.place
-            tag = self.take(1)[0]
+    def tag(self) -> Tuple[int, int, int]:
+        """Returns kind and count of the next record and the number of its words, and takes its tag. Raises Trouble if it is
+        not a record."""
+        if self.at == len(self.block):
+            self.more(1)
+        tag = self.block[self.at]
+        if tag not in self.sizes:
             kind, count = tag >> 24, tag & 0xFFFFFF
             if not is_allowed(self.version, kind, count):
                 raise Trouble('%s: byte %d: %08x begins no record of version %d'
-                              % (self.name, place, tag, self.version))
+                              % (self.name, self.place, tag, self.version))
+            if len(self.sizes) == MOST_SIZES:
+                self.sizes.clear()
+            self.sizes[tag] = kind, count, count + (kind == RAM) if kind in (RAM, GP0) else WANTED.get(kind, 0)
+        self.at += 1
+        return self.sizes[tag]
+
+    def kinds(self) -> Iterator[int]:
+        """Returns the kinds of the records up to End. Neighbouring Gp0 records of one word may be one."""
+        sizes = self.sizes
+        while True:
+            if self.singles():
+                yield GP0
+                continue
+            block, at, end = self.block, self.at, len(self.block)
+            while at < end:                     # records that were met, as long as they are within the block
+                kind, _, size = sizes.get(block[at], NONE)
+                if at + size >= end or block[at] == SINGLE or not kind:
+                    break
+                at += 1 + size
+                yield kind
+            self.at = at
+            kind, _, size = self.tag()
+            if kind == END:
+                return
+            self.take(size)
+            yield kind
+
+    def __iter__(self) -> Iterator[Record]:
+        while True:
+            words = self.singles()
+            if words:
+                if self.exact:
+                    yield from ((GP0, 1, array('I', (word,))) for word in words)
+                else:
+                    yield GP0, len(words), words
+                continue
+            kind, count, size = self.tag()
             if kind == END:
                 return
             try:
-                words = self.take(count + (kind == RAM) if kind in (RAM, GP0) else wanted.get(kind, 0))
+                words = self.take(size)
             except Trouble:
                 yield from self.beginning(kind, count)
                 raise
-            self.check_address(kind, count, words)
+            if kind == RAM:
+                self.check_address(kind, count, words)
             yield kind, count, words
 
     def beginning(self, kind: int, count: int) -> Iterator[Record]:
@@ -170,7 +205,7 @@ class Stream:
 def is_flat(path: str) -> bool:
     """Returns whether a capture has port writes and reads alone, as far as it can be read."""
     with contextlib.suppress(Trouble), reading(path) as file:
-        return not any(kind in NOT_FLAT for kind, _, _ in Stream(file, path))
+        return not any(kind in NOT_FLAT for kind in Stream(file, path).kinds())
     return True
 
 

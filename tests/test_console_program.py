@@ -77,7 +77,8 @@ class Bare(support.InFolder):
         self.assertEqual(found[BEGINS:BEGINS + len(wanted)], wanted)
 
     def test_nothing_is_lost(self):
-        cells = [random.Random(1).getrandbits(16) for _ in range(999)]
+        r = random.Random(1)
+        cells = [r.getrandbits(16) for _ in range(999)]
         self.expect_well(Capture().gp0(drawing_area(0, 0, 319, 239), line([(k * 7 % 300, k) for k in range(200)], 255)))
         self.expect_well(Capture().gp0(fill(7, 0, 0, 64, 64), load(1, 2, 27, 37, cells), load(9, 50, 27, 37, cells),
                                        load(0, 0, 64, 64, [9] * 4096), rectangle(1, 2, 3, 4, 5)))

@@ -1,4 +1,5 @@
 """Tests of the command `psxgpu to-exe`."""
+import contextlib
 import os
 import random
 import unittest
@@ -39,6 +40,8 @@ class ToExe(support.InFolder):
             self.assertIn('%s: %s' % (self.path('a.capture'), text), said)
 
     def refused(self, path, *words):
+        with contextlib.suppress(FileNotFoundError):
+            os.remove(self.path('a.exe'))
         status, out, said = self.make(path, *words)
         self.assertEqual((status, out, os.path.exists(self.path('a.exe')), said.count('\n')), (2, '', False, 1), said)
         return said
@@ -51,7 +54,8 @@ class ToExe(support.InFolder):
         self.assertIn('is also the input', self.make(path)[2])
 
     def test_what_is_too_large_is_packed(self):
-        cells = [random.Random(1).getrandbits(4) for _ in range(1 << 17)]
+        r = random.Random(1)
+        cells = [r.getrandbits(4) for _ in range(1 << 17)]
         capture = Capture()
         for k in range(8):
             capture.gp0(load(0, 0, 512, 256, [cell + k for cell in cells]))

@@ -45,8 +45,8 @@ def entry_text(entry: Entry, on_one_line: bool) -> str:
     """Returns an entry with its fields."""
     fields = entry.fields()
     if on_one_line:
-        return ' | '.join([entry.line] + (['; '.join(fields)] if fields else []))
-    return '\n    '.join([entry.line, *fields])
+        return ' | '.join([entry.line] + (['; '.join(fields)] if fields else [])) + '\n'
+    return '\n    '.join([entry.line, *fields]) + '\n'
 
 
 def show_refusal(said: str) -> None:
@@ -65,7 +65,7 @@ def run(words: argparse.Namespace) -> int:
     if words.events and words.events[0] > words.events[1]:
         raise Trouble('--events %d %d: the first comes after the last' % tuple(words.events))
     program, name = player.find(words.player), title(words.capture)
-    count = 0
+    count, write = 0, sys.stdout.write
     with plain(words.capture) as path:
         with reading(path) as file:
             Stream(file, name)          # a file that is not a capture is refused at once
@@ -73,7 +73,7 @@ def run(words: argparse.Namespace) -> int:
         with progress.shown(name):
             for entry in listing:
                 if is_asked_for(words, entry):
-                    print(entry_text(entry, words.line))
+                    write(entry_text(entry, words.line))
                     count += 1
     if listing.refusal:
         show_refusal(listing.refusal)

@@ -1,9 +1,11 @@
 """What a packet says, in words: its colours, vertices, texture and what else is in force for it."""
-from typing import Dict, Iterable, List, Optional, Sequence, Tuple
+from functools import lru_cache
+from typing import Dict, List, Optional, Sequence, Tuple
 
 from psxgpu.packets.split import (COPY, ENVIRONMENT, FILL, LINE, LOAD, POLYGON, POLYLINE, QUAD, RAW, RECTANGLE, SEMI,
                                   SHADED, STORE, TEXTURED, cells_of)
 
+CACHED = 1 << 14        # texts that are kept of each kind
 BLENDS = ('B/2+F/2', 'B+F', 'B-F', 'B+F/4')
 DEPTHS = (4, 8, 15, 15)
 Point = Tuple[int, int]
@@ -26,6 +28,7 @@ def texcoord_of(word: int) -> Point:
     return word & 0xFF, word >> 8 & 0xFF
 
 
+@lru_cache(CACHED)
 def color_of(word: int) -> str:
     """Returns red, green and blue of a colour."""
     return '%d %d %d' % (word & 0xFF, word >> 8 & 0xFF, word >> 16 & 0xFF)
@@ -36,17 +39,26 @@ def pair(place: Point) -> str:
     return '(%d, %d)' % place
 
 
-def pairs(places: Iterable[Point]) -> str:
-    """Returns points as text."""
-    return ' '.join(map(pair, places))
+@lru_cache(CACHED)
+def vertex_text(word: int) -> str:
+    """Returns a vertex as text."""
+    return pair(vertex_of(word))
 
 
+@lru_cache(CACHED)
+def texcoord_text(word: int) -> str:
+    """Returns a texture coordinate as text."""
+    return pair(texcoord_of(word))
+
+
+@lru_cache(CACHED)
 def page_text(page: int) -> str:
     """Returns a texture page as text, from the bits of E1h."""
     place = (page & 15) * 64, (page >> 4 & 1) * 256 + (page >> 11 & 1) * 512
     return 'page %s of %d bits' % (pair(place), DEPTHS[page >> 7 & 3])
 
 
+@lru_cache(CACHED)
 def palette_text(attribute: int) -> str:
     """Returns the place of a palette as text."""
     return 'palette %s' % pair(((attribute & 63) * 16, attribute >> 6 & 511))
@@ -60,48 +72,59 @@ def window_text(value: int) -> List[str]:
     return ['window mask %s offset %s' % tuple([pair((8 * x, 8 * y)) for x, y in (mask, offset)])]
 
 
-def texture_text(words: Sequence[int], attribute: int, registers: Registers) -> List[str]:
-    """Returns page, palette and window of a textured packet."""
-    page, raw = registers[0xE1], words[0] >> 24 & RAW
-    texts = [page_text(page)] + ([palette_text(attribute)] if page >> 7 & 3 < 2 else []) + window_text(registers[0xE2])
-    return [', '.join(texts) + (', raw' if raw else '')]
+@lru_cache(CACHED)
+def texture_text(raw: int, attribute: int, page: int, window: int) -> str:
+    """Returns page, palette and window of a textured packet. `page`, `window`: the values of E1h and E2h."""
+    texts = [page_text(page)] + ([palette_text(attribute)] if page >> 7 & 3 < 2 else []) + window_text(window)
+    return ', '.join(texts) + (', raw' if raw else '')
+
+
+@lru_cache(CACHED)
+def setting_words(is_semi: int, mode: int, offset: int, mask: int) -> str:
+    """Returns what is in force for a packet that is drawn. `mode`, `offset`, `mask`: the values of E1h, E5h and E6h."""
+    texts = ['semi-transparent %s' % BLENDS[mode >> 5 & 3]] if is_semi else []
+    if mode >> 9 & 1:
+        texts.append('dithered')
+    place = signed(offset), signed(offset >> 11)
+    if place != (0, 0):
+        texts.append('offset %s' % pair(place))
+    if mask & 3:
+        texts.append('mask setting %d' % (mask & 3))
+    return ', '.join(texts)
 
 
 def settings_text(opcode: int, registers: Registers, can_dither: bool) -> List[str]:
     """Returns what is in force for a packet that is drawn."""
-    texts = []
-    if opcode & SEMI:
-        texts.append('semi-transparent %s' % BLENDS[registers[0xE1] >> 5 & 3])
-    if can_dither and registers[0xE1] >> 9 & 1:
-        texts.append('dithered')
-    offset = signed(registers[0xE5]), signed(registers[0xE5] >> 11)
-    if offset != (0, 0):
-        texts.append('offset %s' % pair(offset))
-    if registers[0xE6] & 3:
-        texts.append('mask setting %d' % (registers[0xE6] & 3))
-    return [', '.join(texts)] if texts else []
+    mode = registers[0xE1] if can_dither else registers[0xE1] & ~0x200
+    text = setting_words(opcode & SEMI, mode, registers[0xE5], registers[0xE6])
+    return [text] if text else []
+
+
+def polygon_words(words: Sequence[int]) -> Tuple[Sequence[int], Sequence[int], Sequence[int]]:
+    """Returns the words of the vertices of a polygon, of its colours and of its texture coordinates."""
+    opcode = words[0] >> 24
+    step = 1 + bool(opcode & SHADED) + bool(opcode & TEXTURED)
+    end = 1 + step * (4 if opcode & QUAD else 3)
+    return (words[1:end:step], words[:end - 1:step] if opcode & SHADED else words[:1],
+            words[2:end + 1:step] if opcode & TEXTURED else ())
 
 
 def polygon_parts(words: Sequence[int]) -> Tuple[List[Point], List[int], List[int]]:
     """Returns the vertices of a polygon, and the words of its colours and texture coordinates."""
-    opcode = words[0] >> 24
-    step = 1 + bool(opcode & SHADED) + bool(opcode & TEXTURED)
-    places = range(1, 1 + step * (4 if opcode & QUAD else 3), step)
-    colors = [words[at - 1] for at in places] if opcode & SHADED else [words[0]]
-    return ([vertex_of(words[at]) for at in places], colors,
-            [words[at + 1] for at in places] if opcode & TEXTURED else [])
+    vertices, colors, texcoords = polygon_words(words)
+    return list(map(vertex_of, vertices)), list(colors), list(texcoords)
 
 
 def polygon_text(words: Sequence[int], registers: Registers) -> List[str]:
     """Returns the fields of a polygon."""
     opcode = words[0] >> 24
-    vertices, colors, texcoords = polygon_parts(words)
-    texts = ['vertices ' + pairs(vertices)]
+    vertices, colors, texcoords = polygon_words(words)
+    texts = ['vertices ' + ' '.join(map(vertex_text, vertices))]
     if not (opcode & TEXTURED and opcode & RAW):
         texts.append('colours ' + ', '.join(map(color_of, colors)))
     if texcoords:
-        texts.append('texcoords ' + pairs(map(texcoord_of, texcoords)))
-        texts += texture_text(words, texcoords[0] >> 16, registers)
+        texts.append('texcoords ' + ' '.join(map(texcoord_text, texcoords)))
+        texts.append(texture_text(opcode & RAW, texcoords[0] >> 16, registers[0xE1], registers[0xE2]))
     can_dither = bool(opcode & SHADED) if not texcoords else not opcode & RAW
     return texts + settings_text(opcode, registers, can_dither)
 
@@ -121,7 +144,7 @@ def line_text(words: Sequence[int], registers: Registers) -> List[str]:
     ends, colors = line_parts(words)
     opcode = words[0] >> 24
     shown = colors if opcode & SHADED else colors[:1]
-    return (['%s %s' % ('segment of a polyline' if opcode & POLYLINE else 'ends', pairs(ends)),
+    return (['%s %s' % ('segment of a polyline' if opcode & POLYLINE else 'ends', ' '.join(map(pair, ends))),
              'colours ' + ', '.join(map(color_of, shown))] + settings_text(opcode, registers, True))
 
 
@@ -142,7 +165,7 @@ def rectangle_text(words: Sequence[int], registers: Registers) -> List[str]:
     if texcoord is not None:
         flips = ''.join(', %s flip' % axis for axis, bit in (('X', 12), ('Y', 13)) if mode >> bit & 1)
         texts.append('texcoord ' + pair(texcoord_of(texcoord)) + flips)
-        texts += texture_text(words, texcoord >> 16, registers)
+        texts.append(texture_text(opcode & RAW, texcoord >> 16, registers[0xE1], registers[0xE2]))
     return texts + settings_text(opcode, registers, False)
 
 

@@ -2,8 +2,7 @@
 import contextlib
 import heapq
 import re
-from functools import partial
-from typing import IO, Callable, Iterator, List, NamedTuple, Optional, Sequence, Tuple
+from typing import IO, Iterator, List, NamedTuple, Optional, Sequence
 
 from psxgpu.command import Trouble, reading
 from psxgpu.packets.control import control
@@ -11,9 +10,9 @@ from psxgpu.packets.fields import Registers, fields
 from psxgpu.packets.split import (COPY, ENVIRONMENT, FILL, FINISH, IRQ, LINE, LOAD, NOP, POLYGON, RECTANGLE, STORE,
                                   Splitter)
 from psxgpu.players import player
-from psxgpu.stream import BEGIN, DMA, GP0, GP1, KINDS, RAM, SKIP, STAT, Stream, count_of, is_flat
+from psxgpu.stream import BEGIN, DMA, GP0, GP1, KINDS, RAM, SKIP, STAT, Record, Stream, count_of, is_flat
 
-LINE_OF_LIST = re.compile(r'(\d{1,20}) (\w+) ([0-9a-f]{8})((?: \d{1,4}){4}| -)')
+CONTROL = KINDS[GP1].lower()
 PORT_FIRST, PACKET_SECOND = 0, 1        # a DMA start comes before its packets
 # The names that entries can have: those of packets, and of events at the ports.
 NAMES = (FILL, POLYGON, LINE, RECTANGLE, COPY, LOAD, STORE, ENVIRONMENT, NOP, IRQ, FINISH,
@@ -21,28 +20,27 @@ NAMES = (FILL, POLYGON, LINE, RECTANGLE, COPY, LOAD, STORE, ENVIRONMENT, NOP, IR
 
 
 class Entry(NamedTuple):
-    """An entry: a packet or an event at a port. `fields` returns its other lines; it is called before the next entry is
-    taken, or not at all."""
+    """An entry: a packet or an event at a port. `registers` are those after the packet. They change when the next entry is
+    taken."""
     event: int
     order: int
     name: str
-    area: List[str]
+    area: bytes
     line: str
-    fields: Callable[[], List[str]]
+    words: Sequence[int]
+    registers: Optional[Registers]
+
+    def fields(self) -> List[str]:
+        """Returns the other lines of the entry."""
+        if self.registers is not None:
+            return fields(self.name, self.words, self.registers)
+        return [control(self.words[0])] if self.name == CONTROL else []
 
 
-def packets_of(file: IO[bytes], name: str) -> Iterator[Tuple[str, List[int], Registers]]:
-    """Returns the packets of a flat capture in order: name, words, and the registers after them. A capture that is cut
-    or bad ends early: the player says so."""
+def until_fault(stream: Stream) -> Iterator[Record]:
+    """Returns the records of a capture. One that is cut or bad ends early: the player says so."""
     with contextlib.suppress(Trouble):
-        stream = Stream(file, name)
-        splitter = Splitter(stream.version == 3)
-        for kind, _, words in stream:
-            if kind == GP1:
-                splitter.control(words[0])
-            elif kind == GP0:
-                for packet, its_words, _ in splitter.push(words):
-                    yield packet, its_words, splitter.registers
+        yield from stream
 
 
 class Listing:
@@ -53,16 +51,23 @@ class Listing:
         self.refusal: Optional[str] = None
         self.last_event: Optional[int] = None
 
-    def packets(self) -> Iterator[Entry]:
-        """Returns the packets. Raises Trouble if the player's list is not that of the words."""
-        with contextlib.ExitStack() as stack:
-            listed = stack.enter_context(player.playing(self.player, ['list'], self.path))
-            if is_flat(self.path):
-                file: IO[bytes] = stack.enter_context(reading(self.path))
-            else:
-                file = stack.enter_context(player.playing(self.player, ['flat'], self.path)).out
-            for line, (_, words, registers) in zip(listed.out, packets_of(file, self.name)):
-                yield packet_entry(line.decode(errors='replace').strip(), words, registers, self.name)
+    def entries(self, flat: IO[bytes], has_ports: bool) -> Iterator[Entry]:
+        """Returns the packets of a flat capture and, if asked for, its events at the ports. Raises Trouble if the
+        player's list is not that of the words."""
+        stream, event = Stream(flat, self.name), 1
+        splitter = Splitter(stream.version == 3)
+        with player.playing(self.player, ['list'], self.path) as listed:
+            for kind, count, words in until_fault(stream):
+                if kind == GP0:
+                    for packet, line in zip(splitter.push(words), listed.out):
+                        yield packet_entry(line, packet[1], splitter.registers, self.name)
+                    event += count
+                    continue
+                if kind == GP1:
+                    splitter.control(words[0])
+                if has_ports:
+                    yield port_entry(event, kind, count, words)
+                event += count_of(kind, count)
             if listed.end():
                 self.refuse(listed.said().decode(errors='replace'))
 
@@ -75,41 +80,53 @@ class Listing:
     def ports(self) -> Iterator[Entry]:
         """Returns the events that are neither words for GP0 nor for main memory."""
         event = 1
-        with contextlib.suppress(Trouble), reading(self.path) as file:
-            for kind, count, words in Stream(file, self.name):
+        with reading(self.path) as file:
+            for kind, count, words in until_fault(Stream(file, self.name)):
                 if self.last_event is not None and event > self.last_event:
                     return
                 if kind not in (GP0, RAM):
-                    yield Entry(event, PORT_FIRST, KINDS[kind].lower(), [], *port_texts(event, kind, count, words))
+                    yield port_entry(event, kind, count, words)
                 event += count_of(kind, count)
 
     def __iter__(self) -> Iterator[Entry]:
-        return iter(heapq.merge(self.ports(), self.packets(), key=lambda entry: entry[:2]))
+        if is_flat(self.path):
+            with reading(self.path) as file:
+                yield from self.entries(file, True)
+        else:
+            with player.playing(self.player, ['flat'], self.path) as run:
+                yield from heapq.merge(self.ports(), self.entries(run.out, False), key=lambda entry: entry[:2])
 
 
-def packet_entry(line: str, words: List[int], registers: Registers, capture: str) -> Entry:
+def packet_entry(line: bytes, words: List[int], registers: Registers, capture: str) -> Entry:
     """Returns the entry of a packet. Raises Trouble if the player's line is not that of the words."""
-    found = LINE_OF_LIST.fullmatch(line)
-    if not found or int(found[3], 16) != words[0]:
-        raise Trouble('%s: the player lists `%s` and not a packet of %08x' % (capture, line[:60], words[0]))
-    name = found[2]
-    return Entry(int(found[1]), PACKET_SECOND, name, found[4].split(), line, partial(fields, name, words, registers))
+    try:
+        event, name, word, area = line.split(b' ', 3)
+        if word == b'%08x' % words[0]:
+            return Entry(int(event), PACKET_SECOND, name.decode(), area, line[:-1].decode(), words, registers)
+    except ValueError:
+        pass
+    text = line.decode(errors='replace').strip()[:60]
+    raise Trouble('%s: the player lists `%s` and not a packet of %08x' % (capture, text, words[0]))
 
 
-def port_texts(event: int, kind: int, count: int, words: Sequence[int]) -> Tuple[str, Callable[[], List[str]]]:
-    """Returns the first line of an event at the ports, and a function that returns the others."""
-    text = '%d %s' % (event, KINDS[kind].lower())
+def port_entry(event: int, kind: int, count: int, words: Sequence[int]) -> Entry:
+    """Returns the entry of an event at the ports."""
+    name = KINDS[kind].lower()
+    line = '%d %s' % (event, name)
     if kind == GP1:
-        return '%s %08x' % (text, words[0]), lambda: [control(words[0])]
-    if kind in (DMA, BEGIN):
+        line += ' %08x' % words[0]
+    elif kind in (DMA, BEGIN):
         madr, bcr, chcr = words
-        return '%s %d madr %08x bcr %08x chcr %08x' % (text, count, madr, bcr, chcr), list
-    return text if kind in (STAT, SKIP) and count == 1 else '%s %d' % (text, count), list
+        line += ' %d madr %08x bcr %08x chcr %08x' % (count, madr, bcr, chcr)
+    elif kind not in (STAT, SKIP) or count != 1:
+        line += ' %d' % count
+    return Entry(event, PORT_FIRST, name, b'', line, words, None)
 
 
-def holds(area: Sequence[str], cell: Sequence[int]) -> bool:
-    """Returns whether an area, which may continue at the opposite edge, has a cell."""
-    if len(area) != 4:
+def holds(area: bytes, cell: Sequence[int]) -> bool:
+    """Returns whether an area, which may continue at the opposite edge, has a cell. `area`: as `list` has it."""
+    corners = area.split()
+    if len(corners) != 4:
         return False
-    (x1, y1, x2, y2), (x, y) = map(int, area), cell
+    (x1, y1, x2, y2), (x, y) = map(int, corners), cell
     return any(x1 <= x + turn <= x2 for turn in (0, 1024)) and any(y1 <= y + turn <= y2 for turn in (0, 512, 1024))

@@ -13,10 +13,8 @@ Packet = Tuple[str, List[int]]          # name, words
 PAGE = {False: 0x1FF, True: 0x9FF}      # the bits of E1h that a textured polygon sets
 
 
-def name_and_length(word: int) -> Tuple[str, int]:
-    """Returns the name of the packet that a word begins, as `list` has it, and the number of its words; of a polyline those up to its
-    second vertex."""
-    opcode = word >> 24
+def entry(opcode: int) -> Tuple[str, int]:
+    """Returns the name and the length of the packets of an opcode."""
     kind = opcode >> 5
     if kind == 0:
         return {0x02: (FILL, 3), 0x1F: (IRQ, 1)}.get(opcode, (NOP, 1))
@@ -30,6 +28,16 @@ def name_and_length(word: int) -> Tuple[str, int]:
     if kind == 7:
         return (ENVIRONMENT if 0xE1 <= opcode <= 0xE6 else NOP), 1
     return TRANSFERS[kind]
+
+
+TABLE = tuple(map(entry, range(256)))
+CHANGING = (ENVIRONMENT, POLYGON, LOAD, LINE)       # packets that change what follows
+
+
+def name_and_length(word: int) -> Tuple[str, int]:
+    """Returns the name of the packet that a word begins, as `list` has it, and the number of its words; of a polyline
+    those up to its second vertex."""
+    return TABLE[word >> 24]
 
 
 def cells_of(size: int) -> Tuple[int, int]:
@@ -51,15 +59,18 @@ class Splitter:
     def __init__(self, is_tall: bool = False) -> None:
         self.kept, self.page = dict(zip(range(0xE1, 0xE7), KEPT[is_tall])), PAGE[is_tall]
         self.registers = dict.fromkeys(range(0xE1, 0xE7), 0)
-        self.changes = self.wanted = self.command = self.pixels = 0
-        self.words: List[int] = []
-        self.name = ''
+        self.changes = self.command = self.pixels = 0
+        self.words: List[int] = []                      # of a packet that is not whole
         self.last: Optional[Sequence[int]] = None       # colour and vertex from which an open polyline continues
+
+    @property
+    def wanted(self) -> int:
+        """The length of the packet whose first words are held, or 0 if none are."""
+        return TABLE[self.words[0] >> 24][1] if self.words and not self.last else 0
 
     def clear(self) -> None:
         """Drops what is unfinished, as GP1(00h) and GP1(01h) do."""
-        self.words, self.wanted, self.name = [], 0, ''
-        self.pixels, self.last = 0, None
+        self.words, self.pixels, self.last = [], 0, None
 
     def is_idle(self) -> bool:
         """Returns whether the next word begins a packet."""
@@ -81,36 +92,38 @@ class Splitter:
                 taken = min(self.pixels, end - at)
                 self.pixels -= taken
                 at += taken
-                continue
-            if self.last:
+            elif self.last:
                 at += 1
-                packet = self.joint(words[at - 1], self.last)
+                joint = self.joint(words[at - 1], self.last)
+                if joint:
+                    yield (*joint, at)
             else:
-                if not self.words:
-                    self.name, self.wanted = name_and_length(words[at])
-                taken = min(self.wanted - len(self.words), end - at)
-                self.words.extend(words[at:at + taken])
+                name, wanted = TABLE[(self.words or words[at:at + 1])[0] >> 24]
+                taken = min(wanted - len(self.words), end - at)
+                packet = [*self.words, *words[at:at + taken]]
                 at += taken
-                packet = self.whole() if len(self.words) == self.wanted else None
-            if packet:
-                yield (*packet, at)
+                if len(packet) < wanted:
+                    self.words = packet
+                    return
+                self.words = []
+                if name in CHANGING:
+                    self.change(name, packet)
+                yield name, packet, at
 
-    def whole(self) -> Packet:
-        """Returns the packet whose words are all there."""
-        words, self.words = self.words, []
+    def change(self, name: str, words: List[int]) -> None:
+        """Does what a packet changes here: registers, an open load, an open polyline."""
         opcode = words[0] >> 24
-        if self.name == ENVIRONMENT:
+        if name == ENVIRONMENT:
             self.changes += 1
             self.registers[opcode] = words[0] & self.kept[opcode]
-        elif self.name == POLYGON and opcode & TEXTURED:
+        elif name == POLYGON and opcode & TEXTURED:
             self.changes += 1
             attribute = words[5 if opcode & SHADED else 4] >> 16
             self.registers[0xE1] = self.registers[0xE1] & ~self.page | attribute & self.page
-        elif self.name == LOAD:
+        elif name == LOAD:
             self.pixels = data_words(words[2])
-        elif self.name == LINE and opcode & POLYLINE:
+        elif name == LINE and opcode & POLYLINE:
             self.command, self.last = words[0], words[-2:] if opcode & SHADED else (words[0], words[-1])
-        return self.name, words
 
     def joint(self, word: int, last: Sequence[int]) -> Optional[Packet]:
         """Takes a word after the vertex `last` of a polyline. Returns the packet that it completes, if any."""

@@ -2,11 +2,21 @@
 import glob
 import os
 import subprocess
+import unittest
 
+import psxgpu
 from tests.support import EXAMPLES as FOLDER, PLAYER, TOP, needs_player
 
 EXAMPLES = sorted(glob.glob(os.path.join(FOLDER, '*.capture')))
-__all__ = ['EXAMPLES', 'PLAYER', 'TOP', 'needs_player', 'bytes_at', 'play', 'knows']
+__all__ = ['EXAMPLES', 'PLAYER', 'TOP', 'needs_library', 'needs_player', 'bytes_at', 'play', 'knows']
+
+
+def needs_library():
+    """Skips the tests of a module, with a line, if no library is built. For `setUpModule`."""
+    try:
+        psxgpu.library()
+    except psxgpu.Missing as missing:
+        raise unittest.SkipTest('no library is built (make lib): %s' % missing) from None
 
 
 def bytes_at(path):

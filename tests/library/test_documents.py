@@ -14,6 +14,9 @@ import unittest
 ROOT = os.path.dirname(os.path.dirname(os.path.dirname(os.path.abspath(__file__))))
 sys.path.insert(0, ROOT)
 
+from tests.library.support import needs_library  # noqa: E402
+
+setUpModule = needs_library
 PAGE = os.path.join(ROOT, 'docs', 'LIBRARY.md')
 
 

@@ -10,6 +10,9 @@ sys.path.insert(0, ROOT)
 
 import psxgpu  # noqa: E402
 from psxgpu.capture import BLOCKS_IN, BLOCKS_OUT, LIST, copy, drawing_area, fill, load, rectangle, store  # noqa: E402
+from tests.library.support import needs_library  # noqa: E402
+
+setUpModule = needs_library
 
 
 class Transfers(unittest.TestCase):

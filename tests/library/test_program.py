@@ -13,6 +13,8 @@ import psxgpu  # noqa: E402
 from psxgpu.capture import BEGIN, DMA, GP0, GP1, RAM, READ, SKIP, STAT, TURN, records  # noqa: E402
 from psxgpu.packets.control import class_name  # noqa: E402
 
+setUpModule = program.needs_library
+
 COMMANDS = [mode for mode in psxgpu.MODES if mode != 'pixel'] + ['pixel 20 30', 'pixel 1023 511']
 
 

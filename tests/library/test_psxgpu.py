@@ -11,6 +11,9 @@ sys.path.insert(0, ROOT)
 
 import psxgpu  # noqa: E402
 from psxgpu.capture import fill, load, screen, store  # noqa: E402
+from tests.library.support import needs_library  # noqa: E402
+
+setUpModule = needs_library
 
 AFTER_RESET = 0x14802000
 

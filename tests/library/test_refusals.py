@@ -10,6 +10,9 @@ sys.path.insert(0, ROOT)
 
 import psxgpu  # noqa: E402
 from psxgpu.capture import Capture, fill, screen  # noqa: E402
+from tests.library.support import needs_library  # noqa: E402
+
+setUpModule = needs_library
 
 NO_ROOM, CLOSED, OPEN, BAD_MODE, NO_CELL, BAD_ADDRESS, BAD_CHANNEL = 11, 14, 15, 16, 17, 18, 19
 MARK = 0x5A
