@@ -9,7 +9,7 @@ each thing that consoles may do otherwise; 2: an error.
 import argparse
 import sys
 
-from psxgpu.command import SAME, decimal, main, title, writing
+from psxgpu.command import SAME, decimal, title, writing
 from psxgpu.console import Choices, Frames, Source, make
 from psxgpu.console.plan import BLANKS
 from psxgpu.files import plain
@@ -43,7 +43,3 @@ def run(words: argparse.Namespace) -> int:
     for line in program.warnings:
         print('%s: %s' % (name, line), file=sys.stderr)
     return SAME
-
-
-if __name__ == '__main__':
-    sys.exit(main(sys.modules[__name__]))
