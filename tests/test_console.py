@@ -81,7 +81,8 @@ class Orders(support.InFolder):
                   line([(k % 300, 3) for k in range(5000)], 7), load(0, 0, 200, 100, [3] * 20000), store(0, 0, 2, 2)]
         self.expect_alike(Capture().gp0(pieces).read(2), packs=True)
         for n in range(4080, 4096):
-            self.expect_alike(Capture().gp0(load(0, 0, 2, n, cells[:2 * n]), polygon([(0, 0), (9, 0), (0, 9)], 1)), True)
+            triangle = polygon([(0, 0), (9, 0), (0, 9)], 1)
+            self.expect_alike(Capture().gp0(load(0, 0, 2, n, cells[:2 * n]), triangle), packs=True)
 
     def test_packed_data_are_small(self):
         r = random.Random(1)
