@@ -16,7 +16,7 @@ HERE = os.path.dirname(os.path.abspath(__file__))
 sys.path[:0] = [HERE, os.path.dirname(HERE)]
 
 from psxgpu.conformance.chapters import CHAPTERS  # noqa: E402
-from psxgpu.conformance.players import DIFFERS, FAILED, NOT_TAKEN, PASSED, TROUBLE  # noqa: E402
+from psxgpu.conformance.judging import DIFFERS, FAILED, NOT_TAKEN, PASSED, TROUBLE  # noqa: E402
 from psxgpu.conformance.suite import OWN, PSX_SPX, Test  # noqa: E402
 
 BY_HAND = os.path.join(HERE, 'results', 'READ_BY_HAND.md')

@@ -1,28 +1,26 @@
-#!/usr/bin/env python3
-"""Plants faults in the model, one at a time, and says which tests find each.
+"""Plants faults in the model, one at a time, and names the tests that find each.
 
-    python3 faults.py               a table: the fault, the chapters that find it, and how many tests
-    python3 faults.py --names       the tests, too
+    python3 -m conformance.faults               a table: the fault, the number of tests that find it, their chapters
+    python3 -m conformance.faults --names       the tests in place of their chapters
+    python3 -m conformance.faults --each 8      every eighth fault
 
-A fault is a method of the model that is replaced. Each names the chapters one of which ought to find it.
-Status: 0 each fault was found there, 1 some were not, 2 trouble (the model without a fault does not pass).
+A fault replaces methods of the model. It names the chapters of which one has to find it.
+Status: 0 each fault was found there, 1 some were not, 2 an error (the model without a fault does not pass).
 """
 from __future__ import annotations
 
 import argparse
-import os
 import sys
 from collections.abc import Callable
 from dataclasses import dataclass
 from typing import Any
 
-HERE = os.path.dirname(os.path.abspath(__file__))
-sys.path[:0] = [HERE, os.path.dirname(HERE)]
-
-from psxgpu.conformance.chapters import CHAPTERS  # noqa: E402
-from model import TABLE, Machine, Model, signed  # noqa: E402
-from psxgpu.conformance.players import PASSED, Judge  # noqa: E402
-from psxgpu.conformance.suite import Test  # noqa: E402
+from conformance.model import Machine, Model
+from conformance.model.pixels import TABLE
+from conformance.model.values import signed
+from psxgpu.conformance.chapters import CHAPTERS
+from psxgpu.conformance.judging import PASSED, Judge
+from psxgpu.conformance.suite import Test
 
 
 @dataclass(frozen=True)
@@ -89,13 +87,13 @@ def polygon_page_with_dither(m: Machine) -> int:
 
 
 def near(width: int, height: int) -> Callable[..., bool]:
-    return lambda m, points: (max(p.x for p in points) - min(p.x for p in points) <= width
-                              and max(p.y for p in points) - min(p.y for p in points) <= height)
+    return lambda m, points: bool(max(p.x for p in points) - min(p.x for p in points) <= width
+                                  and max(p.y for p in points) - min(p.y for p in points) <= height)
 
 
 # Fills and transfers.
 fault('a fill\'s X is not rounded', 'fills', fill_box=lambda m, c, s: (c & 0x3FF, *M.fill_box(m, c, s)[1:]))
-fault('a fill\'s width is masked behind the rounding', 'fills', fill_box=masked_fill)
+fault('a fill\'s width is masked after the rounding', 'fills', fill_box=masked_fill)
 fault('a fill tests and forces bit 15', 'fills', fill_cell=with_mask_test)
 fault('a fill keeps the low bit of green', 'fills', fill_cell=lambda m, x, y, v: m.put(x, y, v ^ 0x20))
 fault('a box over the right edge goes on a row lower', 'loads copies stores',

@@ -1,110 +1,136 @@
-"""Runs the conformance suite on a player of captures.
+"""Runs the conformance suite on a player: tests of single rules of the graphics processor.
 
-    psxgpu conform PLAYER                               a table by chapter, and a line for each test not passed
-    psxgpu conform PLAYER --page page.html --junit results.xml
-    psxgpu conform PLAYER --only fills --only copies/overlap-right
+    psxgpu conform 'my_emulator --headless vram'        a table by chapter, and a line for each test not passed
+    psxgpu conform psxgpu_tool --page page.html --junit results.xml
+    psxgpu conform psxgpu_tool --only fills --only copies/overlap-right
     psxgpu conform --list
-    psxgpu conform --write DIR                          all tests as captures, with what they expect
+    psxgpu conform --write FOLDER                       the tests as files: captures, dumps, programs for the console
 
-PLAYER is a command that takes `vram < capture` and writes a dump of video memory, and where it can `play < capture`,
-which prints each word read and each status. What it does not take (`play`, `shot`, DMA, turns, the tall profile) is
-found out first, and the tests that need it are counted apart.
-Status: 0 no test failed, 1 some failed (with --strict also where our own rule decides), 2 trouble.
+PLAYER is a shell command that reads a capture on standard input. In it, `vram` is the place of the mode; without that
+word the mode is added at the end. `vram` writes a dump of video memory, `play` prints each word that is read and each
+status, and `shot` writes the shown picture. What the player does not take (`play`, `shot`, DMA, turns, the tall profile)
+is found first, and the tests that need it are not taken. docs/CONFORMANCE.md says more.
+
+Status: 0 no test failed, 1 some did (with --strict also where a rule of this project decides), 2 an error.
 """
 from __future__ import annotations
 
 import argparse
-import hashlib
-import json
 import os
+import sys
 import time
 from concurrent.futures import ThreadPoolExecutor
+from typing import List
 
-from psxgpu.command import Trouble, decimal, writing
-from psxgpu.conformance import report
+from psxgpu import progress
+from psxgpu.command import DIFFERENT, SAME, TROUBLE, Trouble, decimal, write_whole
+from psxgpu.conformance import folder, judging, reducing, report
 from psxgpu.conformance.chapters import CHAPTERS
-from psxgpu.conformance.players import DIFFERS, FAILED, PASSED, TROUBLE, Command, Judge, Verdict
+from psxgpu.conformance.judging import Judge, Verdict
+from psxgpu.conformance.page import page
+from psxgpu.conformance.released import SUITE, WITHDRAWN, expectations, sum_of
 from psxgpu.conformance.suite import Test
+from psxgpu.players import player
+from psxgpu.players.named import Player, expect_dump, player_of
+from psxgpu.stream import HEADS
 
 
 def arguments(parser: argparse.ArgumentParser) -> None:
-    parser.add_argument('player', nargs='?', help='a command that takes `vram < capture`')
-    parser.add_argument('--only', action='append', default=[], metavar='NAME', help='a chapter, or chapter/test')
-    parser.add_argument('--page', metavar='FILE', help='write a page with pictures')
+    """Adds the arguments."""
+    parser.add_argument('tested', nargs='?', metavar='PLAYER', help='a shell command: capture in, dump out')
+    parser.add_argument('--only', action='append', default=[], metavar='NAME', help='a chapter, or CHAPTER/TEST')
+    parser.add_argument('--page', metavar='FILE', help='write a page with pictures: theirs, ours, the difference')
     parser.add_argument('--junit', metavar='FILE', help='write JUnit XML')
     parser.add_argument('--json', metavar='FILE', help='write the verdicts')
-    parser.add_argument('--write', metavar='DIR', help='write the captures and what they expect')
-    parser.add_argument('--jobs', type=decimal(1, 1024), default=1, metavar='N', help='runs of the player at a time, 1')
-    parser.add_argument('--list', action='store_true', help='list the tests')
-    parser.add_argument('--quiet', action='store_true', help='the table alone')
-    parser.add_argument('--strict', action='store_true', help='count our own rules as psx-spx')
+    parser.add_argument('--reduce', metavar='FOLDER', help='write the smallest capture that still shows each failure')
+    parser.add_argument('--write', metavar='FOLDER', help='write the tests as files, and what they expect')
+    parser.add_argument('--jobs', type=decimal(1, 1024), default=1, metavar='N',
+                        help='runs of the player at a time (default: %(default)s)')
+    parser.add_argument('--list', action='store_true', help='list the tests: name, who decides, the rule')
+    parser.add_argument('--quiet', action='store_true', help='print the table alone')
+    parser.add_argument('--strict', action='store_true', help='status 1 also where a rule of this project decides')
+    parser.add_argument('--version', action='store_true', help='print the version of the suite')
+    player.argument(parser)
 
 
-def chosen(names: list[str]) -> list[Test]:
-    """The tests of these chapters, or of these full names; all without names."""
-    tests = [test for chapter in CHAPTERS for test in chapter.tests]
+def every_test() -> List[Test]:
+    """Returns the tests of all chapters."""
+    return [test for chapter in CHAPTERS for test in chapter.tests]
+
+
+def chosen(names: List[str]) -> List[Test]:
+    """Returns the tests of these chapters and of these full names; all without names."""
+    tests = every_test()
     for name in names:
+        if name in WITHDRAWN:
+            raise Trouble('%s is withdrawn: %s' % (name, WITHDRAWN[name]))
         if not any(name in (test.chapter, test.full_name) for test in tests):
-            raise Trouble('%s: no chapter or test; --list has them' % name)
+            raise Trouble('%s: no chapter or test has this name: --list has them' % name)
     return [test for test in tests if not names or test.chapter in names or test.full_name in names]
 
 
-def expectation(test: Test) -> str:
-    """A line: the name, who decides, the sum of video memory, the cells that are set to 0 before it is taken, the sum
-    of the picture, the words."""
-    picture = test.draft.picture
-    shown = '%dx%d:%s' % (picture.width, picture.height, hashlib.sha256(picture.pixels).hexdigest()) if picture else '-'
-    words = ','.join(str(word).replace(' under ', '/') for word in test.draft.words) or '-'
-    ignored = ' '.join('%d,%d' % place for place in sorted(test.draft.ignored)) or '-'
-    return '\t'.join((test.full_name, test.decides, hashlib.sha256(test.compared).hexdigest(), ignored, shown, words))
+def version() -> str:
+    """Returns the version of the suite, with a sum of all that it expects."""
+    tests = every_test()
+    return 'suite %d: %d tests, %d withdrawn, sum %s' % (
+        SUITE, len(tests), len(WITHDRAWN), sum_of(expectations(tests).encode())[:16])
 
 
-def write(tests: list[Test], folder: str) -> None:
-    for test in tests:
-        os.makedirs(os.path.join(folder, test.chapter), exist_ok=True)
-        with writing(os.path.join(folder, test.full_name + '.capture')) as file:
-            file.write(test.data)
-    lines = ['test\tdecides\tvram sha256\tignored\tpicture\twords', *map(expectation, tests)]
-    save(os.path.join(folder, 'expected.tsv'), '\n'.join(lines) + '\n')
+def run_tests(tests: List[Test], tested: Player, jobs: int) -> List[Verdict]:
+    """Returns the verdicts."""
+    expect_dump(tested, HEADS[1] + bytes(4))
+    judge = Judge(tested)
+    with progress.shown(tested.text, is_quiet=True) as line, ThreadPoolExecutor(jobs) as pool:
+        verdicts = []
+        for verdict in pool.map(judge.judge, tests):
+            verdicts.append(verdict)
+            line.part = len(verdicts) / len(tests)
+    return verdicts
 
 
-def save(path: str | None, text: str) -> None:
-    if path:
-        with writing(path) as file:
-            file.write(text.encode())
+def status_of(verdicts: List[Verdict], strict: bool) -> int:
+    """Returns the status of the command."""
+    kinds = {verdict.kind for verdict in verdicts}
+    if judging.TROUBLE in kinds:
+        return TROUBLE
+    if judging.FAILED in kinds or strict and judging.DIFFERS in kinds or judging.PASSED not in kinds:
+        return DIFFERENT
+    return SAME
 
 
-def as_json(verdicts: list[Verdict]) -> str:
-    return json.dumps({verdict.test.full_name: [verdict.kind, verdict.reason] for verdict in verdicts}, indent=1) + '\n'
-
-
-def run(words: argparse.Namespace) -> int:
-    tests = chosen(words.only)
-    if words.list:
-        for test in tests:
-            print('%-42s %-8s %-8s %s' % (test.full_name, test.decides, test.worked, test.says))
-        return 0
-    if words.write:
-        write(tests, words.write)
-        return 0
-    if not words.player:
-        raise Trouble('a player is wanted')
+def test_player(words: argparse.Namespace, tests: List[Test]) -> int:
+    """Runs the tests, and prints and writes what is found. Returns the status."""
+    tested = player_of(words.tested, appends=True)
     start = time.monotonic()
-    judge = Judge(Command(words.player))
-    if 'vram' not in judge.able:
-        raise Trouble('%s: gives no dump of an empty capture' % words.player)
-    with ThreadPoolExecutor(words.jobs) as pool:
-        verdicts = list(pool.map(judge.judge, tests))
+    verdicts = run_tests(tests, tested, words.jobs)
     seconds = time.monotonic() - start
     print(report.table(verdicts))
     print('%d tests in %.1f seconds' % (len(verdicts), seconds))
     if not words.quiet:
-        print(report.lines(verdicts))
-    save(words.page, report.page(verdicts, os.path.basename(words.player)))
-    save(words.junit, report.junit(verdicts, seconds))
-    save(words.json, as_json(verdicts))
-    kinds = {verdict.kind for verdict in verdicts}
-    if TROUBLE in kinds:
-        return 2
-    return int(FAILED in kinds or words.strict and DIFFERS in kinds or PASSED not in kinds)
+        print(''.join(line + '\n' for line in report.lines(verdicts)), end='')
+    title = os.path.basename(words.tested)
+    for path, text in ((words.page, page(verdicts, title)), (words.junit, report.junit(verdicts, seconds)),
+                       (words.json, report.as_json(verdicts))):
+        if path:
+            write_whole(path, text.encode(), is_text=True)
+    if words.reduce:
+        print('\n'.join(reducing.reduce_all(verdicts, tested, words.reduce, words.player)))
+    return status_of(verdicts, words.strict)
 
+
+def run(words: argparse.Namespace) -> int:
+    """Runs the command."""
+    tests = chosen(words.only)
+    if words.version:
+        print(version())
+    elif words.list:
+        for test in tests:
+            print('%-42s %-8s %-7s %s' % (test.full_name, test.decides, test.worked, test.says))
+    elif words.write:
+        for line in folder.write(tests, words.write, folder.found_program(words.player)):
+            print('%s: %s' % (words.write, line), file=sys.stderr)
+    elif words.tested is None:
+        raise Trouble('name a player: `psxgpu conform --help` explains the arguments')
+    else:
+        return test_player(words, tests)
+    return SAME

@@ -1,4 +1,6 @@
 """The drawing area and the drawing offset: GP0(E3h) to GP0(E5h)."""
+from __future__ import annotations
+
 from psxgpu.capture import drawing_area, drawing_offset, line, polygon, rectangle
 from psxgpu.conformance.suite import OWN, Chapter, Draft
 

@@ -1,4 +1,6 @@
 """Semi-transparency: GP0(E1h) bits 5 and 6."""
+from __future__ import annotations
+
 from collections.abc import Callable
 
 from psxgpu.capture import draw_mode, line, mask_setting, polygon, rectangle, texture_page

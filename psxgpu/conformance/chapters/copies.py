@@ -1,4 +1,6 @@
 """Copies: GP0(80h), inside of video memory."""
+from __future__ import annotations
+
 from psxgpu.capture import copy, drawing_offset, mask_setting
 from psxgpu.conformance.suite import OWN, Chapter, Draft
 

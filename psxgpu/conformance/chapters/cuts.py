@@ -1,4 +1,6 @@
 """Packets that a reset or GP1(01h) cuts."""
+from __future__ import annotations
+
 from psxgpu.capture import line, load, mask_setting, rectangle, store
 from psxgpu.conformance.suite import OWN, Chapter, Draft
 
@@ -45,8 +47,8 @@ def store_ended(t: Draft) -> None:
     t.stat(0, mask=1 << 27)
 
 
-@CHAPTER.test('Of a quad that GP1(01h) cuts behind its third vertex nothing is drawn.', OWN)
-def quad_behind_three(t: Draft) -> None:
+@CHAPTER.test('Of a quad that GP1(01h) cuts after its third vertex nothing is drawn.', OWN)
+def quad_after_three(t: Draft) -> None:
     t.open()
     t.packet(0x28000000 | RED, 0, 16, 16 << 16)
     t.gp1(CLEAR)

@@ -1,4 +1,6 @@
 """The shown picture: GP1(05h) to GP1(08h)."""
+from __future__ import annotations
+
 from psxgpu.capture import display_mode, display_start, horizontal_range, vertical_range
 from psxgpu.conformance.suite import FORMULA, HAND, OWN, PSX_SPX, Chapter, Draft, Picture
 

@@ -1,4 +1,8 @@
 """Dither: GP0(E1h) bit 9."""
+from __future__ import annotations
+
+from typing import Any
+
 from psxgpu.capture import draw_mode, drawing_offset, line, polygon, texture_page
 from psxgpu.conformance.suite import FORMULA, OWN, Chapter, Draft
 
@@ -19,7 +23,7 @@ def grey(t: Draft, x: int, y: int, width: int, height: int, value: int) -> None:
             t.cell(x + right, y + down, dithered(value, x + right, y + down) * 0x421)
 
 
-def box(x: int, y: int, width: int, height: int, color: int | list[int], **words: object) -> list[int]:
+def box(x: int, y: int, width: int, height: int, color: int | list[int], **words: Any) -> list[int]:
     corners = [(x, y), (x + width, y), (x, y + height), (x + width, y + height)]
     return polygon(corners, color, **words)
 
@@ -50,8 +54,8 @@ def saturates(t: Draft) -> None:
     grey(t, 4, 0, 4, 4, 0xFE)
 
 
-@CHAPTER.test('The place in the table is that in video memory, behind the drawing offset.', OWN, FORMULA)
-def place_behind_the_offset(t: Draft) -> None:
+@CHAPTER.test('The place in the table is that in video memory, after the drawing offset.', OWN, FORMULA)
+def place_after_the_offset(t: Draft) -> None:
     t.open()
     t.before(draw_mode(dither=True), drawing_offset(3, 2))
     t.packet(box(0, 0, 4, 4, [GREY * 0x10101] * 4))
@@ -74,7 +78,7 @@ def flat_polygon(t: Draft) -> None:
     t.box(0, 0, 4, 4, 0x2108)
 
 
-@CHAPTER.test('A textured polygon of one colour is dithered behind the modulation.', worked=FORMULA)
+@CHAPTER.test('A textured polygon of one colour is dithered after the modulation.', worked=FORMULA)
 def textured_polygon(t: Draft) -> None:
     t.open()
     t.given(512, 0, 1, [0x2108])

@@ -1,4 +1,6 @@
 """DMA: channel 2 in three forms, and channel 6."""
+from __future__ import annotations
+
 from psxgpu.capture import BLOCKS_IN, BLOCKS_OUT, CLEAR_TABLE, LIST, load, rectangle, store
 from psxgpu.conformance.suite import OWN, Chapter, Draft
 
@@ -11,7 +13,7 @@ def dot(x: int, y: int = 0) -> list[int]:
     return rectangle(RED, x, y, 1, 1)
 
 
-@CHAPTER.test('A linked list: the words behind each header go to GP0, and FFFFFFh ends it.')
+@CHAPTER.test('A linked list: the words after each header go to GP0, and FFFFFFh ends it.')
 def linked_list(t: Draft) -> None:
     t.open()
     t.capture.ram(0x1000, 2 << 24 | 0x2000, dot(0))

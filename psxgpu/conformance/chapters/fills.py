@@ -1,4 +1,6 @@
 """Fills: GP0(02h)."""
+from __future__ import annotations
+
 from psxgpu.capture import drawing_offset, load, mask_setting
 from psxgpu.conformance.suite import HAND, OWN, PSX_SPX, Chapter, Draft, rgb
 

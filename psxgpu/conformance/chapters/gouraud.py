@@ -1,4 +1,6 @@
 """Shaded polygons without dither."""
+from __future__ import annotations
+
 from psxgpu.capture import polygon
 from psxgpu.conformance.suite import FORMULA, OWN, Chapter, Draft, rgb
 

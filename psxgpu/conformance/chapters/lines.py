@@ -1,11 +1,15 @@
 """Lines and polylines: GP0(40h) to GP0(5Fh)."""
+from __future__ import annotations
+
+from typing import Tuple
+
 from psxgpu.capture import draw_mode, line, rectangle, texture_page
 from psxgpu.conformance.suite import FORMULA, HAND, OWN, PSX_SPX, Chapter, Draft, cell
 
 CHAPTER = Chapter('lines', 'GPU Render Line Commands')
 RED, CELL = 0x0000FF, 0x001F
 GREEN, GREEN_CELL = 0x00FF00, 0x03E0
-Point = tuple[int, int]
+Point = Tuple[int, int]
 
 
 def draws(name: str, says: str, points: list[Point], rows: str, decides: str = PSX_SPX) -> None:
@@ -44,7 +48,7 @@ def joint_twice(t: Draft) -> None:
 
 
 def ends(name: str, says: str, words: list[int], decides: str = PSX_SPX) -> None:
-    """Behind the end word a rectangle is drawn, where the end word is one. The line itself is not looked at."""
+    """After the end word, if it is one, a rectangle is drawn. The line itself is ignored."""
     def write(t: Draft) -> None:
         t.open()
         t.packet(words, rectangle(GREEN, 8, 8, 1, 1))
@@ -61,7 +65,7 @@ ends('end-in-place-of-a-color', 'A shaded polyline ends in the place of a colour
      [0x58000000 | RED, 0, RED, 3, 0x55555555])
 ends('no-end-before-two-vertices', 'The second vertex of a polyline is no end word: 50005000h is the vertex (0, 0).',
      [0x48000000 | RED, 3, 0x50005000, 0x50005000], OWN)
-ends('no-end-behind-a-color', 'A vertex behind a colour is no end word.',
+ends('no-end-after-a-color', 'A vertex after a colour is no end word.',
      [0x58000000 | RED, 3, RED, 3, RED, 0x50005000, 0x55555555], OWN)
 
 

@@ -1,4 +1,6 @@
 """Loads: GP0(A0h), from the processor to video memory."""
+from __future__ import annotations
+
 from psxgpu.capture import drawing_offset, load, mask_setting, rectangle
 from psxgpu.conformance.suite import FORMULA, OWN, Chapter, Draft
 

@@ -1,4 +1,6 @@
 """The mask setting: GP0(E6h)."""
+from __future__ import annotations
+
 from psxgpu.capture import draw_mode, line, mask_setting, polygon, rectangle, texture_page
 from psxgpu.conformance.suite import Chapter, Draft
 

@@ -1,4 +1,6 @@
 """A texel and the colour of the packet."""
+from __future__ import annotations
+
 from psxgpu.capture import draw_mode, polygon, rectangle, texture_page
 from psxgpu.conformance.suite import FORMULA, OWN, Chapter, Draft, cell
 

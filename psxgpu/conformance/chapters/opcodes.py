@@ -1,4 +1,6 @@
 """Opcodes without a name, mirrors, and the length of packets."""
+from __future__ import annotations
+
 from psxgpu.capture import draw_mode, rectangle
 from psxgpu.conformance.suite import HAND, OWN, PSX_SPX, Chapter, Draft
 
@@ -23,7 +25,7 @@ one_word((0xE0, *range(0xE7, 0x100)), OWN, 'gp0-e0-e7-to-ff', 'E0h and E7h to FF
 
 
 def lengths(name: str, says: str, packets: list[list[int]]) -> None:
-    """Polygons of no area: behind each a rectangle shows where the next packet began."""
+    """Polygons of no area: after each a rectangle shows where the next packet began."""
     def write(t: Draft) -> None:
         t.open()
         for at, words in enumerate(packets):

@@ -1,12 +1,15 @@
 """Polygons: which cells they cover, the size rule, and the page that they bring."""
+from __future__ import annotations
+
 from itertools import permutations
+from typing import Tuple
 
 from psxgpu.capture import draw_mode, polygon, texture_page
 from psxgpu.conformance.suite import HAND, OWN, PSX_SPX, Chapter, Draft, cell
 
 CHAPTER = Chapter('polygons', 'GPU Render Polygon Commands')
 RED, CELL = 0x0000FF, 0x001F
-Point = tuple[int, int]
+Point = Tuple[int, int]
 
 
 def covers(name: str, says: str, vertices: list[Point], rows: str, decides: str, at: Point = (0, 0)) -> None:
@@ -120,7 +123,7 @@ def brings_its_page(t: Draft) -> None:
     t.stat(0x7FF, mask=0x7FF)
 
 
-@CHAPTER.test('The page holds for the polygon that brings it, and for the rectangles behind it.',
+@CHAPTER.test('The page holds for the polygon that brings it, and for the rectangles after it.',
               section='GP0(E1h) Draw Mode setting')
 def page_in_force(t: Draft) -> None:
     t.open()

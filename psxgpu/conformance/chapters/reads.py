@@ -1,4 +1,6 @@
 """The data port: information, and the latch."""
+from __future__ import annotations
+
 from psxgpu.capture import information, store
 from psxgpu.conformance.suite import HAND, OWN, PSX_SPX, Chapter, Draft
 
@@ -20,7 +22,7 @@ info('bottom-right', '4 gives the bottom right of the drawing area.', [0xE400000
 info('offset', '5 gives the drawing offset.', [0xE52AAAAA], 5, 0x2AAAAA, 0x3FFFFF)
 info('version', '7 gives the version, 2.', [], 7, 2, 0xFFFFFF)
 info('zero', '8 gives 0.', [], 8, 0, 0xFFFFFFFF)
-info('upper-bits', 'The upper bits of an information are 0, also behind a store of other bits.', [0xE20ABCDE], 2,
+info('upper-bits', 'The upper bits of an information are 0, also after a word of other bits.', [0xE20ABCDE], 2,
      0x000ABCDE, 0xFFFFFFFF, OWN)
 info('window-of-20-bits', 'The texture window has 20 bits.', [0xE2FFFFFF], 2, 0x000FFFFF, 0xFFFFFFFF)
 info('corner-of-19-bits', 'A corner of the drawing area has 19 bits.', [0xE4FFFFFF], 4, 0x0007FFFF, 0xFFFFFFFF, OWN)
@@ -54,8 +56,8 @@ def at_first(t: Draft) -> None:
     t.read(0)
 
 
-@CHAPTER.test('A read behind a store gives the store\'s last word again.', OWN)
-def behind_a_store(t: Draft) -> None:
+@CHAPTER.test('A read after a store gives the store\'s last word again.', OWN)
+def after_a_store(t: Draft) -> None:
     t.given(0, 0, 2, [0x1111, 0x2222])
     t.packet(store(0, 0, 2, 1))
     t.read(0x22221111, 0x22221111)

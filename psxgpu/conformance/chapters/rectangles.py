@@ -1,4 +1,6 @@
 """Rectangles: GP0(60h) to GP0(7Fh)."""
+from __future__ import annotations
+
 from psxgpu.capture import draw_mode, rectangle, texture_page
 from psxgpu.conformance.suite import HAND, OWN, PSX_SPX, Chapter, Draft
 

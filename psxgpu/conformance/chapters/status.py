@@ -1,15 +1,18 @@
 """The status word, bit by bit."""
+from __future__ import annotations
+
 from collections.abc import Sequence
+from typing import Tuple
 
 from psxgpu.capture import store
 from psxgpu.conformance.suite import HAND, OWN, PSX_SPX, Chapter, Draft
 
 CHAPTER = Chapter('status', '1F801814h GPUSTAT GPU Status Register (R)')
-Step = tuple[str, int, int]             # 'gp0' or 'gp1', a word, and the bits that are 1 behind it
+Step = Tuple[str, int, int]             # 'gp0' or 'gp1', a word, and the bits that are 1 after it
 
 
 def bits(name: str, says: str, mask: int, steps: Sequence[Step], decides: str = PSX_SPX) -> None:
-    """Words, and the bits of the mask behind each."""
+    """Words, and the bits of the mask after each."""
     def write(t: Draft) -> None:
         for port, word, value in steps:
             if port == 'gp0':
@@ -73,7 +76,7 @@ def bit_25_in_a_store(t: Draft) -> None:
     t.stat(1 << 27 | 1 << 25, mask=1 << 27 | 1 << 25)
 
 
-@CHAPTER.test('Bit 26 is 0 while a packet is unfinished, and 1 behind it.')
+@CHAPTER.test('Bit 26 is 0 while a packet is unfinished, and 1 after it.')
 def bit_26_in_a_packet(t: Draft) -> None:
     t.packet(0x20000000, 0, 0)
     t.stat(0, mask=1 << 26)

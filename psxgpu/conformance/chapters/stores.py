@@ -1,4 +1,6 @@
 """Stores: GP0(C0h), from video memory to the processor."""
+from __future__ import annotations
+
 from psxgpu.capture import rectangle, store
 from psxgpu.conformance.suite import OWN, Chapter, Draft
 

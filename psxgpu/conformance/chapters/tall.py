@@ -1,4 +1,6 @@
 """The tall profile, video memory of 1024 rows: captures of version 3."""
+from __future__ import annotations
+
 from psxgpu.capture import copy, draw_mode, drawing_area, fill, polygon, rectangle
 from psxgpu.conformance.suite import OWN, Chapter, Draft
 

@@ -1,4 +1,6 @@
 """Depths, pages, palettes, and texels that are not drawn."""
+from __future__ import annotations
+
 from psxgpu.capture import clut, draw_mode, load, polygon, rectangle, texture_page
 from psxgpu.conformance.suite import OWN, Chapter, Draft
 
@@ -214,8 +216,8 @@ def no_palette_cache(t: Draft) -> None:
     t.row(8, 8, [0x1111, 0x2222])
 
 
-@CHAPTER.test('A palette that is loaded anew is used behind GP0(01h).', section='GP0(01h) Clear Cache')
-def palette_behind_clear_cache(t: Draft) -> None:
+@CHAPTER.test('A palette that is loaded anew is used after GP0(01h).', section='GP0(01h) Clear Cache')
+def palette_after_clear_cache(t: Draft) -> None:
     t.open()
     t.given(512, 0, 1, [0x0001])
     t.before(load(0, 480, 2, 1, [0x0000, 0x1111]), draw_mode(texture_page(512, 0, 0)))

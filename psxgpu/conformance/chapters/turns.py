@@ -1,4 +1,6 @@
 """DMA that runs in turns with the processor: captures of version 2."""
+from __future__ import annotations
+
 from psxgpu.capture import BLOCKS_IN, LIST, rectangle
 from psxgpu.conformance.suite import OWN, Chapter, Draft
 

@@ -1,4 +1,6 @@
 """Texture windows: GP0(E2h)."""
+from __future__ import annotations
+
 from psxgpu.capture import clut, draw_mode, polygon, rectangle, texture_page, texture_window
 from psxgpu.conformance.suite import FORMULA, Chapter, Draft
 
@@ -73,7 +75,7 @@ def polygons(t: Draft) -> None:
 
 
 @CHAPTER.test('U goes on from 255 to 0 before the window is applied.')
-def behind_the_wrap(t: Draft) -> None:
+def after_the_wrap(t: Draft) -> None:
     t.open()
     texels = [0x1000 + at for at in range(16)]
     t.given(512, 0, 16, texels)
