@@ -2,7 +2,7 @@
 from __future__ import annotations
 
 from dataclasses import dataclass, field
-from typing import List, Optional
+from typing import FrozenSet, List, Optional
 
 from psxgpu.conformance.answers import SECONDS, NoAnswer, abilities, answer, picture_of, read_words
 from psxgpu.conformance.suite import PSX_SPX, WIDTH, Picture, Place, Test
@@ -32,7 +32,7 @@ class Judge:
 
     def judge(self, test: Test) -> Verdict:
         """Runs a test."""
-        missing = (test.needs | ({'play'} if test.draft.words else set())) - self.able
+        missing = needs_of(test) - self.able
         if missing:
             return Verdict(test, NOT_TAKEN, 'no ' + ', '.join(sorted(missing)))
         try:
@@ -87,6 +87,16 @@ class Judge:
             return 'a picture of %d by %d, expected %d by %d' % (shown.width, shown.height, wanted.width, wanted.height)
         at = next(at for at, pair in enumerate(zip(shown.pixels, wanted.pixels)) if pair[0] != pair[1])
         return 'byte %d of the picture: %d, expected %d' % (at, shown.pixels[at], wanted.pixels[at])
+
+
+def needs_of(test: Test) -> FrozenSet[str]:
+    """Returns what a player has to take for a test."""
+    draft, needs = test.draft, set(test.needs)
+    if draft.words:
+        needs.add('play')
+    if draft.picture or draft.wants_no_picture:
+        needs.add('shot')
+    return frozenset(needs)
 
 
 def cell_of(dump: bytes, x: int, y: int) -> int:

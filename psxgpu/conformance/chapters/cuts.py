@@ -88,3 +88,16 @@ def reset_settings(t: Draft) -> None:
     t.packet(rectangle(RED, 0, 0, 1, 1))
     t.cell(0, 0, CELL)
     t.stat(0, mask=3 << 11)
+
+
+@CHAPTER.test('GP1(00h) ends a load, a polyline and a store, too.', OWN)
+def reset_ends(t: Draft) -> None:
+    for words in (load(0, 0, 8, 1, [0x1111] * 8)[:5], [0x48000000, 0, 0], store(0, 0, 4, 1)):
+        t.packet(words)
+        t.gp1(0)
+        t.stat(1 << 26, mask=1 << 27 | 1 << 26)
+    t.open()
+    t.packet(rectangle(RED, 6, 0, 1, 1))
+    t.row(0, 0, [0x1111] * 4)
+    t.ignore(0, 0, 1)           # the polyline's first segment
+    t.cell(6, 0, CELL)

@@ -4,7 +4,7 @@ from __future__ import annotations
 from psxgpu.capture import display_mode, display_start, horizontal_range, vertical_range
 from psxgpu.conformance.suite import FORMULA, HAND, OWN, PSX_SPX, Chapter, Draft, Picture
 
-CHAPTER = Chapter('display', 'GPU Display Control Commands (GP1)', needs=('shot',))
+CHAPTER = Chapter('display', 'GPU Display Control Commands (GP1)')
 LEFT, TOP = 0x200, 0x10
 
 
@@ -89,3 +89,37 @@ nothing('no-height', 'A vertical range whose end is its beginning shows nothing.
 nothing('no-height-backward', 'A vertical range whose end lies before its beginning shows nothing.', 0x200, 0x228, 0x20,
         0x1F)
 nothing('no-width', 'A horizontal range whose end lies before its beginning shows nothing.', 0x300, 0x2FF, 0x10, 0x12)
+nothing('no-width-equal', 'A horizontal range whose end is its beginning shows nothing.', 0x200, 0x200, 0x10, 0x12)
+nothing('no-width-one-pixel', 'A width of one pixel is rounded to 0.', 0x200, 0x20A, 0x10, 0x12)
+
+
+@CHAPTER.test('GP1(05h) has ten bits of X and nine of Y: what is above them is dropped.', OWN, FORMULA)
+def start_bits(t: Draft) -> None:
+    t.given(100, 200, 4, [1, 2, 3, 4])
+    show(t, 0, 0, 40, 1, 0)
+    t.gp1(0x05F80000 | 200 << 10 | 100)
+    t.picture = Picture(4, 1, b''.join(map(wide, [1, 2, 3, 4])))
+
+
+@CHAPTER.test('GP1(07h) has ten bits of each Y: what is above them is dropped.')
+def vertical_range_bits(t: Draft) -> None:
+    show(t, 0, 0, 40, 2, 0)
+    t.gp1(0x07F00000 | 0x13 << 10 | 0x10)
+    t.picture = Picture(4, 3, bytes(3 * 4 * 3))
+
+
+@CHAPTER.test('GP1(08h) has eight bits: what is above them is dropped.')
+def mode_bits(t: Draft) -> None:
+    show(t, 0, 0, 80, 3, 0)
+    t.gp1(0x08FFFF00)
+    t.picture = Picture(8, 3, bytes(3 * 8 * 3))
+
+
+@CHAPTER.test('24 bits: the cells of a row go on at X 0 over the right edge.', OWN, FORMULA)
+def twenty_four_bits_wraps(t: Draft) -> None:
+    row = bytes(range(1, 13))
+    cells = [row[at] | row[at + 1] << 8 for at in range(0, 12, 2)]
+    t.given(1022, 200, 2, cells[:2])
+    t.given(0, 200, 4, cells[2:])
+    show(t, 1022, 200, 40, 1, 0x10)
+    t.picture = Picture(4, 1, row)

@@ -1,7 +1,7 @@
 """DMA: channel 2 in three forms, and channel 6."""
 from __future__ import annotations
 
-from psxgpu.capture import BLOCKS_IN, BLOCKS_OUT, CLEAR_TABLE, LIST, load, rectangle, store
+from psxgpu.capture import BLOCKS_IN, BLOCKS_OUT, LIST, load, rectangle, store
 from psxgpu.conformance.suite import OWN, Chapter, Draft
 
 CHAPTER = Chapter('dma', 'DMA Channels, DMA Register Summary', needs=('dma',))
@@ -78,37 +78,6 @@ def packet_over_starts(t: Draft) -> None:
     t.box(2, 2, 3, 3, CELL)
 
 
-@CHAPTER.test('Channel 6 writes a table downward: each entry is the address below it, the last one 00FFFFFFh.')
-def ordering_table(t: Draft) -> None:
-    t.capture.ram(0x1000, [0x55555555] * 6)
-    t.capture.dma(6, 0x1010, 4, CLEAR_TABLE)
-    t.packet(load(0, 0, 12, 1, [0] * 12)[:3])
-    t.capture.dma(2, 0x1000, 1 << 16 | 6, BLOCKS_IN)
-    words = [0x55555555, 0x00FFFFFF, 0x00001004, 0x00001008, 0x0000100C, 0x55555555]
-    t.row(0, 0, halves(*words))
-
-
-def halves(*words: int) -> list[int]:
-    """The cells of words."""
-    return [half for word in words for half in (word & 0xFFFF, word >> 16)]
-
-
-@CHAPTER.test('A BCR of 0 stands for 10000h entries of a table.')
-def ordering_table_of_0(t: Draft) -> None:
-    t.capture.dma(6, 0x40000, 0, CLEAR_TABLE)
-    t.packet(load(0, 0, 6, 1, [0] * 6)[:3])
-    t.capture.dma(2, 0x0000, 1 << 16 | 3, BLOCKS_IN)
-    t.row(0, 0, halves(0x00000000, 0x00FFFFFF, 0x00000004))
-
-
-@CHAPTER.test('Below address 0 a table goes on at 1FFFFCh.', OWN)
-def ordering_table_below_0(t: Draft) -> None:
-    t.capture.dma(6, 0x4, 4, CLEAR_TABLE)
-    t.packet(load(0, 0, 10, 1, [0] * 10)[:3])
-    t.capture.dma(2, 0x1FFFF4, 1 << 16 | 5, BLOCKS_IN)
-    t.row(0, 0, halves(0x00000000, 0x00FFFFFF, 0x001FFFF8, 0x001FFFFC, 0x00000000))
-
-
 @CHAPTER.test('Mode 0 with a BCR of 0 moves 10000h words.')
 def one_block_of_0(t: Draft) -> None:
     t.open()
@@ -178,3 +147,38 @@ def direction_not_asked(t: Draft) -> None:
     t.capture.ram(0x1000, dot(0))
     t.capture.dma(2, 0x1000, 1 << 16 | 2, BLOCKS_IN)
     t.cell(0, 0, CELL)
+
+
+@CHAPTER.test('The backward bit means nothing for a list.', OWN)
+def list_backward(t: Draft) -> None:
+    t.open()
+    t.capture.ram(0x1000, 2 << 24 | 0xFFFFFF, dot(0))
+    t.capture.dma(2, 0x1000, 0, LIST | 2)
+    t.cell(0, 0, CELL)
+
+
+@CHAPTER.test('A header without words leads to the next one.')
+def header_without_words(t: Draft) -> None:
+    t.open()
+    t.capture.ram(0x1000, 0x2000, dot(0))
+    t.capture.ram(0x2000, 2 << 24 | 0xFFFFFF, dot(1))
+    t.capture.dma(2, 0x1000, 0, LIST)
+    t.cell(1, 0, CELL)
+
+
+@CHAPTER.test('The chopping bits of CHCR and bit 28 mean nothing.', OWN)
+def chopping(t: Draft) -> None:
+    t.open()
+    t.capture.ram(0x1000, dot(0))
+    t.capture.dma(2, 0x1000, 1 << 16 | 2, BLOCKS_IN | 1 << 28 | 0x00770100)
+    t.cell(0, 0, CELL)
+
+
+@CHAPTER.test('Mode 0 goes into main memory backward, too.')
+def one_block_backward_into_main_memory(t: Draft) -> None:
+    t.given(0, 0, 4, [0x1111, 0x2222, 0x3333, 0x4444])
+    t.packet(store(0, 0, 4, 1))
+    t.capture.dma(2, 0x1004, 2, ONE_BLOCK & ~1 | 2)
+    t.packet(load(8, 8, 4, 1, [0] * 4)[:3])
+    t.capture.dma(2, 0x1000, 1 << 16 | 2, BLOCKS_IN)
+    t.row(8, 8, [0x3333, 0x4444, 0x1111, 0x2222])

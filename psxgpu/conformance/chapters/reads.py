@@ -75,3 +75,9 @@ def store_before_information(t: Draft) -> None:
 def reset_keeps_it(t: Draft) -> None:
     t.gp1(information(7), 0)
     t.read(2)
+
+
+@CHAPTER.test('The lowest four bits of GP1(10h) choose the information.', OWN)
+def index_of_four_bits(t: Draft) -> None:
+    t.gp1(0x10FFFFF7)
+    t.read(2)

@@ -141,3 +141,18 @@ def bit_28_in_a_store(t: Draft) -> None:
 def bit_28_in_a_packet(t: Draft) -> None:
     t.packet(0x20000000, 0)
     t.stat(1 << 28, mask=1 << 28)
+
+
+@CHAPTER.test('With DMA direction 2 bit 25 is bit 28 while a store is open: 0.', OWN)
+def direction_2_in_a_store(t: Draft) -> None:
+    t.gp1(0x04000002)
+    t.packet(store(0, 0, 2, 1))
+    t.stat(0, mask=1 << 28 | 1 << 25)
+
+
+@CHAPTER.test('Bit 26 is 0 between a colour of a polyline and its vertex.', OWN)
+def bit_26_after_a_color(t: Draft) -> None:
+    t.packet(0x58000000, 0, 0, 0, 0)
+    t.stat(0, mask=1 << 26)
+    t.packet(0, 0x55555555)
+    t.stat(1 << 26, mask=1 << 26)
