@@ -8,10 +8,12 @@ import importlib
 from typing import Any
 
 __version__ = '1.0.0'
+OF_THE_MACHINE = ('Error', 'MODES', 'Machine', 'Missing', 'Note', 'OutOfMemory', 'Refused', 'Registers', 'Snapshot', 'library',
+                  'play')
 
 
 def __getattr__(name: str) -> Any:
     """Returns a public name of `psxgpu.machine`."""
-    if name.startswith('_'):
+    if name not in OF_THE_MACHINE:          # a module of the package, which is about to be imported, among others
         raise AttributeError('module %r has no attribute %r' % (__name__, name))
     return getattr(importlib.import_module('psxgpu.machine'), name)

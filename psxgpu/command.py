@@ -6,10 +6,10 @@ A tool is a module of `psxgpu.commands` with a text (`__doc__`), `arguments(pars
 """
 import argparse
 import contextlib
+import io
 import os
 import re
 import sys
-import tempfile
 from types import ModuleType
 from typing import IO, BinaryIO, Callable, Iterator, NoReturn, Optional, Protocol, Sequence, cast
 
@@ -18,7 +18,7 @@ from psxgpu.output import write_whole, writing
 from psxgpu.trouble import Trouble, named, reason_of, title
 
 __all__ = ['BLOCK', 'DIFFERENT', 'SAME', 'TROUBLE', 'Command', 'Readable', 'Trouble', 'decimal', 'guarded', 'main', 'named', 'pour',
-           'read_whole', 'reading', 'reason_of', 'seekable', 'title', 'write_whole', 'writing']
+           'read_whole', 'reading', 'reason_of', 'title', 'write_whole', 'writing']
 
 SAME, DIFFERENT, TROUBLE = 0, 1, 2
 BLOCK = 1 << 20
@@ -77,6 +77,8 @@ def status_of(module: Command, name: str, words: Optional[Sequence[str]]) -> Opt
 def guarded(name: str, work: Callable[[], Optional[int]]) -> int:
     """Does the work. Returns its status. No failure of a file ends in a traceback."""
     reason: Optional[str] = None
+    if isinstance(sys.stdout, io.TextIOWrapper):
+        sys.stdout.reconfigure(errors='surrogateescape')    # names of files need not be UTF-8
     try:
         status = work()
         if sys.stdout is not None:
@@ -137,19 +139,6 @@ def pour(source: Readable, target: IO[bytes]) -> None:
         if not block:
             return
         target.write(block)
-
-
-@contextlib.contextmanager
-def seekable(path: str) -> Iterator[str]:
-    """The path of a file with the bytes of `path`, which may be standard input or a pipe."""
-    if path != '-' and os.path.isfile(path):
-        yield path
-        return
-    with tempfile.NamedTemporaryFile(prefix='psxgpu') as copy:
-        with reading(path) as file:
-            pour(file, copy)
-        copy.flush()
-        yield copy.name
 
 
 def decimal(low: int, high: int) -> Callable[[str], int]:

@@ -49,7 +49,8 @@ class Draw(unittest.TestCase):
         self.assertEqual(self.emulate(script), ['0000001f'])
 
     def test_list_without_end(self):
-        script = 'ram 100 3000100; ram 104 20000ff; ram 108 0; ram 10c 100010; list 100; gp0 c0000000; gp0 0; gp0 10002; read'
+        script = ('ram 100 3000100; ram 104 20000ff; ram 108 0; ram 10c 100010; list 100;'
+                  'gp0 c0000000; gp0 0; gp0 10002; read')
         self.assertEqual(self.emulate(script), ['001f001f'])
 
     def test_status(self):

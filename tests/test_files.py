@@ -1,50 +1,35 @@
-"""Captures, snapshots and dumps, plain and packed: opened by what they contain, and packed by their names."""
-import contextlib
+"""Captures, snapshots and dumps, plain and packed: opened by what they contain."""
 import gzip
-import importlib.util
 import io
 import lzma
 import os
-import shutil
-import subprocess
+import pathlib
 import unittest
 from unittest import mock
 
 from tests import support
-from tests.dumps_support import HAND_MADE
+from tests.dumps_support import CAPTURE, HAND_MADE, HAS_ZSTD, zstd
+import psxgpu.machine
 from psxgpu import capture as c
 from psxgpu.dumps.reader import Dump
 from psxgpu.dumps.translation import Translation
 from psxgpu.files import is_recording, opened, plain, read_capture
-from psxgpu.packing import Damaged, Peeked, Pieces, packing, unpacked
-from psxgpu.trouble import Trouble
+from psxgpu.packing import Damaged
 
-HAS_ZSTD = shutil.which('zstd') is not None
-HAS_MODULE = any(importlib.util.find_spec(name.split('.')[0]) and importlib.util.find_spec(name)
-                 for name in ('zstandard', 'compression.zstd'))
-CAPTURE = c.Capture().gp0(c.load(0, 0, 64, 64, [(7 * k * k) & 0xFFFF for k in range(4096)])).stat().bytes()
 SNAPSHOT = b'PSXGPUS1' + bytes(100)
-
-
-def zstd(data):
-    return subprocess.run(['zstd', '-qc'], input=data, stdout=subprocess.PIPE, check=True).stdout
-
-
 PACKERS = {'gz': gzip.compress, 'xz': lzma.compress, **({'zst': zstd} if HAS_ZSTD else {})}
 
 
-@contextlib.contextmanager
-def without_program():
-    """A machine without the program zstd."""
-    with mock.patch.dict(os.environ, PATH='/nonexistent'):
-        yield
+def capture_of(dump):
+    """The bytes of a dump's capture."""
+    return b''.join(Translation(Dump(io.BytesIO(dump), 'dump')))
 
 
 class Opened(support.InFolder):
     def test_by_content(self):
         """Whatever a file is called and however it is packed. What is none of ours comes as it is."""
-        for data, wanted in ((CAPTURE, CAPTURE), (SNAPSHOT, SNAPSHOT), (b'', b''), (b'x', b'x'), (b'\x1f\x8b', b'\x1f\x8b'),
-                             (HAND_MADE, self.capture_of(HAND_MADE))):
+        for data, wanted in ((CAPTURE, CAPTURE), (SNAPSHOT, SNAPSHOT), (b'', b''), (b'x', b'x'),
+                             (b'\x1f\x8b', b'\x1f\x8b'), (HAND_MADE, capture_of(HAND_MADE))):
             self.assertEqual(read_capture(self.write('a.capture', data)), wanted)
             for kind, pack in PACKERS.items():
                 with self.subTest(kind, data=data[:8]):
@@ -57,11 +42,6 @@ class Opened(support.InFolder):
         path = self.write('a.capture', CAPTURE)
         with plain(path) as same:
             self.assertEqual(same, path)
-
-    @staticmethod
-    def capture_of(data):
-        """The bytes of a dump's capture."""
-        return b''.join(Translation(Dump(io.BytesIO(data), 'dump')))
 
     def test_several_members(self):
         """Packed files one after another are one file."""
@@ -102,75 +82,35 @@ class Opened(support.InFolder):
         self.assertIn('cut.psxgpu: byte 51: the dump ends inside a packet', done.stderr)
 
 
-@unittest.skipUnless(HAS_ZSTD, 'no program zstd')
-class Zstd(support.InFolder):
-    def test_no_zstd(self):
-        """The line names the package."""
-        path = self.write('a.zst', zstd(CAPTURE))
-        with without_program(), mock.patch('psxgpu.zstd.module', lambda: None):
-            with self.assertRaisesRegex(Trouble, '^%s: a zstd file: install the package zstd, or python3-' % path):
-                read_capture(path)
-            with self.assertRaisesRegex(Trouble, 'b.zst: a zstd file: install'), packing(self.path('b.zst')) as file:
-                file.write(b'x')
-        self.assertFalse(os.path.exists(self.path('b.zst')))
-
-    @unittest.skipUnless(HAS_MODULE, 'no module for zstd')
-    def test_module(self):
-        path = self.write('a.zst', zstd(CAPTURE[:100]) + zstd(CAPTURE[100:]))
-        cut = self.write('b.zst', zstd(CAPTURE)[:-9])
-        with without_program():
-            self.assertEqual(read_capture(path), CAPTURE)
-            with self.assertRaisesRegex(Damaged, 'name: damaged: '):
-                read_capture(cut, 'name')
-            with packing(self.path('c.zst')) as file:
-                file.write(CAPTURE)
-        self.assertEqual(read_capture(self.path('c.zst')), CAPTURE)
+@support.needs_player
+class Tools(support.InFolder):
+    def test_dumps(self):
+        """Each tool that asks the player reads a packed dump as the capture that it is."""
+        dump = self.write('a.psxgpu.gz', gzip.compress(HAND_MADE))
+        capture = self.write('a.capture', read_capture(dump))
+        vram = '%s vram' % support.PLAYER
+        for words in (['packets', 'FILE'], ['check', 'FILE'], ['bisect', 'FILE', vram, vram],
+                      ['audit', 'FILE', support.PLAYER, support.PLAYER]):
+            runs = [support.run_tool(*[path if word == 'FILE' else word for word in words]) for path in (dump, capture)]
+            with self.subTest(words[0]):
+                self.assertEqual([(run.returncode, run.stderr) for run in runs], [(0, '')] * 2)
+                self.assertEqual(runs[0].stdout, runs[1].stdout)
+                self.assertTrue(runs[0].stdout)
 
 
-class Packing(support.InFolder):
-    def test_by_name(self):
-        for ending, begin in (('', CAPTURE[:4]), ('.gz', b'\x1f\x8b'), ('.xz', b'\xfd7zXZ'),
-                              *([('.zst', b'\x28\xb5\x2f\xfd')] if HAS_ZSTD else [])):
-            for name in ('a', 'b'):
-                with packing(self.path(name + ending)) as file:
-                    file.write(CAPTURE)
-            self.assertTrue(self.read('a' + ending).startswith(begin))
-            self.assertEqual(self.read('a' + ending), self.read('b' + ending))
-            with unpacked(self.path('a' + ending)) as file:
-                self.assertEqual(file.read(), CAPTURE)
-
-    def test_a_fault_leaves_no_file(self):
-        for ending in ('.gz', '.xz', '.zst'):
-            path = self.write('a' + ending, b'kept')
-            with self.assertRaises(KeyError), packing(path) as file:
-                file.write(b'x')
-                raise KeyError
-            self.assertEqual(self.read('a' + ending), b'kept')
-
-
-class Parts(unittest.TestCase):
-    def test_peeked(self):
-        for sizes in ([-1], [0, 3, 3, -1], [6, 2, -1], [100], [1] * 9):
-            file, out = Peeked(io.BytesIO(b'abcdefgh'), 6), b''
-            self.assertEqual(file.first, b'abcdef')
-            for size in sizes:
-                out += file.read(size)
-            self.assertEqual(out, b'abcdefgh')
-
-    def test_pieces(self):
-        """The bytes before a fault come first."""
-        def failing():
-            yield b'abc'
-            raise Damaged('here')
-        pieces = failing()
-        file = Pieces(lambda: next(pieces))
-        self.assertEqual(file.read(2), b'ab')
-        self.assertEqual(file.read(5), b'c')
-        for _ in range(2):
-            with self.assertRaisesRegex(Damaged, 'here'):
-                file.read(1)
-        file = Pieces(iter((b'abc', b'de', b'')).__next__)
-        self.assertEqual([file.read(4), file.read(4)], [b'abcd', b'e'])
+class Module(support.InFolder):
+    def test_play(self):
+        """`psxgpu.machine.play` gives the library the capture."""
+        library, capture = mock.Mock(), capture_of(HAND_MADE)
+        library.play.return_value = 0
+        paths = [self.write('a.psxgpu', HAND_MADE), pathlib.Path(self.write('b.psxgpu.gz', gzip.compress(HAND_MADE))),
+                 self.write('a.capture.xz', lzma.compress(capture))]
+        with mock.patch('psxgpu.machine.library', lambda: library):
+            for path in paths:
+                psxgpu.machine.play(path, 'vram')
+                self.assertEqual(library.play.call_args.args[2:4], (capture, len(capture)))
+            with self.assertRaisesRegex(ValueError, 'byte 51: the dump ends inside a packet'):
+                psxgpu.machine.play(self.write('cut', HAND_MADE[:51]))
 
 
 if __name__ == '__main__':

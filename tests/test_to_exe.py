@@ -87,7 +87,8 @@ class ToExe(support.InFolder):
         self.assertEqual(words[1 + 4 * 65539:-6], [k << 24 for k in range(0xE1, 0xE7)])
 
     def test_frames_by_flips_and_with_something_open(self):
-        capture = Capture().gp0(fill(1, 0, 0, 16, 16)[:2]).gp1(0x05000000).gp0(0x00100010).gp1(0x05000400).gp0(0xE1000005)
+        capture = Capture().gp0(fill(1, 0, 0, 16, 16)[:2]).gp1(0x05000000).gp0(0x00100010).gp1(0x05000400)
+        capture.gp0(0xE1000005)
         self.write('a.capture', capture.bytes())
         self.assertEqual(self.frames_of('--from', '1')[-4:], [0xE1000005, 0x02000000, 0, 0])
         self.assertEqual(self.frames_of('--from', '1')[4], 0)
@@ -103,7 +104,8 @@ class ToExe(support.InFolder):
         large = Capture()
         for _ in range(8):
             large.gp0(load(0, 0, 512, 256, [r.getrandbits(16) for _ in range(1 << 17)]))
-        self.assertIn('no memory for more than 1900544 bytes of packed', self.refused(self.write('large', large.bytes())))
+        self.assertIn('no memory for more than 1900544 bytes of packed',
+                      self.refused(self.write('large', large.bytes())))
 
 
 if __name__ == '__main__':

@@ -82,7 +82,7 @@ class Console:
         raise NotImplementedError
 
     def run(self, program: str, recording: str, marks: int) -> List[str]:
-        """Runs a program, and records it. Returns the lines that it said. `marks`: how many vertical blanks it waits for."""
+        """Runs a program, and records it. Returns the lines that it said. `marks`: how often it waits for a blank."""
         raise NotImplementedError
 
 
@@ -97,8 +97,9 @@ class Pcsxr(Console):
 
     def run(self, program: str, recording: str, marks: int) -> List[str]:
         plugin = os.path.join(self.folder, 'libpsxgpu_draw.so')
-        done = subprocess.run([os.path.join(TOP, 'recorder', 'record'), program, recording, str(300 + 4 * marks), '--tty',
-                               '--polls', '0', '--built', self.folder, '--plugin', plugin], stdout=subprocess.PIPE, text=True)
+        command = [os.path.join(TOP, 'recorder', 'record'), program, recording, str(300 + 4 * marks), '--tty',
+                   '--polls', '0', '--built', self.folder, '--plugin', plugin]
+        done = subprocess.run(command, stdout=subprocess.PIPE, text=True)
         return done.stdout.splitlines()
 
 

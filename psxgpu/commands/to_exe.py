@@ -1,7 +1,7 @@
 """Makes a test program for the console of a capture: a PS-X EXE, for any emulator or a PlayStation.
 
     psxgpu to-exe mine.capture -o mine.exe              what the capture does, and the picture at its end
-    psxgpu to-exe mine.capture -o mine.exe --check      and then what differs from psxgpu_tool: on the screen and the TTY
+    psxgpu to-exe mine.capture -o mine.exe --check      and then what differs: on the screen and the TTY
 
 No compiler is needed. docs/CONSOLE.md says how to run the program. Status 0: written, with a line on standard error for
 each thing that consoles may do otherwise; 2: an error.
@@ -9,7 +9,7 @@ each thing that consoles may do otherwise; 2: an error.
 import argparse
 import sys
 
-from psxgpu.command import SAME, decimal, main, title, writing
+from psxgpu.command import SAME, decimal, title, writing
 from psxgpu.console import Choices, Frames, Source, make
 from psxgpu.console.plan import BLANKS
 from psxgpu.files import plain
@@ -19,7 +19,8 @@ from psxgpu.players import player
 
 def arguments(parser: argparse.ArgumentParser) -> None:
     """Adds the arguments of this tool."""
-    parser.add_argument('capture', metavar='CAPTURE', help='a capture of version 1 or 2, or a dump of a GPU; - is standard input')
+    parser.add_argument('capture', metavar='CAPTURE',
+                        help='a capture of version 1 or 2, or a dump of a GPU; - is standard input')
     parser.add_argument('-o', dest='out', metavar='EXE', required=True, help='the program; - is standard output')
     parser.add_argument('--check', action='store_true', help='the program says what differs')
     parser.add_argument('--blanks', choices=tuple(BLANKS), default='marks',
@@ -43,7 +44,3 @@ def run(words: argparse.Namespace) -> int:
     for line in program.warnings:
         print('%s: %s' % (name, line), file=sys.stderr)
     return SAME
-
-
-if __name__ == '__main__':
-    sys.exit(main(sys.modules[__name__]))

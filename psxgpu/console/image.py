@@ -19,7 +19,7 @@ ADDRESS, STACK = 0x80010000, 0x801FFF00
 MOST, MOST_PACKED, MOST_UNPACKED = 0x1E8000, segments.WINDOW - ADDRESS, 1 << 26
 SECTOR = 2048                                               # an EXE consists of whole ones
 NAMES = {'MAP_X': page.MAP_X, 'MAP_Y': page.MAP_Y, 'WORDED': int(WORDED), **segments.NAMES}
-# GP1: what a reset sets besides its flags. The reset of pcsxr leaves the start and the ranges of the display as they are.
+# GP1: what a reset sets besides its flags. The reset of pcsxr leaves the start and ranges of the display as they are.
 RESET = 0x04000000, 0x05000000, 0x06C00200, 0x07040010, 0x08000000
 DISPLAY_ON, RESET_ALL = 0x03000000, 0x00000000
 SHOWN = 120                                                 # vertical blanks before the check
