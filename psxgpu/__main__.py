@@ -4,7 +4,6 @@
 Status: 0 the same, or done; 1 different, or something to look at; 2 an error, which is one line on standard error.
 """
 import contextlib
-import difflib
 import importlib
 import os
 import signal
@@ -51,6 +50,7 @@ def answer(name: str) -> None:
     elif os.path.exists(name):
         raise command.Trouble('%s is a file: the name of a tool comes before it, as in psxgpu check %s' % (name, name))
     else:
+        import difflib  # pylint: disable=import-outside-toplevel    # it is large, and rarely wanted
         near = difflib.get_close_matches(name, TOOLS, 1)
         raise command.Trouble('there is no tool %r%s: the tools are %s'
                               % (name, ', perhaps %s' % near[0] if near else '', ', '.join(TOOLS)))

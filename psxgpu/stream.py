@@ -111,6 +111,8 @@ class Stream:
     def singles(self) -> "Optional[array[int]]":
         """Returns the words of the next records, as far as they are Gp0 records of one word within the block. Returns None
         if the next record is none."""
+        if self.at == len(self.block):
+            self.more(1)
         block, at = self.block, self.at
         if at + 1 >= len(block) or block[at] != SINGLE:
             return None
@@ -129,10 +131,8 @@ class Stream:
         return block[at + 1:self.at:2]
 
     def tag(self) -> Tuple[int, int, int]:
-        """Returns kind and count of the next record and the number of its words, and takes its tag. Raises Trouble if it is
-        not a record."""
-        if self.at == len(self.block):
-            self.more(1)
+        """Returns kind and count of the record whose tag is in the block, and the number of its words. Takes the tag. Raises
+        Trouble if it is not a record."""
         tag = self.block[self.at]
         if tag not in self.sizes:
             kind, count = tag >> 24, tag & 0xFFFFFF
@@ -155,11 +155,13 @@ class Stream:
             block, at, end = self.block, self.at, len(self.block)
             while at < end:                     # records that were met, as long as they are within the block
                 kind, _, size = sizes.get(block[at], NONE)
-                if at + size >= end or block[at] == SINGLE or not kind:
+                if at + size >= end or not kind:
                     break
                 at += 1 + size
                 yield kind
             self.at = at
+            if at == end:
+                self.more(1)
             kind, _, size = self.tag()
             if kind == END:
                 return

@@ -1,4 +1,5 @@
 """The command: its names, its version, what it says of words that it does not know, and its line of progress."""
+import argparse
 import os
 import pty
 import subprocess
@@ -8,7 +9,7 @@ import unittest
 from tests import support
 from psxgpu import __version__
 from psxgpu import capture as c
-from psxgpu.__main__ import TOOLS
+from psxgpu.__main__ import TOOLS, module_of
 
 
 class Command(support.InFolder):
@@ -28,6 +29,16 @@ class Command(support.InFolder):
         self.assertEqual((done.returncode, done.stderr), (0, ''))
         for name in TOOLS:
             self.assertRegex(done.stdout, r'\n  %s +[A-Z]\w+' % name)
+
+    def test_every_argument_is_explained(self):
+        for name in TOOLS:
+            module = module_of(name)
+            parser = argparse.ArgumentParser(add_help=False)
+            module.arguments(parser)
+            with self.subTest(name):
+                self.assertIn('\n    psxgpu %s ' % name, module.__doc__)
+                for action in parser._actions:
+                    self.assertTrue(action.help, action.dest)
 
     def test_unknown_words(self):
         self.write('house.capture', c.Capture().bytes())

@@ -9,7 +9,7 @@ each thing that consoles may do otherwise; 2: trouble.
 import argparse
 import sys
 
-from psxgpu.command import decimal, main, title, writing
+from psxgpu.command import decimal, title, writing
 from psxgpu.console import Choices, Frames, Source, make
 from psxgpu.console.plan import BLANKS
 from psxgpu.files import plain
@@ -42,7 +42,3 @@ def run(words: argparse.Namespace) -> None:
         file.write(program.executable)
     for line in program.warnings:
         print('%s: %s' % (name, line), file=sys.stderr)
-
-
-if __name__ == '__main__':
-    sys.exit(main(sys.modules[__name__]))

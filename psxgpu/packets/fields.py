@@ -5,7 +5,7 @@ from typing import Dict, List, Optional, Sequence, Tuple
 from psxgpu.packets.split import (COPY, ENVIRONMENT, FILL, LINE, LOAD, POLYGON, POLYLINE, QUAD, RAW, RECTANGLE, SEMI,
                                   SHADED, STORE, TEXTURED, cells_of)
 
-CACHED = 1 << 14        # texts that are kept of each kind
+CACHED = 1 << 11        # texts that are kept of each kind
 BLENDS = ('B/2+F/2', 'B+F', 'B-F', 'B+F/4')
 DEPTHS = (4, 8, 15, 15)
 Point = Tuple[int, int]
