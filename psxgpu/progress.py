@@ -64,8 +64,8 @@ def is_wanted(is_quiet: bool) -> bool:
 
 @contextlib.contextmanager
 def shown(text: str, is_quiet: bool = False) -> Iterator[Line]:
-    """Shows a line while the block runs, unless another one is there."""
-    line = Line(text)
+    """Shows a line while the block runs. If one is there already, the block sets the part of that one."""
+    line = SHOWN[0] if SHOWN else Line(text)
     if SHOWN or not is_wanted(is_quiet):
         yield line
         return
@@ -86,8 +86,7 @@ def following(file: IO[bytes], text: str) -> Iterator[None]:
     size = 0
     with contextlib.suppress(OSError, ValueError, AttributeError):
         size = os.fstat(file.fileno()).st_size
-    with shown(text) as own:
-        line = SHOWN[0] if SHOWN else own
+    with shown(text) as line:
         if not size or line.measure or line.part is not None:
             yield
             return
@@ -110,3 +109,4 @@ def counted(items: Sequence[Item], text: str, is_quiet: bool = False) -> Iterato
         for done, item in enumerate(items):
             line.part = done / len(items)
             yield item
+        line.part = None

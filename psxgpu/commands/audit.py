@@ -17,6 +17,7 @@ Status: 0 no packet differs; 1 some do; 2 an error, also if there is no packet t
 """
 import argparse
 
+from psxgpu import progress
 from psxgpu.command import DIFFERENT, SAME, decimal, title
 from psxgpu.files import read_capture
 from psxgpu.players.audit import audit
@@ -41,7 +42,8 @@ def run(words: argparse.Namespace) -> int:
     """Prints the table and the first packet of each class that differs."""
     name, data = title(words.capture), read_capture(words.capture)
     ours, theirs = player_of(words.ours, appends=True), player_of(words.theirs, appends=True)
-    rows = audit(data, ours, theirs, words.first, words.last, name)
+    with progress.shown(name, is_quiet=True):
+        rows = audit(data, ours, theirs, words.first, words.last, name)
     print('| packets | number | equal | cells looked at | that differ | by more than one step |')
     print('|---|---|---|---|---|---|')
     for kind, row in sorted(rows.items()):

@@ -9,6 +9,7 @@ to it. It is made by ffmpeg, in a format that players show (yuv420p). Status: 0 
 """
 import argparse
 
+from psxgpu import progress
 from psxgpu.command import Trouble, decimal, title
 from psxgpu.files import plain
 from psxgpu.film import encode, find_ffmpeg, frames_of
@@ -40,6 +41,6 @@ def run(words: argparse.Namespace) -> None:
             raise Trouble('%s: %s' % (name, trouble)) from trouble
         # Both sides of a picture of yuv420p are even.
         size = (words.scale * width + 1) // 2 * 2, (words.scale * height + 1) // 2 * 2
-        with player.playing(program, ['frames', *ends], path) as run_of_frames:
+        with progress.shown(name, is_quiet=True), player.playing(program, ['frames', *ends], path) as run_of_frames:
             encode(ffmpeg, run_of_frames.out, words.rate, size, target)
             run_of_frames.expect_whole()

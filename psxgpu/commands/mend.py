@@ -9,6 +9,7 @@ itself becomes the whole one. Status: 0 it is whole now; 2 an error, and the rec
 import argparse
 from typing import BinaryIO
 
+from psxgpu import progress
 from psxgpu.command import Trouble, pour, writing
 from psxgpu.mending import whole_of
 
@@ -42,7 +43,7 @@ def run(words: argparse.Namespace) -> None:
         if words.output in ('-', '/dev/stdout'):
             raise Trouble('%s: name a file' % words.output)
         file.seek(0)
-        with writing(words.output or words.capture, [words.capture] if words.output else ()) as target:
+        with progress.following(file, words.capture), writing(words.output or words.capture, [words.capture] if words.output else ()) as target:
             pour(Beginning(file, size), target)
             target.write(rest)
     print('made whole' if rest else 'it was whole')

@@ -48,7 +48,7 @@ def dump(player: Player, data: bytes) -> Optional[bytes]:
 
 def compare_class(score: Score, players: Sequence[Player]) -> None:
     """Plays the captures of a class."""
-    for seed in progress.counted(range(score.captures), score.name):
+    for seed in progress.counted(range(score.captures), score.name, is_quiet=True):
         r = random.Random('%s %d' % (score.name, seed))
         start = background(r) + AREA
         capture = Capture().gp0(start, [CLASSES[score.name](r) for _ in range(PACKETS)])

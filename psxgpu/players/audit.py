@@ -127,7 +127,7 @@ def audit(data: bytes, ours: Player, theirs: Player, first: int, last: int, name
         raise Trouble('%s list: not a list of packets: %s' % (ours.text, bad)) from bad
     rows: Dict[str, Row] = collections.defaultdict(Row)
     groups = list(passes(found, first, last))
-    for group in progress.counted(groups, 'audit'):
+    for group in progress.counted(groups, name, is_quiet=True):
         before = beginning(stream, found, group, ours)
         mine = read_back(ours, *probed(stream, found, group, before))
         other = read_back(theirs, *probed(stream, found, group, before, mine))
