@@ -6,6 +6,7 @@ A tool is a module of `psxgpu.commands` with a text (`__doc__`), `arguments(pars
 """
 import argparse
 import contextlib
+import io
 import os
 import re
 import sys
@@ -77,6 +78,8 @@ def status_of(module: Command, name: str, words: Optional[Sequence[str]]) -> Opt
 def guarded(name: str, work: Callable[[], Optional[int]]) -> int:
     """Does the work. Returns its status. No failure of a file ends in a traceback."""
     reason: Optional[str] = None
+    if isinstance(sys.stdout, io.TextIOWrapper):
+        sys.stdout.reconfigure(errors='surrogateescape')    # names of files need not be UTF-8
     try:
         status = work()
         if sys.stdout is not None:

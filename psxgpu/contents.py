@@ -11,6 +11,7 @@ from psxgpu.snapshot import unfinished
 from psxgpu.stream import GP1, HEADS, KINDS, Stream, count_of, encode, first_events
 
 DISPLAY_START = 5
+TAP = re.compile(rb'tap 0((?: \d+)+)\n')      # the first line of `report`
 CLASSES = ('fills and words that do nothing', 'polygons', 'segments of lines', 'rectangles', 'copies', 'loads',
            'stores', 'settings', 'ends of polylines', 'data words of loads')
 
@@ -55,7 +56,11 @@ def beginning(path: str, name: str, version: int, events: int) -> Iterator[str]:
 
 def packets_line(program: str, path: str) -> str:
     """Returns how many notes of each class."""
-    counts = player.answer(program, ['report'], path).decode().splitlines()[0].split()[2:]
+    said = player.answer(program, ['report'], path)
+    report_line = TAP.match(said)
+    if not report_line:
+        raise Trouble('%s report: not a report: %r' % (program, said[:40]))
+    counts = report_line[1].decode().split()
     found = ['%s %s' % (name, count) for count, name in zip(counts, CLASSES) if count != '0']
     return 'packets: ' + (', '.join(found) or 'none')
 

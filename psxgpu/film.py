@@ -1,5 +1,6 @@
 """Films: each picture that a capture shows, through ffmpeg."""
 import collections
+import re
 import shutil
 import subprocess
 import tempfile
@@ -8,6 +9,7 @@ from typing import IO, List, Optional, Tuple
 from psxgpu.command import Trouble
 from psxgpu.players import player
 
+FRAME = re.compile(rb'\d{1,20} (\d{1,5}) (\d{1,5}) [0-9a-f]{64}\n')      # a line of `sums`
 # Where a frame ends, as arguments of `frames` and `sums`.
 FLIPS: List[str] = []
 MARKS = ['marks']
@@ -27,9 +29,9 @@ def sizes_of(program: str, path: str, ends: List[str]) -> 'collections.Counter[T
     sizes: 'collections.Counter[Tuple[int, int]]' = collections.Counter()
     with player.playing(program, ['sums', *ends], path) as run:
         for line in run.out:
-            words = line.split()
-            if len(words) == 4:
-                sizes[int(words[1]), int(words[2])] += 1
+            frame = FRAME.fullmatch(line)
+            if frame:
+                sizes[int(frame[1]), int(frame[2])] += 1
         run.expect_whole()
     return sizes
 

@@ -29,7 +29,8 @@ class Written(io.FileIO):
         try:
             return super().write(data)  # type: ignore[arg-type]
         except OSError as error:
-            raise named(error, self.title)
+            named(error, self.title)
+            raise
 
 
 def stream_of(path: str) -> Optional[int]:

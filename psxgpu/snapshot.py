@@ -2,7 +2,7 @@
 import struct
 from typing import List, Sequence, Tuple
 
-from psxgpu.command import Readable
+from psxgpu.command import Readable, Trouble
 from psxgpu.packets.split import name_and_length
 
 STATE = 3 + 13      # height, events played, registers
@@ -19,7 +19,10 @@ class Words:
 
     def take(self, n: int) -> Tuple[int, ...]:
         """Returns the next n words."""
-        return struct.unpack('<%dI' % n, self.file.read(4 * n))
+        data = self.file.read(4 * n)
+        if len(data) < 4 * n:
+            raise Trouble('the snapshot that the player writes is cut')
+        return struct.unpack('<%dI' % n, data)
 
     def one(self) -> int:
         """Returns the next word."""

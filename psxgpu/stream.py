@@ -145,6 +145,19 @@ class Stream:
         self.at += 1
         return self.sizes[tag]
 
+    def words(self) -> "array[int]":
+        """Returns the words of the next records, as far as they are Gp0 records within the block whose tags were met."""
+        block, at, end, sizes = self.block, self.at, len(self.block), self.sizes
+        words = array('I')
+        while at < end:
+            kind, _, size = sizes.get(block[at], NONE)
+            if kind != GP0 or at + size >= end:
+                break
+            words += block[at + 1:at + 1 + size]
+            at += 1 + size
+        self.at = at
+        return words
+
     def kinds(self) -> Iterator[int]:
         """Returns the kinds of the records up to End. Neighbouring Gp0 records of one word may be one."""
         sizes = self.sizes
@@ -167,6 +180,14 @@ class Stream:
                 return
             self.take(size)
             yield kind
+
+    def gathered(self) -> Iterator[Record]:
+        """Returns the records, with neighbouring Gp0 records as one, as far as possible."""
+        for kind, count, words in self:
+            yield kind, count, words
+            more = self.words() if kind == GP0 else None
+            if more:
+                yield GP0, len(more), more
 
     def __iter__(self) -> Iterator[Record]:
         while True:

@@ -66,18 +66,19 @@ def run(words: argparse.Namespace) -> int:
         raise Trouble('--events %d %d: the first comes after the last' % tuple(words.events))
     program, name = player.find(words.player), title(words.capture)
     count, write = 0, sys.stdout.write
+    is_whole = not (words.name or words.cell or words.events)
     with plain(words.capture) as path:
         with reading(path) as file:
             Stream(file, name)          # a file that is not a capture is refused at once
         listing = Listing(path, name, program)
         with progress.shown(name):
             for entry in listing:
-                if is_asked_for(words, entry):
+                if is_whole or is_asked_for(words, entry):
                     write(entry_text(entry, words.line))
                     count += 1
     if listing.refusal:
         show_refusal(listing.refusal)
         return TROUBLE
-    if not count and (words.name or words.cell or words.events):
+    if not count and not is_whole:
         raise Trouble('%s: nothing to list: no packet or event is as asked for' % name)
     return SAME

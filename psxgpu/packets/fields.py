@@ -28,7 +28,6 @@ def texcoord_of(word: int) -> Point:
     return word & 0xFF, word >> 8 & 0xFF
 
 
-@lru_cache(CACHED)
 def color_of(word: int) -> str:
     """Returns red, green and blue of a colour."""
     return '%d %d %d' % (word & 0xFF, word >> 8 & 0xFF, word >> 16 & 0xFF)
@@ -39,16 +38,14 @@ def pair(place: Point) -> str:
     return '(%d, %d)' % place
 
 
-@lru_cache(CACHED)
 def vertex_text(word: int) -> str:
-    """Returns a vertex as text."""
-    return pair(vertex_of(word))
+    """Returns a vertex as text: `vertex_of` in one line, since captures have many."""
+    return '(%d, %d)' % ((word & 0x7FF ^ 0x400) - 0x400, (word >> 16 & 0x7FF ^ 0x400) - 0x400)
 
 
-@lru_cache(CACHED)
 def texcoord_text(word: int) -> str:
     """Returns a texture coordinate as text."""
-    return pair(texcoord_of(word))
+    return '(%d, %d)' % (word & 0xFF, word >> 8 & 0xFF)
 
 
 @lru_cache(CACHED)
@@ -159,7 +156,7 @@ def rectangle_text(words: Sequence[int], registers: Registers) -> List[str]:
     """Returns the fields of a rectangle."""
     opcode, mode = words[0] >> 24, registers[0xE1]
     corner, size, texcoord = rectangle_parts(words)
-    texts = ['corner %s, size %d by %d' % (pair(corner), *size)]
+    texts = ['corner (%d, %d), size %d by %d' % (corner + size)]
     if texcoord is None or not opcode & RAW:
         texts.append('colour ' + color_of(words[0]))
     if texcoord is not None:

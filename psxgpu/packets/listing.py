@@ -2,7 +2,7 @@
 import contextlib
 import heapq
 import re
-from typing import IO, Iterator, List, NamedTuple, Optional, Sequence
+from typing import IO, Iterable, Iterator, List, NamedTuple, Optional, Sequence
 
 from psxgpu.command import Trouble, reading
 from psxgpu.packets.control import control
@@ -37,10 +37,10 @@ class Entry(NamedTuple):
         return [control(self.words[0])] if self.name == CONTROL else []
 
 
-def until_fault(stream: Stream) -> Iterator[Record]:
+def until_fault(records: Iterable[Record]) -> Iterator[Record]:
     """Returns the records of a capture. One that is cut or bad ends early: the player says so."""
     with contextlib.suppress(Trouble):
-        yield from stream
+        yield from records
 
 
 class Listing:
@@ -57,7 +57,7 @@ class Listing:
         stream, event = Stream(flat, self.name), 1
         splitter = Splitter(stream.version == 3)
         with player.playing(self.player, ['list'], self.path) as listed:
-            for kind, count, words in until_fault(stream):
+            for kind, count, words in until_fault(stream.gathered()):
                 if kind == GP0:
                     for packet, line in zip(splitter.push(words), listed.out):
                         yield packet_entry(line, packet[1], splitter.registers, self.name)

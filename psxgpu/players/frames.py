@@ -42,10 +42,14 @@ class Frames:
     def __iter__(self) -> Iterator[Frame]:
         for line in self.run.out:
             words = line.decode('ascii', 'replace').split()
-            if words[0] == MEMORY:
-                self.memory = words[1]
-            else:
-                yield Frame(int(words[0]), int(words[1]), int(words[2]), words[3])
+            try:
+                if words[0] == MEMORY:
+                    self.memory = words[1]
+                    continue
+                frame = Frame(int(words[0]), int(words[1]), int(words[2]), words[3])
+            except (ValueError, IndexError) as error:
+                raise Trouble('the player writes a line that is not one of `sums`: %s' % ' '.join(words)[:60]) from error
+            yield frame
         status = self.run.end()
         if status:
             self.refusal = player.failure(status, self.run.said())
