@@ -14,7 +14,7 @@ from typing import List, Optional
 from psxgpu import __version__, command
 
 TOOLS = ('corpus', 'packets', 'check', 'first', 'join', 'mend', 'from-log', 'from-dump', 'to-dump', 'to-exe', 'picture',
-         'film', 'textures', 'heat', 'compare', 'bisect', 'agree', 'audit', 'reduce')
+         'film', 'textures', 'heat', 'compare', 'bisect', 'agree', 'audit', 'reduce', 'conform')
 
 
 def module_of(name: str) -> ModuleType:

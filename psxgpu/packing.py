@@ -22,7 +22,7 @@ PACKED = (GZIP, XZ, ZSTD)
 ENDINGS = ('.gz', '.xz', '.zst')
 MOST_FIRST = 14                 # bytes of the longest file header that is looked for
 FAULTS = (EOFError, gzip.BadGzipFile, zlib.error, lzma.LZMAError, ZstdFault)
-XZ_PRESET = 1
+GZIP_LEVEL, XZ_PRESET = 4, 1    # a dump of 110 MB is packed within 6 seconds by gzip
 
 
 class Damaged(Trouble):
@@ -135,7 +135,7 @@ def packing(path: str, inputs: Iterable[str] = ()) -> Iterator[IO[bytes]]:
     be one of the paths `inputs`."""
     with writing(path, inputs) as raw, contextlib.ExitStack() as stack:
         if path.endswith('.gz'):
-            yield cast(IO[bytes], stack.enter_context(gzip.GzipFile('', 'wb', fileobj=raw, mtime=0)))
+            yield cast(IO[bytes], stack.enter_context(gzip.GzipFile('', 'wb', GZIP_LEVEL, raw, 0)))
         elif path.endswith('.xz'):
             yield cast(IO[bytes], stack.enter_context(lzma.LZMAFile(raw, 'wb', preset=XZ_PRESET)))
         elif path.endswith('.zst'):

@@ -128,7 +128,7 @@ def zstd_reader(packed: IO[bytes], name: str) -> Iterator[Child | Own | Frames]:
 def zstd_writer(raw: IO[bytes], name: str) -> Iterator[IO[bytes]]:
     """A file to write to, which is packed into `raw`."""
     if shutil.which('zstd'):
-        with started(['-c', '-%d' % LEVEL], stdin=subprocess.PIPE, stdout=raw) as (child, said):
+        with started(['-c', '--single-thread', '-%d' % LEVEL], stdin=subprocess.PIPE, stdout=raw) as (child, said):
             assert child.stdin
             yield child.stdin
             child.stdin.close()

@@ -1,5 +1,5 @@
 #!/usr/bin/env python3
-"""Tests of how the command `record` ends: python3 recorder/test_endings.py. What stands for pcsxr is a line of shell."""
+"""Tests of how `record` ends: python3 recorder/test_endings.py. What stands for pcsxr is a line of shell."""
 import glob
 import os
 import signal
@@ -74,7 +74,7 @@ class Endings(Command):
     def test_earlier_parts_are_not_judged(self):
         """A file CAPTURE.2 of an earlier recording stays as it is, and is no failure of this one."""
         old = self.write('a.capture.2', 'PSXGPUC2 which ends nowhere')
-        said = 'echo "psxgpu_record: a.capture: 9 frames, 16 bytes" >&2; printf "PSXGPUC2\\0\\0\\0\\0" > $PSXGPU_CAPTURE'
+        said = 'echo "psxgpu_record: a: 9 frames, 16 bytes" >&2; printf "PSXGPUC2\\0\\0\\0\\0" > $PSXGPU_CAPTURE'
         self.assertEqual(self.record(pcsxr=said)[::2], (0, ''))
         with open(old) as file:
             self.assertEqual(file.read(), 'PSXGPUC2 which ends nowhere')
@@ -85,7 +85,8 @@ class Endings(Command):
                 'echo psxgpu_record: a: 3 frames, 9 bytes >&2; printf "PSXGPUC2\\0\\0\\0\\0" > $PSXGPU_CAPTURE\n'
                 'while :; do sleep 0.1; done')
         for number in (signal.SIGTERM, signal.SIGINT, signal.SIGHUP):
-            child = subprocess.Popen(self.command(pcsxr=slow), stdout=subprocess.PIPE, stderr=subprocess.PIPE, text=True)
+            child = subprocess.Popen(self.command(pcsxr=slow), stdout=subprocess.PIPE, stderr=subprocess.PIPE,
+                                     text=True)
             emulator = self.wait_for_process(self.capture + '.pid')
             child.send_signal(number)
             out, errors = child.communicate()

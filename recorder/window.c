@@ -1,3 +1,4 @@
+#define _GNU_SOURCE
 #include "window.h"
 #include <stddef.h>
 

@@ -3,8 +3,8 @@
 #define WINDOW_H
 #include <stdint.h>
 
-/* Connects to the X server, and opens a window if `visible`. Returns the Display, which emulators read their keys from, or
-   NULL if there is none. */
+/* Connects to the X server, and opens a window if `visible`. Returns the Display, from which emulators read their keys,
+   or NULL if there is none. */
 void *window_open(const char *caption, int visible);
 void window_close(void);
 

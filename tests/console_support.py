@@ -5,7 +5,7 @@ import struct
 import subprocess
 import zlib
 
-from psxgpu.console import image, packing
+from psxgpu.console import image, segments
 from psxgpu.console.assembler import assemble
 from psxgpu.console.orders import AGAIN, SAME, WORDED, Kind
 from psxgpu.stream import GP0, GP1, READ, SKIP, Stream
@@ -40,9 +40,9 @@ def unpacked(body):
     while at + 2 <= len(body):
         size = int.from_bytes(body[at:at + 2], 'little')
         segment = deflate.decompress(body[at + 2:at + 2 + size])
-        if len(segment) != packing.SLOT:
+        if len(segment) != segments.SLOT:
             break                   # what fills the last sector
-        out += struct.unpack('<%dI' % (packing.SLOT // 4), segment)
+        out += struct.unpack('<%dI' % (segments.SLOT // 4), segment)
         at += 2 + size
     return out
 
@@ -61,7 +61,7 @@ def follow(program):
         if kind == Kind.END:
             return out
         if kind == Kind.MORE:
-            at += -at % (packing.SLOT // 4)
+            at += -at % (segments.SLOT // 4)
         elif kind < WORDED:
             words = body[at:at + n]
             if flags == SAME:

@@ -62,7 +62,7 @@ class Bisected(support.InFolder):
 
     def test_no_difference(self):
         capture = c.Capture().gp0(c.fill(0, 0, 0, 16, 1))
-        self.assertEqual(self.bisect(capture), (0, ['no difference behind 1 packets'], ''))
+        self.assertEqual(self.bisect(capture), (0, ['no difference after 1 packets'], ''))
 
     def test_tolerance(self):
         capture = c.Capture().gp0(c.fill(0x10, 0, 0, 16, 1), c.fill(0x20, 32, 0, 16, 1))
@@ -73,7 +73,7 @@ class Bisected(support.InFolder):
     def test_no_dump(self):
         status, lines, err = self.bisect(c.Capture().stat(), players=['cat > /dev/null', 'cat > /dev/null'])
         self.assertEqual((status, lines), (2, []))
-        self.assertEqual(err, 'psxgpu bisect: no dump: 0 bytes, status 0: cat > /dev/null\n')
+        self.assertEqual(err, 'psxgpu bisect: cat > /dev/null: no dump (status 0, 0 bytes)\n')
 
     def test_ignored(self):
         """A player that draws no lines, and one rectangle less. The line's cells come by a load."""

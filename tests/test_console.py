@@ -67,7 +67,8 @@ class Orders(support.InFolder):
         self.assertEqual(self.expect_alike(Capture().gp0(0x60000000)), [on])
 
     def test_equal_loads_take_little(self):
-        cells = [random.Random(1).getrandbits(16) for _ in range(4096)]
+        r = random.Random(1)
+        cells = [r.getrandbits(16) for _ in range(4096)]
         once, many = (len(console.executable(Capture().gp0([load(0, 0, 64, 64, cells)] * n).bytes())) for n in (1, 50))
         self.assertLessEqual(many - once, 2048)
         self.expect_alike(Capture().gp0([load(0, 0, 64, 64, cells)] * 3))
@@ -80,10 +81,12 @@ class Orders(support.InFolder):
                   line([(k % 300, 3) for k in range(5000)], 7), load(0, 0, 200, 100, [3] * 20000), store(0, 0, 2, 2)]
         self.expect_alike(Capture().gp0(pieces).read(2), packs=True)
         for n in range(4080, 4096):
-            self.expect_alike(Capture().gp0(load(0, 0, 2, n, cells[:2 * n]), polygon([(0, 0), (9, 0), (0, 9)], 1)), True)
+            triangle = polygon([(0, 0), (9, 0), (0, 9)], 1)
+            self.expect_alike(Capture().gp0(load(0, 0, 2, n, cells[:2 * n]), triangle), packs=True)
 
-    def test_packed_words_of_all_kinds_are_few(self):
-        cells = [random.Random(1).getrandbits(4) for _ in range(20000)]
+    def test_packed_data_are_small(self):
+        r = random.Random(1)
+        cells = [r.getrandbits(4) for _ in range(20000)]
         capture = Capture().gp0([load(0, 0, 200, 100, cells)])
         plain, packed = (len(console.executable(capture.bytes(), packs=packs)) for packs in (False, True))
         self.assertLess(packed - 8192, (plain - 8192) / 3)

@@ -26,8 +26,9 @@ class Assembler(support.InFolder):
                 self.assertEqual(assemble(text, 0x80010000, {})[0], word.to_bytes(4, 'little'))
 
     def test_faults(self):
-        for text, said in (('add $t0', 'line 1: add $t0: no instruction add'), ('\nj away', 'line 2: j away: no name away'),
-                           ('lw $t0, $t1', 'no address'), ('.data', 'no directive .data'), ('move $t0, $x', "'x'")):
+        for text, said in (('add $t0', 'line 1: add $t0: no instruction add'),
+                           ('\nj away', 'line 2: j away: no name away'), ('lw $t0, $t1', 'no address'),
+                           ('.data', 'no directive .data'), ('move $t0, $x', "'x'")):
             with self.subTest(text), self.assertRaisesRegex(ValueError, re.escape(said)):
                 assemble(text, 0, {})
 
@@ -77,7 +78,8 @@ class Bare(support.InFolder):
         self.assertEqual(found[BEGINS:BEGINS + len(wanted)], wanted)
 
     def test_nothing_is_lost(self):
-        cells = [random.Random(1).getrandbits(16) for _ in range(999)]
+        r = random.Random(1)
+        cells = [r.getrandbits(16) for _ in range(999)]
         self.expect_well(Capture().gp0(drawing_area(0, 0, 319, 239), line([(k * 7 % 300, k) for k in range(200)], 255)))
         self.expect_well(Capture().gp0(fill(7, 0, 0, 64, 64), load(1, 2, 27, 37, cells), load(9, 50, 27, 37, cells),
                                        load(0, 0, 64, 64, [9] * 4096), rectangle(1, 2, 3, 4, 5)))
@@ -109,7 +111,8 @@ class Bare(support.InFolder):
         """The bare GPU draws nothing and reads 0: a part with a cell differs."""
         capture = Capture().gp0(fill(0xFFFFFF, 0, 0, 64, 64), fill(0xFFFFFF, 512, 256, 16, 1))
         said, found = self.run_on_it(self.write('a.capture', capture.bytes()), check=True)
-        self.assertEqual(said[:-1], ['VIDEO MEMORY: 002 OF 128 PARTS DIFFER', 'READS: 000 DIFFER', 'WAITS TOO LONG: 000'])
+        self.assertEqual(said[:-1], ['VIDEO MEMORY: 002 OF 128 PARTS DIFFER', 'READS: 000 DIFFER',
+                                     'WAITS TOO LONG: 000'])
         self.assertEqual((found.count(('gp0', 0x60006000)), found.count(('gp0', 0x600000FF))), (126, 2))
         self.assertRegex(said[-1], WELL)
 

@@ -5,6 +5,7 @@ import importlib.util
 import io
 import lzma
 import os
+import pathlib
 import shutil
 import subprocess
 import unittest
@@ -12,6 +13,7 @@ from unittest import mock
 
 from tests import support
 from tests.dumps_support import HAND_MADE
+import psxgpu.machine
 from psxgpu import capture as c
 from psxgpu.dumps.reader import Dump
 from psxgpu.dumps.translation import Translation
@@ -33,6 +35,11 @@ def zstd(data):
 PACKERS = {'gz': gzip.compress, 'xz': lzma.compress, **({'zst': zstd} if HAS_ZSTD else {})}
 
 
+def capture_of(dump):
+    """The bytes of a dump's capture."""
+    return b''.join(Translation(Dump(io.BytesIO(dump), 'dump')))
+
+
 @contextlib.contextmanager
 def without_program():
     """A machine without the program zstd."""
@@ -43,8 +50,8 @@ def without_program():
 class Opened(support.InFolder):
     def test_by_content(self):
         """Whatever a file is called and however it is packed. What is none of ours comes as it is."""
-        for data, wanted in ((CAPTURE, CAPTURE), (SNAPSHOT, SNAPSHOT), (b'', b''), (b'x', b'x'), (b'\x1f\x8b', b'\x1f\x8b'),
-                             (HAND_MADE, self.capture_of(HAND_MADE))):
+        for data, wanted in ((CAPTURE, CAPTURE), (SNAPSHOT, SNAPSHOT), (b'', b''), (b'x', b'x'),
+                             (b'\x1f\x8b', b'\x1f\x8b'), (HAND_MADE, capture_of(HAND_MADE))):
             self.assertEqual(read_capture(self.write('a.capture', data)), wanted)
             for kind, pack in PACKERS.items():
                 with self.subTest(kind, data=data[:8]):
@@ -57,11 +64,6 @@ class Opened(support.InFolder):
         path = self.write('a.capture', CAPTURE)
         with plain(path) as same:
             self.assertEqual(same, path)
-
-    @staticmethod
-    def capture_of(data):
-        """The bytes of a dump's capture."""
-        return b''.join(Translation(Dump(io.BytesIO(data), 'dump')))
 
     def test_several_members(self):
         """Packed files one after another are one file."""
@@ -100,6 +102,37 @@ class Opened(support.InFolder):
         done = support.run_tool('first', '2', self.write('cut.psxgpu', HAND_MADE[:51]))
         self.assertEqual((done.returncode, done.stderr.count('\n')), (2, 1), done.stderr)
         self.assertIn('cut.psxgpu: byte 51: the dump ends inside a packet', done.stderr)
+
+
+@support.needs_player
+class Tools(support.InFolder):
+    def test_dumps(self):
+        """Each tool that asks the player reads a packed dump as the capture that it is."""
+        dump = self.write('a.psxgpu.gz', gzip.compress(HAND_MADE))
+        capture = self.write('a.capture', read_capture(dump))
+        vram = '%s vram' % support.PLAYER
+        for words in (['packets', 'FILE'], ['check', 'FILE'], ['bisect', 'FILE', vram, vram],
+                      ['audit', 'FILE', support.PLAYER, support.PLAYER]):
+            runs = [support.run_tool(*[path if word == 'FILE' else word for word in words]) for path in (dump, capture)]
+            with self.subTest(words[0]):
+                self.assertEqual([(run.returncode, run.stderr) for run in runs], [(0, '')] * 2)
+                self.assertEqual(runs[0].stdout, runs[1].stdout)
+                self.assertTrue(runs[0].stdout)
+
+
+class Module(support.InFolder):
+    def test_play(self):
+        """`psxgpu.machine.play` gives the library the capture."""
+        library, capture = mock.Mock(), capture_of(HAND_MADE)
+        library.play.return_value = 0
+        paths = [self.write('a.psxgpu', HAND_MADE), pathlib.Path(self.write('b.psxgpu.gz', gzip.compress(HAND_MADE))),
+                 self.write('a.capture.xz', lzma.compress(capture))]
+        with mock.patch('psxgpu.machine.library', lambda: library):
+            for path in paths:
+                psxgpu.machine.play(path, 'vram')
+                self.assertEqual(library.play.call_args.args[2:4], (capture, len(capture)))
+            with self.assertRaisesRegex(ValueError, 'byte 51: the dump ends inside a packet'):
+                psxgpu.machine.play(self.write('cut', HAND_MADE[:51]))
 
 
 @unittest.skipUnless(HAS_ZSTD, 'no program zstd')

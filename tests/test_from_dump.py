@@ -142,7 +142,7 @@ class Command(support.InFolder):
             with self.subTest(name):
                 done = self.run_from_dump(self.write(name, data), '-o', self.path(name + '.capture'))
                 self.assertEqual((done.returncode, done.stderr.count('\n')), (2, 1), done.stderr)
-                self.assertTrue(done.stderr.startswith('psxgpu from-dump: %s: %s' % (self.path(name), why)), done.stderr)
+                self.assertIn('psxgpu from-dump: %s: %s' % (self.path(name), why), done.stderr)
                 capture = self.read(name + '.capture')
                 self.assertEqual((capture[:8], capture[-4:]), (b'PSXGPUC1', bytes(4)))
 

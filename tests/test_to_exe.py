@@ -1,4 +1,5 @@
 """Tests of the command `psxgpu to-exe`."""
+import contextlib
 import os
 import random
 import unittest
@@ -39,6 +40,8 @@ class ToExe(support.InFolder):
             self.assertIn('%s: %s' % (self.path('a.capture'), text), said)
 
     def refused(self, path, *words):
+        with contextlib.suppress(FileNotFoundError):
+            os.remove(self.path('a.exe'))
         status, out, said = self.make(path, *words)
         self.assertEqual((status, out, os.path.exists(self.path('a.exe')), said.count('\n')), (2, '', False, 1), said)
         return said
@@ -51,7 +54,8 @@ class ToExe(support.InFolder):
         self.assertIn('is also the input', self.make(path)[2])
 
     def test_what_is_too_large_is_packed(self):
-        cells = [random.Random(1).getrandbits(4) for _ in range(1 << 17)]
+        r = random.Random(1)
+        cells = [r.getrandbits(4) for _ in range(1 << 17)]
         capture = Capture()
         for k in range(8):
             capture.gp0(load(0, 0, 512, 256, [cell + k for cell in cells]))
@@ -83,7 +87,8 @@ class ToExe(support.InFolder):
         self.assertEqual(words[1 + 4 * 65539:-6], [k << 24 for k in range(0xE1, 0xE7)])
 
     def test_frames_by_flips_and_with_something_open(self):
-        capture = Capture().gp0(fill(1, 0, 0, 16, 16)[:2]).gp1(0x05000000).gp0(0x00100010).gp1(0x05000400).gp0(0xE1000005)
+        capture = Capture().gp0(fill(1, 0, 0, 16, 16)[:2]).gp1(0x05000000).gp0(0x00100010).gp1(0x05000400)
+        capture.gp0(0xE1000005)
         self.write('a.capture', capture.bytes())
         self.assertEqual(self.frames_of('--from', '1')[-4:], [0xE1000005, 0x02000000, 0, 0])
         self.assertEqual(self.frames_of('--from', '1')[4], 0)
@@ -99,7 +104,8 @@ class ToExe(support.InFolder):
         large = Capture()
         for _ in range(8):
             large.gp0(load(0, 0, 512, 256, [r.getrandbits(16) for _ in range(1 << 17)]))
-        self.assertIn('no memory for more than 1900544 bytes of packed', self.refused(self.write('large', large.bytes())))
+        self.assertIn('no memory for more than 1900544 bytes of packed',
+                      self.refused(self.write('large', large.bytes())))
 
 
 if __name__ == '__main__':

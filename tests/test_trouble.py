@@ -46,7 +46,7 @@ class Trouble(support.InFolder):
     def test_cut(self):
         """`check` reports on a capture that is cut, and `packets` lists it up to there."""
         path = self.write('cut', c.Capture().gp0(1, 2, 3).bytes()[:20])
-        for tool, words in (('first', ['9', path]), ('join', [path]), ('bisect', [path, 'cat', 'cat'])):
+        for tool, words in (('first', ['9', path]), ('join', [path]), ('bisect', [path, *['%s vram' % support.PLAYER] * 2])):
             with self.subTest(tool):
                 self.assertIn('cut', self.ends(tool, words))
 

@@ -25,7 +25,7 @@ sys.path.insert(0, TOP)
 
 from psxgpu.capture import Capture  # noqa: E402
 from psxgpu.console import executable  # noqa: E402
-from psxgpu.packets.random import AREA, CLASSES, background  # noqa: E402
+from psxgpu.packets.generated import AREA, CLASSES, background  # noqa: E402
 from psxgpu.players import player  # noqa: E402
 from psxgpu.stream import GP1, HEADS, Stream, encode  # noqa: E402
 
@@ -75,7 +75,18 @@ def before_the_check(recording: bytes) -> bytes:
     return HEADS[2] + b''.join(encode(*record) for record in records[:last]) + bytes(4)
 
 
-class Pcsxr:
+class Console:
+    """What runs programs. It is built in a folder, with libpsxgpu.a."""
+
+    def __init__(self, folder: str, library: str) -> None:
+        raise NotImplementedError
+
+    def run(self, program: str, recording: str, marks: int) -> List[str]:
+        """Runs a program, and records it. Returns the lines that it said. `marks`: how often it waits for a blank."""
+        raise NotImplementedError
+
+
+class Pcsxr(Console):
     """pcsxr with our plugin, under `record`."""
 
     def __init__(self, folder: str, library: str) -> None:
@@ -85,14 +96,14 @@ class Pcsxr:
                        stdout=subprocess.DEVNULL, stderr=subprocess.DEVNULL)
 
     def run(self, program: str, recording: str, marks: int) -> List[str]:
-        """Records a program. Returns the lines that it said."""
         plugin = os.path.join(self.folder, 'libpsxgpu_draw.so')
-        done = subprocess.run([os.path.join(TOP, 'recorder', 'record'), program, recording, str(300 + 4 * marks), '--tty',
-                               '--polls', '0', '--built', self.folder, '--plugin', plugin], stdout=subprocess.PIPE, text=True)
+        command = [os.path.join(TOP, 'recorder', 'record'), program, recording, str(300 + 4 * marks), '--tty',
+                   '--polls', '0', '--built', self.folder, '--plugin', plugin]
+        done = subprocess.run(command, stdout=subprocess.PIPE, text=True)
         return done.stdout.splitlines()
 
 
-class Bare:
+class Bare(Console):
     """The bare processor with the machine as its GPU."""
 
     def __init__(self, folder: str, library: str) -> None:
@@ -102,12 +113,11 @@ class Bare:
                         os.path.join(TOP, 'c'), *sources, library, '-o', self.program], check=True)
 
     def run(self, program: str, recording: str, marks: int) -> List[str]:
-        """Runs a program. Returns the lines that it said."""
         done = subprocess.run([self.program, program, recording, str(CYCLES)], stdout=subprocess.PIPE, text=True)
         return done.stdout.splitlines()
 
 
-def difference(tool: str, console: 'Pcsxr | Bare', folder: str, capture: bytes, packs: bool) -> str:
+def difference(tool: str, console: Console, folder: str, capture: bytes, packs: bool) -> str:
     """Returns what differs, or nothing."""
     program, recording = os.path.join(folder, 'a.exe'), os.path.join(folder, 'a.capture')
     with open(program, 'wb') as file:
@@ -115,7 +125,7 @@ def difference(tool: str, console: 'Pcsxr | Bare', folder: str, capture: bytes, 
     marks = sum(kind == GP1 and words[0] >> 24 & 0x3F == 0x3F
                 for kind, _, words in Stream(io.BytesIO(capture), 'capture'))
     said = console.run(program, recording, marks)
-    wrong = [line for line in GOOD if line not in said]
+    wrong = [good for good in GOOD if not any(line.endswith(good) for line in said)]
     if wrong:
         return 'not said: %s; said: %s' % (wrong[0], ' / '.join(said[-5:]))
     with open(recording, 'rb') as file:
@@ -126,7 +136,7 @@ def difference(tool: str, console: 'Pcsxr | Bare', folder: str, capture: bytes, 
 
 def main() -> int:
     """Tries all captures. Returns the status."""
-    parser = argparse.ArgumentParser(description=__doc__.split('\n', 1)[0])
+    parser = argparse.ArgumentParser(description=(__doc__ or '').split('\n', 1)[0])
     parser.add_argument('library', help='libpsxgpu.a')
     parser.add_argument('--bare', action='store_true', help='the bare processor, even if pcsxr is here')
     parser.add_argument('names', nargs='*', help='of captures; all if left out')
@@ -137,7 +147,8 @@ def main() -> int:
     has_pcsxr = shutil.which('pcsxr', path=os.environ.get('PATH', '') + ':/usr/games') and shutil.which('Xvfb')
     differ = tried = 0
     with tempfile.TemporaryDirectory(prefix='psxgpu') as folder:
-        console = (Pcsxr if has_pcsxr and not words.bare else Bare)(folder, os.path.abspath(words.library))
+        kind = Pcsxr if has_pcsxr and not words.bare else Bare
+        console: Console = kind(folder, os.path.abspath(words.library))
         for name, capture in captures():
             if words.names and name not in words.names:
                 continue

@@ -1,15 +1,15 @@
 """Makes a test program for the console of a capture: a PS-X EXE, for any emulator or a PlayStation.
 
     psxgpu to-exe mine.capture -o mine.exe              what the capture does, and the picture at its end
-    psxgpu to-exe mine.capture -o mine.exe --check      and then what differs from psxgpu_tool: on the screen and the TTY
+    psxgpu to-exe mine.capture -o mine.exe --check      and then what differs: on the screen and the TTY
 
 No compiler is needed. docs/CONSOLE.md says how to run the program. Status 0: written, with a line on standard error for
-each thing that consoles may do otherwise; 2: trouble.
+each thing that consoles may do otherwise; 2: an error.
 """
 import argparse
 import sys
 
-from psxgpu.command import decimal, title, writing
+from psxgpu.command import SAME, decimal, title, writing
 from psxgpu.console import Choices, Frames, Source, make
 from psxgpu.console.plan import BLANKS
 from psxgpu.files import plain
@@ -18,8 +18,9 @@ from psxgpu.players import player
 
 
 def arguments(parser: argparse.ArgumentParser) -> None:
-    """Adds the words of the command."""
-    parser.add_argument('capture', metavar='CAPTURE', help='a capture of version 1 or 2; - is standard input')
+    """Adds the arguments of this tool."""
+    parser.add_argument('capture', metavar='CAPTURE',
+                        help='a capture of version 1 or 2, or a dump of a GPU; - is standard input')
     parser.add_argument('-o', dest='out', metavar='EXE', required=True, help='the program; - is standard output')
     parser.add_argument('--check', action='store_true', help='the program says what differs')
     parser.add_argument('--blanks', choices=tuple(BLANKS), default='marks',
@@ -31,7 +32,7 @@ def arguments(parser: argparse.ArgumentParser) -> None:
     player.argument(parser)
 
 
-def run(words: argparse.Namespace) -> None:
+def run(words: argparse.Namespace) -> int:
     """Writes the program."""
     name = title(words.capture)
     refuse_inputs(words.out, [words.capture])
@@ -42,3 +43,4 @@ def run(words: argparse.Namespace) -> None:
         file.write(program.executable)
     for line in program.warnings:
         print('%s: %s' % (name, line), file=sys.stderr)
+    return SAME

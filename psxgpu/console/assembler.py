@@ -4,8 +4,8 @@
 
 A line is a label, an instruction or a directive: `.word`, `.half`, `.byte`, `.ascii "text"`, `.align 2`, `.space n`.
 `#` begins a comment. Nothing is reordered and no instruction becomes two: delay slots stand in the text as they are.
-Operands are registers ($t0), numbers, names, `%hi(name)`, `%lo(name)`, and sums with + or -. GNU as makes the same bytes
-of the same text with `.set noreorder`.
+Operands are registers ($t0), numbers, names, `%hi(name)`, `%lo(name)`, and sums with + or -. GNU as makes the same
+bytes of the same text with `.set noreorder`.
 """
 import re
 import struct

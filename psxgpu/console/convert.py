@@ -1,4 +1,4 @@
-"""Makes the test program of a capture, with psxgpu_tool for what the program does without DMA and what it has to show."""
+"""Makes the test program of a capture. psxgpu_tool takes DMA out of it and knows what the program has to show."""
 import os
 import tempfile
 from typing import List, NamedTuple, Optional

@@ -5,7 +5,7 @@ from array import array
 from typing import Iterable, Optional
 
 from psxgpu.command import Trouble
-from psxgpu.console import packing, page, sums
+from psxgpu.console import page, segments, sums
 from psxgpu.console.assembler import assemble
 from psxgpu.console.orders import WORDED, Kind, Orders
 from psxgpu.console.plan import Plan
@@ -16,10 +16,10 @@ FOLDER = os.path.join(os.path.dirname(os.path.abspath(__file__)), 'program')
 SOURCES = 'begin', 'ports', 'reads', 'sums', 'text', 'unpack', 'bits', 'codes', 'construct'
 ADDRESS, STACK = 0x80010000, 0x801FFF00
 # Bytes of the program at most: as it is, if it is packed, and before it is packed.
-MOST, MOST_PACKED, MOST_UNPACKED = 0x1E8000, packing.WINDOW - ADDRESS, 1 << 26
+MOST, MOST_PACKED, MOST_UNPACKED = 0x1E8000, segments.WINDOW - ADDRESS, 1 << 26
 SECTOR = 2048                                               # an EXE consists of whole ones
-NAMES = {'MAP_X': page.MAP_X, 'MAP_Y': page.MAP_Y, 'WORDED': int(WORDED), **packing.NAMES}
-# GP1: what a reset sets besides its flags. The reset of pcsxr leaves the start and the ranges of the display as they are.
+NAMES = {'MAP_X': page.MAP_X, 'MAP_Y': page.MAP_Y, 'WORDED': int(WORDED), **segments.NAMES}
+# GP1: what a reset sets besides its flags. The reset of pcsxr leaves the start and ranges of the display as they are.
 RESET = 0x04000000, 0x05000000, 0x06C00200, 0x07040010, 0x08000000
 DISPLAY_ON, RESET_ALL = 0x03000000, 0x00000000
 SHOWN = 120                                                 # vertical blanks before the check
@@ -42,11 +42,11 @@ def source(cells: Optional[bytes] = None) -> str:
     text += listed('wanted_sums', '.word', sums.parts(cells) if cells else [0])
     text += listed('glyphs', '.half', (page.glyph(chr(code)) for code in range(32, 91)))
     text += listed('lengths', '.byte', (name_and_length(opcode << 24)[1] for opcode in range(256)))
-    text += listed('length_bases', '.half', packing.LENGTHS)
-    text += listed('distance_bases', '.half', packing.distances())
-    text += listed('length_extras', '.byte', packing.LENGTH_EXTRAS)
-    text += listed('distance_extras', '.byte', packing.DISTANCE_EXTRAS)
-    text += listed('length_order', '.byte', packing.LENGTH_ORDER)
+    text += listed('length_bases', '.half', segments.LENGTHS)
+    text += listed('distance_bases', '.half', segments.distances())
+    text += listed('length_extras', '.byte', segments.LENGTH_EXTRAS)
+    text += listed('distance_extras', '.byte', segments.DISTANCE_EXTRAS)
+    text += listed('length_order', '.byte', segments.LENGTH_ORDER)
     for k, line in enumerate(page.LINES):
         text += 'line%d: .ascii "%s"\ndigits%d: .ascii "000%s\\0"\n' % (k, line.before, k, line.after)
     return text + '.align 2\norders:\n'
@@ -116,7 +116,7 @@ class Image:
     def executable(self) -> bytes:
         """Returns the PS-X EXE: a head of one sector, and the program. NoRoom if it is too large."""
         words = self.orders.words
-        body = self.code + (packing.packed(words) if self.packs else little(words[:]).tobytes())
+        body = self.code + (segments.packed(words) if self.packs else little(words[:]).tobytes())
         self.expect_room(len(body), MOST_PACKED if self.packs else MOST)
         body += bytes(-len(body) % SECTOR)
         head = b'PS-X EXE' + bytes(8) + struct.pack('<10I', ADDRESS, 0, ADDRESS, len(body), 0, 0, 0, 0, STACK, 0)

@@ -1,8 +1,5 @@
 """A stretch of a capture: some of its frames, with the state before them, as a capture of its own."""
-from __future__ import annotations
-
 import struct
-from array import array
 from typing import IO, List, NamedTuple, Optional, Tuple
 
 from psxgpu.capture import Capture
@@ -10,7 +7,7 @@ from psxgpu.command import Trouble
 from psxgpu.console.source import Source
 from psxgpu.console.unfinished import Unfinished
 from psxgpu.players import player
-from psxgpu.stream import GP0, GP1, HEADS, READ, SKIP, Stream, count_of, encode, first_events, later_events
+from psxgpu.stream import GP0, GP1, HEADS, READ, SKIP, Record, Stream, count_of, encode, first_events, later_events
 
 START, MARK = 0x05, 0x3F            # opcodes of GP1 that end a frame
 # A snapshot with nothing unfinished: 8 bytes, 3 words, 13 registers, 3 words, and video memory.
@@ -23,7 +20,7 @@ class Frames(NamedTuple):
     number: Optional[int]
 
 
-def opcode_of(record: Tuple[int, int, array[int]]) -> Optional[int]:
+def opcode_of(record: Record) -> Optional[int]:
     """Returns the opcode of a record of GP1."""
     return record[2][0] >> 24 & 0x3F if record[0] == GP1 else None
 

@@ -5,7 +5,7 @@ from psxgpu.packets.split import RESETS, STORE, Splitter, data_words
 
 
 class Unfinished:
-    """Follows both ports: an open packet, load, polyline (`splitter`), and the reads that an open store takes (`left`)."""
+    """Follows both ports: an open packet, load or polyline (`splitter`), and the reads of an open store (`left`)."""
 
     def __init__(self) -> None:
         self.splitter, self.left = Splitter(), 0

@@ -17,6 +17,7 @@ import os
 import threading
 from typing import Any, List, Optional, SupportsIndex, Tuple, Union
 
+from psxgpu.files import read_capture
 from psxgpu.machine.library import (NO_ROOM, SIZE, WORD, Ended, Error, Handle, Missing, OutOfMemory, RawNote, Refused,
                                     check, library)
 from psxgpu.machine.values import (Bytes, Note, Path, Registers, Snapshot, Words, address, bytes_of, note_of, number,
@@ -185,15 +186,17 @@ class Machine:
 
 
 def play(source: Union[Path, Bytes], mode: str = 'vram', cell: Optional[Tuple[int, int]] = None) -> bytes:
-    """Returns what `psxgpu_tool` writes with this mode of a capture or a snapshot, given as a path or as bytes. `cell` is
-    (x, y), for `pixel`. Raises Refused if the program refuses it; its `output` is what was written before."""
+    """Returns what `psxgpu_tool` writes with this mode of a capture or a snapshot, given as a path or as bytes. A path may
+    also be that of a GPU dump, and of a packed file (.gz, .xz, .zst). `cell` is (x, y), for `pixel`. Raises Refused if
+    the program refuses it; its `output` is what was written before. Raises ValueError if a packed file or a dump is
+    damaged."""
     if mode not in MODES:
         raise ValueError('mode %r is none of: %s' % (mode, ', '.join(MODES)))
     if (cell is not None) != (mode == 'pixel'):
         raise ValueError('a cell belongs to the mode pixel')
     x, y = cell or (0, 0)
     corner = number(x, COLUMNS - 1, 'column') | number(y, ROWS[1] - 1, 'row') << 16
-    data = Snapshot.read(source) if isinstance(source, (str, os.PathLike)) else bytes_of(source)
+    data = read_capture(os.fsdecode(source)) if isinstance(source, (str, os.PathLike)) else bytes_of(source)
     code, room, ended = NO_ROOM, 2 << 20, Ended()
     while code == NO_ROOM:
         room *= 2

@@ -16,7 +16,7 @@ body { font: 14px sans-serif; margin: 1em; background: #3a3a42; color: #eee }
 main { display: flex; flex-wrap: wrap; gap: 12px; align-items: end; margin-top: 1em }
 figure { margin: 0; max-width: 260px } figcaption { font-size: 11px; color: #bbb } [hidden] { display: none }
 img { image-rendering: pixelated; background: repeating-conic-gradient(#4a4a52 0 25%%, #42424a 0 50%%) 0 0/16px 16px }
-input[type=search] { width: 24em } a { color: #9cf }
+input[type=search] { width: 24em } output { margin-left: 1em } a { color: #9cf }
 </style>
 <h1>Textures of %(name)s</h1>
 <p>%(count)d textures, in the order of their first use; all in one picture: <a href="sheet.png">sheet.png</a>.</p>

@@ -14,7 +14,7 @@ typedef struct counts {
 extern uint64_t now; /* cycles since the start */
 extern counts counted;
 
-/* Opens the capture of what reaches the ports. `busy`: cycles that a packet takes that draws. Returns 0, or an errno. */
+/* Opens the capture of what reaches the ports. `busy`: cycles of a packet that draws. Returns 0, or an errno. */
 int gpu_open(const char *path, uint32_t busy);
 int gpu_close(void);
 void gpu_blank(void); /* a vertical blank */

@@ -6,9 +6,9 @@
 #   if bit 30 is 1, one word instead, which is written n times.
 # Other kinds may have words of their own after the tag.
 #
-# Registers with one meaning everywhere: $s0 the next order, $s1 the GPU's ports, $s2 how many waits ended before the GPU
-# was ready, $s3 how many times a wait polls at most, $s4 the CRC of what was read, $s5 sum_table, $s6 n, $s7 lengths,
-# $t8 the next word of the order, $t9 the step from one word to the next.
+# Registers with one meaning everywhere: $s0 the next order, $s1 the GPU's ports, $s2 how many waits ended before the
+# GPU was ready, $s3 how many times a wait polls at most, $s4 the CRC of what was read, $s5 sum_table, $s6 n, $s7
+# lengths, $t8 the next word of the order, $t9 the step from one word to the next.
 #
 # psxgpu.console.image lays tables and orders after this text: `kinds`, `lengths` (256 bytes), `sum_table` (256 words),
 # `glyphs`, `wanted_sums`, and `orders`. Delay slots, of branches and of loads, are as written.

@@ -1,6 +1,5 @@
-# The tables of codes with which `unpack.s` decodes a block. $gp is how many codes literals and lengths have, $fp how many
-# distances have. The lengths of codes are at
-# CODE_LENGTHS, a byte each.
+# The tables of codes with which `unpack.s` decodes a block. $gp is how many codes literals and lengths have, $fp how
+# many distances have. The lengths of codes are at CODE_LENGTHS, a byte each.
 
 # The codes that RFC 1951 fixes.
 fixed:

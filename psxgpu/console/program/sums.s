@@ -1,5 +1,5 @@
-# Video memory is read back in 128 parts of 64 by 64 cells, from the left, rows from the top. `found` gets 1 for each part
-# whose CRC-32 is not that of `wanted_sums`.
+# Video memory is read back in 128 parts of 64 by 64 cells, from the left, rows from the top. `found` gets 1 for each
+# part whose CRC-32 is not that of `wanted_sums`.
 sums:
     lui $t5, %hi(wanted_sums)
     addiu $t5, $t5, %lo(wanted_sums)

@@ -1,6 +1,6 @@
-# A line of text on the screen, with a number of at most three digits in it: green if the number is 0, else red. The words
-# of the order: Y and X as a vertex, the address of the characters, that of the number, that of its digits among the
-# characters.
+# A line of text on the screen, with a number of at most three digits in it: green if the number is 0, else red. The
+# words of the order: Y and X as a vertex, the address of the characters, that of the number, that of its digits among
+# the characters.
 text:
     lw $a2, 0($s0)
     lw $a3, 4($s0)

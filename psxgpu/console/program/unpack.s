@@ -1,9 +1,9 @@
-# Packed orders. After the first order follow segments: a size of two bytes, and as many bytes of raw deflate (RFC 1951),
-# which are SLOT bytes of orders. The last order of a segment is `more`: it unpacks the next one. Four slots form the
-# window, a ring of 64 KB, so that distances of 32 KB reach into it.
+# Packed orders. After the first order follow segments: a size of two bytes, and as many bytes of raw deflate (RFC
+# 1951), which are SLOT bytes of orders. The last order of a segment is `more`: it unpacks the next one. Four slots
+# form the window, a ring of 64 KB, so that distances of 32 KB reach into it.
 #
-# Here $a0 is where the next byte is, $a1 the bits at hand, $a2 how many these are, $a3 where the next byte goes, $t9 the
-# end of the slot, $t8 a table of codes:
+# Here $a0 is where the next byte is, $a1 the bits at hand, $a2 how many these are, $a3 where the next byte goes, $t9
+# the end of the slot, $t8 a table of codes:
 #   0 to 1023: for each value of nine bits, 16 times a symbol plus the length of its code, or 0 if that is longer
 #   1024 to 1055: how many codes have each length; from 1056 on: the symbols, by the lengths of their codes
 

@@ -1,4 +1,4 @@
-"""Packs orders: segments of SLOT bytes, in raw deflate, which the player unpacks one after another (`program/unpack.s`)."""
+"""Packs orders: segments of SLOT bytes in raw deflate. The player unpacks one after another (`program/unpack.s`)."""
 import zlib
 from array import array
 from typing import Dict, Iterator

@@ -1,0 +1,136 @@
+"""Runs the conformance suite on a player: tests of single rules of the graphics processor.
+
+    psxgpu conform 'my_emulator --headless vram'        a table by chapter, and a line for each test not passed
+    psxgpu conform psxgpu_tool --page page.html --junit results.xml
+    psxgpu conform psxgpu_tool --only fills --only copies/overlap-right
+    psxgpu conform --list
+    psxgpu conform --write FOLDER                       the tests as files: captures, dumps, programs for the console
+
+PLAYER is a shell command that reads a capture on standard input. In it, `vram` is the place of the mode; without that
+word the mode is added at the end. `vram` writes a dump of video memory, `play` prints each word that is read and each
+status, and `shot` writes the shown picture. What the player does not take (`play`, `shot`, DMA, turns, the tall profile)
+is found first, and the tests that need it are not taken. docs/CONFORMANCE.md says more.
+
+Status: 0 no test failed, 1 some did (with --strict also where a rule of this project decides), 2 an error.
+"""
+from __future__ import annotations
+
+import argparse
+import os
+import sys
+import time
+from concurrent.futures import ThreadPoolExecutor
+from typing import List
+
+from psxgpu import progress
+from psxgpu.command import DIFFERENT, SAME, TROUBLE, Trouble, decimal, write_whole
+from psxgpu.conformance import folder, judging, reducing, report
+from psxgpu.conformance.chapters import CHAPTERS
+from psxgpu.conformance.judging import Judge, Verdict
+from psxgpu.conformance.page import page
+from psxgpu.conformance.released import SUITE, WITHDRAWN, expectations, sum_of
+from psxgpu.conformance.suite import Test
+from psxgpu.players import player
+from psxgpu.players.named import Player, expect_dump, player_of
+from psxgpu.stream import HEADS
+
+
+def arguments(parser: argparse.ArgumentParser) -> None:
+    """Adds the arguments."""
+    parser.add_argument('tested', nargs='?', metavar='PLAYER', help='a shell command: capture in, dump out')
+    parser.add_argument('--only', action='append', default=[], metavar='NAME', help='a chapter, or CHAPTER/TEST')
+    parser.add_argument('--page', metavar='FILE', help='write a page with pictures: theirs, ours, the difference')
+    parser.add_argument('--junit', metavar='FILE', help='write JUnit XML')
+    parser.add_argument('--json', metavar='FILE', help='write the verdicts')
+    parser.add_argument('--reduce', metavar='FOLDER', help='write the smallest capture that still shows each failure')
+    parser.add_argument('--write', metavar='FOLDER', help='write the tests as files, and what they expect')
+    parser.add_argument('--jobs', type=decimal(1, 1024), default=1, metavar='N',
+                        help='runs of the player at a time (default: %(default)s)')
+    parser.add_argument('--list', action='store_true', help='list the tests: name, who decides, the rule')
+    parser.add_argument('--quiet', action='store_true', help='print the table alone')
+    parser.add_argument('--strict', action='store_true', help='status 1 also where a rule of this project decides')
+    parser.add_argument('--version', action='store_true', help='print the version of the suite')
+    player.argument(parser)
+
+
+def every_test() -> List[Test]:
+    """Returns the tests of all chapters."""
+    return [test for chapter in CHAPTERS for test in chapter.tests]
+
+
+def chosen(names: List[str]) -> List[Test]:
+    """Returns the tests of these chapters and of these full names; all without names."""
+    tests = every_test()
+    for name in names:
+        if name in WITHDRAWN:
+            raise Trouble('%s is withdrawn: %s' % (name, WITHDRAWN[name]))
+        if not any(name in (test.chapter, test.full_name) for test in tests):
+            raise Trouble('%s: no chapter or test has this name: --list has them' % name)
+    return [test for test in tests if not names or test.chapter in names or test.full_name in names]
+
+
+def version() -> str:
+    """Returns the version of the suite, with a sum of all that it expects."""
+    tests = every_test()
+    return 'suite %d: %d tests, %d withdrawn, sum %s' % (
+        SUITE, len(tests), len(WITHDRAWN), sum_of(expectations(tests).encode())[:16])
+
+
+def run_tests(tests: List[Test], tested: Player, jobs: int) -> List[Verdict]:
+    """Returns the verdicts."""
+    expect_dump(tested, HEADS[1] + bytes(4))
+    judge = Judge(tested)
+    with progress.shown(tested.text, is_quiet=True) as line, ThreadPoolExecutor(jobs) as pool:
+        verdicts = []
+        for verdict in pool.map(judge.judge, tests):
+            verdicts.append(verdict)
+            line.part = len(verdicts) / len(tests)
+    return verdicts
+
+
+def status_of(verdicts: List[Verdict], strict: bool) -> int:
+    """Returns the status of the command."""
+    kinds = {verdict.kind for verdict in verdicts}
+    if judging.TROUBLE in kinds:
+        return TROUBLE
+    if judging.FAILED in kinds or strict and judging.DIFFERS in kinds or judging.PASSED not in kinds:
+        return DIFFERENT
+    return SAME
+
+
+def test_player(words: argparse.Namespace, tests: List[Test]) -> int:
+    """Runs the tests, and prints and writes what is found. Returns the status."""
+    tested = player_of(words.tested, appends=True)
+    start = time.monotonic()
+    verdicts = run_tests(tests, tested, words.jobs)
+    seconds = time.monotonic() - start
+    print(report.table(verdicts))
+    print('%d tests in %.1f seconds' % (len(verdicts), seconds))
+    if not words.quiet:
+        print(''.join(line + '\n' for line in report.lines(verdicts)), end='')
+    title = os.path.basename(words.tested)
+    for path, text in ((words.page, page(verdicts, title)), (words.junit, report.junit(verdicts, seconds)),
+                       (words.json, report.as_json(verdicts))):
+        if path:
+            write_whole(path, text.encode(), is_text=True)
+    if words.reduce:
+        print('\n'.join(reducing.reduce_all(verdicts, tested, words.reduce, words.player)))
+    return status_of(verdicts, words.strict)
+
+
+def run(words: argparse.Namespace) -> int:
+    """Runs the command."""
+    tests = chosen(words.only)
+    if words.version:
+        print(version())
+    elif words.list:
+        for test in tests:
+            print('%-42s %-8s %-7s %s' % (test.full_name, test.decides, test.worked, test.says))
+    elif words.write:
+        for line in folder.write(tests, words.write, folder.found_program(words.player)):
+            print('%s: %s' % (words.write, line), file=sys.stderr)
+    elif words.tested is None:
+        raise Trouble('name a player: `psxgpu conform --help` explains the arguments')
+    else:
+        return test_player(words, tests)
+    return SAME

@@ -1,0 +1,61 @@
+"""What a player is asked, and what it answers."""
+from __future__ import annotations
+
+from typing import Dict, FrozenSet, List, Tuple
+
+from psxgpu.capture import Capture, display_mode, horizontal_range, vertical_range
+from psxgpu.conformance.draft import Picture
+from psxgpu.players.named import Done, Player, ending
+
+SECONDS = 20            # for one run of a player
+PROBES: Dict[str, Tuple[str, Capture]] = {
+    'vram': ('vram', Capture()),
+    'play': ('play', Capture().stat()),
+    'shot': ('shot', Capture().gp1(horizontal_range(0x200, 0x228), vertical_range(0x10, 0x11), display_mode(0))),
+    'dma': ('vram', Capture().dma(2, 0x1000, 0x00010001, 0)),
+    'turns': ('vram', Capture(2).turn()),
+    'tall': ('vram', Capture(3)),
+}
+
+
+class NoAnswer(Exception):
+    """A player gave no answer: it crashed, did not end in time, or wrote something else. The text is the reason."""
+
+
+def abilities(player: Player) -> FrozenSet[str]:
+    """Returns what a player takes. Each is asked once, by a capture that does nothing."""
+    able = set()
+    for name, (mode, capture) in PROBES.items():
+        done = player.run(mode, capture.bytes(), SECONDS)
+        if done.status == 0 and done.out:
+            able.add(name)
+    return frozenset(able)
+
+
+def answer(player: Player, mode: str, data: bytes) -> bytes:
+    """Returns what a player writes for a capture. Raises NoAnswer if it does not end with status 0."""
+    done: Done = player.run(mode, data, SECONDS)
+    if done.status != 0:
+        raise NoAnswer('%s: %s' % (mode, ending(done)))
+    return done.out
+
+
+def read_words(out: bytes) -> List[int]:
+    """Returns the words of `play`. A line `status ..` at the end does not count. Raises NoAnswer for another line."""
+    lines = [line for line in out.decode(errors='replace').splitlines() if not line.startswith('status')]
+    try:
+        return [int(line, 16) for line in lines]
+    except ValueError:
+        raise NoAnswer('play: a line that is not a word')
+
+
+def picture_of(out: bytes) -> Picture:
+    """Returns a picture in PPM. Raises NoAnswer for something else."""
+    parts = out.split(maxsplit=3)
+    if len(parts) < 3 or parts[0] != b'P6' or not parts[1].isdigit() or not parts[2].isdigit():
+        raise NoAnswer('shot: not a picture')
+    width, height = int(parts[1]), int(parts[2])
+    pixels = out[len(b'P6\n%d %d\n255\n' % (width, height)):]
+    if len(pixels) != 3 * width * height:
+        raise NoAnswer('shot: %d bytes of pixels for %d by %d' % (len(pixels), width, height))
+    return Picture(width, height, pixels)

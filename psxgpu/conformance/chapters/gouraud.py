@@ -1,0 +1,59 @@
+"""Shaded polygons without dither."""
+from __future__ import annotations
+
+from psxgpu.capture import polygon
+from psxgpu.conformance.suite import FORMULA, OWN, Chapter, Draft, rgb
+
+CHAPTER = Chapter('gouraud', 'GPU Render Polygon Commands')
+SIDE = 16
+
+
+def shaded(t: Draft, colors: list[int], x: int = 0, y: int = 0) -> None:
+    """A right triangle with legs of 16: at (i, j) the vertices weigh 16 - i - j, i and j sixteenths."""
+    t.packet(polygon([(x, y), (x + SIDE, y), (x, y + SIDE)], colors))
+    for j in range(SIDE):
+        for i in range(SIDE - j):
+            weights = SIDE - i - j, i, j
+            color = sum((sum(weight * (one >> shift & 0xFF) for weight, one in zip(weights, colors)) // SIDE) << shift
+                        for shift in (0, 8, 16))
+            t.cell(x + i, y + j, rgb(color))
+
+
+@CHAPTER.test('Three vertices of one colour give that colour in every cell.', worked=FORMULA)
+def one_color(t: Draft) -> None:
+    t.open()
+    shaded(t, [0x5A7B9C] * 3)
+
+
+@CHAPTER.test('A channel that goes up by 8 a cell goes up by one step a cell.', worked=FORMULA)
+def whole_steps(t: Draft) -> None:
+    t.open()
+    shaded(t, [0x040404, 0x840404, 0x048404], 32, 16)
+
+
+@CHAPTER.test('A channel is the exact mean of the three vertices, rounded down.', OWN, FORMULA)
+def exact_mean(t: Draft) -> None:
+    t.open()
+    shaded(t, [0x0000FF, 0x00FF00, 0xFF0000])
+
+
+@CHAPTER.test('Channels that fall are rounded down, too.', OWN, FORMULA)
+def falling(t: Draft) -> None:
+    t.open()
+    shaded(t, [0xFFF7EF, 0x000102, 0x030405])
+
+
+@CHAPTER.test('The cell at the upper left vertex has that vertex\'s colour.')
+def first_cell(t: Draft) -> None:
+    t.open()
+    t.packet(polygon([(8, 8), (24, 8), (8, 24)], [0x30A0F0, 0xFFFFFF, 0x000000]))
+    t.ignore(9, 8, 15)
+    t.ignore(8, 9, 16, 15)
+    t.cell(8, 8, rgb(0x30A0F0))
+
+
+@CHAPTER.test('The colour of a shaded polygon does not depend on where the drawing area cuts it.', OWN, FORMULA)
+def cut_at_the_left(t: Draft) -> None:
+    t.open(5, 3, 1023, 511)
+    shaded(t, [0x0000FF, 0x00FF00, 0xFF0000])
+    t.cells = {(x, y): value for (x, y), value in t.cells.items() if x >= 5 and y >= 3}

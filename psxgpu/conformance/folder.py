@@ -1,0 +1,122 @@
+"""Writes the tests as files, for emulators that take no captures.
+
+    captures/CHAPTER/NAME.capture       each test
+    flat/CHAPTER/NAME.capture           the same without main memory and DMA, in version 1 (3 if video memory is tall)
+    dumps/CHAPTER/NAME.psxgpu           the same as dumps of a GPU
+    exe/CHAPTER/NAME.exe                the same as programs for the console, which say what differs
+    expected.tsv                        what has to come out of each
+"""
+from __future__ import annotations
+
+import io
+import os
+import tempfile
+from typing import Dict, List, Optional, Sequence
+
+from psxgpu import progress
+from psxgpu.command import Trouble
+from psxgpu.conformance.released import expectations
+from psxgpu.conformance.suite import Test
+from psxgpu.console import Source, make
+from psxgpu.dumps.export import About, Export
+from psxgpu.output import write_whole
+from psxgpu.players import player
+from psxgpu.stream import HEADS, READ, SKIP, Stream, encode
+
+MACHINE = frozenset(('dma', 'turns'))       # what a test needs whose capture is not flat
+
+
+def flat_version(test: Test) -> int:
+    """Returns the version of the flat capture of a test."""
+    return 3 if test.version == 3 else 1
+
+
+def plain_reads(data: bytes, version: int) -> bytes:
+    """Returns a flat capture in this version. A read whose word is not shown becomes a plain read."""
+    out = [HEADS[version]]
+    for kind, count, words in Stream(io.BytesIO(data), 'flat capture'):
+        out.append(encode(READ if kind == SKIP else kind, count, words))
+    return b''.join(out) + bytes(4)
+
+
+class Folder:
+    """The folder that is written. `program`: the path of psxgpu_tool, or None. `left_out`: how many files of each kind
+    could not be made."""
+
+    def __init__(self, path: str, program: Optional[str]) -> None:
+        self.path, self.program = path, program
+        self.left_out: Dict[str, int] = {}
+
+    def put(self, kind: str, test: Test, ending: str, data: bytes) -> None:
+        """Writes a file of a test."""
+        folder = os.path.join(self.path, kind, test.chapter)
+        os.makedirs(folder, exist_ok=True)
+        write_whole(os.path.join(folder, test.name + ending), data)
+
+    def leave_out(self, kind: str) -> None:
+        """Counts a file that cannot be made."""
+        self.left_out[kind] = self.left_out.get(kind, 0) + 1
+
+    def flat(self, test: Test) -> Optional[bytes]:
+        """Returns the flat capture of a test; None if psxgpu_tool is needed and not there."""
+        if not test.needs & MACHINE:
+            return test.data
+        if self.program is None:
+            return None
+        with tempfile.NamedTemporaryFile(prefix='psxgpu') as file:
+            file.write(test.data)
+            file.flush()
+            with player.playing(self.program, ['flat'], file.name) as run:
+                data = run.out.read()
+                run.expect_whole()
+        return plain_reads(data, flat_version(test))
+
+    def executable(self, test: Test) -> Optional[bytes]:
+        """Returns the program for the console; None if there is none."""
+        if self.program is None or test.version == 3:
+            return None
+        with tempfile.NamedTemporaryFile(prefix='psxgpu') as file:
+            file.write(test.data)
+            file.flush()
+            try:
+                return make(Source(self.program, file.name, test.full_name), True, 'marks').executable
+            except Trouble:
+                return None
+
+    def test(self, test: Test) -> None:
+        """Writes all files of a test."""
+        self.put('captures', test, '.capture', test.data)
+        flat = self.flat(test)
+        if flat is None:
+            self.leave_out('flat captures')
+            self.leave_out('dumps')
+        else:
+            self.put('flat', test, '.capture', flat)
+            stream = Stream(io.BytesIO(flat), test.full_name)
+            about = About(game='CONFORMANCE', all_words=True)
+            self.put('dumps', test, '.psxgpu', b''.join(Export(stream, stream.version == 3, about)))
+        executable = self.executable(test)
+        if executable is None:
+            self.leave_out('programs')
+        else:
+            self.put('exe', test, '.exe', executable)
+
+
+def found_program(given: Optional[str]) -> Optional[str]:
+    """Returns the path of psxgpu_tool, or None if it is not there. Raises Trouble if the one that is given is not."""
+    try:
+        return player.find(given)
+    except Trouble:
+        if given:
+            raise
+        return None
+
+
+def write(tests: Sequence[Test], path: str, program: Optional[str]) -> List[str]:
+    """Writes the files of tests into a folder. Returns a line for each kind of which some are left out."""
+    folder = Folder(path, program)
+    os.makedirs(path, exist_ok=True)
+    for test in progress.counted(tests, path):
+        folder.test(test)
+    write_whole(os.path.join(path, 'expected.tsv'), expectations(tests).encode(), is_text=True)
+    return ['%d %s are left out' % (count, kind) for kind, count in folder.left_out.items()]

@@ -1,0 +1,112 @@
+"""A page with the pictures of the tests that did not pass: theirs, ours and the difference."""
+from __future__ import annotations
+
+import base64
+from html import escape
+from typing import Callable, Iterable, List, Sequence
+
+from psxgpu.conformance.judging import DIFFERS, FAILED, PASSED, TROUBLE, Verdict, cell_of
+from psxgpu.conformance.report import counts, packet_of
+from psxgpu.conformance.suite import WIDTH, Box, Picture, Place
+from psxgpu.image import Image, png
+from psxgpu.vram import wide
+
+MOST_SHOWN = 48             # cells of a picture, each way
+SCALE, MOST_PIXELS = 8, 320
+SAME, OTHER = b'\x20\x20\x20', b'\xff\x40\x40'
+ORDER = (FAILED, TROUBLE, DIFFERS)
+STYLE = '''body { font: 15px/1.5 system-ui, sans-serif; max-width: 70em; margin: 2em auto; padding: 0 1em }
+table { border-collapse: collapse }
+td, th { padding: .1em .8em; text-align: right; border-bottom: 1px solid #ccc }
+td:first-child, th:first-child { text-align: left }
+figure { display: inline-block; margin: 0 1em 0 0 } img { image-rendering: pixelated; border: 1px solid #888 }
+section { border-top: 1px solid #ccc; padding: .5em 0 } .failed, .error { color: #b00020 } .differs { color: #8a5a00 }
+code { background: #f2f2f2; padding: 0 .2em; overflow-wrap: anywhere }'''
+ABOUT = ('<b>failed</b>: psx-spx decides. <b>differs</b>: a rule of this project decides, and a player that differs may be '
+         'right. <b>not taken</b>: the player does not take what the test needs.')
+
+
+def box_shown(verdict: Verdict) -> Box:
+    """Returns the box that is shown: that of the test and of what differs, or a part of it around the first difference."""
+    x, y = verdict.places[0]
+    left, top, width, height = verdict.test.area or (x, y, 1, 1)
+    right = max(left + width, *(place[0] + 1 for place in verdict.places))
+    bottom = max(top + height, *(place[1] + 1 for place in verdict.places))
+    left, top = min(left, *(place[0] for place in verdict.places)), min(top, y)
+    if right - left > MOST_SHOWN:
+        left = min(max(x - 4, 0), WIDTH - MOST_SHOWN)
+        right = left + MOST_SHOWN
+    if bottom - top > MOST_SHOWN:
+        top = min(max(y - 4, 0), verdict.test.rows - MOST_SHOWN)
+        bottom = top + MOST_SHOWN
+    return left, top, right - left, bottom - top
+
+
+def figure(title: str, image: Image) -> str:
+    """Returns a picture with its title."""
+    scale = max(1, min(SCALE, MOST_PIXELS // max(image.width, 1)))
+    return ('<figure><img alt="%s" width="%d" height="%d" src="data:image/png;base64,%s"><figcaption>%s</figcaption></figure>'
+            % (title, scale * image.width, scale * image.height, base64.b64encode(png(image)).decode(), title))
+
+
+def cells(verdict: Verdict) -> str:
+    """Returns the pictures of video memory, if cells differ."""
+    if verdict.dump is None:
+        return ''
+    theirs, ours = verdict.dump, verdict.test.dump
+    x, y, width, height = box_shown(verdict)
+    apart = set(verdict.places)
+
+    def drawn(color: Callable[[Place], bytes]) -> Image:
+        return Image(width, height, b''.join(color((x + right, y + down)) for down in range(height)
+                                             for right in range(width)))
+    images = (('theirs', drawn(lambda place: wide(cell_of(theirs, *place)))),
+              ('ours', drawn(lambda place: wide(cell_of(ours, *place)))),
+              ('difference', drawn(lambda place: OTHER if place in apart else SAME)))
+    return '<div>%s</div><p>from (%d, %d), %d by %d cells</p>' % (
+        ''.join(figure(*one) for one in images), x, y, width, height)
+
+
+def pictures(verdict: Verdict) -> str:
+    """Returns the shown pictures, if they differ."""
+    theirs, ours = verdict.shown, verdict.test.draft.picture
+    if theirs is None or ours is None:
+        return ''
+
+    def image(picture: Picture) -> Image:
+        return Image(picture.width, picture.height, picture.pixels)
+    images = [('theirs', image(theirs)), ('ours', image(ours))]
+    if (theirs.width, theirs.height) == (ours.width, ours.height):
+        places = range(0, len(ours.pixels), 3)
+        pixels = b''.join(SAME if theirs.pixels[at:at + 3] == ours.pixels[at:at + 3] else OTHER for at in places)
+        images.append(('difference', Image(ours.width, ours.height, pixels)))
+    return '<div>%s</div><p>the shown picture</p>' % ''.join(figure(*one) for one in images)
+
+
+def section(verdict: Verdict) -> str:
+    """Returns what the page has of a test."""
+    test, packet = verdict.test, packet_of(verdict)
+    paragraphs = [escape(test.says), 'psx-spx: %s. Decided by: %s. Expected values: by %s.' % (
+        escape(test.section), test.decides, test.worked), escape(verdict.reason)]
+    text = ''.join('<p>%s</p>' % one for one in paragraphs)
+    return '<section id="%s"><h3><span class="%s">%s</span> %s</h3>%s%s%s%s</section>' % (
+        escape(test.full_name), verdict.kind, verdict.kind, escape(test.full_name), text, cells(verdict),
+        pictures(verdict), '<p>packet: <code>%s</code></p>' % packet if packet else '')
+
+
+def not_passed(verdicts: Iterable[Verdict]) -> List[Verdict]:
+    """Returns the tests that were taken and did not pass, those that psx-spx decides first."""
+    return sorted((one for one in verdicts if one.kind in ORDER), key=lambda one: ORDER.index(one.kind))
+
+
+def page(verdicts: Sequence[Verdict], player: str) -> str:
+    """Returns the page."""
+    head, *rows = counts(verdicts)
+    body = ''.join('<tr>%s</tr>' % ''.join('<td>%s</td>' % escape(one) for one in row) for row in rows)
+    title = 'Conformance: ' + escape(player)
+    shown = not_passed(verdicts)
+    passed = '' if shown or not any(one.kind == PASSED for one in verdicts) else '<p>No test failed or differs.</p>'
+    return ('<!doctype html>\n<html lang="en"><meta charset="utf-8"><title>%s</title><style>%s</style>\n'
+            '<h1>%s</h1><p>%s</p>\n<table><tr>%s</tr>%s</table>%s\n%s\n</html>\n'
+            % (title, STYLE, title, ABOUT, ''.join('<th>%s</th>' % escape(one) for one in head), body, passed,
+               '\n'.join(map(section, shown))))
