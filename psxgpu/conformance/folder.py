@@ -17,7 +17,7 @@ from psxgpu import progress
 from psxgpu.command import Trouble
 from psxgpu.conformance.released import expectations
 from psxgpu.conformance.suite import Test
-from psxgpu.console import Source, make
+from psxgpu.console import Choices, Source, make
 from psxgpu.dumps.export import About, Export
 from psxgpu.output import write_whole
 from psxgpu.players import player
@@ -79,7 +79,7 @@ class Folder:
             file.write(test.data)
             file.flush()
             try:
-                return make(Source(self.program, file.name, test.full_name), True, 'marks').executable
+                return make(Source(self.program, file.name, test.full_name), Choices(check=True)).executable
             except Trouble:
                 return None
 
