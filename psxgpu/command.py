@@ -10,7 +10,6 @@ import io
 import os
 import re
 import sys
-import tempfile
 from types import ModuleType
 from typing import IO, BinaryIO, Callable, Iterator, NoReturn, Optional, Protocol, Sequence, cast
 
@@ -19,7 +18,7 @@ from psxgpu.output import write_whole, writing
 from psxgpu.trouble import Trouble, named, reason_of, title
 
 __all__ = ['BLOCK', 'DIFFERENT', 'SAME', 'TROUBLE', 'Command', 'Readable', 'Trouble', 'decimal', 'guarded', 'main', 'named', 'pour',
-           'read_whole', 'reading', 'reason_of', 'seekable', 'title', 'write_whole', 'writing']
+           'read_whole', 'reading', 'reason_of', 'title', 'write_whole', 'writing']
 
 SAME, DIFFERENT, TROUBLE = 0, 1, 2
 BLOCK = 1 << 20
@@ -140,19 +139,6 @@ def pour(source: Readable, target: IO[bytes]) -> None:
         if not block:
             return
         target.write(block)
-
-
-@contextlib.contextmanager
-def seekable(path: str) -> Iterator[str]:
-    """The path of a file with the bytes of `path`, which may be standard input or a pipe."""
-    if path != '-' and os.path.isfile(path):
-        yield path
-        return
-    with tempfile.NamedTemporaryFile(prefix='psxgpu') as copy:
-        with reading(path) as file:
-            pour(file, copy)
-        copy.flush()
-        yield copy.name
 
 
 def decimal(low: int, high: int) -> Callable[[str], int]:

@@ -10,7 +10,7 @@ import os
 import tempfile
 from typing import Iterator, Optional
 
-from psxgpu.command import Readable, pour, reading
+from psxgpu.command import BLOCK, Readable, pour, reading
 from psxgpu.dumps.format import NAME
 from psxgpu.dumps.reader import Dump
 from psxgpu.dumps.translation import Translation
@@ -42,9 +42,9 @@ def opened(path: str, name: Optional[str] = None) -> Iterator[Readable]:
 
 
 def read_capture(path: str, name: Optional[str] = None) -> bytes:
-    """Returns all bytes of a capture or snapshot."""
+    """Returns all bytes of a capture or snapshot. Raises `packing.Damaged` if a packed file or a dump is at fault."""
     with opened(path, name) as file:
-        return file.read()
+        return b''.join(iter(lambda: file.read(BLOCK), b''))
 
 
 def is_plain(path: str) -> bool:
