@@ -1,70 +1,98 @@
-#!/usr/bin/env python3
-"""Makes a table of stored results, and holds the tests that nobody passes against what was read by hand.
+"""Makes the table of the four emulators of docs/EMULATORS.md from stored results.
 
-    python3 agreement.py results/beetle.json results/mame.json ..
+    python3 -m conformance.agreement            the table
+    python3 -m conformance.agreement --check    is it that of the document, and is each test that none passes read by hand?
 
-The files are those of `conform.py PLAYER --json`. A test that no independent player passes has to stand in
-results/READ_BY_HAND.md by its full name. Status: 0 they all do, 1 some do not.
+The results are those of `psxgpu conform PLAYER --json`. A test that no emulator passes has to be in
+conformance/results/READ_BY_HAND.md by its full name. A test that is not in a stored result was not run on that player.
+Status: 0 all is so, 1 it is not.
 """
 from __future__ import annotations
 
 import json
 import os
 import sys
+from typing import Dict, Iterator, List
+
+from psxgpu.conformance.chapters import CHAPTERS
+from psxgpu.conformance.judging import DIFFERS, FAILED, NOT_TAKEN, PASSED, TROUBLE
+from psxgpu.conformance.suite import PSX_SPX, Test
 
 HERE = os.path.dirname(os.path.abspath(__file__))
-sys.path[:0] = [HERE, os.path.dirname(HERE)]
-
-from psxgpu.conformance.chapters import CHAPTERS  # noqa: E402
-from psxgpu.conformance.judging import DIFFERS, FAILED, NOT_TAKEN, PASSED, TROUBLE  # noqa: E402
-from psxgpu.conformance.suite import OWN, PSX_SPX, Test  # noqa: E402
-
-BY_HAND = os.path.join(HERE, 'results', 'READ_BY_HAND.md')
-Results = dict[str, dict[str, list[str]]]
+RESULTS = os.path.join(HERE, 'results')
+DOCUMENT = os.path.join(os.path.dirname(HERE), 'docs', 'EMULATORS.md')
+PLAYERS = ('beetle', 'mednafen', 'pcsxr', 'mame')
+EVERY = [test for chapter in CHAPTERS for test in chapter.tests]
+Verdicts = Dict[str, List[str]]         # full name: the verdict and the reason
 
 
-def load(paths: list[str]) -> Results:
-    out: Results = {}
-    for path in paths:
-        with open(path) as file:
-            out[os.path.splitext(os.path.basename(path))[0]] = json.load(file)
-    return out
+def stored(player: str) -> Verdicts:
+    """Returns the stored results of a player."""
+    with open(os.path.join(RESULTS, player + '.json')) as file:
+        found: Verdicts = json.load(file)
+    return found
 
 
-def score(tests: list[Test], verdicts: dict[str, list[str]]) -> str:
-    """Passed of those that were asked; failed, and differs where our own rule decides."""
-    kinds = [verdicts[test.full_name][0] for test in tests]
-    asked = len(kinds) - kinds.count(NOT_TAKEN)
-    if not asked:
-        return '-'
-    bad = kinds.count(FAILED) + kinds.count(TROUBLE)
-    parts = ['%d/%d' % (kinds.count(PASSED), asked)]
-    parts += ['%d failed' % bad] if bad else []
-    return ', '.join(parts + ['%d own' % kinds.count(DIFFERS)] * (DIFFERS in kinds))
+def kind(verdicts: Verdicts, test: Test) -> str:
+    """Returns the verdict of a test, by who decides it now. One that was not run counts as not taken."""
+    found = verdicts.get(test.full_name, [NOT_TAKEN])[0]
+    return (FAILED if test.decides == PSX_SPX else DIFFERS) if found in (FAILED, DIFFERS) else found
+
+
+def score(tests: List[Test], verdicts: Verdicts) -> str:
+    """Returns a field of the table: passed of those that were taken, how many failed, how many differ."""
+    kinds = [kind(verdicts, test) for test in tests]
+    taken = len(kinds) - kinds.count(NOT_TAKEN)
+    if not taken:
+        return ''
+    failed = kinds.count(FAILED) + kinds.count(TROUBLE)
+    parts = ['%d of %d' % (kinds.count(PASSED), taken)]
+    parts += ['%d failed' % failed] if failed else []
+    return ', '.join(parts + (['%d differ' % kinds.count(DIFFERS)] if DIFFERS in kinds else []))
+
+
+def table(results: Dict[str, Verdicts]) -> Iterator[str]:
+    """Yields the lines of the table. A chapter that no player takes has none."""
+    yield '| chapter | %s |' % ' | '.join(results)
+    yield '|---|%s' % ('---|' * len(results))
+    for name, tests in [*((chapter.name, chapter.tests) for chapter in CHAPTERS), ('all', EVERY)]:
+        fields = [score(tests, verdicts) for verdicts in results.values()]
+        if any(fields):
+            yield '| %s | %s |' % (name, ' | '.join(fields))
+
+
+def passed_by_none(results: Dict[str, Verdicts]) -> List[Test]:
+    """Returns the tests that some player takes and none passes."""
+    return [test for test in EVERY if {kind(one, test) for one in results.values()} - {NOT_TAKEN}
+            and all(kind(one, test) != PASSED for one in results.values())]
+
+
+def faults(results: Dict[str, Verdicts]) -> Iterator[str]:
+    """Yields a line for what the documents lack."""
+    with open(DOCUMENT) as file:
+        document = file.read()
+    if '\n'.join(table(results)) not in document:
+        yield 'docs/EMULATORS.md: not the table of the stored results'
+    with open(os.path.join(RESULTS, 'READ_BY_HAND.md')) as file:
+        read = file.read()
+    for test in passed_by_none(results):
+        if test.full_name not in read:
+            yield '%s: passed by none, and not read by hand' % test.full_name
 
 
 def main() -> int:
-    results = load(sys.argv[1:])
-    print('| chapter | %s |\n|---|%s' % (' | '.join(results), '---|' * len(results)))
-    every = [test for chapter in CHAPTERS for test in chapter.tests]
-    for name, tests in [(chapter.name, chapter.tests) for chapter in CHAPTERS] + [('all', every)]:
-        print('| %s | %s |' % (name, ' | '.join(score(tests, verdicts) for verdicts in results.values())))
-    asked = [test for test in every if any(one[test.full_name][0] != NOT_TAKEN for one in results.values())]
-    passed = {test.full_name: sum(one[test.full_name][0] == PASSED for one in results.values()) for test in asked}
-    print('\nOf %d tests %d are passed by all of %d players, and %d by none.' % (
-        len(asked), sum(n == len(results) for n in passed.values()), len(results),
-        sum(n == 0 for n in passed.values())))
-    with open(BY_HAND) as file:
-        read = file.read()
-    alone = [test for test in asked if not passed[test.full_name]]
-    for test in alone:
-        note = '' if test.full_name in read else ': **not read by hand**'
-        print('- %s (%s)%s' % (test.full_name, test.decides, note))
-    for decides in (PSX_SPX, OWN):
-        counts = [passed[test.full_name] for test in asked if test.decides == decides]
-        print('\nTests that %s decides, by how many players pass them: %s.' % (
-            decides, ', '.join('%d: %d' % (n, counts.count(n)) for n in range(len(results), -1, -1))))
-    return int(any(test.full_name not in read for test in alone))
+    """Runs the command."""
+    results = {player: stored(player) for player in PLAYERS}
+    if sys.argv[1:] == ['--check']:
+        found = list(faults(results))
+        print('\n'.join(found or ['the table of the emulators is that of the stored results']))
+        return int(bool(found))
+    print('\n'.join(table(results)))
+    taken = [test for test in EVERY if any(kind(one, test) != NOT_TAKEN for one in results.values())]
+    counts = [sum(kind(one, test) == PASSED for one in results.values()) for test in taken]
+    print('\nOf %d tests, all four pass %d, and none passes %d:' % (len(taken), counts.count(4), counts.count(0)))
+    print('\n'.join('- ' + test.full_name for test in passed_by_none(results)))
+    return 0
 
 
 if __name__ == '__main__':

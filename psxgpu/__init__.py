@@ -5,14 +5,15 @@
 The names of `psxgpu.machine` are also those of the package: `psxgpu.Machine`, `psxgpu.play`. They load when first used.
 """
 import importlib
-import importlib.util
 from typing import Any
 
 __version__ = '1.0.0'
+OF_THE_MACHINE = ('Error', 'MODES', 'Machine', 'Missing', 'Note', 'OutOfMemory', 'Refused', 'Registers', 'Snapshot', 'library',
+                  'play')
 
 
 def __getattr__(name: str) -> Any:
-    """Returns a public name of `psxgpu.machine`. A module of the package is none of these: the import system loads it."""
-    if name.startswith('_') or importlib.util.find_spec('%s.%s' % (__name__, name)):
+    """Returns a public name of `psxgpu.machine`."""
+    if name not in OF_THE_MACHINE:          # a module of the package, which is about to be imported, among others
         raise AttributeError('module %r has no attribute %r' % (__name__, name))
     return getattr(importlib.import_module('psxgpu.machine'), name)

@@ -51,9 +51,15 @@ def follow(program):
     """What the orders of a program without a check write and read, as the player does it."""
     _, labels = assemble(image.source(), image.ADDRESS, image.NAMES)
     body = struct.unpack('<%dI' % (len(program) // 4 - 512), program[2048:])
-    at, out = (labels['orders'] - image.ADDRESS) // 4, []
+    at = (labels['orders'] - image.ADDRESS) // 4
     if body[at] == Kind.MORE << 24:
         body, at = unpacked(program[2048 + 4 * at:]), 0
+    return followed(body, at)
+
+
+def followed(body, at):
+    """What a list of orders writes and reads."""
+    out = []
     while True:
         tag = body[at]
         kind, flags, n = tag >> 24 & 0x3F, tag >> 24 & 0xC0, tag & 0xFFFFFF

@@ -2,9 +2,12 @@
 import glob
 import io
 import os
+import shutil
 import struct
+import subprocess
 
 from tests import support
+from psxgpu import capture as c
 from psxgpu.dumps.format import HEAD
 from psxgpu.dumps.reader import Dump
 from psxgpu.dumps.translation import END, Translation
@@ -16,6 +19,13 @@ RECORDINGS = sorted(glob.glob(os.path.join(
     os.environ.get('RECORDINGS', os.path.join(os.path.dirname(support.TOP), 'shared', 'trials', 'real', 'captures')),
     '*.capture.zst')))
 ALL_EXAMPLES = sorted(glob.glob(os.path.join(support.EXAMPLES, '*.capture*')))
+HAS_ZSTD = shutil.which('zstd') is not None
+CAPTURE = c.Capture().gp0(c.load(0, 0, 64, 64, [(7 * k * k) & 0xFFFF for k in range(4096)])).stat().bytes()
+
+
+def zstd(data):
+    """Bytes that the program zstd has packed."""
+    return subprocess.run(['zstd', '-qc'], input=data, stdout=subprocess.PIPE, check=True).stdout
 
 
 def packet(kind, *words):

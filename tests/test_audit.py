@@ -54,8 +54,10 @@ while k < len(words):
             print(k + 1, 'environment', '%%08x' %% word, '-')
         k += 1
 if command == 'vram':
-    dump = [cells.get((x, y), 0) for y in range(512) for x in range(1024)]
-    sys.stdout.buffer.write(b''.join(cell.to_bytes(2, 'little') for cell in dump))
+    dump = bytearray(1 << 20)
+    for (x, y), cell in cells.items():
+        dump[2048 * y + 2 * x:2048 * y + 2 * x + 2] = cell.to_bytes(2, 'little')
+    sys.stdout.buffer.write(dump)
 '''
 
 
@@ -110,6 +112,16 @@ class Audits(unittest.TestCase):
         _, lines = self.audit(self.fills(), self.shorter)
         self.assertEqual(lines[0], '| fill | 2 | 0 | 192 | 48 | 48 |')
         self.assertEqual(lines[2], 'fill: event 3 020000f8: 16 cells, first (16, 11): 001f and 0000')
+
+    def test_reduced(self):
+        """The smallest capture of the class that differs, and the page. A row too few is there in one of 16 cells."""
+        folder = os.path.join(self.folder, 'small')
+        status, lines = self.audit(self.fills(), self.shorter, '--reduce', folder)
+        self.assertEqual((status, lines[-1]), (1, '1 classes reduced: %s' % os.path.join(folder, 'index.html')))
+        self.assertEqual(sorted(os.listdir(folder)), ['fill.capture', 'fill.log', 'fill.png', 'fill.py', 'index.html'])
+        with open(os.path.join(folder, 'fill.capture'), 'rb') as file:
+            (kind, _, words), = c.records(file.read())[1]
+        self.assertEqual((kind, words[1:]), (c.GP0, [0, 0x00010001]))
 
     def test_several_runs(self):
         """However many packets a run judges, the table is the same."""

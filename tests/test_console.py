@@ -1,9 +1,12 @@
 """Tests of the orders that a test program for the console follows: they do to the GPU what the capture does."""
 import random
 import unittest
+from array import array
 
 from psxgpu import console
 from psxgpu.capture import (Capture, drawing_area, fill, line, load, mask_setting, polygon, rectangle, store)
+from psxgpu.console.image import Image
+from psxgpu.stream import GP0, READ
 from tests import support
 from tests.console_support import BEGINS, events, follow
 
@@ -80,9 +83,19 @@ class Orders(support.InFolder):
         pieces = [load(0, 0, 200, 100, cells), [word for k in range(2000) for word in rectangle(k, k % 99, 2, 3, 4)],
                   line([(k % 300, 3) for k in range(5000)], 7), load(0, 0, 200, 100, [3] * 20000), store(0, 0, 2, 2)]
         self.expect_alike(Capture().gp0(pieces).read(2), packs=True)
-        for n in range(4080, 4096):
-            triangle = polygon([(0, 0), (9, 0), (0, 9)], 1)
-            self.expect_alike(Capture().gp0(load(0, 0, 2, n, cells[:2 * n]), triangle), packs=True)
+
+    def test_ends_of_segments(self):
+        """Orders of packets and data that end at each place near the end of a segment."""
+        r = random.Random(6)
+        cells = [r.getrandbits(16) for _ in range(8000)]
+        for n in range(40, 75):
+            words = [0] * n + load(0, 0, 16, 500, cells) + polygon([(0, 0), (9, 0), (0, 9)], 1) + store(0, 0, 2, 1)
+            image = Image('none', packs=True)
+            image.take(GP0, len(words), array('I', words))
+            image.take(READ, 1, array('I'))
+            image.end(0)
+            wanted = [('gp0', word) for word in words] + [('read',)]
+            self.assertEqual(follow(image.executable())[BEGINS:BEGINS + len(wanted)], wanted)
 
     def test_packed_data_are_small(self):
         r = random.Random(1)

@@ -93,7 +93,7 @@ class Faults(Reducing):
         self.assertLessEqual(found.words, 5, report_lines(found))
 
     def test_size_with_its_load(self) -> None:
-        """The last column of a texture is left out, and only one texel there is not 0: size and load shrink together."""
+        """The last column of a texture is left out, and one texel there is not 0: size and load shrink together."""
         cells = [0x1000 if k % 16 == 15 else 0 for k in range(256)]
         capture = scene().gp0(c.load(640, 0, 16, 16, cells), c.load(0, 300, 16, 1, [0, 0x7FFF] + [0] * 14))
         capture.gp0(c.rectangle(0, 40, 20, 64, 16, texture=(0, 0), palette=c.clut(0, 300), raw=True))

@@ -97,14 +97,17 @@ class Commands(support.InFolder):
         rows = sorted(rgba_rows(self.read(os.path.join('out', name)))[0] for name in names)
         none, white = bytes(4), b'\xff\xff\xff\x80'
         red, blue = b'\xff\0\0\xff', b'\0\0\xff\xff'
-        self.assertEqual(rows, sorted([none + red + white + none, none + blue + white + none, none + none + red + none]))
+        want = [none + red + white + none, none + blue + white + none, none + none + red + none]
+        self.assertEqual(rows, sorted(want))
         page = self.read('out/index.html').decode()
         self.assertIn('version 2 of 2', page)
         self.assertIn('palette (0, 300), u 0 to 3, v 0 to 0; event 33, 2 packets', page)
 
     def test_heat(self) -> None:
-        """Two rectangles of 4 by 2 that share two cells, a triangle that covers three of them, and a fill."""
-        out = c.Capture().gp0(c.drawing_area(0, 0, 319, 239)).gp0(c.rectangle(0, 16, 0, 4, 2), c.rectangle(9, 18, 1, 4, 2))
+        """Two rectangles of 4 by 2 that share two cells; a fill; a cell that is covered 100 times, more than the 93 that
+        can be counted at once."""
+        out = c.Capture().gp0(c.drawing_area(0, 0, 319, 239))
+        out.gp0(c.rectangle(0, 16, 0, 4, 2), c.rectangle(9, 18, 1, 4, 2))
         out.gp1(0x3F000001).gp0(c.fill(0, 0, 0, 16, 1)).gp1(0x3F000002)
         for _ in range(100):
             out.gp0(c.rectangle(9, 18, 1, 1, 1))

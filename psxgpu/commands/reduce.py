@@ -3,8 +3,8 @@
     psxgpu reduce mine.capture 'psxgpu_tool vram' 'other_player vram' -o small
     psxgpu reduce mine.capture 'psxgpu_tool vram' 'other_player vram' --event 81234 --keep
 
-A player is a shell command that reads a capture on standard input and writes a dump; docs/REDUCE.md says more. First the
-first packet after which they differ is found, as by `bisect`; with --event it is the packet of that event. What is
+A player is a shell command that reads a capture on standard input and writes a dump; docs/REDUCE.md says more. The
+first packet after which both differ is found as by `bisect`; with --event it is the packet of that event. What is
 before it becomes a state: loads of video memory, and settings. Then whatever is not needed is left out: loads,
 settings, words, bits, texels, size.
 

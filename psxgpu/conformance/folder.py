@@ -17,7 +17,7 @@ from psxgpu import progress
 from psxgpu.command import Trouble
 from psxgpu.conformance.released import expectations
 from psxgpu.conformance.suite import Test
-from psxgpu.console import Choices, Source, make
+from psxgpu.console import executable
 from psxgpu.dumps.export import About, Export
 from psxgpu.output import write_whole
 from psxgpu.players import player
@@ -75,13 +75,10 @@ class Folder:
         """Returns the program for the console; None if there is none."""
         if self.program is None or test.version == 3:
             return None
-        with tempfile.NamedTemporaryFile(prefix='psxgpu') as file:
-            file.write(test.data)
-            file.flush()
-            try:
-                return make(Source(self.program, file.name, test.full_name), Choices(check=True)).executable
-            except Trouble:
-                return None
+        try:
+            return executable(test.data, check=True, tool=self.program)
+        except Trouble:
+            return None
 
     def test(self, test: Test) -> None:
         """Writes all files of a test."""

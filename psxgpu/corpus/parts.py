@@ -2,7 +2,7 @@
 import os
 import shutil
 import tempfile
-from typing import List, Sequence
+from typing import List, Sequence, Tuple
 
 from psxgpu.command import Trouble, writing
 from psxgpu.corpus.play import Player
@@ -27,8 +27,9 @@ def places(path: str, parts: int, opcode: int) -> List[int]:
     return chosen + [last]
 
 
-def write_part(path: str, name: str, before: int, last: int, target: str, player: Player) -> None:
-    """Writes the events after `before` up to `last`. `name` is what messages call the recording."""
+def write_part(path: str, name: str, events: Tuple[int, int], target: str, player: Player) -> None:
+    """Writes the events after the first of `events` up to the second. `name` is what messages call the recording."""
+    before, last = events
     with tempfile.TemporaryFile() as first, writing(target) as out:
         copy_first(path, last, first if before else out)
         if before:
@@ -51,5 +52,5 @@ def split(path: str, parts: int, folder: str, player: Player, opcode: int = FLIP
         for name in names:
             refuse_inputs(os.path.join(folder, name), [path])
         for name, before, last in zip(names, [0] + ends, ends):
-            write_part(whole, path, before, last, os.path.join(folder, name), player)
+            write_part(whole, path, (before, last), os.path.join(folder, name), player)
             print('%s: events %d to %d' % (name, before + 1, last))

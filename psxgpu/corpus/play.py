@@ -1,25 +1,20 @@
 """Plays one capture by a player, and takes the sums of what it writes."""
-import contextlib
 import hashlib
 import os
 import re
-import signal
-import subprocess
 import tempfile
-import threading
 import time
-from typing import IO, Iterable, List, Optional, Sequence, Tuple, cast
+from typing import IO, Iterable, List, Optional, Sequence, Tuple
 
-from psxgpu.command import Trouble, named
+from psxgpu.command import Trouble
 from psxgpu.corpus.captures import Capture
+from psxgpu.corpus.one_run import PIECE, Run
 from psxgpu.corpus.sums import Frame, Row
 from psxgpu.corpus.scan import reads_before
 from psxgpu.files import plain
 from psxgpu.packing import Damaged
 from psxgpu.players.named import CommandPlayer
 
-PIECE = 1 << 16
-HELD = 1 << 20                  # what is read of a player before a file takes it
 LINE, STATUS = 9, 16            # bytes of a line of `play`: eight digits and the end of the line; of its last line
 GIVES = ('frames', 'marks', 'vram', 'words')
 FRAMES = ('frames', 'marks')    # of which one is asked for
@@ -27,67 +22,6 @@ EMPTY = b'PSXGPUC1' + bytes(4)  # a capture without an event
 FRAME = re.compile(rb'(\d{1,20}) (\d{1,5}) (\d{1,5}) ([0-9a-f]{64})\n')
 MEMORY = re.compile(rb'vram ([0-9a-f]{64})\n')
 OUTSIDE = ('crashes SIGKILL', 'crashes SIGTERM')
-
-
-class Run:
-    """One run of a player: how it ended (`end`), and what it wrote, as a file (`out`). To be used with `with`."""
-
-    def __init__(self, words: List[str], source: IO[bytes], limit: float) -> None:
-        self.out: IO[bytes] = tempfile.SpooledTemporaryFile(HELD)   # pylint: disable=consider-using-with
-        with tempfile.TemporaryFile() as err:
-            self.child = subprocess.Popen(words, stdin=source, stdout=subprocess.PIPE, stderr=err,
-                                          start_new_session=True)
-            self.is_late = False
-            clock = threading.Timer(limit, self.stop)
-            clock.start()
-            out = cast(IO[bytes], self.child.stdout)
-            try:
-                self.take(out)
-            except BaseException:
-                self.kill()
-                raise
-            finally:
-                clock.cancel()
-                out.close()
-                status = self.child.wait()
-            err.seek(0)
-            error = err.read(4096).decode('utf-8', 'replace')
-        self.end = 'hangs %g' % limit if self.is_late else ending(status, error)
-
-    def stop(self) -> None:
-        """Ends a player that takes too long."""
-        self.is_late = True
-        self.kill()
-
-    def kill(self) -> None:
-        """Ends the player and what it has started, which are a session of their own."""
-        with contextlib.suppress(ProcessLookupError):
-            os.killpg(self.child.pid, signal.SIGKILL)
-
-    def take(self, pipe: IO[bytes]) -> None:
-        """Reads what the player writes up to its end."""
-        try:
-            for piece in iter(lambda: os.read(pipe.fileno(), PIECE), b''):
-                self.out.write(piece)
-            self.out.seek(0)
-        except OSError as error:
-            raise named(error, tempfile.gettempdir()) from None
-
-    def __enter__(self) -> 'Run':
-        return self
-
-    def __exit__(self, *_: object) -> None:
-        self.out.close()
-
-
-def ending(status: int, error: str) -> str:
-    """Returns how a player ended, in words of a file of sums."""
-    if status == 0:
-        return 'played'
-    if status < 0:
-        return 'crashes ' + signal.Signals(-status).name
-    line = ' '.join(error.strip().split('\n')[0].split())
-    return '%s %d %s' % ('refused' if status == 2 else 'fails', status, line or 'without a message')
 
 
 class Player:

@@ -93,7 +93,8 @@ class Counter:
         self.words: List[int] = [ADD]
 
     def ask(self) -> None:
-        """Reads what was counted since the last question, and clears it. Boxes begin and end at 16 cells, as fills do."""
+        """Reads what was counted since the last question, and clears it. Boxes begin at multiples of 16 cells, as fills
+        do."""
         self.flush()
         if self.area:
             x1, y1, x2, y2 = self.area

@@ -170,7 +170,7 @@ def ending(done: Done) -> str:
 
 
 def expect_dump(player: Player, data: bytes, seconds: Optional[float] = None) -> bytes:
-    """Returns the dump of a capture. Raises Trouble if there is none; it suggests the word `vram` if that would help."""
+    """Returns the dump of a capture. Raises Trouble if there is none; it suggests the word `vram` if that helps."""
     done = player.run('vram', data, seconds)
     dump = dump_of(done)
     if dump is not None:

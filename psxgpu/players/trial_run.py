@@ -19,7 +19,7 @@ def trial_captures(version: int) -> Tuple[bytes, bytes]:
 
 
 def try_players(ours: Player, theirs: Player, path: str, seconds: Optional[float] = None) -> None:
-    """Tries both players on captures of the version that they are given of the capture `path`: 3 if it is tall, else 1."""
+    """Tries both players on captures of the version in which they get the capture `path`: 3 if it is tall, else 1."""
     with reading(path) as file:
         version = Stream(file, path).version
     try_commands(ours, theirs, 3 if version == 3 else 1, seconds)

@@ -89,7 +89,8 @@ def moved_texture(units: Units, registers: Registers) -> Iterator[Units]:
 
 
 def moved_target(units: Units, registers: Registers) -> Iterator[Units]:
-    """Yields the units with the last packet at the corner of video memory, without offset, the loads there moved along."""
+    """Yields the units with the last packet at the corner of video memory, without offset, and the loads there moved
+    along."""
     last = units[-1]
     boxes = target_of(last.name, last.words, registers) if last.name in DRAWN else []
     if not boxes:

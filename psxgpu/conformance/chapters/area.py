@@ -8,21 +8,21 @@ CHAPTER = Chapter('area', 'GP0(E3h), GP0(E4h) Set Drawing Area, GP0(E5h) Set Dra
 RED, CELL = 0x0000FF, 0x001F
 
 
-@CHAPTER.test('Both corners of the drawing area are inside, for rectangles.')
+@CHAPTER.test('Both corners of the drawing area are inside, for rectangles.', OWN)
 def cuts_rectangles(t: Draft) -> None:
     t.open(4, 5, 6, 8)
     t.packet(rectangle(RED, 0, 0, 16, 16))
     t.box(4, 5, 3, 4, CELL)
 
 
-@CHAPTER.test('Both corners of the drawing area are inside, for polygons.')
+@CHAPTER.test('Both corners of the drawing area are inside, for polygons.', OWN)
 def cuts_polygons(t: Draft) -> None:
     t.open(4, 5, 6, 8)
     t.packet(polygon([(0, 0), (16, 0), (0, 16), (16, 16)], RED))
     t.box(4, 5, 3, 4, CELL)
 
 
-@CHAPTER.test('Both corners of the drawing area are inside, for lines.')
+@CHAPTER.test('Both corners of the drawing area are inside, for lines.', OWN)
 def cuts_lines(t: Draft) -> None:
     t.open(4, 5, 6, 8)
     t.packet(line([(0, 5), (9, 5)], RED), line([(4, 0), (4, 9)], RED), line([(0, 8), (9, 8)], RED),

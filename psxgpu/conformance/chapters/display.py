@@ -33,9 +33,9 @@ size('width-640', 'Mode 3 shows a pixel for 4 cycles.', 3, 32, 2, (8, 2))
 size('width-368', 'Bit 6 shows a pixel for 7 cycles, whatever bits 0 and 1 hold.', 0x43, 98, 2, (16, 2))
 size('width-rounded', 'The width is rounded to a multiple of 4, from 2 on upward.', 0, 60, 1, (8, 1))
 size('width-rounded-down', 'One pixel above a multiple of 4 is dropped.', 0, 50, 1, (4, 1))
-size('doubled', 'The height is doubled where bits 2 and 5 are both 1.', 0x24, 80, 3, (8, 6))
-size('not-doubled-by-bit-2', 'Bit 2 alone does not double the height.', 0x04, 80, 3, (8, 3))
-size('not-doubled-by-bit-5', 'Bit 5 alone does not double the height.', 0x20, 80, 3, (8, 3))
+size('doubled', 'The height is doubled where bits 2 and 5 are both 1.', 0x24, 80, 3, (8, 6), OWN)
+size('not-doubled-by-bit-2', 'Bit 2 alone does not double the height.', 0x04, 80, 3, (8, 3), OWN)
+size('not-doubled-by-bit-5', 'Bit 5 alone does not double the height.', 0x20, 80, 3, (8, 3), OWN)
 
 
 @CHAPTER.test('After a reset 256 by 240 pixels are shown, from the cell (0, 0) on.', section='GP1(00h) Reset GPU')

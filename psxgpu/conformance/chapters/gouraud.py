@@ -17,6 +17,8 @@ def shaded(t: Draft, colors: list[int], x: int = 0, y: int = 0) -> None:
             color = sum((sum(weight * (one >> shift & 0xFF) for weight, one in zip(weights, colors)) // SIDE) << shift
                         for shift in (0, 8, 16))
             t.cell(x + i, y + j, rgb(color))
+    for j in range(SIDE + 1):
+        t.ignore(x + max(SIDE - 1 - j, 0), y + j, 2)    # beside the slope: which are drawn is a test of polygons
 
 
 @CHAPTER.test('Three vertices of one colour give that colour in every cell.', worked=FORMULA)

@@ -50,7 +50,7 @@ def words_one_by_one(t: Draft) -> None:
     t.box(2, 2, 2, 2, CELL)
 
 
-@CHAPTER.test('GP1 opcodes repeat every 40h: 43h is 03h.', OWN, section='GPU Display Control Commands (GP1)')
+@CHAPTER.test('GP1 opcodes repeat every 40h: 43h is 03h.', section='GPU Display Control Commands (GP1)')
 def gp1_mirror(t: Draft) -> None:
     t.gp1(0x03000001, 0x43000000)
     t.stat(0, mask=1 << 23)

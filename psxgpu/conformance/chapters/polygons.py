@@ -47,7 +47,9 @@ def order_of_vertices(t: Draft) -> None:
     for turn, order in enumerate(permutations([(1, 1), (6, 1), (1, 6)])):
         at = 8 * turn
         t.packet(polygon([(x + at, y) for x, y in order], RED))
-        t.art(at, 0, '...... .xxxxx .xxxx. .xxx.. .xx... .x....', x=CELL)
+        t.art(at, 0, '...... .xxxx. .xxx.. .xx... .x....', x=CELL)
+        for y in range(1, 7):
+            t.ignore(at + 6 - y, y, 2)          # beside the slope: a rule of this project
 
 
 @CHAPTER.test('The cells on the edge that both halves of a quad share are drawn once.', OWN)

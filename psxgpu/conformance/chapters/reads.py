@@ -37,7 +37,7 @@ def others_leave_it(t: Draft) -> None:
         t.read(2)
 
 
-@CHAPTER.test('11h is as 10h.', OWN)
+@CHAPTER.test('11h is as 10h.')
 def opcode_11(t: Draft) -> None:
     t.gp1(0x11000007)
     t.read(2)

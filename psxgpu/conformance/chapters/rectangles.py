@@ -108,7 +108,7 @@ def flip_y(t: Draft) -> None:
         t.cell(8, 8 + down, TEXELS[3 - down])
 
 
-@CHAPTER.test('A flipped U goes on from 0 to 255.', section='GP0(E1h) Draw Mode setting')
+@CHAPTER.test('A flipped U goes on from 0 to 255.', OWN, section='GP0(E1h) Draw Mode setting')
 def flip_x_wraps(t: Draft) -> None:
     t.open()
     t.given(512, 0, 2, TEXELS[:2])
