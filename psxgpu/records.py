@@ -1,7 +1,7 @@
 """The records of a capture: their kinds, and their bytes. docs/CAPTURE.md has the format."""
 import sys
 from array import array
-from typing import Iterable, Tuple
+from typing import Iterable, Iterator, Tuple
 
 END, RAM, GP0, GP1, READ, STAT, DMA, BEGIN, TURN, SKIP = range(10)
 KINDS = ('End', 'Ram', 'Gp0', 'Gp1', 'Read', 'Stat', 'Dma', 'Begin', 'Turn', 'Skip')
@@ -40,3 +40,27 @@ def is_allowed(version: int, kind: int, count: int) -> bool:
 def count_of(kind: int, count: int) -> int:
     """Returns the number of events of a record."""
     return 1 if kind in (GP1, STAT, DMA, BEGIN) else count
+
+
+def first_events(stream: Iterable[Record], n: int) -> Iterator[Record]:
+    """Returns the records of the first n events, the last one cut where it has more."""
+    for kind, count, words in stream:
+        if n <= 0:
+            return
+        events = count_of(kind, count)
+        if events > n:
+            count, words = n, words[:n + (kind == RAM)]
+        yield kind, count, words
+        n -= events
+
+
+def later_events(stream: Iterable[Record], n: int) -> Iterator[Record]:
+    """Returns the records after the first n events."""
+    for kind, count, words in stream:
+        events = count_of(kind, count)
+        if events > n > 0:
+            words = array('I', [words[0] + 4 * n]) + words[1 + n:] if kind == RAM else words[n:]
+            count -= n
+        if events > n:
+            yield kind, count, words
+        n = max(0, n - events)

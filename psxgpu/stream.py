@@ -11,12 +11,13 @@ from array import array
 from typing import Dict, Iterable, Iterator, NoReturn, Optional, Tuple
 
 from psxgpu.command import Readable, Trouble, reading
-from psxgpu.records import (BEGIN, DMA, END, GP0, GP1, HEADS, KINDS, MOST_READS, MOST_WORDS, NOT_FLAT, RAM, READ, SINGLE,
-                            SKIP, SNAPSHOT, STAT, TURN, VERSIONS, WANTED, Record, count_of, encode, is_allowed, little)
+from psxgpu.records import (BEGIN, DMA, END, GP0, GP1, HEADS, KINDS, MOST_READS, MOST_WORDS, NOT_FLAT, RAM, READ,
+                            SINGLE, SKIP, SNAPSHOT, STAT, TURN, VERSIONS, WANTED, Record, count_of, encode,
+                            first_events, is_allowed, later_events, little)
 
-__all__ = ['BEGIN', 'BEGINNINGS', 'DMA', 'END', 'GP0', 'GP1', 'HEADS', 'KINDS', 'MOST_READS', 'MOST_WORDS', 'NOT_FLAT', 'RAM',
-           'READ', 'Readable', 'Record', 'SKIP', 'SNAPSHOT', 'STAT', 'Stream', 'TURN', 'count_of', 'encode', 'first_events',
-           'is_allowed', 'is_flat', 'later_events', 'little']
+__all__ = ['BEGIN', 'BEGINNINGS', 'DMA', 'END', 'GP0', 'GP1', 'HEADS', 'KINDS', 'MOST_READS', 'MOST_WORDS', 'NOT_FLAT',
+           'RAM', 'READ', 'Readable', 'Record', 'SKIP', 'SNAPSHOT', 'STAT', 'Stream', 'TURN', 'count_of', 'encode',
+           'first_events', 'is_allowed', 'is_flat', 'later_events', 'little']
 
 BLOCK = 1 << 18
 MOST_SIZES = 4096
@@ -77,8 +78,8 @@ class Stream:
         return self.block[self.at - n:self.at]
 
     def singles(self) -> "Optional[array[int]]":
-        """Returns the words of the next records, as far as they are Gp0 records of one word within the block. Returns None
-        if the next record is none."""
+        """Returns the words of the next records, as far as they are Gp0 records of one word within the block. Returns
+        None if the next record is none."""
         if self.at == len(self.block):
             self.more(1)
         block, at = self.block, self.at
@@ -99,8 +100,8 @@ class Stream:
         return block[at + 1:self.at:2]
 
     def tag(self) -> Tuple[int, int, int]:
-        """Returns kind and count of the record whose tag is in the block, and the number of its words. Takes the tag. Raises
-        Trouble if it is not a record."""
+        """Returns kind and count of the record whose tag is in the block, and the number of its words. Takes the tag.
+        Raises Trouble if it is not a record."""
         tag = self.block[self.at]
         if tag not in self.sizes:
             kind, count = tag >> 24, tag & 0xFFFFFF
@@ -114,7 +115,8 @@ class Stream:
         return self.sizes[tag]
 
     def words(self) -> "array[int]":
-        """Returns the words of the next records, as far as they are Gp0 records within the block whose tags were met."""
+        """Returns the words of the next records, as far as they are Gp0 records within the block whose tags were
+        met."""
         block, at, end, sizes = self.block, self.at, len(self.block), self.sizes
         words = array('I')
         while at < end:
@@ -198,27 +200,3 @@ def is_flat(path: str) -> bool:
     with contextlib.suppress(Trouble), reading(path) as file:
         return not any(kind in NOT_FLAT for kind in Stream(file, path).kinds())
     return True
-
-
-def first_events(stream: Iterable[Record], n: int) -> Iterator[Record]:
-    """Returns the records of the first n events, the last one cut where it has more."""
-    for kind, count, words in stream:
-        if n <= 0:
-            return
-        events = count_of(kind, count)
-        if events > n:
-            count, words = n, words[:n + (kind == RAM)]
-        yield kind, count, words
-        n -= events
-
-
-def later_events(stream: Iterable[Record], n: int) -> Iterator[Record]:
-    """Returns the records after the first n events."""
-    for kind, count, words in stream:
-        events = count_of(kind, count)
-        if events > n > 0:
-            words = array('I', [words[0] + 4 * n]) + words[1 + n:] if kind == RAM else words[n:]
-            count -= n
-        if events > n:
-            yield kind, count, words
-        n = max(0, n - events)

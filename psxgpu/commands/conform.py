@@ -8,8 +8,8 @@
 
 PLAYER is a shell command that reads a capture on standard input. In it, `vram` is the place of the mode; without that
 word the mode is added at the end. `vram` writes a dump of video memory, `play` prints each word that is read and each
-status, and `shot` writes the shown picture. What the player does not take (`play`, `shot`, DMA, turns, the tall profile)
-is found first, and the tests that need it are not taken. docs/CONFORMANCE.md says more.
+status, and `shot` writes the shown picture. What the player does not take (`play`, `shot`, DMA, turns, the tall
+profile) is found first, and the tests that need it are not taken. docs/CONFORMANCE.md says more.
 
 Status: 0 no test failed, 1 some did (with --strict also where a rule of this project decides), 2 an error.
 """
