@@ -103,7 +103,8 @@ def test_player(words: argparse.Namespace, tests: List[Test]) -> int:
     verdicts = run_tests(tests, tested, words.jobs)
     seconds = time.monotonic() - start
     print(report.table(verdicts))
-    print('%d tests in %.1f seconds' % (len(verdicts), seconds))
+    if sys.stderr.isatty():
+        print('%d tests in %.1f seconds' % (len(verdicts), seconds), file=sys.stderr)
     if not words.quiet:
         print(''.join(line + '\n' for line in report.lines(verdicts)), end='')
     title = os.path.basename(words.tested)
