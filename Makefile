@@ -3,8 +3,8 @@
 # the viewer, web/viewer.html.
 # make plugin builds the recorder and a GPU plugin for emulators over that library, in recorder/out/.
 # make install puts program, tools, manual pages, documents and, where it is built, the library below PREFIX (/usr/local);
-# make uninstall removes them. Both may have a DESTDIR before it; PYTHON is the Python that finds the package psxgpu. make dist makes the packages, make deb those for
-# Debian. make CPU=x86-64-v3 builds the program for newer processors alone.
+# make uninstall removes them. Both may have a DESTDIR before it; PYTHON is the Python that finds the package psxgpu.
+# make dist makes the packages, make deb those for Debian. make CPU=x86-64-v3 builds the program for newer processors alone.
 .PHONY: run test bench lib plugin web viewer install install-library uninstall dist deb
 
 VERSION := $(shell cat VERSION 2> /dev/null)

@@ -8,8 +8,8 @@ import importlib
 from typing import Any
 
 __version__ = '1.0.0'
-OF_THE_MACHINE = ('Error', 'MODES', 'Machine', 'Missing', 'Note', 'OutOfMemory', 'Refused', 'Registers', 'Snapshot', 'library',
-                  'play')
+OF_THE_MACHINE = ('Error', 'MODES', 'Machine', 'Missing', 'Note', 'OutOfMemory', 'Refused', 'Registers', 'Snapshot',
+                  'library', 'play')
 
 
 def __getattr__(name: str) -> Any:

@@ -22,8 +22,8 @@ from psxgpu.registers import (clear_commands, clear_interrupt, display_mode, dis
                               reset, screen, texture_window, vertical_range)
 from psxgpu.stream import (BEGIN, DMA, GP0, GP1, HEADS, KINDS, MOST_READS, MOST_WORDS, RAM, READ, SKIP, STAT, TURN,
                            Stream, encode, is_allowed)
-from psxgpu.words import (bits, clut, copy, corner, fill, interrupt, line, load, nop, polygon, rectangle, store, texcoord,
-                          texture_page, vertex)
+from psxgpu.words import (bits, clut, copy, corner, fill, interrupt, line, load, nop, polygon, rectangle, store,
+                          texcoord, texture_page, vertex)
 
 __all__ = ['BEGIN', 'BLOCKS_IN', 'BLOCKS_OUT', 'CLEAR_TABLE', 'Capture', 'DMA', 'GP0', 'GP1', 'HEADS', 'KINDS', 'LIST',
            'OrderingTable', 'RAM', 'READ', 'SKIP', 'STAT', 'Stream', 'TURN', 'clear_commands', 'clear_interrupt',
@@ -160,7 +160,8 @@ def flat(words: Iterable[Words]) -> List[int]:
 
 
 def records(data: bytes) -> Tuple[int, List[Plain]]:
-    """Returns the version of a capture and the list of its records (kind, count, words), without End. `Stream` does the same without holding all of it."""
+    """Returns the version of a capture and the list of its records (kind, count, words), without End. `Stream` does the
+    same without holding all of it."""
     stream = Stream(io.BytesIO(data), 'capture', exact=True)
     return stream.version, [(kind, count, words.tolist()) for kind, count, words in stream]
 

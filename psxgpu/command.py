@@ -17,8 +17,8 @@ from psxgpu import progress
 from psxgpu.output import write_whole, writing
 from psxgpu.trouble import Trouble, named, reason_of, title
 
-__all__ = ['BLOCK', 'DIFFERENT', 'SAME', 'TROUBLE', 'Command', 'Readable', 'Trouble', 'decimal', 'guarded', 'main', 'named', 'pour',
-           'read_whole', 'reading', 'reason_of', 'title', 'write_whole', 'writing']
+__all__ = ['BLOCK', 'DIFFERENT', 'SAME', 'TROUBLE', 'Command', 'Readable', 'Trouble', 'decimal', 'guarded', 'main',
+           'named', 'pour', 'read_whole', 'reading', 'reason_of', 'title', 'write_whole', 'writing']
 
 SAME, DIFFERENT, TROUBLE = 0, 1, 2
 BLOCK = 1 << 20

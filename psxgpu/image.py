@@ -109,7 +109,8 @@ def read_png(data: bytes) -> Image:
 
 
 def read_ppm(data: bytes) -> Image:
-    """Returns the picture of a PPM. Comments and any white space may be between its numbers. Raises Trouble for others."""
+    """Returns the picture of a PPM. Comments and any white space may be between its numbers. Raises Trouble for
+    others."""
     numbers: List[int] = []
     at = 2
     while len(numbers) < 3 and at < len(data):

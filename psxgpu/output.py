@@ -116,8 +116,8 @@ def replacing(path: str, old: Optional[os.stat_result]) -> Iterator[BinaryIO]:
 
 @contextlib.contextmanager
 def written_by_name(path: str, inputs: Iterable[str] = ()) -> Iterator[str]:
-    """The path of a file for a program to write, with the ending of `path`. It becomes `path` at the end of the block, as
-    with `writing`. Raises Trouble if `path` is one of `inputs`, a device, a pipe or `-`."""
+    """The path of a file for a program to write, with the ending of `path`. It becomes `path` at the end of the block,
+    as with `writing`. Raises Trouble if `path` is one of `inputs`, a device, a pipe or `-`."""
     refuse_inputs(path, inputs)
     old = status_of(path, None)
     if stream_of(path) is not None or old and not stat.S_ISREG(old.st_mode):

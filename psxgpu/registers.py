@@ -91,7 +91,8 @@ def information(index: int) -> List[int]:
 
 
 def screen(x: int, y: int, w: int, h: int) -> List[int]:
-    """Returns the words that show w by h cells from (x, y), 15 bits a cell: w is 256, 320, 368, 512 or 640, h up to 256."""
+    """Returns the words that show w by h cells from (x, y), 15 bits a cell: w is 256, 320, 368, 512 or 640, h up to
+    256."""
     if w not in WIDTHS:
         raise ValueError('screen width: %r is none of %s' % (w, ', '.join(map(str, WIDTHS))))
     mode, cycles = WIDTHS[w]

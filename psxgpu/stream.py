@@ -7,56 +7,25 @@
 A capture that breaks the format is `Trouble`, with the byte. docs/CAPTURE.md has the format.
 """
 import contextlib
-import sys
 from array import array
 from typing import Dict, Iterable, Iterator, NoReturn, Optional, Tuple
 
 from psxgpu.command import Readable, Trouble, reading
+from psxgpu.records import (BEGIN, DMA, END, GP0, GP1, HEADS, KINDS, MOST_READS, MOST_WORDS, NOT_FLAT, RAM, READ,
+                            SINGLE, SKIP, SNAPSHOT, STAT, TURN, VERSIONS, WANTED, Record, count_of, encode,
+                            first_events, is_allowed, later_events, little)
 
-END, RAM, GP0, GP1, READ, STAT, DMA, BEGIN, TURN, SKIP = range(10)
-KINDS = ('End', 'Ram', 'Gp0', 'Gp1', 'Read', 'Stat', 'Dma', 'Begin', 'Turn', 'Skip')
-NOT_FLAT = (RAM, DMA, BEGIN, TURN)
-MOST_WORDS, MOST_READS, MOST_RAM = 0xFFFFFF, 262144, 524288
-MOST = {RAM: MOST_RAM, GP0: MOST_WORDS, GP1: 1, READ: MOST_READS, STAT: 1, TURN: MOST_READS, SKIP: MOST_READS}
-HEADS = {1: b'PSXGPUC1', 2: b'PSXGPUC2', 3: b'PSXGPUC3'}
-VERSIONS = {head: version for version, head in HEADS.items()}
-SNAPSHOT = b'PSXGPUS1'
+__all__ = ['BEGIN', 'BEGINNINGS', 'DMA', 'END', 'GP0', 'GP1', 'HEADS', 'KINDS', 'MOST_READS', 'MOST_WORDS', 'NOT_FLAT',
+           'RAM', 'READ', 'Readable', 'Record', 'SKIP', 'SNAPSHOT', 'STAT', 'Stream', 'TURN', 'count_of', 'encode',
+           'first_events', 'is_allowed', 'is_flat', 'later_events', 'little']
+
 BLOCK = 1 << 18
-Record = Tuple[int, int, 'array[int]']      # kind, count, words
-WANTED = {GP1: 1, DMA: 3, BEGIN: 3}         # words of other records than Gp0 and Ram
 MOST_SIZES = 4096
 NONE = (END, 0, 0)
-SINGLE = GP0 << 24 | 1                      # the tag of a Gp0 record with one word
 RUN = array('I', [SINGLE]) * 16384
 # What files begin with that are often taken for captures.
 BEGINNINGS = {b'\x1f\x8b': 'gzip', b'\x28\xb5\x2f\xfd': 'zstd', b'\xfd7zXZ': 'xz', b'PK\x03\x04': 'zip',
               b'\x89PNG': 'PNG', b'P6': 'PPM', SNAPSHOT: 'a snapshot'}
-
-
-def little(words: "array[int]") -> "array[int]":
-    """Turns an array between the file's order of bytes and the machine's. Returns it."""
-    if sys.byteorder == 'big':
-        words.byteswap()
-    return words
-
-
-def encode(kind: int, count: int, words: Iterable[int] = ()) -> bytes:
-    """Returns a record as bytes."""
-    return little(array('I', [kind << 24 | count, *words])).tobytes()
-
-
-def is_allowed(version: int, kind: int, count: int) -> bool:
-    """Returns whether a tag of this kind and count is valid in a capture of this version."""
-    if kind > (DMA if version == 1 else SKIP):
-        return False
-    if kind in (DMA, BEGIN):
-        return count == 2 or kind == DMA and count == 6
-    return count == 0 if kind == END else 1 <= count <= MOST[kind]
-
-
-def count_of(kind: int, count: int) -> int:
-    """Returns the number of events of a record."""
-    return 1 if kind in (GP1, STAT, DMA, BEGIN) else count
 
 
 class Stream:
@@ -109,8 +78,8 @@ class Stream:
         return self.block[self.at - n:self.at]
 
     def singles(self) -> "Optional[array[int]]":
-        """Returns the words of the next records, as far as they are Gp0 records of one word within the block. Returns None
-        if the next record is none."""
+        """Returns the words of the next records, as far as they are Gp0 records of one word within the block. Returns
+        None if the next record is none."""
         if self.at == len(self.block):
             self.more(1)
         block, at = self.block, self.at
@@ -131,8 +100,8 @@ class Stream:
         return block[at + 1:self.at:2]
 
     def tag(self) -> Tuple[int, int, int]:
-        """Returns kind and count of the record whose tag is in the block, and the number of its words. Takes the tag. Raises
-        Trouble if it is not a record."""
+        """Returns kind and count of the record whose tag is in the block, and the number of its words. Takes the tag.
+        Raises Trouble if it is not a record."""
         tag = self.block[self.at]
         if tag not in self.sizes:
             kind, count = tag >> 24, tag & 0xFFFFFF
@@ -146,7 +115,8 @@ class Stream:
         return self.sizes[tag]
 
     def words(self) -> "array[int]":
-        """Returns the words of the next records, as far as they are Gp0 records within the block whose tags were met."""
+        """Returns the words of the next records, as far as they are Gp0 records within the block whose tags were
+        met."""
         block, at, end, sizes = self.block, self.at, len(self.block), self.sizes
         words = array('I')
         while at < end:
@@ -230,27 +200,3 @@ def is_flat(path: str) -> bool:
     with contextlib.suppress(Trouble), reading(path) as file:
         return not any(kind in NOT_FLAT for kind in Stream(file, path).kinds())
     return True
-
-
-def first_events(stream: Iterable[Record], n: int) -> Iterator[Record]:
-    """Returns the records of the first n events, the last one cut where it has more."""
-    for kind, count, words in stream:
-        if n <= 0:
-            return
-        events = count_of(kind, count)
-        if events > n:
-            count, words = n, words[:n + (kind == RAM)]
-        yield kind, count, words
-        n -= events
-
-
-def later_events(stream: Iterable[Record], n: int) -> Iterator[Record]:
-    """Returns the records after the first n events."""
-    for kind, count, words in stream:
-        events = count_of(kind, count)
-        if events > n > 0:
-            words = array('I', [words[0] + 4 * n]) + words[1 + n:] if kind == RAM else words[n:]
-            count -= n
-        if events > n:
-            yield kind, count, words
-        n = max(0, n - events)

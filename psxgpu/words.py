@@ -81,7 +81,8 @@ def interrupt() -> List[int]:
 
 
 def fill(color: int, x: int, y: int, w: int, h: int) -> List[int]:
-    """Returns a fill. x and w are multiples of 16, and h is at most 511. A width of 1024 is written as 1023, which is rounded up."""
+    """Returns a fill. x and w are multiples of 16, and h is at most 511. A width of 1024 is written as 1023, which is
+    rounded up."""
     size('fill', w, h, 1024, 511)
     return [0x02000000 | bits('fill color', color, 24), place('fill', x, y), h << 16 | min(w, 1023)]
 
@@ -137,7 +138,8 @@ def polygon(vertices: Sequence[Point], color: Color = 0, texture: Optional[Seque
 
 
 def line(points: Sequence[Point], color: Color = 0, semi: bool = False) -> List[int]:
-    """Returns a line: 2 points are a line, more are a polyline with its end word. color: one, or a list with one for each point."""
+    """Returns a line: 2 points are a line, more are a polyline with its end word. color: one, or a list with one for
+    each point."""
     if len(points) < 2:
         raise ValueError('line points: %d, and two are the least' % len(points))
     shaded, colors = colors_of('line', color, len(points))
@@ -152,7 +154,8 @@ def line(points: Sequence[Point], color: Color = 0, semi: bool = False) -> List[
 
 def rectangle(color: int, x: int, y: int, w: int, h: int, texture: Optional[Point] = None, palette: int = 0,
               semi: bool = False, raw: bool = False) -> List[int]:
-    """Returns a rectangle. w and h of 1, 8 or 16 each take the short packet. texture: (u, v) of the top left cell; the page is E1h's."""
+    """Returns a rectangle. w and h of 1, 8 or 16 each take the short packet. texture: (u, v) of the top left cell; the
+    page is E1h's."""
     code = {(1, 1): 1, (8, 8): 2, (16, 16): 3}.get((w, h), 0)
     opcode = 0x60 | code << 3 | (texture is not None) << 2 | bool(semi) << 1 | bool(raw)
     words = [opcode << 24 | bits('rectangle color', color, 24), vertex(x, y)]

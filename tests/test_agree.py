@@ -29,7 +29,8 @@ class Agreement(support.InFolder):
         status, lines, _ = self.agree(zeros, one, '2', 'fills')
         self.assertEqual((status, lines[0]), (1, '| fills | 2 | 0 | 100.00 % |'))
         self.assertEqual(self.agree(zeros, nothing, '1', 'fills'), (
-            2, ['| fills | 1 | 0 |  (1 without a dump) |'], 'psxgpu agree: a player wrote no dump for 1 of 1 captures\n'))
+            2, ['| fills | 1 | 0 |  (1 without a dump) |'],
+            'psxgpu agree: a player wrote no dump for 1 of 1 captures\n'))
 
     def test_trouble(self):
         for words, reason in ((['none', 'none', '1', 'fills'], 'none: No such file or directory'),

@@ -1,6 +1,6 @@
 #!/usr/bin/env python3
-"""Tests of psxgpu audit: python3 -m unittest tests.test_audit. They need no player: small ones of fills, loads and stores stand
-below."""
+"""Tests of psxgpu audit: python3 -m unittest tests.test_audit. They need no player: small ones of fills, loads and
+stores stand below."""
 import contextlib
 import io
 import os

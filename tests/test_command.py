@@ -46,7 +46,8 @@ class Command(support.InFolder):
         self.expect_line(['house.capture'], 'house.capture is a file: the name of a tool comes before it')
         self.expect_line(['first'], 'psxgpu first: the following arguments are required: N')
         self.expect_line(['first', 'x', 'house.capture'], 'x is not a number from 0 to')
-        self.expect_line(['packets', 'house.capture', '--name', 'sprites'], "invalid choice: 'sprites' (choose from 'fill',")
+        self.expect_line(['packets', 'house.capture', '--name', 'sprites'],
+                         "invalid choice: 'sprites' (choose from 'fill',")
         self.expect_line(['packets', 'house.capture', '--events', '9', '3'], 'the first comes after the last')
 
     @support.needs_player
@@ -62,7 +63,8 @@ class Command(support.InFolder):
         self.write('house.capture', c.Capture().bytes())
         for words in ('first 0 house.capture >&-', 'first 0 <&-', '--help >&-', 'first 0 house.capture out 2>&-'):
             done = subprocess.run(['sh', '-c', '%s -m psxgpu %s' % (sys.executable, words)], cwd=self.folder,
-                                  capture_output=True, text=True, env=dict(os.environ, PYTHONPATH=support.TOP), check=False)
+                                  capture_output=True, text=True, check=False,
+                                  env=dict(os.environ, PYTHONPATH=support.TOP))
             self.assertNotIn('Traceback', done.stderr)
             self.assertIn(done.returncode, (0, 2))
 

@@ -137,7 +137,8 @@ class Outputs(support.InFolder):
         self.write('in', CAPTURE)
         self.write('log', b'before')
         with open(self.path('log'), 'ab') as file:
-            done = support.run_tool('first', '4', 'in', '/dev/stdout', cwd=self.folder, capture_output=False, stdout=file)
+            done = support.run_tool('first', '4', 'in', '/dev/stdout', cwd=self.folder, capture_output=False,
+                                    stdout=file)
         self.assertEqual((done.returncode, self.read('log')), (0, b'before' + CAPTURE))
 
     def test_terminal(self):
@@ -218,8 +219,8 @@ class Writing(support.InFolder):
         self.assertEqual(os.listdir(self.folder), ['new'])
 
     def test_no_name(self):
-        for path, error in (('', FileNotFoundError), (self.path('none') + '/', OSError), (self.path('no/file'), OSError),
-                            (self.folder, IsADirectoryError), (self.path(300 * 'n'), OSError)):
+        for path, error in (('', FileNotFoundError), (self.path('none') + '/', OSError),
+                            (self.path('no/file'), OSError), (self.folder, IsADirectoryError), (self.path(300 * 'n'), OSError)):
             with self.subTest(path), self.assertRaises(error) as caught:
                 write_whole(path, b'data')
             self.assertEqual(caught.exception.filename, path)

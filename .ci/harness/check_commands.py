@@ -85,13 +85,20 @@ def first_difference(got, want):
     return k + 1, got[k] if k < len(got) else None, want[k] if k < len(want) else None
 
 
-def references(path):
-    """What a .md file says of other files and does not hold: lines of text."""
+def dead_links(path):
+    """Returns the links of a .md file to files that are not there, as lines of text."""
     with open(path) as file:
         text = file.read()
     for link in re.findall(r'\]\(([^)#:]+)(?:#[^)]*)?\)', text):
         if not os.path.exists(os.path.join(os.path.dirname(path), link)):
             yield 'no file ' + link
+
+
+def references(path):
+    """What a .md file says of other files and does not hold: lines of text."""
+    yield from dead_links(path)
+    with open(path) as file:
+        text = file.read()
     for name in re.findall(r'`((?:docs|examples|psxgpu|bench|crates)/[\w./*-]*)`', text):
         if '*' not in name and not os.path.exists(os.path.join(ROOT, name)):
             yield 'no file ' + name

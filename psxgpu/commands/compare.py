@@ -31,12 +31,14 @@ from psxgpu.players import frames, player
 
 def arguments(parser: argparse.ArgumentParser) -> None:
     """Adds the arguments of this tool."""
-    parser.add_argument('ours', metavar='OURS', help='a dump of video memory, a picture, or a recording; - is standard input')
+    parser.add_argument('ours', metavar='OURS',
+                        help='a dump of video memory, a picture, or a recording; - is standard input')
     parser.add_argument('theirs', metavar='THEIRS', help='another of the same kind')
     parser.add_argument('picture', nargs='?', metavar='PICTURE', help='the difference as a picture to write')
     parser.add_argument('--tolerance', type=decimal(0, 255), default=0, metavar='N',
                         help='cells whose channels are at most N steps apart count as equal')
-    parser.add_argument('--side', metavar='PICTURE', help='a picture to write of ours, theirs and the difference side by side')
+    parser.add_argument('--side', metavar='PICTURE',
+                        help='a picture to write of ours, theirs and the difference side by side')
     parser.add_argument('--marks', action='store_true',
                         help='of recordings: frames end at marks (GP1 3Fh) and not at new display starts')
     player.argument(parser)

@@ -8,10 +8,10 @@
 of sums, a block for each. The player is a command to which `sums`, `vram` or `play` is added, with the capture on
 standard input; what it does not
 know is left out. `check` plays them again and reports what is not as recorded, on standard output and as report.txt,
-junit.xml and report.html in the folder of the report. With a reference, a player that writes what was recorded, it finds
-the first packet and draws the difference. `join` makes one file of sums of several, as when each machine played a part.
-`split` cuts a recording after some of its frames into parts that are played side by side, and `glue` makes of what the
-player wrote for each of them what it writes for the whole. docs/CORPUS.md shows all of it.
+junit.xml and report.html in the folder of the report. With a reference, a player that writes what was recorded, it
+finds the first packet and draws the difference. `join` makes one file of sums of several, as when each machine played a
+part. `split` cuts a recording after some of its frames into parts that are played side by side, and `glue` makes of
+what the player wrote for each of them what it writes for the whole. docs/CORPUS.md shows all of it.
 
 A run that was interrupted continues where it was. Status: 0 the same, or done; 1 something differs; 2 an error, also if
 the player plays no capture.

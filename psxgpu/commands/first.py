@@ -3,8 +3,8 @@
     psxgpu first 300 mine.capture > begin.capture
     psxgpu first 300 mine.capture --rest > rest.capture
 
-`psxgpu join begin.capture rest.capture` has the events of the whole again. The rest alone begins from zeros: for one that
-begins from the state after the first events take `psxgpu_tool cut N`, which writes a snapshot. Status: 0 written,
+`psxgpu join begin.capture rest.capture` has the events of the whole again. The rest alone begins from zeros: for one
+that begins from the state after the first events take `psxgpu_tool cut N`, which writes a snapshot. Status: 0 written,
 2 an error, also if the capture has fewer than N events. Then no file is written, and an old one stays.
 """
 import argparse

@@ -3,12 +3,12 @@
     psxgpu from-dump game.psxgpu.zst -o game.capture
     psxgpu_tool frames marks game.capture | ffmpeg -f image2pipe -c:v ppm -i - film.mp4
 
-Words for GP0 and GP1 become the words of a capture, a VSync the mark of a frame (GP1(3Fh)), and words that are discarded
-or read back become reads. A dump for a GPU of 2 MB becomes a capture of version 3, every other one of version 1. Packets
-of unknown types are left out and counted. --about prints what the dump says of itself, and after which event its trace
-begins: `psxgpu_tool cut N` makes a snapshot of the state there. --reads writes the words that were read when the dump
-was made, as `psxgpu_tool play` prints them: a line for each read, `--------` if the dump does not have its word. All
-tools read dumps as they are; docs/DUMPS.md has the details.
+Words for GP0 and GP1 become the words of a capture, a VSync the mark of a frame (GP1(3Fh)), and words that are
+discarded or read back become reads. A dump for a GPU of 2 MB becomes a capture of version 3, every other one of version
+1. Packets of unknown types are left out and counted. --about prints what the dump says of itself, and after which event
+its trace begins: `psxgpu_tool cut N` makes a snapshot of the state there. --reads writes the words that were read when
+the dump was made, as `psxgpu_tool play` prints them: a line for each read, `--------` if the dump does not have its
+word. All tools read dumps as they are; docs/DUMPS.md has the details.
 
 Status: 0 written; 2 error. If the dump is cut or says something impossible, the error names the byte, and the capture
 has what was before.

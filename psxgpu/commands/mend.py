@@ -17,7 +17,8 @@ from psxgpu.mending import whole_of
 def arguments(parser: argparse.ArgumentParser) -> None:
     """Adds the arguments of this tool."""
     parser.add_argument('capture', metavar='CAPTURE', help='the recording')
-    parser.add_argument('output', nargs='?', metavar='OUTPUT', help='the capture to write (default: the recording itself)')
+    parser.add_argument('output', nargs='?', metavar='OUTPUT',
+                        help='the capture to write (default: the recording itself)')
 
 
 class Beginning:
@@ -43,7 +44,8 @@ def run(words: argparse.Namespace) -> None:
         if words.output in ('-', '/dev/stdout'):
             raise Trouble('%s: name a file' % words.output)
         file.seek(0)
-        with progress.following(file, words.capture), writing(words.output or words.capture, [words.capture] if words.output else ()) as target:
+        inputs = [words.capture] if words.output else []
+        with progress.following(file, words.capture), writing(words.output or words.capture, inputs) as target:
             pour(Beginning(file, size), target)
             target.write(rest)
     print('made whole' if rest else 'it was whole')

@@ -20,7 +20,8 @@ class Capture:
 
 
 def captures_of(places: Iterable[str], names: Sequence[str] = NAMES) -> List[Capture]:
-    """Returns the captures of folders, by name: the path below the folder. A place that is a file has its path as name."""
+    """Returns the captures of folders, by name: the path below the folder. A place that is a file has its path as
+    name."""
     found: Dict[str, Capture] = {}
     for place in places:
         for name, path in files_of(place, names):

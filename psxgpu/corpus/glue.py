@@ -33,7 +33,8 @@ def end_of_words(file: BinaryIO) -> int:
 
 
 def end_of_sums(file: BinaryIO) -> int:
-    """Returns the byte offset of the frame at the end: it is the frame before it once more, at the same event or the next."""
+    """Returns the byte offset of the frame at the end: it is the frame before it once more, at the same event or the
+    next."""
     *frames, (end, line) = tail_lines(file)[-3:]
     if not line.startswith(b'vram '):
         raise ValueError('it does not end with the sum of video memory')

@@ -119,8 +119,10 @@ def expect_played(rows: Dict[str, Row]) -> None:
         raise Nothing('the player plays no capture: %s: %s' % (name, rows[name].end))
 
 
-def play_into(path: str, player: Player, captures: Sequence[Capture], jobs: int, elsewhere: Optional[str] = None) -> Sums:
-    """Plays what the file beside `path` does not have yet, and adds it there; then the file is `path`. Returns the sums."""
+def play_into(path: str, player: Player, captures: Sequence[Capture], jobs: int,
+              elsewhere: Optional[str] = None) -> Sums:
+    """Plays what the file beside `path` does not have yet, and adds it there; then the file is `path`. Returns the
+    sums."""
     journal = Journal(path + '.part', player, captures, elsewhere)
     rows = journal.sums.rows
     if rows:

@@ -65,8 +65,8 @@ class Player:
         return row
 
     def played(self, capture: Capture) -> Row:
-        """Plays a capture. Returns its row. The player gets it unpacked, and a dump as a capture. One that is damaged is
-        refused without it."""
+        """Plays a capture. Returns its row. The player gets it unpacked, and a dump as a capture. One that is damaged
+        is refused without it."""
         row = Row(capture.name, *size_and_sum(capture.path))
         try:
             with plain(capture.path, capture.name) as path, open(path, 'rb') as source:

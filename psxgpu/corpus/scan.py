@@ -37,7 +37,8 @@ def past_state(file: IO[bytes]) -> int:
 
 
 def past_head(file: IO[bytes]) -> int:
-    """Reads up to the first record. Returns the number of events before it. Raises ValueError if it is not a capture."""
+    """Reads up to the first record. Returns the number of events before it. Raises ValueError if it is not a
+    capture."""
     head = file.read(8)
     if head == SNAPSHOT:
         return past_state(file)

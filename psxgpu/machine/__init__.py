@@ -33,8 +33,8 @@ COLUMNS, ROWS, RAM_BYTES = 1024, (512, 1024), 0x200000
 
 
 class Machine:
-    """A machine. Each call that changes it is one event or several. A bad argument raises TypeError or ValueError before
-    anything happens. Threads may share a machine: a call waits for the end of another."""
+    """A machine. Each call that changes it is one event or several. A bad argument raises TypeError or ValueError
+    before anything happens. Threads may share a machine: a call waits for the end of another."""
 
     # Bytes that are always enough.
     VRAM_ROOM, SAVE_ROOM = 2 * COLUMNS * ROWS[1], 2 * COLUMNS * ROWS[1] + RAM_BYTES + 260
@@ -186,9 +186,9 @@ class Machine:
 
 
 def play(source: Union[Path, Bytes], mode: str = 'vram', cell: Optional[Tuple[int, int]] = None) -> bytes:
-    """Returns what `psxgpu_tool` writes with this mode of a capture or a snapshot, given as a path or as bytes. A path may
-    also be that of a GPU dump, and of a packed file (.gz, .xz, .zst). `cell` is (x, y), for `pixel`. Raises Refused if
-    the program refuses it; its `output` is what was written before. Raises ValueError if a packed file or a dump is
+    """Returns what `psxgpu_tool` writes with this mode of a capture or a snapshot, given as a path or as bytes. A path
+    may also be that of a GPU dump, and of a packed file (.gz, .xz, .zst). `cell` is (x, y), for `pixel`. Raises Refused
+    if the program refuses it; its `output` is what was written before. Raises ValueError if a packed file or a dump is
     damaged."""
     if mode not in MODES:
         raise ValueError('mode %r is none of: %s' % (mode, ', '.join(MODES)))

@@ -73,8 +73,8 @@ class Snapshot(bytes):
 
 
 class Registers(NamedTuple):
-    """The registers as words: the values of E1h to E6h, flags (bit 0 interrupt, bit 1 display off), and what GP1 has set.
-    The latch is the word that a read of the data port returns."""
+    """The registers as words: the values of E1h to E6h, flags (bit 0 interrupt, bit 1 display off), and what GP1 has
+    set. The latch is the word that a read of the data port returns."""
     draw_mode: int
     texture_window: int
     area_start: int
@@ -91,8 +91,8 @@ class Registers(NamedTuple):
 
 
 class Note(NamedTuple):
-    """An item that has taken effect: the event that completed it, its class (docs/CAPTURE.md), its first word, the corners
-    (x1, y1, x2, y2) of the cells that it may change, or None, and the index of its last word in the call."""
+    """An item that has taken effect: the event that completed it, its class (docs/CAPTURE.md), its first word, the
+    corners (x1, y1, x2, y2) of the cells that it may change, or None, and the index of its last word in the call."""
     event: int
     class_number: int
     head: int

@@ -49,7 +49,8 @@ def is_shaded_line(packet: Packet) -> bool:
 
 
 def is_smear(packet: Packet) -> bool:
-    """Returns whether it is a copy whose target begins, in a row of the source, to the right of where the source begins."""
+    """Returns whether it is a copy whose target begins, in a row of the source, to the right of where the source
+    begins."""
     if packet.name != COPY:
         return False
     (x1, y1), (x2, y2) = ((word & 0x3FF, word >> 16 & 0x3FF) for word in packet.words[1:3])

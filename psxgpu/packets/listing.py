@@ -20,8 +20,8 @@ NAMES = (FILL, POLYGON, LINE, RECTANGLE, COPY, LOAD, STORE, ENVIRONMENT, NOP, IR
 
 
 class Entry(NamedTuple):
-    """An entry: a packet or an event at a port. `registers` are those after the packet. They change when the next entry is
-    taken."""
+    """An entry: a packet or an event at a port. `registers` are those after the packet. They change when the next entry
+    is taken."""
     event: int
     order: int
     name: str

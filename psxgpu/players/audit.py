@@ -41,8 +41,8 @@ def passes(found: Found, first: int, last: int) -> Iterator[List[int]]:
 
 
 def beginning(stream: Events, found: Found, group: List[int], ours: Player) -> Tuple[int, Words]:
-    """Returns the event from which a group's run differs from what OURS plays, and the loads of what OURS has there: the
-    last packet before the group that could be judged."""
+    """Returns the event from which a group's run differs from what OURS plays, and the loads of what OURS has there:
+    the last packet before the group that could be judged."""
     event = max((event for event in found if event < group[0]), default=0)
     if not event:
         return 0, array.array('I')
@@ -118,7 +118,7 @@ class Row:
 
 
 def audit(data: bytes, ours: Player, theirs: Player, first: int, last: int, name: str = 'capture') -> Dict[str, Row]:
-    """Returns a row for each class of packets from event `first` to event `last`. Raises Trouble if there is no packet."""
+    """Returns a row for each class of packets from event `first` to event `last`. Raises Trouble if there is none."""
     stream = Events(data, name)
     listing = output(ours, 'list', HEAD + stream.stream.tobytes() + END)
     try:

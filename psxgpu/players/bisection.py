@@ -13,7 +13,8 @@ from psxgpu.players.steps import Cutter, Steps
 from psxgpu.stream import GP0, GP1, KINDS, Stream
 
 
-def bisect(count: int, differs: Callable[[int], bool], narrow: Optional[Callable[[int, int], None]] = None) -> Optional[int]:
+def bisect(count: int, differs: Callable[[int], bool],
+           narrow: Optional[Callable[[int, int], None]] = None) -> Optional[int]:
     """Returns the first n with `differs(n)`, if it stays so; None if `differs` is false at the end. `narrow` is called
     with the bounds before each question."""
     if not differs(count):

@@ -48,7 +48,8 @@ class Frames:
                     continue
                 frame = Frame(int(words[0]), int(words[1]), int(words[2]), words[3])
             except (ValueError, IndexError) as error:
-                raise Trouble('the player writes a line that is not one of `sums`: %s' % ' '.join(words)[:60]) from error
+                raise Trouble('the player writes a line that is not one of `sums`: %s'
+                              % ' '.join(words)[:60]) from error
             yield frame
         status = self.run.end()
         if status:

@@ -98,7 +98,8 @@ def seen_box(name: str, box: Box) -> Box:
 
 
 def targets(stream: Events, listing: bytes) -> Dict[int, Target]:
-    """Returns the packets that can be judged, by the event after which that is done. None is in the midst of a store."""
+    """Returns the packets that can be judged, by the event after which that is done. None is in the midst of a
+    store."""
     out: Dict[int, Target] = {}
     busy = 0
     for event, name, word, box, mask in packets(listing):

@@ -63,7 +63,8 @@ class Cutter:
 
     def whole(self, name: str) -> Step:
         """Returns the step of a packet, from the words that are held."""
-        step = Step(None if self.is_apart else LINE if name == FINISH else name, self.held, self.splitter.registers, self.lines)
+        shown = None if self.is_apart else LINE if name == FINISH else name
+        step = Step(shown, self.held, self.splitter.registers, self.lines)
         self.held, self.lines, self.is_apart = [], 0, False
         return step
 
@@ -123,9 +124,9 @@ class Prefixes:
 
 
 class Steps:
-    """The file of steps, which is removed at the end of a `with`. `ends`: the byte offset after each; `lines`: how many lines `list` has up to it; `events`: how
-    many events; `states`: the registers after it as an index of `registers`. Its version is 1, in tall video memory
-    3."""
+    """The file of steps, which is removed at the end of a `with`. `ends`: the byte offset after each; `lines`: how many
+    lines `list` has up to it; `events`: how many events; `states`: the registers after it as an index of `registers`.
+    Its version is 1, in tall video memory 3."""
 
     def __init__(self, file: "tempfile._TemporaryFileWrapper[bytes]", is_tall: bool) -> None:
         self.file, self.is_tall = file, is_tall

@@ -1,5 +1,6 @@
 #!/usr/bin/env python3
-"""The library's own refusals, by its raw calls, as a program in C could make them: python3 tests/library/test_refusals.py"""
+"""The library's own refusals, by its raw calls, as a program in C could make them: python3
+tests/library/test_refusals.py"""
 import ctypes
 import os
 import sys

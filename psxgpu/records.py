@@ -1,0 +1,66 @@
+"""The records of a capture: their kinds, and their bytes. docs/CAPTURE.md has the format."""
+import sys
+from array import array
+from typing import Iterable, Iterator, Tuple
+
+END, RAM, GP0, GP1, READ, STAT, DMA, BEGIN, TURN, SKIP = range(10)
+KINDS = ('End', 'Ram', 'Gp0', 'Gp1', 'Read', 'Stat', 'Dma', 'Begin', 'Turn', 'Skip')
+NOT_FLAT = (RAM, DMA, BEGIN, TURN)
+MOST_WORDS, MOST_READS, MOST_RAM = 0xFFFFFF, 262144, 524288
+MOST = {RAM: MOST_RAM, GP0: MOST_WORDS, GP1: 1, READ: MOST_READS, STAT: 1, TURN: MOST_READS, SKIP: MOST_READS}
+HEADS = {1: b'PSXGPUC1', 2: b'PSXGPUC2', 3: b'PSXGPUC3'}
+VERSIONS = {head: version for version, head in HEADS.items()}
+SNAPSHOT = b'PSXGPUS1'
+Record = Tuple[int, int, 'array[int]']      # kind, count, words
+WANTED = {GP1: 1, DMA: 3, BEGIN: 3}         # words of other records than Gp0 and Ram
+SINGLE = GP0 << 24 | 1                      # the tag of a Gp0 record with one word
+
+
+def little(words: "array[int]") -> "array[int]":
+    """Turns an array between the file's order of bytes and the machine's. Returns it."""
+    if sys.byteorder == 'big':
+        words.byteswap()
+    return words
+
+
+def encode(kind: int, count: int, words: Iterable[int] = ()) -> bytes:
+    """Returns a record as bytes."""
+    return little(array('I', [kind << 24 | count, *words])).tobytes()
+
+
+def is_allowed(version: int, kind: int, count: int) -> bool:
+    """Returns whether a tag of this kind and count is valid in a capture of this version."""
+    if kind > (DMA if version == 1 else SKIP):
+        return False
+    if kind in (DMA, BEGIN):
+        return count == 2 or kind == DMA and count == 6
+    return count == 0 if kind == END else 1 <= count <= MOST[kind]
+
+
+def count_of(kind: int, count: int) -> int:
+    """Returns the number of events of a record."""
+    return 1 if kind in (GP1, STAT, DMA, BEGIN) else count
+
+
+def first_events(stream: Iterable[Record], n: int) -> Iterator[Record]:
+    """Returns the records of the first n events, the last one cut where it has more."""
+    for kind, count, words in stream:
+        if n <= 0:
+            return
+        events = count_of(kind, count)
+        if events > n:
+            count, words = n, words[:n + (kind == RAM)]
+        yield kind, count, words
+        n -= events
+
+
+def later_events(stream: Iterable[Record], n: int) -> Iterator[Record]:
+    """Returns the records after the first n events."""
+    for kind, count, words in stream:
+        events = count_of(kind, count)
+        if events > n > 0:
+            words = array('I', [words[0] + 4 * n]) + words[1 + n:] if kind == RAM else words[n:]
+            count -= n
+        if events > n:
+            yield kind, count, words
+        n = max(0, n - events)
