@@ -97,7 +97,8 @@ class Endings(Command):
 
     def test_killed_itself(self):
         """Where `record` is killed, the emulator does not stay."""
-        child = subprocess.Popen(self.command(pcsxr='echo $$ > $PSXGPU_CAPTURE.pid; exec sleep 60'))
+        child = subprocess.Popen(self.command(pcsxr='echo $$ > $PSXGPU_CAPTURE.pid; exec sleep 60'),
+                                 env=dict(os.environ, TMPDIR=self.folder))
         emulator = self.wait_for_process(self.capture + '.pid')
         child.kill()
         child.wait()

@@ -3,7 +3,7 @@ import os
 import unittest
 from unittest import mock
 
-from tests.support import InFolder
+from tests.support import PLAYER, InFolder, needs_player
 
 from conformance import agreement, sections
 from conformance.faults import FAULTS, finds
@@ -17,7 +17,7 @@ from psxgpu.stream import HEADS
 class Written(InFolder):
     def test_captures_flat_captures_and_dumps(self):
         tests = chosen(['fills/size-and-color', 'tall/fills', 'dma/blocks'])
-        lines = folder.write(tests, self.path('out'), None)
+        lines = folder.write(tests, self.path('out'), None, True)
         self.assertEqual(lines, ['3 programs are left out', '1 flat captures are left out', '1 dumps are left out'])
         data = self.read('out/captures/fills/size-and-color.capture')
         self.assertEqual(data, tests[0].data)
@@ -26,6 +26,22 @@ class Written(InFolder):
         self.assertFalse(os.path.exists(self.path('out/flat/dma/blocks.capture')))
         text = self.read('out/expected.tsv').decode()
         self.assertEqual(text, released.expectations(tests))
+
+    @needs_player
+    def test_flat_twins_of_dma(self):
+        source = folder.Folder(self.folder, PLAYER)
+        model, count = Model(), 0
+        for test in chosen(['dma', 'turns']):
+            flat = folder.in_version(source.flat(test), 1)
+            if flat is not None:
+                count += 1
+                self.assertEqual(model.run('vram', flat).out, test.dump, test.full_name)
+        self.assertGreater(count, 30)
+
+    @needs_player
+    def test_a_program_for_the_console(self):
+        folder.write(chosen(['stores/odd-count']), self.path('out'), PLAYER, True)
+        self.assertEqual(self.read('out/exe/stores/odd-count.exe')[:8], b'PS-X EXE')
 
     def test_an_expectation(self):
         fields = released.expectation(chosen(['stores/width-0-is-1024'])[0]).split('\t')

@@ -10,6 +10,7 @@ from typing import List, Optional, Tuple
 from tests import support
 from psxgpu import capture as c
 from psxgpu.packets.known import CLASSES
+from psxgpu.players.beginning import beginning, first_bytes
 from psxgpu.reduce.faults import BreaksDown, DumpsDiffer, Fault, WordsDiffer
 from psxgpu.reduce.job import Job, Wanted
 from psxgpu.reduce.report import Reduced, report_lines, write_all
@@ -133,6 +134,35 @@ class Faults(Reducing):
     def test_no_known_class_comes_in(self) -> None:
         found = self.reduce(scene().gp0(c.rectangle(0x80FF40, 30, 20, 40, 30, semi=True)), 'blend')
         self.assertFalse(any('(%s)' % name in found.headline for name in CLASSES))
+
+
+class Beginnings(support.InFolder):
+    def beginnings(self, wanted: int) -> Tuple[List[int], bool]:
+        """The sizes of the captures that are looked at until `wanted` events are there; whether the last is whole."""
+        path, sizes = self.write('a.capture', c.Capture(2).gp0([0] * 90).skip(10).bytes()), []
+
+        def events(part: str) -> int:
+            with open(part, 'rb') as file:
+                return sum(count for _, count, _ in Stream(file, part))
+
+        def shows(part: str) -> bool:
+            sizes.append(events(part))
+            return sizes[-1] >= wanted
+
+        with beginning(path, 'a', shows, 16) as (part, is_whole):
+            if sizes[-1:] != [events(part)]:
+                sizes.append(events(part))
+            return sizes, is_whole
+
+    def test_they_double(self) -> None:
+        """16 events, 32, 64; the whole is not looked at before it is taken."""
+        self.assertEqual(self.beginnings(20), ([16, 32], False))
+        self.assertEqual(self.beginnings(90), ([16, 32, 64, 100], True))
+
+    def test_version_1(self) -> None:
+        """Reads whose words are not shown become reads."""
+        path = self.write('a.capture', c.Capture(2).gp0([7]).skip(3).bytes())
+        self.assertEqual(first_bytes(path, 'a', 3), c.Capture().gp0([7]).read(2).bytes())
 
 
 class Written(Reducing):

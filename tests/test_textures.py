@@ -104,8 +104,8 @@ class Commands(support.InFolder):
         self.assertIn('palette (0, 300), u 0 to 3, v 0 to 0; event 33, 2 packets', page)
 
     def test_heat(self) -> None:
-        """Two rectangles of 4 by 2 that share two cells; a fill; a cell that is covered 100 times, more than the 93 that
-        can be counted at once."""
+        """Two rectangles of 4 by 2 that share two cells; a fill; a cell that is covered 100 times, and 93 are counted
+        at once."""
         out = c.Capture().gp0(c.drawing_area(0, 0, 319, 239))
         out.gp0(c.rectangle(0, 16, 0, 4, 2), c.rectangle(9, 18, 1, 4, 2))
         out.gp1(0x3F000001).gp0(c.fill(0, 0, 0, 16, 1)).gp1(0x3F000002)

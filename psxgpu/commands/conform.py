@@ -44,6 +44,7 @@ def arguments(parser: argparse.ArgumentParser) -> None:
     parser.add_argument('--json', metavar='FILE', help='write the verdicts')
     parser.add_argument('--reduce', metavar='FOLDER', help='write the smallest capture that still shows each failure')
     parser.add_argument('--write', metavar='FOLDER', help='write the tests as files, and what they expect')
+    parser.add_argument('--exe', action='store_true', help='with --write: programs for the console, too')
     parser.add_argument('--jobs', type=decimal(1, 1024), default=1, metavar='N',
                         help='runs of the player at a time (default: %(default)s)')
     parser.add_argument('--list', action='store_true', help='list the tests: name, who decides, the rule')
@@ -103,7 +104,8 @@ def test_player(words: argparse.Namespace, tests: List[Test]) -> int:
     verdicts = run_tests(tests, tested, words.jobs)
     seconds = time.monotonic() - start
     print(report.table(verdicts))
-    print('%d tests in %.1f seconds' % (len(verdicts), seconds))
+    if sys.stderr.isatty():
+        print('%d tests in %.1f seconds' % (len(verdicts), seconds), file=sys.stderr)
     if not words.quiet:
         print(''.join(line + '\n' for line in report.lines(verdicts)), end='')
     title = os.path.basename(words.tested)
@@ -125,7 +127,7 @@ def run(words: argparse.Namespace) -> int:
         for test in tests:
             print('%-42s %-8s %-7s %s' % (test.full_name, test.decides, test.worked, test.says))
     elif words.write:
-        for line in folder.write(tests, words.write, folder.found_program(words.player)):
+        for line in folder.write(tests, words.write, folder.found_program(words.player), words.exe):
             print('%s: %s' % (words.write, line), file=sys.stderr)
     elif words.tested is None:
         raise Trouble('name a player: `psxgpu conform --help` explains the arguments')

@@ -17,7 +17,6 @@ Status: 0 written, 2 an error.
 from __future__ import annotations
 
 import argparse
-import collections
 from typing import Optional, Tuple
 
 from psxgpu.command import Trouble, decimal, title
@@ -46,7 +45,7 @@ def frame_line(number: int, frame: Frame, counts: Optional[Counts]) -> str:
     if counts is None:
         return '%d %d 0 0 0.00 0' % (number, frame.packets)
     total, covered = counts.total(), counts.covered()
-    return '%d %d %d %d %.2f %d' % (number, frame.packets, total, covered, total / max(covered, 1), max(counts.cells))
+    return '%d %d %d %d %.2f %d' % (number, frame.packets, total, covered, total / max(covered, 1), counts.most())
 
 
 def frames(counter: Counter, wanted: Optional[int]) -> Tuple[int, Optional[Counts]]:
@@ -82,7 +81,6 @@ def run(words: argparse.Namespace) -> None:
     if counts is None:
         return
     print('frame %d, cells %d %d %d %d; by how often: %s' % (
-        number, *counts.area, ', '.join('%d: %d' % pair for pair in sorted(collections.Counter(counts.cells).items())
-                                        if pair[0])))
+        number, *counts.area, ', '.join('%d: %d' % pair for pair in sorted(counts.often.items()) if pair[0])))
     if words.picture:
         write_image(words.picture, picture(counts))

@@ -4,8 +4,9 @@ from __future__ import annotations
 from typing import Dict, FrozenSet, List, Tuple
 
 from psxgpu.capture import Capture, display_mode, horizontal_range, vertical_range
-from psxgpu.conformance.draft import Picture
+from psxgpu.conformance.draft import HEIGHT, Picture
 from psxgpu.players.named import Done, Player, ending
+from psxgpu.vram import WIDTH
 
 SECONDS = 20            # for one run of a player
 PROBES: Dict[str, Tuple[str, Capture]] = {
@@ -20,16 +21,6 @@ PROBES: Dict[str, Tuple[str, Capture]] = {
 
 class NoAnswer(Exception):
     """A player gave no answer: it crashed, did not end in time, or wrote something else. The text is the reason."""
-
-
-def abilities(player: Player) -> FrozenSet[str]:
-    """Returns what a player takes. Each is asked once, by a capture that does nothing."""
-    able = set()
-    for name, (mode, capture) in PROBES.items():
-        done = player.run(mode, capture.bytes(), SECONDS)
-        if done.status == 0 and done.out:
-            able.add(name)
-    return frozenset(able)
 
 
 def answer(player: Player, mode: str, data: bytes) -> bytes:
@@ -59,3 +50,25 @@ def picture_of(out: bytes) -> Picture:
     if len(pixels) != 3 * width * height:
         raise NoAnswer('shot: %d bytes of pixels for %d by %d' % (len(pixels), width, height))
     return Picture(width, height, pixels)
+
+
+def is_whole(mode: str, out: bytes, is_tall: bool) -> bool:
+    """Returns whether this is what a mode writes for one of the probes."""
+    try:
+        if mode == 'play':
+            return len(read_words(out)) == 1
+        if mode == 'shot':
+            return picture_of(out).width > 0
+    except NoAnswer:
+        return False
+    return len(out) == 2 * WIDTH * HEIGHT * (2 if is_tall else 1)
+
+
+def abilities(player: Player) -> FrozenSet[str]:
+    """Returns what a player takes. Each is asked once, by a capture that does nothing."""
+    able = set()
+    for name, (mode, capture) in PROBES.items():
+        done = player.run(mode, capture.bytes(), SECONDS)
+        if done.status == 0 and is_whole(mode, done.out, capture.version == 3):
+            able.add(name)
+    return frozenset(able)

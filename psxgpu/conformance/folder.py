@@ -3,7 +3,7 @@
     captures/CHAPTER/NAME.capture       each test
     flat/CHAPTER/NAME.capture           the same without main memory and DMA, in version 1 (3 if video memory is tall)
     dumps/CHAPTER/NAME.psxgpu           the same as dumps of a GPU
-    exe/CHAPTER/NAME.exe                the same as programs for the console, which say what differs
+    exe/CHAPTER/NAME.exe                the same as programs for the console, which say what differs (about a second each)
     expected.tsv                        what has to come out of each
 """
 from __future__ import annotations
@@ -21,30 +21,27 @@ from psxgpu.console import executable
 from psxgpu.dumps.export import About, Export
 from psxgpu.output import write_whole
 from psxgpu.players import player
-from psxgpu.stream import HEADS, READ, SKIP, Stream, encode
+from psxgpu.stream import HEADS, SKIP, Stream, encode
 
 MACHINE = frozenset(('dma', 'turns'))       # what a test needs whose capture is not flat
 
 
-def flat_version(test: Test) -> int:
-    """Returns the version of the flat capture of a test."""
-    return 3 if test.version == 3 else 1
-
-
-def plain_reads(data: bytes, version: int) -> bytes:
-    """Returns a flat capture in this version. A read whose word is not shown becomes a plain read."""
+def in_version(data: bytes, version: int) -> Optional[bytes]:
+    """Returns a flat capture in this version; None if it has a read whose word is not shown, which needs version 2."""
     out = [HEADS[version]]
     for kind, count, words in Stream(io.BytesIO(data), 'flat capture'):
-        out.append(encode(READ if kind == SKIP else kind, count, words))
+        if kind == SKIP and version == 1:
+            return None
+        out.append(encode(kind, count, words))
     return b''.join(out) + bytes(4)
 
 
 class Folder:
-    """The folder that is written. `program`: the path of psxgpu_tool, or None. `left_out`: how many files of each kind
-    could not be made."""
+    """The folder that is written. `program`: the path of psxgpu_tool, or None. `has_programs`: programs for the console are
+    written, too. `left_out`: how many files of each kind could not be made."""
 
-    def __init__(self, path: str, program: Optional[str]) -> None:
-        self.path, self.program = path, program
+    def __init__(self, path: str, program: Optional[str], has_programs: bool = False) -> None:
+        self.path, self.program, self.has_programs = path, program, has_programs
         self.left_out: Dict[str, int] = {}
 
     def put(self, kind: str, test: Test, ending: str, data: bytes) -> None:
@@ -69,7 +66,7 @@ class Folder:
             with player.playing(self.program, ['flat'], file.name) as run:
                 data = run.out.read()
                 run.expect_whole()
-        return plain_reads(data, flat_version(test))
+        return data
 
     def executable(self, test: Test) -> Optional[bytes]:
         """Returns the program for the console; None if there is none."""
@@ -88,15 +85,20 @@ class Folder:
             self.leave_out('flat captures')
             self.leave_out('dumps')
         else:
-            self.put('flat', test, '.capture', flat)
+            plain = in_version(flat, 3 if test.version == 3 else 1)
+            if plain is None:
+                self.leave_out('flat captures')
+            else:
+                self.put('flat', test, '.capture', plain)
             stream = Stream(io.BytesIO(flat), test.full_name)
             about = About(game='CONFORMANCE', all_words=True)
             self.put('dumps', test, '.psxgpu', b''.join(Export(stream, stream.version == 3, about)))
-        executable = self.executable(test)
-        if executable is None:
-            self.leave_out('programs')
-        else:
-            self.put('exe', test, '.exe', executable)
+        if self.has_programs:
+            executable = self.executable(test)
+            if executable is None:
+                self.leave_out('programs')
+            else:
+                self.put('exe', test, '.exe', executable)
 
 
 def found_program(given: Optional[str]) -> Optional[str]:
@@ -109,9 +111,9 @@ def found_program(given: Optional[str]) -> Optional[str]:
         return None
 
 
-def write(tests: Sequence[Test], path: str, program: Optional[str]) -> List[str]:
+def write(tests: Sequence[Test], path: str, program: Optional[str], has_programs: bool = False) -> List[str]:
     """Writes the files of tests into a folder. Returns a line for each kind of which some are left out."""
-    folder = Folder(path, program)
+    folder = Folder(path, program, has_programs)
     os.makedirs(path, exist_ok=True)
     for test in progress.counted(tests, path):
         folder.test(test)

@@ -9,8 +9,9 @@ from __future__ import annotations
 from array import array
 from typing import Dict, Iterator, List, Optional, Sequence, Tuple
 
-from psxgpu.packets.fields import line_parts, polygon_parts, rectangle_parts
-from psxgpu.packets.split import COPY, ENVIRONMENT, FILL, LINE, LOAD, POLYGON, RECTANGLE
+from psxgpu.packets.fields import line_parts, rectangle_parts
+from psxgpu.packets.split import (COPY, ENVIRONMENT, FILL, LINE, LOAD, POLYGON, QUAD, RECTANGLE, SHADED,
+                                  TEXTURED)
 from psxgpu.players.listed import Area, Box, Packet, Questions, Walk
 from psxgpu.stream import GP0, GP1
 from psxgpu.words import corner
@@ -32,8 +33,9 @@ def vertex(point: Tuple[int, int]) -> int:
 def covering(name: str, words: List[int], color: int) -> List[int]:
     """Returns the words that add a colour to each cell that a packet covers."""
     if name == POLYGON:
-        points = polygon_parts(words)[0]
-        return [(0x2A if len(points) == 4 else 0x22) << 24 | color, *map(vertex, points)]
+        opcode = words[0] >> 24
+        vertices = words[1::1 + bool(opcode & SHADED) + bool(opcode & TEXTURED)]
+        return [(0x22 | opcode & QUAD) << 24 | color, *vertices]
     if name == RECTANGLE:
         point, size, _ = rectangle_parts(words)
         return [0x62000000 | color, vertex(point), corner(*size)]

@@ -1,8 +1,9 @@
 """The counts of a frame as numbers and as a picture."""
 from __future__ import annotations
 
+import collections
 from array import array
-from typing import List, NamedTuple, Tuple
+from typing import Dict, List, NamedTuple, Tuple
 
 from psxgpu.heat.counting import COLUMNS, Frame
 from psxgpu.image import Image
@@ -15,9 +16,10 @@ RAMP: Tuple[Tuple[int, Color], ...] = (
 
 
 class Counts(NamedTuple):
-    """How often each cell of an area is covered, row by row."""
+    """How often each cell of an area is covered, row by row, and how many cells are covered how often."""
     area: Area
     cells: array[int]
+    often: Dict[int, int]
 
     @property
     def width(self) -> int:
@@ -26,11 +28,15 @@ class Counts(NamedTuple):
 
     def total(self) -> int:
         """Returns how many cells are covered, each as often as it is."""
-        return sum(self.cells)
+        return sum(count * cells for count, cells in self.often.items())
 
     def covered(self) -> int:
         """Returns how many cells are covered at least once."""
-        return len(self.cells) - self.cells.count(0)
+        return len(self.cells) - self.often.get(0, 0)
+
+    def most(self) -> int:
+        """Returns how often the cell is covered that is covered most."""
+        return max(self.often)
 
 
 def parts_of(area: Area, rows: int) -> List[Area]:
@@ -65,7 +71,7 @@ def counts_of(frame: Frame, rows: int) -> Counts:
             at = (y - area[1]) * width + x1 - area[0]
             end = at + x2 - x1 + 1
             cells[at:end] = array('H', [count + 1 for count in cells[at:end]])
-    return Counts(area, cells)
+    return Counts(area, cells, collections.Counter(cells))
 
 
 def color_table(most: int) -> List[bytes]:
@@ -81,5 +87,5 @@ def color_table(most: int) -> List[bytes]:
 
 def picture(counts: Counts) -> Image:
     """Returns the counts as colours: black never, blue once, green, yellow, red, and white from 16 on."""
-    table = color_table(max(counts.cells))
+    table = color_table(counts.most())
     return Image(counts.width, len(counts.cells) // counts.width, b''.join(map(table.__getitem__, counts.cells)))

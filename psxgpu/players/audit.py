@@ -118,8 +118,7 @@ class Row:
 
 
 def audit(data: bytes, ours: Player, theirs: Player, first: int, last: int, name: str = 'capture') -> Dict[str, Row]:
-    """Returns a row for each class of packets from event `first` to event `last`. Raises Trouble if there is no
-    packet."""
+    """Returns a row for each class of packets from event `first` to event `last`. Raises Trouble if there is none."""
     stream = Events(data, name)
     listing = output(ours, 'list', HEAD + stream.stream.tobytes() + END)
     try:

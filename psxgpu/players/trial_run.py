@@ -5,7 +5,7 @@ from typing import Optional, Tuple
 
 from psxgpu.capture import Capture
 from psxgpu.command import Trouble, reading
-from psxgpu.players.named import Player, expect_dump
+from psxgpu.players.named import Player, dump_of, expect_dump
 from psxgpu.registers import drawing_area
 from psxgpu.stream import Stream
 from psxgpu.words import fill, load, rectangle
@@ -31,8 +31,9 @@ def try_commands(ours: Player, theirs: Player, version: int = 1, seconds: Option
     empty, drawn = trial_captures(version)
     sizes = []
     for player, role in ((ours, 'our'), (theirs, 'the other')):
-        before, after = (expect_dump(player, data, seconds) for data in (empty, drawn))
-        if before == after:
+        before = expect_dump(player, empty, seconds)
+        # One that does not play the second capture may still play the user's.
+        if before == dump_of(player.run('vram', drawn, seconds)):
             raise Trouble('%s: %s player gives the same dump whatever it reads' % (player.text, role))
         sizes.append(len(before))
     if sizes[0] != sizes[1]:

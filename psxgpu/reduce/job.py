@@ -55,6 +55,7 @@ class Job:
         self.narrow_fault(found, name)
 
         def dump_at(events: int) -> bytes:
+            """Our dump after that many events."""
             return expect_dump(self.prober.ours, first_bytes(found.path, name, events), self.prober.seconds)
 
         if reducer.start(tail.units, dump_at) is None:

@@ -9,7 +9,7 @@ from psxgpu.reduce.units import Unit
 
 
 def nearer(value: int, goal: int) -> List[int]:
-    """Returns numbers from the goal to the value, nearest to the goal first: all the way, half, a quarter .. and one."""
+    """Returns numbers from the goal to the value, the nearest to the goal first: all the way, half of it .. and one."""
     step, out = abs(value - goal), []
     while step:
         out.append(value - step if value > goal else value + step)

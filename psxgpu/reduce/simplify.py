@@ -19,9 +19,11 @@ class Takes(Protocol):
     units: Units
     is_tall: bool
 
-    def take(self, candidates: Iterable[Units]) -> bool: ...
+    def take(self, candidates: Iterable[Units]) -> bool:
+        """Continues with the first candidate that shows the fault. Returns whether there is one."""
 
-    def registers(self, units: Units) -> Registers: ...
+    def registers(self, units: Units) -> Registers:
+        """Returns the values of E1h to E6h after units."""
 
 
 class Simplifier:

@@ -40,7 +40,13 @@ int gpu_open(const char *path, uint32_t busy) {
     return psxgpu_capture_open(&capture, path);
 }
 
-int gpu_close(void) { return psxgpu_capture_close(&capture); }
+int gpu_close(void) {
+#ifdef WITH_MACHINE
+    psxgpu_free(&machine);
+#endif
+    return psxgpu_capture_close(&capture);
+}
+
 void gpu_blank(void) { psxgpu_capture_frame(&capture); }
 
 static uint32_t pop(void) {
