@@ -52,6 +52,11 @@ class Owner(NamedTuple):
     name: str
     node: ast.stmt
 
+    @property
+    def title(self) -> str:
+        """The name, with its class if it is that of a constructor."""
+        return '%s.%s' % (self.scope.__name__, self.name) if self.name == '__init__' else self.name
+
 
 def can_change(node: ast.AST) -> bool:
     """Returns whether a node has a neighbour."""
@@ -112,7 +117,7 @@ def changes(owner: Owner) -> Iterator[Tuple[str, ast.stmt]]:
         other = copy.deepcopy(owner.node)
         there = places(other)[at]
         change(there)
-        yield '%s %d: %s -> %s' % (owner.name, at + 1, text_of(node), text_of(there)), other
+        yield '%s %d: %s -> %s' % (owner.title, at + 1, text_of(node), text_of(there)), other
 
 
 def made(owner: Owner, node: ast.stmt) -> Any:
@@ -192,9 +197,9 @@ class Tests:
 
 
 def survivors(step: int, first: int) -> Iterator[Tuple[str, bool]]:
-    """Yields each change that is tried, and whether it survives."""
+    """Yields each change that is tried, and whether it survives. Functions that few tests call come first."""
     tests, at = Tests(), 0
-    for owner in owners():
+    for owner in sorted(owners(), key=lambda owner: len(tests.of(owner))):
         for name, node in changes(owner):
             at += 1
             if at >= first and (at - first) % step == 0:

@@ -6,6 +6,7 @@ import tempfile
 from array import array
 from typing import Dict, Iterator, List, NamedTuple, Optional, Sequence, Tuple
 
+from psxgpu.command import Trouble
 from psxgpu.packets.split import Splitter, data_words
 from psxgpu.players import player
 from psxgpu.stream import GP0, GP1, HEADS, MOST_READS, READ, SKIP, STAT, Stream, count_of, encode
@@ -36,9 +37,12 @@ class Record(NamedTuple):
 
 
 def area_of(line: bytes) -> Optional[Area]:
-    """Returns the area of a line of `list`, or None if it has none."""
+    """Returns the area of a line of `list`, or None if it has none. Raises Trouble if the line is none of `list`."""
     words = line.split()
-    return (int(words[3]), int(words[4]), int(words[5]), int(words[6])) if len(words) == 7 else None
+    try:
+        return (int(words[3]), int(words[4]), int(words[5]), int(words[6])) if len(words) == 7 else None
+    except ValueError as error:
+        raise Trouble('the player lists a line that is not one of `list`: %r' % line[:40]) from error
 
 
 class Walk:

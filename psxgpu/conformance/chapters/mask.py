@@ -29,6 +29,15 @@ def keeps_bit_15(t: Draft) -> None:
     t.row(0, 0, [0x8000, CELL] * 3)
 
 
+@CHAPTER.test('Bit 0 alone does not keep cells with bit 15.')
+def force_does_not_keep(t: Draft) -> None:
+    t.open()
+    t.given(0, 0, 2, [0x8000, 0x0000])
+    t.before(mask_setting(force=True))
+    t.packet(rectangle(RED, 0, 0, 2, 1))
+    t.row(0, 0, [CELL | 0x8000] * 2)
+
+
 @CHAPTER.test('Bits 0 and 1: what is drawn first stays.')
 def first_stays(t: Draft) -> None:
     t.open()
