@@ -19,6 +19,7 @@ import time
 from types import FrameType, ModuleType
 from typing import Any, Dict, Iterator, List, NamedTuple, Set, Tuple
 
+from conformance.changing import change, places, text_of
 from conformance.model import Model
 from psxgpu.conformance.chapters import CHAPTERS
 from psxgpu.conformance.judging import PASSED, Judge
@@ -29,11 +30,6 @@ MODULES = ('values', 'state', 'registers', 'transfers', 'textures', 'pixels', 'p
            'dma', 'machine')
 REASONS = os.path.join(HERE, 'results', 'SURVIVORS.md')
 SECONDS = 2             # of the processor for a test: a change that makes the model run on is seen
-OTHERS: Dict[type, type] = {
-    ast.Lt: ast.LtE, ast.LtE: ast.Lt, ast.Gt: ast.GtE, ast.GtE: ast.Gt, ast.Eq: ast.NotEq, ast.NotEq: ast.Eq,
-    ast.Is: ast.IsNot, ast.IsNot: ast.Is, ast.Add: ast.Sub, ast.Sub: ast.Add, ast.Mult: ast.Add,
-    ast.FloorDiv: ast.Mult, ast.RShift: ast.LShift, ast.LShift: ast.RShift, ast.BitAnd: ast.BitOr,
-    ast.BitOr: ast.BitAnd, ast.BitXor: ast.BitOr, ast.Mod: ast.FloorDiv, ast.And: ast.Or, ast.Or: ast.And}
 
 
 class Endless(Exception):
@@ -58,30 +54,6 @@ class Owner(NamedTuple):
         return '%s.%s' % (self.scope.__name__, self.name) if self.name == '__init__' else self.name
 
 
-def can_change(node: ast.AST) -> bool:
-    """Returns whether a node has a neighbour."""
-    if isinstance(node, ast.Constant):
-        return type(node.value) is int
-    if isinstance(node, ast.Compare):
-        return type(node.ops[0]) in OTHERS
-    if isinstance(node, (ast.BinOp, ast.BoolOp, ast.AugAssign)):
-        return type(node.op) in OTHERS
-    return isinstance(node, (ast.If, ast.IfExp))
-
-
-def change(node: ast.AST) -> None:
-    """Makes a node its neighbour."""
-    if isinstance(node, ast.Constant):
-        assert isinstance(node.value, int)
-        node.value += 1
-    elif isinstance(node, ast.Compare):
-        node.ops[0] = OTHERS[type(node.ops[0])]()
-    elif isinstance(node, (ast.BinOp, ast.BoolOp, ast.AugAssign)):
-        node.op = OTHERS[type(node.op)]()
-    elif isinstance(node, (ast.If, ast.IfExp)):
-        node.test = ast.copy_location(ast.UnaryOp(ast.Not(), node.test), node.test)
-
-
 def owners() -> Iterator[Owner]:
     """Yields each function and each constant of the model."""
     for name in MODULES:
@@ -96,19 +68,6 @@ def owners() -> Iterator[Owner]:
                 yield Owner(module, None, node.name, node)
             elif isinstance(node, ast.Assign) and isinstance(node.targets[0], ast.Name):
                 yield Owner(module, None, node.targets[0].id, node)
-
-
-def places(tree: ast.stmt) -> List[ast.AST]:
-    """Returns the nodes that can be changed. Annotations are left out."""
-    skipped = {id(part) for node in ast.walk(tree) if isinstance(node, (ast.FunctionDef, ast.AnnAssign, ast.arg))
-               for note in (getattr(node, 'annotation', None), getattr(node, 'returns', None)) if note
-               for part in ast.walk(note)}
-    return [part for part in ast.walk(tree) if id(part) not in skipped and can_change(part)]
-
-
-def text_of(node: ast.AST) -> str:
-    """Returns the source of a node, its first line."""
-    return ast.unparse(node).splitlines()[0]
 
 
 def changes(owner: Owner) -> Iterator[Tuple[str, ast.stmt]]:

@@ -47,6 +47,8 @@ def arguments(parser: argparse.ArgumentParser) -> None:
     parser.add_argument('--exe', action='store_true', help='with --write: programs for the console, too')
     parser.add_argument('--jobs', type=decimal(1, 1024), default=1, metavar='N',
                         help='runs of the player at a time (default: %(default)s)')
+    parser.add_argument('--seconds', type=decimal(1, 3600), default=20, metavar='N',
+                        help='for one run of the player (default: %(default)s)')
     parser.add_argument('--list', action='store_true', help='list the tests: name, who decides, the rule')
     parser.add_argument('--quiet', action='store_true', help='print the table alone')
     parser.add_argument('--strict', action='store_true', help='status 1 also where a rule of this project decides')
@@ -75,10 +77,10 @@ def version() -> str:
     return 'suite %d: %d tests, %d withdrawn' % (SUITE, len(every_test()), len(WITHDRAWN))
 
 
-def run_tests(tests: List[Test], tested: Player, jobs: int) -> List[Verdict]:
+def run_tests(tests: List[Test], tested: Player, jobs: int, seconds: int) -> List[Verdict]:
     """Returns the verdicts."""
     expect_dump(tested, HEADS[1] + bytes(4))
-    judge = Judge(tested)
+    judge = Judge(tested, seconds)
     with progress.shown(tested.text, is_quiet=True) as line, ThreadPoolExecutor(jobs) as pool:
         verdicts = []
         for verdict in pool.map(judge.judge, tests):
@@ -101,7 +103,7 @@ def test_player(words: argparse.Namespace, tests: List[Test]) -> int:
     """Runs the tests, and prints and writes what is found. Returns the status."""
     tested = player_of(words.tested, appends=True)
     start = time.monotonic()
-    verdicts = run_tests(tests, tested, words.jobs)
+    verdicts = run_tests(tests, tested, words.jobs, words.seconds)
     seconds = time.monotonic() - start
     print(report.table(verdicts))
     if sys.stderr.isatty():

@@ -8,7 +8,7 @@ from psxgpu.conformance.draft import HEIGHT, Picture
 from psxgpu.players.named import Done, Player, ending
 from psxgpu.vram import WIDTH
 
-SECONDS = 20            # for one run of a player
+SECONDS = 20.0          # for one run of a player
 PROBES: Dict[str, Tuple[str, Capture]] = {
     'vram': ('vram', Capture()),
     'play': ('play', Capture().stat()),
@@ -23,9 +23,9 @@ class NoAnswer(Exception):
     """A player gave no answer: it crashed, did not end in time, or wrote something else. The text is the reason."""
 
 
-def answer(player: Player, mode: str, data: bytes) -> bytes:
+def answer(player: Player, mode: str, data: bytes, seconds: float) -> bytes:
     """Returns what a player writes for a capture. Raises NoAnswer if it does not end with status 0."""
-    done: Done = player.run(mode, data, SECONDS)
+    done: Done = player.run(mode, data, seconds)
     if done.status != 0:
         raise NoAnswer('%s: %s' % (mode, ending(done)))
     return done.out
@@ -64,11 +64,11 @@ def is_whole(mode: str, out: bytes, is_tall: bool) -> bool:
     return len(out) == 2 * WIDTH * HEIGHT * (2 if is_tall else 1)
 
 
-def abilities(player: Player) -> FrozenSet[str]:
+def abilities(player: Player, seconds: float) -> FrozenSet[str]:
     """Returns what a player takes. Each is asked once, by a capture that does nothing."""
     able = set()
     for name, (mode, capture) in PROBES.items():
-        done = player.run(mode, capture.bytes(), SECONDS)
+        done = player.run(mode, capture.bytes(), seconds)
         if done.status == 0 and is_whole(mode, done.out, capture.version == 3):
             able.add(name)
     return frozenset(able)

@@ -24,11 +24,11 @@ class Verdict:
 
 
 class Judge:
-    """A player, and what it takes."""
+    """A player, the seconds that it has for a run, and what it takes."""
 
-    def __init__(self, player: Player) -> None:
-        self.player = player
-        self.able = abilities(player)
+    def __init__(self, player: Player, seconds: float = SECONDS) -> None:
+        self.player, self.seconds = player, seconds
+        self.able = abilities(player, seconds)
 
     def judge(self, test: Test) -> Verdict:
         """Runs a test."""
@@ -47,7 +47,7 @@ class Judge:
 
     def cells(self, test: Test) -> Verdict:
         """Compares video memory."""
-        dump = answer(self.player, 'vram', test.data)
+        dump = answer(self.player, 'vram', test.data, self.seconds)
         if len(dump) != len(test.dump):
             raise NoAnswer('vram: %d bytes, expected %d' % (len(dump), len(test.dump)))
         places = [place for place in differing(dump, test.dump) if place not in test.draft.ignored]
@@ -62,7 +62,7 @@ class Judge:
         """Compares the words that are read. Returns how they differ, or an empty text."""
         if not test.draft.words:
             return ''
-        words = read_words(answer(self.player, 'play', test.data))
+        words = read_words(answer(self.player, 'play', test.data, self.seconds))
         if len(words) != len(test.draft.words):
             raise NoAnswer('play: %d words, expected %d' % (len(words), len(test.draft.words)))
         for at, (word, expected) in enumerate(zip(words, test.draft.words), 1):
@@ -75,11 +75,11 @@ class Judge:
         test = verdict.test
         wanted = test.draft.picture
         if test.draft.wants_no_picture:
-            done = self.player.run('shot', test.data, SECONDS)
+            done = self.player.run('shot', test.data, self.seconds)
             return 'a picture, expected none' if done.status == 0 else ''
         if wanted is None:
             return ''
-        shown = picture_of(answer(self.player, 'shot', test.data))
+        shown = picture_of(answer(self.player, 'shot', test.data, self.seconds))
         if shown == wanted:
             return ''
         verdict.shown = shown

@@ -26,14 +26,15 @@ def size(name: str, says: str, mode: int, cycles: int, height: int, shown: tuple
     CHAPTER.add(name, says, decides, HAND, write)
 
 
-size('width-256', 'Mode 0 shows a pixel for 10 cycles.', 0, 80, 2, (8, 2))
-size('width-320', 'Mode 1 shows a pixel for 8 cycles.', 1, 64, 2, (8, 2))
-size('width-512', 'Mode 2 shows a pixel for 5 cycles.', 2, 40, 2, (8, 2))
-size('width-640', 'Mode 3 shows a pixel for 4 cycles.', 3, 32, 2, (8, 2))
-size('width-368', 'Bit 6 shows a pixel for 7 cycles, whatever bits 0 and 1 hold.', 0x43, 98, 2, (16, 2))
+size('width-256', 'Mode 0 shows a pixel for 10 cycles.', 0, 320, 2, (32, 2))
+size('width-320', 'Mode 1 shows a pixel for 8 cycles.', 1, 256, 2, (32, 2))
+size('width-512', 'Mode 2 shows a pixel for 5 cycles.', 2, 160, 2, (32, 2))
+size('width-640', 'Mode 3 shows a pixel for 4 cycles.', 3, 128, 2, (32, 2))
+size('width-368', 'Bit 6 shows a pixel for 7 cycles, whatever bits 0 and 1 hold.', 0x43, 224, 2, (32, 2))
 size('width-rounded', 'The width is rounded to a multiple of 4, from 2 on upward.', 0, 60, 1, (8, 1))
 size('width-rounded-down', 'One pixel above a multiple of 4 is dropped.', 0, 50, 1, (4, 1))
 size('doubled', 'The height is doubled where bits 2 and 5 are both 1.', 0x24, 80, 3, (8, 6), OWN)
+size('doubled-at-640', 'The height is doubled at every width.', 0x27, 128, 3, (32, 6), OWN)
 size('not-doubled-by-bit-2', 'Bit 2 alone does not double the height.', 0x04, 80, 3, (8, 3), OWN)
 size('not-doubled-by-bit-5', 'Bit 5 alone does not double the height.', 0x20, 80, 3, (8, 3), OWN)
 

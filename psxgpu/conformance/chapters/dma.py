@@ -83,7 +83,8 @@ def one_block_of_0(t: Draft) -> None:
     t.open()
     t.capture.ram(0x1000 + 4 * 0xFFFE, dot(0), dot(1))
     t.capture.dma(2, 0x1000, 0, ONE_BLOCK)
-    t.cell(0, 0, CELL)
+    t.packet(dot(2))            # no word more was moved
+    t.row(0, 0, [CELL, 0, CELL])
 
 
 @CHAPTER.test('A block of 0 words in mode 1 has 10000h.', OWN)
@@ -91,7 +92,8 @@ def blocks_of_0(t: Draft) -> None:
     t.open()
     t.capture.ram(0x1000 + 4 * 0xFFFE, dot(0), dot(1))
     t.capture.dma(2, 0x1000, 1 << 16, BLOCKS_IN)
-    t.cell(0, 0, CELL)
+    t.packet(dot(2))            # no word more was moved
+    t.row(0, 0, [CELL, 0, CELL])
 
 
 @CHAPTER.test('An address that is the end at once moves nothing.', OWN)
@@ -106,7 +108,8 @@ def count_of_0(t: Draft) -> None:
     t.open()
     t.capture.ram(0x1000 + 4 * 0xFFFE, dot(0), dot(1))
     t.capture.dma(2, 0x1000, 1, BLOCKS_IN)
-    t.cell(0, 0, CELL)
+    t.packet(dot(2))            # no word more was moved
+    t.row(0, 0, [CELL, 0, CELL])
 
 
 @CHAPTER.test('The two lowest bits of an address in a list mean nothing.', OWN)

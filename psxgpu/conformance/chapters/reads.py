@@ -81,3 +81,11 @@ def reset_keeps_it(t: Draft) -> None:
 def index_of_four_bits(t: Draft) -> None:
     t.gp1(0x10FFFFF7)
     t.read(2)
+
+
+@CHAPTER.test('20h to 3Fh leave what the last information gave.', OWN)
+def opcodes_20_to_3f(t: Draft) -> None:
+    t.gp1(information(7))
+    for opcode in range(0x20, 0x40):
+        t.gp1(opcode << 24 | 8)
+    t.read(2)

@@ -156,3 +156,16 @@ def bit_26_after_a_color(t: Draft) -> None:
     t.stat(0, mask=1 << 26)
     t.packet(0, 0x55555555)
     t.stat(1 << 26, mask=1 << 26)
+
+
+@CHAPTER.test('Bits 29 and 30 are the direction while a store is open, too.')
+def direction_in_a_store(t: Draft) -> None:
+    t.packet(store(0, 0, 2, 1))
+    t.stat(0, mask=3 << 29)
+
+
+@CHAPTER.test('Bit 26 is 0 while a packet is unfinished and a store is open.', OWN)
+def bit_26_in_a_packet_and_a_store(t: Draft) -> None:
+    t.gp1(0x04000002)
+    t.packet(store(0, 0, 2, 1), 0x20000000)
+    t.stat(0, mask=1 << 26)
