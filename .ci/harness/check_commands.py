@@ -3,9 +3,9 @@
 
     python3 .ci/harness/check_commands.py crates/psxgpu_tool/out/psxgpu_tool README.md docs/*.md
 
-A command stands in an indented block behind `$ ` (in a .txt file without the indent); the lines below it, up to a blank
+A command stands in an indented block after `$ ` (in a .txt file without the indent); the lines below it, up to a blank
 line or the next command, are what it writes, errors among it. It runs at the top of a copy of examples/, psxgpu/, docs/
-and bench/, with PLAYER as psxgpu_tool. Of a .md file the links to files are checked as well, and that each name behind
+and bench/, with PLAYER as psxgpu_tool. Of a .md file the links to files are checked as well, and that each name after
 a `crate/folder/File: name, name` stands in that file. The last line is `N passed, M failed`. Status: 0 all passed, 1
 some failed, 2 trouble.
 """

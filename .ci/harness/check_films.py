@@ -3,9 +3,9 @@
 
     python3 .ci/harness/check_films.py PLAYER CAPTURE ..
 
-Each capture is cut behind its events, and played from its beginning up to there by `shot` and `vram`. `frames` and
+Each capture is cut after its events, and played from its beginning up to there by `shot` and `vram`. `frames` and
 `sums` have to write what `shot` and SHA-256 give of the events up to each picture, at flips and at marks, and `pixel`
-each value that `vram` shows to be new in a cell. Marks are added behind every seventh event, since they change nothing.
+each value that `vram` shows to be new in a cell. Marks are added after every seventh event, since they change nothing.
 The last line is `N passed, M failed`.
 """
 import hashlib
@@ -59,7 +59,7 @@ class Player:
         return done.returncode, done.stdout, done.stderr.decode()
 
     def shot(self, capture):
-        """The picture behind a capture; nothing where none is shown."""
+        """The picture after a capture; nothing where none is shown."""
         status, picture, err = self.run(['shot'], capture)
         if status and 'no-picture' not in err:
             raise AssertionError('shot: ' + err)
@@ -104,7 +104,7 @@ def lines_of(player, film, x, y):
 
 
 def check_cells(player, film, cells):
-    """`pixel` of these cells, against `vram` behind each event."""
+    """`pixel` of these cells, against `vram` after each event."""
     rows = 1024 if film.head == HEADS[3] else 512
     changes, values = {cell: [] for cell in cells}, dict.fromkeys(cells, 0)
     for n in range(1, len(film.events) + 1):

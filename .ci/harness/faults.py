@@ -10,7 +10,7 @@ memory status 5, nothing read and nothing on standard output, or, where a smalle
 for next, all as it was; where a read fails status 3, where a write fails status 4, and in both cases a part of what is
 written otherwise; where standard error fails, the pieces are short or a signal interrupts, the same status and the
 same output. The calls are made to fail by .ci/harness/faults.c, which gcc makes a library of that is loaded before the
-player. Then the disk is full behind some bytes of the output: status 4, with exactly these bytes, and for `list`,
+player. Then the disk is full after some bytes of the output: status 4, with exactly these bytes, and for `list`,
 `pixel`, `flat` and `cut` the event is the one at which the next byte is due, by the line that lacks it or by what the
 command writes of the first events alone. The last line is `N passed, M failed`. Without gcc the exit status is 77.
 """
@@ -46,7 +46,7 @@ class Run:
 
 
 class Full:
-    """One run of a player on a disk that is full behind so many bytes."""
+    """One run of a player on a disk that is full after so many bytes."""
 
     def __init__(self, folder, words, capture, room):
         out = os.path.join(folder, 'full')

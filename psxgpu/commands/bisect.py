@@ -7,7 +7,7 @@
 Each command reads a capture on standard input and writes a dump. It is given a flat capture of version 1 (3 for tall
 video memory): psxgpu_tool flattens one with DMA, and a read whose word is not shown becomes a plain read. The capture
 is cut by halves between packets. A difference that a later packet heals is not seen, unless a cut falls into it; then
-the packet that is named is still one before which the dumps agree and behind which they differ.
+the packet that is named is still one before which the dumps agree and after which they differ.
 
 With --ignore, a packet of that class is not given to the players: in its place stands a load of what psxgpu_tool draws.
 Classes are the names polygon, line, rectangle, copy, fill, and gouraud (a polygon of several colours), scaled (a
