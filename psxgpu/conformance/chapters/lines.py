@@ -104,6 +104,24 @@ def shaded_polyline(t: Draft) -> None:
     t.ignore(2, 0, 1)
 
 
+@CHAPTER.test('The joint of a shaded polyline goes from the second colour to the third.', worked=FORMULA)
+def shaded_joint(t: Draft) -> None:
+    t.open()
+    t.packet(line([(0, 0), (1, 0), (9, 0)], [RED, 0x000004, 0x400044]))
+    t.cell(0, 0, CELL)
+    t.row(1, 0, [cell(at, 0, at) for at in range(8)])
+    t.ignore(9, 0, 1)
+
+
+@CHAPTER.test('A line draws each of its cells once: with B + F none is brighter.')
+def each_cell_once(t: Draft) -> None:
+    t.open()
+    t.before(draw_mode(texture_page(0, 0, 0, 1)))
+    t.packet(line([(5, 3), (5, 6)], 0x080808, semi=True))
+    t.box(5, 3, 1, 3, 0x0421)
+    t.ignore(5, 6, 1)
+
+
 def limited(name: str, says: str, points: list[Point], boxes: list[tuple[int, int, int, int]]) -> None:
     def write(t: Draft) -> None:
         t.open()

@@ -24,6 +24,16 @@ def four_bits(t: Draft) -> None:
     t.row(8, 8, PALETTE[:4] + PALETTE[12:])
 
 
+@CHAPTER.test('4 bits: V chooses the row of the page.')
+def four_bits_second_row(t: Draft) -> None:
+    t.open()
+    t.given(0, 480, 16, PALETTE)
+    t.given(512, 0, 1, [0x3210, 0x7654])
+    t.before(draw_mode(texture_page(512, 0, 0)))
+    t.packet(sprite(8, 8, 4, 0, 1, clut(0, 480)))
+    t.row(8, 8, PALETTE[4:8])
+
+
 @CHAPTER.test('8 bits: a cell has two texels, the low byte being the left one.')
 def eight_bits(t: Draft) -> None:
     t.open()

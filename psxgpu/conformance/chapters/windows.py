@@ -53,6 +53,16 @@ def vertical(t: Draft) -> None:
         t.cell(8, 8 + down, 0x1008 + down % 8)
 
 
+@CHAPTER.test('V: a mask of 1Eh repeats 16 rows, and the offset chooses which.', worked=FORMULA)
+def vertical_repeats_16(t: Draft) -> None:
+    t.open()
+    t.given(512, 0, 1, [0x1000 + at for at in range(64)])
+    t.before(draw_mode(PAGE), texture_window(0, 0x1E, 0, 4))
+    t.packet(rectangle(0, 8, 8, 1, 32, texture=(0, 0), raw=True))
+    for down in range(32):
+        t.cell(8, 8 + down, 0x1000 + windowed(down, 0x1E, 4))
+
+
 @CHAPTER.test('With 4 bits the window counts texels, and not cells.')
 def four_bits(t: Draft) -> None:
     t.open()
