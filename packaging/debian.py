@@ -50,9 +50,6 @@ def as_debian(place):
     os.makedirs(doc)
     for name in ('README.md', 'docs', 'examples'):
         os.symlink('../../%s/%s' % (NAME, name), os.path.join(doc, name))
-    for name in ('LICENSE-MIT', 'LICENSE-APACHE'):      # the README names them
-        os.remove(os.path.join(share, NAME, name))
-        os.symlink('../doc/%s/copyright' % NAME, os.path.join(share, NAME, name))
     for folder, _, names in os.walk(os.path.join(share, 'man')):
         for name in names:
             with open(os.path.join(folder, name), 'rb') as file:

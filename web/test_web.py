@@ -12,9 +12,9 @@ import sys
 import unittest
 
 HERE = os.path.dirname(os.path.abspath(__file__))
-sys.path[:0] = [HERE, os.path.join(HERE, '..')]
+sys.path[:0] = [HERE, os.path.dirname(HERE)]
 
-import for_library_tests as program  # noqa: E402
+from tests.library import support as program  # noqa: E402
 from browser import Browser  # noqa: E402
 
 COMMANDS = ['play', 'vram', 'shot', 'list', 'report', 'frames', 'frames marks', 'sums', 'sums marks', 'pixel 20 30']
