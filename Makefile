@@ -1,17 +1,22 @@
 # make run builds the program and plays an example; make test passes all tests; make bench measures the program.
-# make lib builds the library for C and Python into out/, make web the module and the page for browsers into web/out/ and
+# make lib builds the library for C and Python into out/, make web the module and the pages for browsers into web/out/ and
 # the viewer, web/viewer.html.
 # make plugin builds the recorder and a GPU plugin for emulators over that library, in recorder/out/.
 # make install puts program, tools, manual pages, documents and, where it is built, the library below PREFIX (/usr/local);
 # make uninstall removes them. Both may have a DESTDIR before it; PYTHON is the Python that finds the package psxgpu.
 # make dist makes the packages, make deb those for Debian. make CPU=x86-64-v3 builds the program for newer processors alone.
-.PHONY: run test bench lib plugin web viewer install install-library uninstall dist deb
+# make ARCH=aarch64 GOAL does the same for Linux on arm64, where GOAL is run, lib, install, uninstall, dist or deb.
+# make macos, make windows and make wasi build for these systems (systems/systems.mk); make dist-all makes all packages.
+.PHONY: run test bench lib plugin web viewer install install-library uninstall dist deb dist-all
 
 VERSION := $(shell cat VERSION 2> /dev/null)
 EXAMPLE = examples/two-fills.capture
 BUILT = crates/psxgpu_tool/out
 PLAYER = $(if $(CPU),$(BUILT)/$(CPU)/psxgpu_tool,$(BUILT)/psxgpu_tool)
+PLAY = $(PLAYER)
 PROVED = crates/psxgpu_c/out/libpsxgpu_c.a
+ARCHIVE = $(PROVED)
+OUT = out
 SONAME = libpsxgpu.so.$(firstword $(subst ., ,$(VERSION)))
 SOURCES := $(shell find crates -name out -prune -o \( -name '*.rt' -o -name '*.antt' \) -print)
 
@@ -24,8 +29,11 @@ LIB = $(DESTDIR)$(PREFIX)/lib
 MAN = $(DESTDIR)$(PREFIX)/share/man/man1
 CFLAGS = -O2
 
+include systems/systems.mk
+.DEFAULT_GOAL = run
+
 run: $(PLAYER)
-	@$(PLAYER) shot < $(EXAMPLE) > two-fills.ppm
+	@$(PLAY) shot < $(EXAMPLE) > two-fills.ppm
 	@python3 -m psxgpu picture two-fills.ppm two-fills.png
 	@echo "two-fills.ppm, two-fills.png: a blue screen of 320 by 240 with a red square in it"
 
@@ -47,42 +55,46 @@ test:
 bench: $(PLAYER)
 	python3 bench/run.py
 
-lib: out/libpsxgpu.a out/$(SONAME)
+lib: $(OUT)/libpsxgpu.a $(OUT)/$(SONAME)
 
 $(PROVED): $(SOURCES)
 	@python3 packaging/build_progress.py --top psxgpu_c $(JOBS)
 	cd crates/psxgpu_c && rt lib
 
-out/heap.o: c/heap.c
-	mkdir -p out
-	$(CC) $(CPPFLAGS) $(CFLAGS) -std=c99 -fPIC -c c/heap.c -o $@
+$(OUT)/%.o: c/%.c c/psxgpu.h
+	mkdir -p $(OUT)
+	$(CC) $(CPPFLAGS) $(CFLAGS) -std=c99 -fPIC -c $< -o $@
 
-out/libpsxgpu.a: $(PROVED) out/heap.o
-	cp $(PROVED) $@
-	$(AR) r $@ out/heap.o
+$(OUT)/libpsxgpu.a: $(ARCHIVE) $(OUT)/heap.o $(OUT)/text.o
+	cp $(ARCHIVE) $@
+	$(AR) r $@ $(OUT)/heap.o $(OUT)/text.o
 
-out/$(SONAME): out/libpsxgpu.a c/psxgpu.map
+$(OUT)/$(SONAME): $(OUT)/libpsxgpu.a c/psxgpu.map
 	$(CC) $(CFLAGS) $(LDFLAGS) -shared -Wl,-soname,$(SONAME) -Wl,--version-script=c/psxgpu.map -Wl,-z,defs \
-	  -Wl,--whole-archive out/libpsxgpu.a -Wl,--no-whole-archive -o $@
-	ln -sf $(SONAME) out/libpsxgpu.so
+	  -Wl,--whole-archive $(OUT)/libpsxgpu.a -Wl,--no-whole-archive -o $@
+	ln -sf $(SONAME) $(OUT)/libpsxgpu.so
 
 plugin: out/libpsxgpu.a
 	recorder/build
 
-web: web/out/index.html viewer
+web: web/out/index.html web/out/conformance.html viewer
 
-web/out/psxgpu.wasm: $(PROVED) c/heap.c web/memory.c web/build.py
+web/out/psxgpu.wasm: out/wasi/psxgpu_c.o web/build.py $(WASM) c/text.c c/psxgpu.h
 	python3 web/build.py module
 
-web/out/index.html: web/out/psxgpu.wasm web/psxgpu.js web/psxgpu_machine.js web/capture.js web/page.js web/index.html
+web/out/index.html: web/out/psxgpu.wasm $(wildcard web/*.js) web/index.html
 	python3 web/build.py page
+
+web/out/conformance.html: web/out/index.html $(wildcard web/conformance/*) $(wildcard psxgpu/conformance/*.py) \
+  $(wildcard psxgpu/conformance/chapters/*.py)
+	python3 web/conformance/pack.py
 
 viewer: web/viewer.html
 
-web/viewer.html: web/out/index.html web/machine.js $(wildcard web/viewer/*)
+web/viewer.html: web/out/index.html $(wildcard web/viewer/*)
 	python3 web/viewer/pack.py
 
-install: $(PLAYER) $(if $(wildcard out/libpsxgpu.a),install-library)
+install: $(PLAYER) $(if $(wildcard $(OUT)/libpsxgpu.a),install-library)
 	install -d $(BIN) $(MAN)
 	install -m 755 $(PLAYER) $(BIN)/psxgpu_tool
 	install -m 644 man/psxgpu_tool.1 $(MAN)/psxgpu_tool.1
@@ -91,8 +103,8 @@ install: $(PLAYER) $(if $(wildcard out/libpsxgpu.a),install-library)
 install-library:
 	install -d $(INCLUDE) $(LIB)/pkgconfig
 	install -m 644 c/psxgpu.h recorder/psxgpu_capture.h $(INCLUDE)
-	install -m 644 out/libpsxgpu.a $(LIB)/libpsxgpu.a
-	install -m 755 out/$(SONAME) $(LIB)/$(SONAME)
+	install -m 644 $(OUT)/libpsxgpu.a $(LIB)/libpsxgpu.a
+	install -m 755 $(OUT)/$(SONAME) $(LIB)/$(SONAME)
 	ln -sf $(SONAME) $(LIB)/libpsxgpu.so
 	sed -e 's|@PREFIX@|$(PREFIX)|' -e 's|@VERSION@|$(VERSION)|' c/psxgpu.pc.in > $(LIB)/pkgconfig/psxgpu.pc
 
@@ -101,8 +113,5 @@ uninstall:
 	  $(LIB)/pkgconfig/psxgpu.pc $(MAN)/psxgpu_tool.1
 	packaging/install --remove "$(DESTDIR)" "$(PREFIX)" "$(PYTHON)"
 
-dist: $(PLAYER) lib
-	PLAYER=$(abspath $(PLAYER)) python3 packaging/packages.py dist
-
-deb: $(PLAYER) lib
-	PLAYER=$(abspath $(PLAYER)) python3 packaging/packages.py deb
+dist deb: $(PLAYER) lib
+	PLAYER=$(abspath $(PLAYER)) python3 packaging/packages.py $@

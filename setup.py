@@ -1,5 +1,6 @@
 """Adds the library to the package, where it is built (`make lib`): then `psxgpu.machine` needs nothing else, and the
-wheel is one for this machine's kind. The rest is in pyproject.toml."""
+wheel is one for this machine's kind. PSXGPU_WHEEL_LIBRARY names the library of another system (packaging/wheels.py). The
+rest is in pyproject.toml."""
 import os
 import shutil
 
@@ -15,7 +16,7 @@ except ImportError:
     except ImportError:
         bdist_wheel = None
 
-LIBRARY = 'out/libpsxgpu.so.1'
+LIBRARY = os.environ.get('PSXGPU_WHEEL_LIBRARY', 'out/libpsxgpu.so.1')
 
 
 class Build(build_py):

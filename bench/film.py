@@ -1,10 +1,11 @@
 #!/usr/bin/env python3
-"""Measures what a film and the history of a cell cost beside the dump.
+"""Measures the time for a film and for the history of a cell, compared with the dump.
 
     python3 bench/film.py [--rotations N] [--seconds N] [--ours PROGRAM] [CAPTURE ..]
 
-Without a capture one is made: so many seconds of frames as bench/workloads.py has them, thirty a second, each drawn and
-then shown at 320 by 240. Each command plays it in turn; what counts is the processor time, the best of the rotations.
+Without a capture it generates N seconds of the frames of bench/workloads.py, thirty a second, each drawn and then
+displayed at 320 by 240. Each command plays the capture in turn. The table has the processor time, the best of the
+rotations.
 """
 import argparse
 import os
@@ -36,7 +37,7 @@ def main():
     parser = argparse.ArgumentParser(description=__doc__, formatter_class=argparse.RawDescriptionHelpFormatter)
     parser.add_argument('--rotations', type=int, default=5)
     parser.add_argument('--seconds', type=int, default=20)
-    parser.add_argument('--ours', help='a built program, in place of building one')
+    parser.add_argument('--ours', help='a built program; none is built then')
     parser.add_argument('captures', nargs='*', metavar='CAPTURE')
     args = parser.parse_args()
     if not args.ours:

@@ -4,12 +4,12 @@
     python3 bench/run.py [--rotations N] [--scale F] [--only WORD] [--library] [--browser] [NAME=PROGRAM ..]
 
 Builds the program of this repository, makes the captures of bench/workloads.py, plays each as `PROGRAM vram < capture`
-by every player in turn, and prints a table: the speed of each, and ours in relation to the fastest of the others. What
-counts is the processor time of the child, the best of the rotations, without the time of a capture that has only what
-stands before the work (the start of the program, the textures, the dump). --scale makes the captures longer or
-shorter, --only takes the workloads whose names hold the word. --library has the library beside the program, with the
-words of a record in one call and in a call each. --browser has a second row for each workload: the module in Chromium,
-without what copies the words into its memory.
+with every player in turn, and prints a table: the speed of each, and the ratio of ours to the fastest of the others. It
+measures the processor time of the child, the best of the rotations, minus the time of a capture with only the
+preparation (the start of the program, the textures, the dump). --scale makes the captures longer or shorter. --only
+selects the workloads whose names contain the word. --library adds columns for the library, with the words of a record
+in one call and in a call each. --browser adds a second row for each workload: the module in Chromium, without the time
+for copying the words into its memory.
 """
 import argparse
 import os
@@ -117,7 +117,7 @@ def main():
     parser.add_argument('--rotations', type=int, default=5)
     parser.add_argument('--scale', type=float, default=1)
     parser.add_argument('--only', default='')
-    parser.add_argument('--ours', help='a built program, in place of building one')
+    parser.add_argument('--ours', help='a built program; none is built then')
     parser.add_argument('--library', action='store_true')
     parser.add_argument('--browser', action='store_true')
     parser.add_argument('players', nargs='*', metavar='NAME=PROGRAM')

@@ -1,10 +1,10 @@
 #!/usr/bin/env python3
-"""Measures the commands that write text or records beside one that writes next to nothing.
+"""Measures the commands that write text or records, and one that writes almost nothing.
 
     python3 bench/text.py [--rotations N] [--millions N] [--ours PROGRAM]
 
-Makes a capture of so many million words of GP0, small flat triangles, in records of many words and again with a record for
-each word, as `flat` writes them. Each command plays both in turn into a file; what counts is the processor time, user and
+Makes a capture of N million GP0 words, small flat triangles, in records of many words, and again with a record for each
+word, as `flat` writes them. Each command plays both in turn into a file. The table has the processor time, user and
 system, the best of the rotations.
 """
 import argparse
@@ -50,7 +50,7 @@ def main():
     parser = argparse.ArgumentParser(description=__doc__, formatter_class=argparse.RawDescriptionHelpFormatter)
     parser.add_argument('--rotations', type=int, default=5)
     parser.add_argument('--millions', type=int, default=6)
-    parser.add_argument('--ours', help='a built program, in place of building one')
+    parser.add_argument('--ours', help='a built program; none is built then')
     args = parser.parse_args()
     if not args.ours:
         subprocess.run(['make', '-s', OURS], cwd=ROOT, check=True)

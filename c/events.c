@@ -2,7 +2,7 @@
  *
  *     events [blocks] play|vram|shot|COUNT < capture > output
  *
- * COUNT is for psxgpu_tool's `cut COUNT` of a capture that ends there: the machine behind the first COUNT events. With
+ * COUNT is for psxgpu_tool's `cut COUNT` of a capture that ends there: the machine after the first COUNT events. With
  * `blocks` the words of a Gp0 record go to the machine in one call. The capture has to be whole. */
 #include <inttypes.h>
 #include <stdio.h>
@@ -79,8 +79,8 @@ static uint32_t play_event(struct player *player, enum kind kind, uint32_t chann
     return 0;
 }
 
-/* How many words stand behind the tag and, of a Ram record, the address. */
-static size_t words_behind(enum kind kind, size_t count) {
+/* How many words follow the tag and, of a Ram record, the address. */
+static size_t words_after(enum kind kind, size_t count) {
     if (kind == RAM || kind == GP0) return count;
     if (kind == DMA || kind == BEGIN) return 3;
     return kind == GP1;
@@ -101,21 +101,18 @@ static uint32_t play_record(struct player *player) {
         for (size_t k = 0; k < played && code == 0; k++) code = play_event(player, kind, channel);
     }
     player->left -= played;
-    player->words += words_behind(kind, count);
+    player->words += words_after(kind, count);
     return code;
 }
 
 static int tell(const psxgpu_ended *ended) {
-    fprintf(stderr, "psxgpu: ");
-    if (ended->code == PSXGPU_BAD_DMA) fprintf(stderr, "bad-dma at event %" PRIu64 "\n", ended->event);
-    if (ended->code == PSXGPU_DMA_TOO_LONG)
-        fprintf(stderr, "dma-too-long at event %" PRIu64 " words %" PRIu64 "\n", ended->event, ended->place);
-    if (ended->code == PSXGPU_LIST_LOOP)
-        fprintf(stderr, "list-loop at event %" PRIu64 " node %06" PRIx32 "\n", ended->event, ended->word);
+    char line[PSXGPU_LINE_ROOM];
+    psxgpu_line(ended, line, sizeof line);
+    fprintf(stderr, "psxgpu: %s\n", line);
     return 2;
 }
 
-/* What the command writes behind the last event. */
+/* What the command writes after the last event. */
 static int show(struct player *player, const char *command) {
     uint8_t *out = room_for(PSXGPU_SAVE_ROOM);
     size_t written = 0;

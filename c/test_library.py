@@ -3,9 +3,15 @@
 
 example.c as C and as C++, with the static and with the shared library; events.c, which plays captures call by call,
 with sanitizers on its side, against the program; failing.c, in which each allocation fails in turn; counts.c, which
-saves machines near the most events that a snapshot counts."""
+saves machines near the most events that a snapshot counts; calls.c, which makes calls at the edge of what the header
+allows.
+
+For a library of another system, the environment names its folder below the top (LIBRARY, as out/aarch64), its compilers
+(CC, CXX), and the emulator that runs what they make (RUN). There are no sanitizers then, and nothing is installed."""
 import os
 import re
+import shlex
+import shutil
 import subprocess
 import sys
 import tempfile
@@ -17,11 +23,12 @@ sys.path.append(os.path.join(HERE, '..'))
 from tests.library import support as program
 
 ROOT = os.path.dirname(HERE)
-OUT = os.path.join(ROOT, 'out')
+OUT = os.path.join(ROOT, os.environ.get('LIBRARY', 'out'))
+RUN = shlex.split(os.environ.get('RUN', ''))
 CC, CXX = os.environ.get('CC', 'cc'), os.environ.get('CXX', 'c++')
 STRICT = ['-O2', '-Wall', '-Wextra', '-Wpedantic', '-Werror', '-I', HERE]
 C, CPP = [CC, '-std=c99', *STRICT], [CXX, '-std=c++17', '-x', 'c++', *STRICT]
-SANITIZED = ['-g', '-fsanitize=address,undefined', '-fno-sanitize-recover=all']
+SANITIZED = [] if RUN else ['-g', '-fsanitize=address,undefined', '-fno-sanitize-recover=all']
 ARCHIVE = os.path.join(OUT, 'libpsxgpu.a')
 SHARED = ['-L', OUT, '-lpsxgpu', '-Wl,-rpath,' + OUT]
 FAILING = ['-Wl,--wrap=malloc', '-Wl,--wrap=realloc', '-Wl,--wrap=free']
@@ -40,13 +47,14 @@ class Library(unittest.TestCase):
         return path
 
     def run_in_folder(self, path):
-        done = subprocess.run([path], cwd=self.folder, capture_output=True, text=True)
+        done = subprocess.run([*RUN, path], cwd=self.folder, capture_output=True, text=True)
         self.assertEqual((done.returncode, done.stderr), (0, ''), done.stdout)
         return done.stdout
 
     def test_example(self):
         """As C and as C++, with either library, it writes the same."""
-        ways = (C, [ARCHIVE]), (CPP, [ARCHIVE]), (C, SHARED), ([*C, *SANITIZED], [ARCHIVE])
+        ways = [(C, [ARCHIVE]), (CPP, [ARCHIVE]), (C, SHARED), ([*C, *SANITIZED], [ARCHIVE])]
+        ways = [(words, links) for words, links in ways if shutil.which(words[0])]
         found = {self.run_in_folder(self.build('example', words, 'example.c', links)) for words, links in ways}
         self.assertEqual(len(found), 1)
         self.assertIn('status', found.pop())
@@ -62,16 +70,32 @@ class Library(unittest.TestCase):
         path = self.build('counts', [*C, *SANITIZED], 'counts.c', [ARCHIVE])
         self.assertEqual(self.run_in_folder(path), '')
 
+    def test_calls(self):
+        """Counts of 0 take null pointers, a handle may be moved, a look leaves it alone, and each code has its text."""
+        for words in ([*C, *SANITIZED], CPP):
+            path = self.build('calls', words, 'calls.c', [ARCHIVE])
+            self.assertEqual(self.run_in_folder(path), '')
+
+    def test_no_global_state(self):
+        """No part of the library has a byte that can be written."""
+        told = subprocess.run(['readelf', '-SW', ARCHIVE], capture_output=True, text=True, check=True).stdout
+        rows = re.findall(r'(?m)^ +\[ *\d+\] (\.\S+) +(\w+) +\w+ \w+ (\w+) \w+ +(\w*) ', told)
+        sections = {name for name, kind, size, flags in rows if 'W' in flags and int(size, 16) > 0}
+        self.assertIn('.text', {name for name, *_ in rows})
+        self.assertEqual({name for name in sections if not name.startswith('.data.rel.ro')}, set())
+
     def test_shared_library(self):
         """It has its name, and shows the calls of the header alone."""
         names = subprocess.run(['nm', '-D', '--defined-only', os.path.join(OUT, 'libpsxgpu.so.1')], capture_output=True,
                                text=True, check=True).stdout
         shown = {line.split()[-1] for line in names.splitlines()}
         header = program.bytes_at(os.path.join(HERE, 'psxgpu.h')).decode()
-        self.assertEqual(shown, set(re.findall(r'^(?:void|uint32_t) (psxgpu_\w+)\(', header, re.M)))
+        calls = re.findall(r'(?m)^(?:void |uint32_t |size_t |const char \*)(psxgpu_\w+)\(', header)
+        self.assertEqual(shown, set(calls))
         told = subprocess.run(['readelf', '-d', os.path.join(OUT, 'libpsxgpu.so.1')], capture_output=True, text=True)
         self.assertIn('[libpsxgpu.so.1]', told.stdout)
 
+    @unittest.skipIf(RUN, 'of another system')
     def test_install(self):
         """A program is built with what `make install` leaves; `make uninstall` takes it away."""
         there = ['make', '-s', '-C', ROOT, 'DESTDIR=' + self.folder, 'PREFIX=/usr']
@@ -112,7 +136,7 @@ class Library(unittest.TestCase):
             if status and 'cut' in command:
                 continue
             with self.subTest(capture=os.path.basename(capture), command=command, blocks=blocks):
-                done = subprocess.run([path, *blocks, command.split()[-1]], input=data, capture_output=True)
+                done = subprocess.run([*RUN, path, *blocks, command.split()[-1]], input=data, capture_output=True)
                 self.assertEqual((done.returncode, (done.stderr.decode().splitlines() or [''])[0]), (status, error))
                 if 'cut' in command:
                     self.assert_snapshot(done.stdout, out)

@@ -67,12 +67,20 @@ def passed_by_none(results: Dict[str, Verdicts]) -> List[Test]:
             and all(kind(one, test) != PASSED for one in results.values())]
 
 
+def summary(results: Dict[str, Verdicts]) -> str:
+    """Returns a sentence: how many tests all players pass, of those that some take."""
+    taken = [test for test in EVERY if any(kind(one, test) != NOT_TAKEN for one in results.values())]
+    number = sum(all(kind(one, test) == PASSED for one in results.values()) for test in taken)
+    return 'All four pass %d of the %d tests.' % (number, len(taken))
+
+
 def faults(results: Dict[str, Verdicts]) -> Iterator[str]:
     """Yields a line for what the documents lack."""
     with open(DOCUMENT) as file:
         document = file.read()
-    if '\n'.join(table(results)) not in document:
-        yield 'docs/EMULATORS.md: not the table of the stored results'
+    for name, text in (('table', '\n'.join(table(results))), ('sentence', summary(results))):
+        if text not in document:
+            yield 'docs/EMULATORS.md: not the %s of the stored results' % name
     with open(os.path.join(RESULTS, 'READ_BY_HAND.md')) as file:
         read = file.read()
     for test in passed_by_none(results):
@@ -87,11 +95,8 @@ def main() -> int:
         found = list(faults(results))
         print('\n'.join(found or ['the table of the emulators is that of the stored results']))
         return int(bool(found))
-    print('\n'.join(table(results)))
-    taken = [test for test in EVERY if any(kind(one, test) != NOT_TAKEN for one in results.values())]
-    counts = [sum(kind(one, test) == PASSED for one in results.values()) for test in taken]
-    print('\nOf %d tests, all four pass %d, and none passes %d:' % (len(taken), counts.count(4), counts.count(0)))
-    print('\n'.join('- ' + test.full_name for test in passed_by_none(results)))
+    print('\n'.join([*table(results), '', summary(results), 'None passes these:',
+                     *('- ' + test.full_name for test in passed_by_none(results))]))
     return 0
 
 

@@ -27,6 +27,19 @@ def reset_of_the_transfer(m: Machine) -> None:
     m.run = None
 
 
+def twice(m: Machine, y: int, width: int) -> bytes:
+    """A row of a doubled picture, in which each row of video memory is shown twice."""
+    top = m.start >> 10
+    return M.shown_row(m, top + (y - top) // 2 if m.is_doubled() else y, width)
+
+
+def reset_to_short(m: Machine, word: int) -> None:
+    """A reset ends the tall profile, too."""
+    M.gp1(m, word)
+    if m.gp1_opcode(word) == 0:
+        m.rows = 512
+
+
 # Textures.
 fault('a texel of 0000h is drawn', 'textures', is_drawn=lambda m, texel: True)
 fault('a texel of 8000h is not drawn', 'textures blending', is_drawn=lambda m, texel: texel & 0x7FFF != 0)
@@ -41,6 +54,8 @@ fault('a palette has eight bits of Y', 'textures',
 fault('a palette does not wrap', 'textures', palette_entry=lambda m, c, i: 0 if m.palette_place(c)[0] + i > 1023
       else M.palette_entry(m, c, i))
 fault('a page does not wrap', 'textures', texel_cell=lambda m, x, y: 0 if x > 1023 else m.get(x, y))
+fault('a page of 8 bits does not wrap', 'textures',
+      texel_cell=lambda m, x, y: 0 if x > 1023 and m.e1 >> 7 & 3 == 1 else m.get(x, y))
 fault('the page\'s Y bit is not looked at', 'textures', page_place=lambda m: (M.page_place(m)[0], 0))
 fault('the window\'s offset is not masked', 'windows', windowed=lambda m, at, k, o: at & ~(8 * k) | 8 * o)
 fault('the window\'s offset is added', 'windows', windowed=lambda m, at, k, o: (at & ~(8 * k)) + 8 * (o & k) + (o & 1))
@@ -65,6 +80,8 @@ fault('the information 6 is 0', 'reads', information=lambda m, i: 0 if i == 6 el
 fault('a pixel of 368 lasts 8 cycles', 'display', cycles=lambda m: 8 if m.mode & 0x40 else M.cycles(m))
 fault('the height is doubled by bit 2 alone', 'display', is_doubled=lambda m: bool(m.mode & 4))
 fault('a channel is widened by a shift alone', 'display', wide=lambda m, channel: 8 * channel)
+fault('a doubled picture shows each row twice', 'display', shown_row=twice)
+fault('a table\'s entries keep the low bits of MADR', 'dma', table_entry=lambda m, address: address - 4 & 0x1FFFFF)
 fault('a table\'s entry is its own address', 'dma', table_entry=lambda m, address: address & 0x1FFFFC)
 fault('a list ends at FFFFFFh alone', 'dma', list_ends=lambda m, address: address == 0xFFFFFF)
 fault('backward goes forward', 'dma', step=lambda m, chcr: 4)
@@ -75,3 +92,5 @@ fault('mode 0 moves a word a turn', 'turns',
 fault('a turn moves all', 'turns', turn=lambda m: [None for _ in m.run or ()])
 fault('tall corners have nine bits of Y', 'tall', corner_bits=lambda m: 0x7FFFF)
 fault('E1h bit 11 is dropped in the tall profile', 'tall', draw_mode_bits=lambda m: 0x37FF)
+fault('a tall load wraps at row 512', 'tall', load_plot=lambda m, x, y, value: M.load_plot(m, x, y % 512, value))
+fault('a reset ends the tall profile', 'tall', gp1=reset_to_short)

@@ -3,9 +3,11 @@ import calendar
 import gzip
 import io
 import os
+import platform
 import re
 import subprocess
 import time
+from typing import NamedTuple
 
 ROOT = os.path.dirname(os.path.dirname(os.path.abspath(__file__)))
 PROGRAM = os.environ.get('PLAYER') or os.path.join(ROOT, 'crates/psxgpu_tool/out/psxgpu_tool')
@@ -15,6 +17,37 @@ NAME = 'psxgpu-tool'
 
 class Trouble(Exception):
     """Why no package is made, in one line."""
+
+
+class Processor(NamedTuple):
+    """A processor of Linux: its name as `uname -m` and Debian have it, and what the packages say of those that serve."""
+    machine: str
+    debian: str
+    needs: str
+
+
+# By the number of the processor in the head of an ELF file.
+PROCESSORS = {
+    62: Processor('x86_64', 'amd64',
+                  '\n .\n The program needs a processor of x86-64-v2 (with SSE4.2), as all since 2009.'),
+    183: Processor('aarch64', 'arm64', ''),
+}
+
+
+def processor():
+    """Returns what the program was built for."""
+    with open(PROGRAM, 'rb') as file:
+        head = file.read(20)
+    number = int.from_bytes(head[18:20], 'little')
+    if head[:4] != b'\x7fELF' or number not in PROCESSORS:
+        raise Trouble('%s: not a program for Linux on x86-64 or arm64' % PROGRAM)
+    return PROCESSORS[number]
+
+
+def strip(machine=None):
+    """Returns the name of the strip for a processor: the program's, or that of this name."""
+    machine = machine or processor().machine
+    return 'strip' if machine == platform.machine() else machine + '-linux-gnu-strip'
 
 
 def text_of(*names):
@@ -52,7 +85,8 @@ def stage(folder, prefix):
     """Installs into a folder, with modes that do not depend on who does it."""
     old = os.umask(0o022)
     try:
-        run(['make', '-s', '-C', ROOT, 'install', 'DESTDIR=' + folder, 'PREFIX=' + prefix, 'PLAYER=' + PROGRAM])
+        run(['make', '-s', '-C', ROOT, 'install', 'DESTDIR=' + folder, 'PREFIX=' + prefix,
+             'ARCH=' + processor().machine, 'PLAYER=' + PROGRAM])
     finally:
         os.umask(old)
 

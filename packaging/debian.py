@@ -8,7 +8,7 @@ import tempfile
 import textwrap
 import time
 
-from common import NAME, Trouble, entries, epoch, glibc, gzipped, run, stage, text_of, version, write
+from common import NAME, Trouble, entries, epoch, glibc, gzipped, processor, run, stage, strip, text_of, version, write
 
 LIBRARY, FOR_C = 'libpsxgpu%s', 'libpsxgpu-dev'
 TRIGGERS = 'activate-noawait ldconfig\n'
@@ -55,7 +55,7 @@ def as_debian(place):
             with open(os.path.join(folder, name), 'rb') as file:
                 write(folder, name + '.gz', gzipped(file.read()))
             os.remove(os.path.join(folder, name))
-    run(['strip', '--strip-unneeded', os.path.join(place, 'usr/bin/psxgpu_tool')])
+    run([strip(), '--strip-unneeded', os.path.join(place, 'usr/bin/psxgpu_tool')])
 
 
 def move_library(place, targets):
@@ -65,8 +65,8 @@ def move_library(place, targets):
         return []
     major = version().split('.')[0]
     soname = 'libpsxgpu.so.' + major
-    run(['strip', '--strip-unneeded', os.path.join(lib, soname)])
-    run(['strip', '--strip-debug', '--enable-deterministic-archives', os.path.join(lib, 'libpsxgpu.a')])
+    run([strip(), '--strip-unneeded', os.path.join(lib, soname)])
+    run([strip(), '--strip-debug', '--enable-deterministic-archives', os.path.join(lib, 'libpsxgpu.a')])
     os.chmod(os.path.join(lib, soname), 0o644)
     for name, target in ((soname, targets[0]), (None, targets[1])):
         os.makedirs(os.path.join(target, 'usr/lib'))
@@ -89,6 +89,7 @@ def control(place, name):
     files = files_of(place)
     size = sum((os.path.getsize(path) + 1023) // 1024 for path in files)
     words = {'@VERSION@': version(), '@SIZE@': str(size), '@MAJOR@': version().split('.')[0],
+             '@ARCH@': processor().debian, '@NEEDS@': processor().needs,
              '@GLIBC@': glibc(path for path in files if '/usr/bin/' in path or '.so' in path)}
     text = text_of('packaging/debian', re.sub(r'\d+$', '', name) + '.control')
     sums = ''
@@ -101,7 +102,7 @@ def control(place, name):
 
 def pack(place, name, folder):
     """Writes one package."""
-    file = '%s_%s_amd64.deb' % (name, version())
+    file = '%s_%s_%s.deb' % (name, version(), processor().debian)
     add_documents(place, name)
     control(place, name)
     os.makedirs(folder, exist_ok=True)
@@ -112,7 +113,7 @@ def pack(place, name, folder):
 
 def debs(folder):
     """Makes the packages; their names."""
-    for tool in ('dpkg-deb', 'strip'):
+    for tool in ('dpkg-deb', strip()):
         if not shutil.which(tool):
             raise Trouble('a .deb needs ' + tool)
     with tempfile.TemporaryDirectory() as top:

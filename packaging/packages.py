@@ -1,11 +1,12 @@
 #!/usr/bin/env python3
 """Makes the packages.
 
-    python3 packaging/packages.py dist [FOLDER]     sources, the built program, the .debs, and their SHA-256 sums
-    python3 packaging/packages.py deb [FOLDER]      the .debs alone
+    python3 packaging/packages.py dist [FOLDER]         sources, the built program, the .debs, and their SHA-256 sums
+    python3 packaging/packages.py deb [FOLDER]          the .debs alone
+    python3 packaging/packages.py dist-all [FOLDER]     the same as dist, and the packages of all other systems
 
-The folder is dist/ where none is named. What is packed is what `make install` installs; the sources are those of the
-last commit. The same commit and the same program make the same bytes: names are in order, owners are root, and all times are
+The folder is dist/ if none is named. What is packed is what `make install` installs; the sources are those of the last
+commit. The same commit and the same program make the same bytes: names are in order, owners are root, and all times are
 the day of the version in CHANGELOG.md, or SOURCE_DATE_EPOCH.
 """
 import hashlib
@@ -15,8 +16,10 @@ import sys
 import tarfile
 import tempfile
 
-from common import NAME, PROGRAM, ROOT, Trouble, epoch, glibc, gzipped, run, stage, version, write
+from common import NAME, PROGRAM, ROOT, Trouble, epoch, glibc, gzipped, processor, run, stage, version, write
 from debian import debs
+from wheels import SYSTEMS as WHEELS, wheel
+from zips import SYSTEMS as ZIPS, zipped
 
 
 def plain(entry):
@@ -37,7 +40,7 @@ def sources(folder):
 
 def built(folder):
     """The installed tree as a tarball, which is unpacked where it is wanted."""
-    name = '%s-%s-x86_64-linux-glibc%s' % (NAME, version(), glibc([PROGRAM]))
+    name = '%s-%s-%s-linux-glibc%s' % (NAME, version(), processor().machine, glibc([PROGRAM]))
     with tempfile.TemporaryDirectory() as place:
         stage(place, '/')
         out = io.BytesIO()
@@ -54,18 +57,30 @@ def sums(folder, names):
     return write(folder, 'SHA256SUMS', ''.join(lines).encode())
 
 
+def others(folder):
+    """The packages for Linux on arm64, the zips and the wheels."""
+    arm64 = os.path.join(ROOT, 'out/aarch64/psxgpu_tool')
+    said = run([sys.executable, os.path.abspath(__file__), 'built', folder], env=dict(os.environ, PLAYER=arm64))
+    names = [os.path.basename(line) for line in said.decode().splitlines()]
+    return names + [zipped(folder, system) for system in ZIPS] + [wheel(folder, system) for system in WHEELS]
+
+
+# `built` is for another processor, whose program is PLAYER.
+STEPS = {'dist': (sources, built, debs), 'deb': (debs,), 'built': (built, debs),
+         'dist-all': (sources, built, debs, others)}
+
+
 def main(what, folder='dist'):
     os.umask(0o022)
-    steps = {'dist': (sources, built, debs), 'deb': (debs,)}[what]
-    names = [name for make in steps for name in make(folder)]
-    if what == 'dist':
+    names = [name for make in STEPS[what] for name in make(folder)]
+    if 'dist' in what:
         names.append(sums(folder, names))
     for name in names:
         print(os.path.join(folder, name))
 
 
 if __name__ == '__main__':
-    if len(sys.argv) not in (2, 3) or sys.argv[1] not in ('dist', 'deb'):
+    if len(sys.argv) not in (2, 3) or sys.argv[1] not in STEPS:
         sys.exit(__doc__)
     try:
         main(*sys.argv[1:])

@@ -1,7 +1,7 @@
-"""The tools of this project as one command: psxgpu NAME .. (from a checkout: python3 -m psxgpu NAME ..).
+"""Runs the tools of this project: psxgpu NAME .. (in a checkout: python3 -m psxgpu NAME ..).
 
 `psxgpu NAME --help` explains the arguments of a tool, `psxgpu --version` prints the version.
-Status: 0 the same, or done; 1 different, or something to look at; 2 an error, which is one line on standard error.
+Status: 0 equal, or done; 1 different, or something to look at; 2 an error, with one line on standard error.
 """
 import contextlib
 import importlib
@@ -14,7 +14,7 @@ from typing import List, Optional
 from psxgpu import __version__, command
 
 TOOLS = ('corpus', 'packets', 'check', 'first', 'join', 'mend', 'from-log', 'from-dump', 'to-dump', 'to-exe', 'picture',
-         'film', 'textures', 'heat', 'compare', 'bisect', 'agree', 'audit', 'reduce', 'conform')
+         'film', 'textures', 'heat', 'compare', 'bisect', 'agree', 'audit', 'reduce', 'conform', 'selftest')
 
 
 def module_of(name: str) -> ModuleType:

@@ -14,12 +14,13 @@ ValueError that names the field. `Stream` of stream.py reads captures of any len
 import io
 import os
 import struct
-from typing import Iterable, Iterator, List, Optional, Sequence, Tuple, TypeVar, Union
+from typing import Iterable, List, Optional, Sequence, Tuple, TypeVar, Union
 
 from psxgpu.output import write_whole
 from psxgpu.registers import (clear_commands, clear_interrupt, display_mode, display_on, display_start, dma_direction,
                               draw_mode, drawing_area, drawing_offset, horizontal_range, information, mask_setting,
                               reset, screen, texture_window, vertical_range)
+from psxgpu.records import Plain, events
 from psxgpu.stream import (BEGIN, DMA, GP0, GP1, HEADS, KINDS, MOST_READS, MOST_WORDS, RAM, READ, SKIP, STAT, TURN,
                            Stream, encode, is_allowed)
 from psxgpu.words import (bits, clut, copy, corner, fill, interrupt, line, load, nop, polygon, rectangle, store,
@@ -37,7 +38,6 @@ LIST, BLOCKS_IN, BLOCKS_OUT, CLEAR_TABLE = 0x01000401, 0x01000201, 0x01000200, 0
 
 Self = TypeVar('Self', bound='Capture')
 Words = Union[int, Iterable[int], Iterable[Iterable[int]]]
-Plain = Tuple[int, int, List[int]]      # a record: kind, count, words
 
 
 class Capture:
@@ -164,22 +164,6 @@ def records(data: bytes) -> Tuple[int, List[Plain]]:
     same without holding all of it."""
     stream = Stream(io.BytesIO(data), 'capture', exact=True)
     return stream.version, [(kind, count, words.tolist()) for kind, count, words in stream]
-
-
-def events(found: Iterable[Plain]) -> Iterator[Plain]:
-    """Returns the events of records, each as a record of one event: (kind, count, words)."""
-    for kind, count, words in found:
-        if kind == RAM:
-            for k in range(count):
-                yield RAM, 1, [words[0] + 4 * k, words[1 + k]]
-        elif kind == GP0:
-            for word in words:
-                yield GP0, 1, [word]
-        elif kind in (READ, TURN, SKIP):
-            for _ in range(count):
-                yield kind, 1, []
-        else:
-            yield kind, count, words
 
 
 class OrderingTable:

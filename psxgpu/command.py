@@ -123,7 +123,8 @@ def reading(path: str) -> Iterator[BinaryIO]:
     except BrokenPipeError:
         raise
     except OSError as error:
-        raise named(error, title(path))
+        named(error, title(path))
+        raise
 
 
 def read_whole(path: str) -> bytes:

@@ -148,7 +148,8 @@ def writing(path: str, inputs: Iterable[str] = (), is_text: bool = False) -> Ite
         try:
             descriptor = os.dup(stream)
         except OSError as error:
-            raise named(error, title)
+            named(error, title)
+            raise
         with straight(descriptor, title, is_text) as file:
             yield file
         return

@@ -1,7 +1,7 @@
 """The records of a capture: their kinds, and their bytes. docs/CAPTURE.md has the format."""
 import sys
 from array import array
-from typing import Iterable, Iterator, Tuple
+from typing import Iterable, Iterator, List, Tuple
 
 END, RAM, GP0, GP1, READ, STAT, DMA, BEGIN, TURN, SKIP = range(10)
 KINDS = ('End', 'Ram', 'Gp0', 'Gp1', 'Read', 'Stat', 'Dma', 'Begin', 'Turn', 'Skip')
@@ -12,6 +12,7 @@ HEADS = {1: b'PSXGPUC1', 2: b'PSXGPUC2', 3: b'PSXGPUC3'}
 VERSIONS = {head: version for version, head in HEADS.items()}
 SNAPSHOT = b'PSXGPUS1'
 Record = Tuple[int, int, 'array[int]']      # kind, count, words
+Plain = Tuple[int, int, List[int]]          # the same with a list
 WANTED = {GP1: 1, DMA: 3, BEGIN: 3}         # words of other records than Gp0 and Ram
 SINGLE = GP0 << 24 | 1                      # the tag of a Gp0 record with one word
 
@@ -42,25 +43,41 @@ def count_of(kind: int, count: int) -> int:
     return 1 if kind in (GP1, STAT, DMA, BEGIN) else count
 
 
+def events(found: Iterable[Plain]) -> Iterator[Plain]:
+    """Returns the events of records, each as a record of one event: (kind, count, words)."""
+    for kind, count, words in found:
+        if kind == RAM:
+            for k in range(count):
+                yield RAM, 1, [words[0] + 4 * k, words[1 + k]]
+        elif kind == GP0:
+            for word in words:
+                yield GP0, 1, [word]
+        elif kind in (READ, TURN, SKIP):
+            for _ in range(count):
+                yield kind, 1, []
+        else:
+            yield kind, count, words
+
+
 def first_events(stream: Iterable[Record], n: int) -> Iterator[Record]:
     """Returns the records of the first n events, the last one cut where it has more."""
     for kind, count, words in stream:
         if n <= 0:
             return
-        events = count_of(kind, count)
-        if events > n:
+        its_events = count_of(kind, count)
+        if its_events > n:
             count, words = n, words[:n + (kind == RAM)]
         yield kind, count, words
-        n -= events
+        n -= its_events
 
 
 def later_events(stream: Iterable[Record], n: int) -> Iterator[Record]:
     """Returns the records after the first n events."""
     for kind, count, words in stream:
-        events = count_of(kind, count)
-        if events > n > 0:
+        its_events = count_of(kind, count)
+        if its_events > n > 0:
             words = array('I', [words[0] + 4 * n]) + words[1 + n:] if kind == RAM else words[n:]
             count -= n
-        if events > n:
+        if its_events > n:
             yield kind, count, words
-        n = max(0, n - events)
+        n = max(0, n - its_events)

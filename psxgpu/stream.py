@@ -6,18 +6,17 @@
 
 A capture that breaks the format is `Trouble`, with the byte. docs/CAPTURE.md has the format.
 """
-import contextlib
 from array import array
-from typing import Dict, Iterable, Iterator, NoReturn, Optional, Tuple
+from typing import Dict, Iterator, NoReturn, Optional, Tuple
 
-from psxgpu.command import Readable, Trouble, reading
+from psxgpu.command import Readable, Trouble
 from psxgpu.records import (BEGIN, DMA, END, GP0, GP1, HEADS, KINDS, MOST_READS, MOST_WORDS, NOT_FLAT, RAM, READ,
                             SINGLE, SKIP, SNAPSHOT, STAT, TURN, VERSIONS, WANTED, Record, count_of, encode,
                             first_events, is_allowed, later_events, little)
 
 __all__ = ['BEGIN', 'BEGINNINGS', 'DMA', 'END', 'GP0', 'GP1', 'HEADS', 'KINDS', 'MOST_READS', 'MOST_WORDS', 'NOT_FLAT',
            'RAM', 'READ', 'Readable', 'Record', 'SKIP', 'SNAPSHOT', 'STAT', 'Stream', 'TURN', 'count_of', 'encode',
-           'first_events', 'is_allowed', 'is_flat', 'later_events', 'little']
+           'first_events', 'is_allowed', 'later_events', 'little']
 
 BLOCK = 1 << 18
 MOST_SIZES = 4096
@@ -193,10 +192,3 @@ class Stream:
         if kind == RAM and (words[0] % 4 or words[0] + 4 * count > 0x200000):
             raise Trouble('%s: byte %d: not an address for %d words: %08x'
                           % (self.name, self.place - 4 * len(words), count, words[0]))
-
-
-def is_flat(path: str) -> bool:
-    """Returns whether a capture has port writes and reads alone, as far as it can be read."""
-    with contextlib.suppress(Trouble), reading(path) as file:
-        return not any(kind in NOT_FLAT for kind in Stream(file, path).kinds())
-    return True

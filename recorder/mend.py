@@ -1,5 +1,5 @@
 #!/usr/bin/env python3
-"""Makes a recording whole whose emulator did not live to end it, or that was cut: recorder/mend.py CAPTURE"""
+"""Completes a recording that was cut, or whose emulator ended before it: recorder/mend.py CAPTURE"""
 import os
 import struct
 import sys

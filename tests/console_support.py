@@ -11,7 +11,7 @@ from psxgpu.console.orders import AGAIN, SAME, WORDED, Kind
 from psxgpu.stream import GP0, GP1, READ, SKIP, Stream
 from tests import support
 
-BEGINS = 6 + 12 + 6             # events of Image.begin
+BEGINS = 6 + 12 + 6             # events of Listed.reset
 MARK = 0x3F
 
 

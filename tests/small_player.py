@@ -6,7 +6,7 @@ import io
 from array import array
 from typing import Dict, List, Optional, Sequence, Tuple
 
-from psxgpu.packets.fields import rectangle_parts, signed, texcoord_of
+from psxgpu.packets.parts import rectangle_parts, signed, texcoord_of
 from psxgpu.packets.split import RAW, SEMI, TEXTURED, Splitter, cells_of
 from psxgpu.packets.texels import page_corner, palette_corner
 from psxgpu.players.named import Done, Player
@@ -91,9 +91,9 @@ class Machine:
             for column in range(x, x + w):
                 self.cells[self.place(column, row)] = color
 
-    @staticmethod
-    def color(word: int) -> int:
-        return cell_of([(word >> shift & 255) >> 3 for shift in (0, 8, 16)])
+    def color(self, word: int) -> int:
+        red = 0 if self.fault == 'red' else word & 255
+        return cell_of([red >> 3, (word >> 8 & 255) >> 3, (word >> 16 & 255) >> 3])
 
     def load(self, words: Sequence[int]) -> None:
         self.box = (words[1] & 0x3FF, words[1] >> 16 & 0x3FF, *cells_of(words[2]))

@@ -1,11 +1,12 @@
 """What conform writes, and what is released."""
 import os
+import re
 import unittest
 from unittest import mock
 
 from tests.support import PLAYER, InFolder, needs_player
 
-from conformance import agreement, sections
+from conformance import agreement, mutants, sections
 from conformance.faults import FAULTS, finds
 from conformance.model import Model
 from psxgpu.commands.conform import chosen
@@ -18,7 +19,8 @@ class Written(InFolder):
     def test_captures_flat_captures_and_dumps(self):
         tests = chosen(['fills/size-and-color', 'tall/fills', 'dma/blocks'])
         lines = folder.write(tests, self.path('out'), None, True)
-        self.assertEqual(lines, ['3 programs are left out', '1 flat captures are left out', '1 dumps are left out'])
+        self.assertEqual(lines, ['3 programs are left out', '1 flat captures are left out', '1 dumps are left out',
+                                 '2 tests are in none of programs/'])
         data = self.read('out/captures/fills/size-and-color.capture')
         self.assertEqual(data, tests[0].data)
         self.assertEqual(self.read('out/flat/tall/fills.capture')[:8], HEADS[3])
@@ -87,6 +89,15 @@ class Stored(unittest.TestCase):
             del sections.CHAPTERS_OF['Fills']
             self.assertEqual(list(sections.faults()), ['MACHINE.md, Fills: a "Where" line without a chapter',
                                                        'chapter fills: without a section'])
+
+    def test_survivors_are_changes_of_the_model(self):
+        """Each change with a reason is one that the mutator makes, and the number of changes is that of the document."""
+        with open(mutants.REASONS) as file:
+            text = file.read()
+        there = [name for owner in mutants.owners() for name, _ in mutants.changes(owner)]
+        named = re.findall(r'^\| `(.*)` \| ', text, re.M)
+        self.assertEqual([name for name in named if name not in there], [])
+        self.assertIn('Of %d changes %d are seen, and the %d below' % (len(there), len(there) - len(named), len(named)), text)
 
     def test_a_score(self):
         tests = chosen(['fills/size-and-color', 'fills/x-rounded-down', 'fills/size-0'])

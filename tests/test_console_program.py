@@ -34,7 +34,11 @@ class Assembler(support.InFolder):
 
     @unittest.skipUnless(shutil.which('mipsel-linux-gnu-as'), 'no mipsel-linux-gnu-as')
     def test_gnu_as_makes_the_same_bytes(self):
-        text = image.source(bytes(1 << 20))
+        for text in (image.source(bytes(1 << 20)), image.source(data='.align 2\nwrong: .word 0\n')):
+            with self.subTest(text[-80:]):
+                self.expect_same(text)
+
+    def expect_same(self, text):
         ours, _ = assemble(text, image.ADDRESS, image.NAMES)
         source = self.write('a.s', '.set noreorder\n.set nomacro\n.set noat\n.text\n.globl start\n' + text)
         flags = [word for name, value in image.NAMES.items() for word in ('--defsym', '%s=%d' % (name, value))]

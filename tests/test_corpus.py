@@ -3,7 +3,9 @@ import os
 import unittest
 from xml.etree import ElementTree
 
+from tests import support
 from tests.corpus_support import Corpus, film
+from psxgpu.capture import GP0, records
 from psxgpu.corpus.sums import read_sums
 
 
@@ -112,6 +114,30 @@ missing deep/b.capture
         self.record()
         self.write('golden', self.text('golden').replace('end played', 'end refused 2 small: no'))
         self.assertIn('different a.capture\n    played now\n    recorded: refused 2 small: no\n', self.check().stdout)
+
+
+# A player that writes 1Eh for each byte 1Fh of a dump, and knows no sums.
+WRONG = '#!/bin/sh\n[ "$1" = sums ] && exit 1\n%s "$@" | tr "\\037" "\\036"\n' % support.PLAYER
+
+
+@support.needs_player
+class Reduced(Corpus):
+    def test_reduce(self):
+        """A regression arrives as the smallest capture that shows it, and the report says what it is."""
+        film(4).save(self.path('in/a.capture'))     # the fourth colour is F8h: 001Fh in a cell
+        os.chmod(self.write('wrong', WRONG), 0o755)
+        self.expect(0, '1 capture: 1 played\n', '', 'record', 'in', '--golden', 'golden', '--player', support.PLAYER)
+        check = 'check', 'in', '--golden', 'golden', '--player', './wrong', '--gives', 'vram', '--reduce'
+        done = self.corpus(*check, '--reference', support.PLAYER)
+        lines = [line.strip() for line in done.stdout.splitlines()]
+        self.assertEqual((done.returncode, lines[0], lines[-1]),
+                         (1, 'different a.capture', '1 capture: 0 same, 1 different'), done)
+        at = lines.index('reduced: 1 packet, 3 words: corpus-report/a.capture')
+        self.assertEqual(lines[at + 1], 'fill: corner (0, 0), size 16 by 1; colour 248 0 0')
+        self.assertEqual(records(self.read('corpus-report/a.capture'))[1],
+                         [(GP0, 3, [0x020000F8, 0, 0x00010001])])     # a width of 1 is 16
+        self.assertEqual(self.read('corpus-report/a.png')[:4], b'\x89PNG')
+        self.expect(2, '', '--reduce needs --reference', *check)
 
 
 if __name__ == '__main__':

@@ -27,6 +27,22 @@ class Bad(Corpus):
         self.two()
         self.expect(2, '', './none: there is no such player', 'record', 'in', '--golden', 'golden', '--player', './none')
 
+    def test_all_fail_alike(self):
+        """A player that plays no capture is an error, and not a corpus in which nothing differs."""
+        record = 'record', 'in', '--golden', 'golden', '--player', './moody'
+        for word, end in (('no', 'refused 2 moody: no'), ('crash', 'crashes SIGSEGV')):
+            for name in ('a', 'b'):
+                self.write('in/%s.capture' % name, word + '\n')
+            self.expect(2, '', 'psxgpu corpus: the player plays no capture: a.capture: %s\n$' % end, *record)
+            self.assertEqual([name for name in os.listdir(self.folder) if name.startswith('golden')], [])
+        self.write('in/a.capture', 'good\n')           # one that is played is enough
+        self.expect(1, '2 captures: 1 crashes, 1 played\n', '', *record)
+        golden = self.text('golden')
+        self.expect(2, '', 'the player plays no capture: a.capture: fails 1 without a message\n$',
+                    'check', 'in', '--golden', 'golden', '--player', 'false')
+        self.assertEqual(self.text('golden'), golden)
+        self.assertEqual(os.listdir(self.path('corpus-report')), [])
+
     def test_golden_files(self):
         self.two()
         self.record()

@@ -105,7 +105,7 @@ class Module(support.InFolder):
         library.play.return_value = 0
         paths = [self.write('a.psxgpu', HAND_MADE), pathlib.Path(self.write('b.psxgpu.gz', gzip.compress(HAND_MADE))),
                  self.write('a.capture.xz', lzma.compress(capture))]
-        with mock.patch('psxgpu.machine.library', lambda: library):
+        with mock.patch('psxgpu.machine.playing.library', lambda: library):
             for path in paths:
                 psxgpu.machine.play(path, 'vram')
                 self.assertEqual(library.play.call_args.args[2:4], (capture, len(capture)))

@@ -1,14 +1,11 @@
 """Films: their size, their format, and what is written if something fails."""
-import io
 import os
 import shutil
-import struct
 import subprocess
 import unittest
 
 from tests import support
 from psxgpu import capture as c
-from psxgpu.mending import whole_of
 
 FFMPEG, FFPROBE = shutil.which('ffmpeg'), shutil.which('ffprobe')
 
@@ -79,51 +76,6 @@ class Films(support.InFolder):
                                                       PYTHONPATH=support.TOP))
         self.assertEqual((done.returncode, done.stderr.count('\n')), (2, 1))
         self.assertIn('ffmpeg is not on the path', done.stderr)
-
-
-class Mended(support.InFolder):
-    def mend(self, *words):
-        return support.run_tool('mend', *words, cwd=self.folder)
-
-    def test_every_cut(self):
-        """All events that are there are kept, wherever a recording is cut."""
-        whole = c.Capture(2).gp0(1, 2, 3).gp1(0x05000000).ram(16, 4, 5).dma(6, 64, 4, c.CLEAR_TABLE).read(2).bytes()
-        every = list(c.events(c.records(whole)[1]))
-        for n in range(8, len(whole)):
-            with self.subTest(n):
-                size, rest = whole_of(io.BytesIO(whole[:n]), 'it')
-                found = list(c.events(c.records(whole[:size] + rest)[1]))
-                self.assertEqual(found, every[:len(found)])
-                self.assertEqual(len(found), self.events_in(whole[:n]))
-        self.assertEqual(whole_of(io.BytesIO(whole + b'more'), 'it'), (len(whole), b''))
-
-    @staticmethod
-    def events_in(data):
-        """How many events are there whole, by the words of each record above."""
-        ends = [16, 20, 24, 32, 44, 48, 64, 68]     # the byte after each event; both reads are one record
-        return sum(end <= len(data) for end in ends) + (len(data) >= 68)
-
-    def test_in_place(self):
-        data = c.Capture().gp0(1, 2, 3).bytes()
-        path = self.write('it', data[:18])
-        os.chmod(path, 0o640)
-        self.assertEqual(self.mend('it').stdout, 'made whole\n')
-        self.assertEqual(self.read('it'), c.Capture().gp0(1).bytes())
-        self.assertEqual(os.stat(path).st_mode & 0o777, 0o640)
-        self.assertEqual(self.mend('it').stdout, 'it was whole\n')
-        self.assertEqual(os.listdir(self.folder), ['it'])
-
-    def test_refused(self):
-        self.write('foreign', b'nothing of ours')
-        self.write('bad', c.Capture().gp0(1).bytes()[:-4] + struct.pack('<I', 77 << 24))
-        self.write('good', c.Capture().gp0(1).bytes())
-        for words, said in ((['foreign'], 'foreign: not a capture'), (['bad'], 'bad: byte 16: 4d000000 begins no'),
-                            (['none'], 'none: No such file'), (['good', 'good'], 'good is also the input')):
-            before = {name: self.read(name) for name in os.listdir(self.folder)}
-            done = self.mend(*words)
-            self.assertEqual((done.returncode, done.stderr.count('\n')), (2, 1), done)
-            self.assertIn('psxgpu mend: ' + said, done.stderr)
-            self.assertEqual({name: self.read(name) for name in os.listdir(self.folder)}, before)
 
 
 if __name__ == '__main__':

@@ -81,6 +81,23 @@ class Words(unittest.TestCase):
         self.assertEqual(self.said(c.drawing_area(1, 2, 3, 4)[1:]), ['drawing area: bottom right (3, 4)'])
         self.assertEqual(self.said(c.mask_setting(keep=True)), ['mask setting: cells with bit 15 are kept'])
 
+    def test_texts_are_the_callers(self):
+        """A caller may change the lists: texts that are kept stay as they are."""
+        for words in (ALL_KINDS[0][1], c.mask_setting(), c.drawing_offset(1, 2)):
+            first = self.said(words)
+            kept = list(first)
+            first.clear()
+            self.assertEqual(self.said(words), kept)
+
+    def test_many_words(self):
+        """More colours, texture coordinates and vertices than are kept: each has its own text."""
+        for k in list(range(3000)) + [0, 1, 2999]:
+            found = self.said(c.polygon([(k % 1000, -k % 1000 - 1000), (-1, 1023), (-1024, 0)], [k, 1, 2],
+                                        texture=[(k % 256, k // 256), (0, 0), (0, 0)]))
+            self.assertEqual(found[:3], ['vertices (%d, %d) (-1, 1023) (-1024, 0)' % (k % 1000, -k % 1000 - 1000),
+                                         'colours %d %d 0, 1 0 0, 2 0 0' % (k % 256, k // 256),
+                                         'texcoords (%d, %d) (0, 0) (0, 0)' % (k % 256, k // 256)])
+
     def test_control_words(self):
         self.assertEqual(control(0x05000000 | 16 << 10 | 8), 'display start (8, 16)')
         self.assertEqual(control(0x08000025), 'display mode: width 320, NTSC, double height, interlaced')

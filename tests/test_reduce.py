@@ -2,8 +2,6 @@
 from __future__ import annotations
 
 import io
-import subprocess
-import sys
 import unittest
 from typing import List, Optional, Tuple
 
@@ -13,7 +11,7 @@ from psxgpu.packets.known import CLASSES
 from psxgpu.players.beginning import beginning, first_bytes
 from psxgpu.reduce.faults import BreaksDown, DumpsDiffer, Fault, WordsDiffer
 from psxgpu.reduce.job import Job, Wanted
-from psxgpu.reduce.report import Reduced, report_lines, write_all
+from psxgpu.reduce.report import Reduced, report_lines
 from psxgpu.stream import GP0, Stream
 from tests.small_player import SmallPlayer
 
@@ -131,6 +129,18 @@ class Faults(Reducing):
         found = self.reduce(capture, 'blend', event=events + 2, keep=True)
         self.assertIn('event %d ' % (events + 2), found.headline)
 
+    @support.needs_player
+    def test_ignore(self) -> None:
+        """All that is red is wrong: a fill is found first, a rectangle if fills are ignored, and if both are, nothing."""
+        found = self.reduce(scene(), 'red')
+        self.assertEqual(found.units[-1].name, 'fill', report_lines(found))
+        found = self.reduce(scene(), 'red', ignore=['fill'])
+        names = [unit.name for unit in found.units]
+        self.assertEqual((names[-1], names.count('fill')), ('rectangle', 0), report_lines(found))
+        self.assertLessEqual(found.words, 5, report_lines(found))
+        with Job(SmallPlayer(), SmallPlayer('red'), Wanted(DumpsDiffer(), ['fill', 'rectangle']), jobs=1) as job:
+            self.assertIsNone(job.result(self.path('a.capture'), 'a.capture'))
+
     def test_no_known_class_comes_in(self) -> None:
         found = self.reduce(scene().gp0(c.rectangle(0x80FF40, 30, 20, 40, 30, semi=True)), 'blend')
         self.assertFalse(any('(%s)' % name in found.headline for name in CLASSES))
@@ -163,35 +173,6 @@ class Beginnings(support.InFolder):
         """Reads whose words are not shown become reads."""
         path = self.write('a.capture', c.Capture(2).gp0([7]).skip(3).bytes())
         self.assertEqual(first_bytes(path, 'a', 3), c.Capture().gp0([7]).read(2).bytes())
-
-
-class Written(Reducing):
-    def written(self) -> Reduced:
-        capture = scene().gp0(sprite(40, (0, 300))).gp0(c.load(0, 300, 16, 1, range(900, 916)))
-        found = self.reduce(capture.gp0(sprite(80, (0, 300))), 'cache')
-        write_all(found, self.path('small'), ['ours: a', 'theirs: b'])
-        return found
-
-    def test_log_makes_the_capture(self) -> None:
-        found = self.written()
-        done = support.run_tool('from-log', self.path('small.log'), self.path('again'))
-        self.assertEqual((done.returncode, done.stderr), (0, ''))
-        words = [word for kind, _, part in Stream(io.BytesIO(self.read('again')), 'again') if kind == GP0
-                 for word in part]
-        self.assertEqual(words, self.words(found))
-
-    def test_script_makes_the_capture(self) -> None:
-        found = self.written()
-        subprocess.run([sys.executable, self.path('small.py'), self.path('again')], check=True)
-        self.assertEqual(self.read('again'), found.data)
-        self.assertIn(b'rectangle(color=', self.read('small.py'))
-        self.assertIn(b'clut(x=', self.read('small.py'))
-
-    def test_files(self) -> None:
-        found = self.written()
-        self.assertEqual(self.read('small.capture'), found.data)
-        self.assertEqual(self.read('small.png')[:8], b'\x89PNG\r\n\x1a\n')
-        self.assertLessEqual(len(report_lines(found)), 10)
 
 
 if __name__ == '__main__':

@@ -1,16 +1,21 @@
 """Textures as pictures, and how often cells are covered."""
 from __future__ import annotations
 
+import collections
 import os
 import unittest
 import zlib
+from array import array
 from typing import List
 
 from tests import support
 from psxgpu import capture as c
 from psxgpu.heat.counting import Frame, Tiles
-from psxgpu.heat.picture import counts_of, parts_of
+from psxgpu.heat.picture import counts_of, often_of, parts_of
+from psxgpu.machine import Missing, library
 from psxgpu.packets.texels import rectangle_span
+from psxgpu.players.questions import Questions, cells_of_box
+from psxgpu.stream import READ, SKIP, STAT
 from psxgpu.textures.collect import Ages
 from psxgpu.textures.sources import Source, polygon_span, source_of, windowed
 
@@ -57,7 +62,7 @@ class Written(unittest.TestCase):
         """What is written over the right edge counts for the left one, too."""
         ages = Ages(512)
         ages.write((1000, 10, 1030, 20), 7)
-        self.assertEqual([ages.of(box) for box in ((0, 0, 8, 8), (960, 16, 8, 8), (64, 0, 8, 8), (0, 32, 8, 8))],
+        self.assertEqual([ages.of(ages.tiles(box)) for box in ((0, 0, 8, 8), (960, 16, 8, 8), (64, 0, 8, 8), (0, 32, 8, 8))],
                          [7, 7, 0, 0])
 
     def test_counts(self) -> None:
@@ -74,6 +79,43 @@ class Written(unittest.TestCase):
         tiles = Tiles(512)
         self.assertEqual([tiles.cover((0, 0, 31, 31), 1), tiles.cover((31, 31, 32, 32), 2)], [1, 3])
         self.assertEqual(tiles.cover((32, 32, 40, 40), 1), 3)
+
+
+class Boxes(unittest.TestCase):
+    def test_cells(self) -> None:
+        """A box over the right and the lower edge continues at the opposite ones; an odd number of cells is filled up
+        with 0."""
+        cells = array('H', [0]) * (1024 * 512)
+        cells[511 * 1024 + 1023], cells[511 * 1024], cells[1023], cells[0] = 1, 2, 3, 4
+        memory = memoryview(cells.tobytes())
+        self.assertEqual(array('H', cells_of_box(memory, (1023, 511, 2, 2))).tolist(), [1, 2, 3, 4])
+        self.assertEqual(array('H', cells_of_box(memory, (1023, 511, 1, 1))).tolist(), [1, 0])
+
+    def test_often(self) -> None:
+        """Counts above 255 have two bytes."""
+        for counts in ([0, 3, 3, 255], [0, 3, 3, 256, 1000]):
+            self.assertEqual(often_of(array('H', counts)), collections.Counter(counts))
+
+
+@support.needs_player
+class Answers(unittest.TestCase):
+    def test_both_ways(self) -> None:
+        """The library and the program give the same answers, whatever the recording itself reads in between."""
+        questions = Questions(False)
+        questions.words([*c.fill(0x0000FF, 0, 0, 16, 2), *c.store(0, 0, 2, 2)])
+        for kind, count in ((READ, 1), (STAT, 1), (SKIP, 1)):
+            questions.record(kind, count, [])
+            questions.ask((14, 1, 3, 1))
+        questions.words(c.fill(0x00FF00, 0, 0, 16, 1))
+        questions.ask((0, 0, 1, 2))
+        want = [(number, array('H', [31, 31, 0, 0]).tobytes()) for number in range(3)]
+        want.append((3, array('H', [31 << 5, 31]).tobytes()))
+        self.assertEqual(list(questions.answers_of_program(support.PLAYER)), want)
+        try:
+            library()
+        except Missing:
+            self.skipTest('no library is built')
+        self.assertEqual(list(questions.answers_of_library()), want)
 
 
 @support.needs_player

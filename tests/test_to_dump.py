@@ -14,8 +14,8 @@ from psxgpu.dumps.cutter import Cutter
 from psxgpu.dumps.export import About, Export
 from psxgpu.dumps.format import CYCLES, HEAD
 from psxgpu.dumps.reader import Dump
-from psxgpu.players.flat import flattened
-from psxgpu.stream import GP0, GP1, READ, SKIP, Stream, is_flat
+from psxgpu.players.flat import flattened, is_flat
+from psxgpu.stream import GP0, GP1, READ, SKIP, Stream
 
 POLYLINE = [0x48000000, 1, 2, 3, 0x55555555]
 SHADED = [0x58000000, 1, 2, 0x50005000, 3, 0x50005000, 0x50005000]      # two of its vertices look like the end

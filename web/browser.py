@@ -5,7 +5,7 @@
         browser.open('web/out/index.html')
         print(browser.evaluate('1 + 1'))
 
-As a program it says whether there is a Chromium that runs the module: with status 0, or with 77 and a line.
+As a program it says whether there is a Chromium that starts: with status 0, or with 77 and a line.
 """
 import json
 import os
@@ -103,6 +103,10 @@ class Browser:
         while self.evaluate('document.readyState') != 'complete':
             time.sleep(0.05)
 
+    def define(self, text):
+        """Runs a script as one of the page's own: what it declares stays."""
+        self.evaluate(text)
+
     def evaluate(self, expression, repl=False):
         """`repl` takes lines as a console does: `await` and `const` at the top of each."""
         answer = self.call('Runtime.evaluate', expression=expression, awaitPromise=True, returnByValue=True,
@@ -113,19 +117,14 @@ class Browser:
         return answer['result'].get('value')
 
 
-# A module whose only part is a memory with addresses of 64 bits.
-WIDE_MEMORY = 'WebAssembly.validate(new Uint8Array([0, 97, 115, 109, 1, 0, 0, 0, 5, 3, 1, 4, 1]))'
-
-
 def main():
     if not chromium():
         print('skipped: no Chromium')
         return 77
     try:
         with Browser() as browser:
-            if browser.evaluate(WIDE_MEMORY):
-                return 0
-            print('skipped: this Chromium has no WebAssembly memory of 64 bits')
+            browser.evaluate('1 + 1')
+        return 0
     except Failed as bad:
         print('skipped: %s does not start: %s' % (chromium(), bad))
     return 77

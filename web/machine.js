@@ -1,165 +1,170 @@
-// The machine as the viewer asks for it: the calls of the module over rooms in its memory that stay, so that words go
-// in and pictures come out without a room for each. What a call gives as bytes or words is a view until the next call.
-// psxgpu.js has the same calls for other pages, each with rooms of its own.
+// A machine: the calls of c/psxgpu.h that have one, over typed arrays.
+//
+// A method whose name ends in View returns a view of the module's memory. It is valid until the next call of any machine
+// of the library. All other methods return copies.
 
-const WORDS = 16384, HANDLE = 16, SAVE = 4194564, VRAM = 2097152, PICTURE = 9 << 20;
-const REGISTERS = 13, END = 4;
+import { bytesOf, wordsOf } from './bytes.js';
+import { Handle } from './handle.js';
+import { NOTE_BYTES, Notes } from './notes.js';
+import { NO_PICTURE, Refused } from './refused.js';
 
-// A note as words: event and place of the word (low halves first), head, class and below it whether there is an area,
-// and the area.
-const NOTE = 10, [PLACE, HEAD, CLASS, AREA] = [2, 4, 5, 6];
-const HAS_AREA = 0x10000;
+/** @typedef {import('./bytes.js').Words} Words */
+/** @typedef {import('./library.js').Library} Library */
+/** @typedef {import('./notes.js').Note} Note */
+/** A picture: four bytes a pixel, red, green, blue and 255, row by row.
+ * @typedef {{ width: number, height: number, bytes: Uint8ClampedArray }} Frame */
 
-// What is told of items, as they were completed one after another.
-class Notes {
-    constructor(words, length) { Object.assign(this, { words, length }); }
+const [REGISTER_WORDS, END_BYTES] = [13, 4];
+// Bytes that always suffice: for video memory, for a snapshot without records, for the header of a PPM.
+const [VRAM_BYTES, SAVE_BYTES, PPM_HEADER_BYTES] = [2097152, 4194564, 32];
 
-    // The place of the word that completed the item.
-    place(k) { return this.words[NOTE * k + PLACE]; }
-
-    head(k) { return this.words[NOTE * k + HEAD] >>> 0; }
-
-    kind(k) { return this.words[NOTE * k + CLASS] & 0xFFFF; }
-
-    hasArea(k) { return (this.words[NOTE * k + CLASS] & HAS_AREA) !== 0; }
-
-    // Column and row of a corner: 0 the first, 1 the last.
-    corner(k, which) {
-        const at = NOTE * k + AREA + 2 * which;
-        return [this.words[at], this.words[at + 1]];
-    }
-}
-
-export class Machine {
-    // `library`: what psxgpu.load gives.
-    constructor(library) {
-        this.calls = library.exports;
-        this.rooms = [];
-        this.handle = this.room(HANDLE);
-        this.bytes(this.handle, HANDLE).fill(0);
-        this.words = this.room(4 * WORDS);
-        this.out = this.room(Math.max(SAVE, PICTURE, VRAM));
-        this.small = this.room(64);
-        this.must(this.calls.psxgpu_new(this.handle));
+export class Machine extends Handle {
+    /** A machine in its first state. `tall`: 1024 rows of video memory.
+     * @param {Library} library */
+    constructor(library, { tall = false } = {}) {
+        super(library);
+        if (tall) this.setTall();
     }
 
-    room(size) {
-        const at = this.calls.malloc(BigInt(size));
-        if (at === 0n) throw new Error('memory is short');
-        this.rooms.push(at);
-        return at;
+    /** Returns to the first state. */
+    clear() { this.do('clear'); }
+
+    /** Extends video memory to 1024 rows. */
+    setTall() { this.do('set_tall'); }
+
+    /** Feeds words to GP0. Each is an event.
+     * @param {Words} words */
+    gp0(words) { this.inParts(words, (at, count) => this.do('gp0_words', at, BigInt(count))); }
+
+    /** Feeds words to GP0, and returns a note for each item that they complete, except for the data words of a load.
+     * @param {Words} words
+     * @returns {Note[]} */
+    gp0Notes(words) {
+        /** @type {Note[]} */
+        const all = [];
+        this.inParts(words, (_, count, part, from) => {
+            const notes = this.gp0NotesView(part);
+            for (let k = 0; k < notes.length; k++) all.push({ ...notes.note(k), word: from + notes.word(k) });
+        });
+        return all;
     }
 
-    free() {
-        this.calls.psxgpu_free(this.handle);
-        for (const at of this.rooms.reverse()) this.calls.free(at);
-        this.rooms = [];
+    /** The same, as a view. Memory for one note a word is reserved.
+     * @param {Words} words */
+    gp0NotesView(words) {
+        const list = wordsOf(words), count = Math.max(1, list.length), { library } = this;
+        const at = library.reserve((4 + NOTE_BYTES) * count), notes = at + BigInt(4 * count);
+        library.words(at, list.length).set(list);
+        this.do('gp0_notes', at, BigInt(list.length), notes, BigInt(count), library.small);
+        const found = library.size(library.small);
+        return new Notes(new Int32Array(library.exports.memory.buffer, Number(notes), found * NOTE_BYTES / 4));
     }
 
-    must(code) {
-        if (code !== 0) throw new Error(`the machine answers ${code}`);
-    }
+    /** Feeds a word to GP1.
+     * @param {number} word */
+    gp1(word) { this.do('gp1', word); }
 
-    bytes(at, count) { return new Uint8Array(this.calls.memory.buffer, Number(at), count); }
+    /** Returns the next word of the data port. */
+    read() { return this.wordOf('read'); }
 
-    wordsAt(at, count) { return new Uint32Array(this.calls.memory.buffer, Number(at), count); }
+    /** Returns the status word. */
+    status() { return this.wordOf('status'); }
 
-    written() { return Number(new BigUint64Array(this.calls.memory.buffer, Number(this.small), 1)[0]); }
+    /** Reads the next word of the data port and drops it. */
+    skip() { this.do('skip'); }
 
-    clear() { this.must(this.calls.psxgpu_clear(this.handle)); }
-
-    setTall() { this.must(this.calls.psxgpu_set_tall(this.handle)); }
-
-    // Words for GP0.
-    gp0(words) {
-        for (let from = 0; from < words.length; from += WORDS) {
-            const part = words.subarray(from, from + WORDS);
-            this.wordsAt(this.words, part.length).set(part);
-            this.must(this.calls.psxgpu_gp0_words(this.handle, this.words, BigInt(part.length)));
-        }
-    }
-
-    // The same; `told` is given the notes of some words, and which of all words is the first of those.
-    gp0Notes(words, told) {
-        this.notes ??= this.room(4 * NOTE * WORDS);
-        for (let from = 0; from < words.length; from += WORDS) {
-            const part = words.subarray(from, from + WORDS), count = BigInt(part.length);
-            this.wordsAt(this.words, part.length).set(part);
-            this.must(this.calls.psxgpu_gp0_notes(this.handle, this.words, count, this.notes, count, this.small));
-            const length = this.written();
-            told(new Notes(new Int32Array(this.calls.memory.buffer, Number(this.notes), NOTE * length), length), from);
-        }
-    }
-
-    gp1(word) { this.must(this.calls.psxgpu_gp1(this.handle, word)); }
-
-    read() {
-        this.must(this.calls.psxgpu_read(this.handle, this.small));
-        return this.wordsAt(this.small, 1)[0];
-    }
-
-    status() {
-        this.must(this.calls.psxgpu_status(this.handle, this.small));
-        return this.wordsAt(this.small, 1)[0];
-    }
-
-    skip() { this.must(this.calls.psxgpu_skip(this.handle)); }
-
-    // Words for main memory.
+    /** Writes words to main memory.
+     * @param {number} address in bytes, a multiple of 4
+     * @param {Words} words */
     ram(address, words) {
-        for (let from = 0; from < words.length; from += WORDS) {
-            const part = words.subarray(from, from + WORDS);
-            this.wordsAt(this.words, part.length).set(part);
-            this.must(this.calls.psxgpu_ram(this.handle, address + 4 * from, this.words, BigInt(part.length)));
+        const list = wordsOf(words), at = this.library.reserve(4 * list.length);
+        this.library.words(at, list.length).set(list);
+        this.do('ram', address, at, BigInt(list.length));
+    }
+
+    /** Starts DMA channel 2 or 6 and transfers everything.
+     * @param {number} channel
+     * @param {number} madr
+     * @param {number} bcr
+     * @param {number} chcr */
+    dma(channel, madr, bcr, chcr) { this.doEnded('dma', channel, madr, bcr, chcr); }
+
+    /** Starts DMA channel 2. `turn` transfers.
+     * @param {number} madr
+     * @param {number} bcr
+     * @param {number} chcr */
+    begin(madr, bcr, chcr) { this.doEnded('begin', madr, bcr, chcr); }
+
+    /** Transfers the next block, or the words of the next node. */
+    turn() { this.do('turn'); }
+
+    /** Returns video memory: cells row by row, the low byte of each first. */
+    vram() { return this.bytesOf('vram', VRAM_BYTES).slice(); }
+
+    /** Returns the cells of video memory row by row, as a view. */
+    vramView() {
+        const bytes = this.bytesOf('vram', VRAM_BYTES);
+        return new Uint16Array(bytes.buffer, bytes.byteOffset, bytes.length >> 1);
+    }
+
+    /** Returns a cell of video memory.
+     * @param {number} x
+     * @param {number} y */
+    cell(x, y) {
+        this.do('cell', x, y, this.library.small);
+        return this.library.data(this.library.small, 2).getUint16(0, true);
+    }
+
+    /** Returns width and height of the shown picture in pixels. Refused if there is none.
+     * @returns {[number, number]} */
+    shape() {
+        const { small } = this.library;
+        this.do('shape', small, small + 2n);
+        const data = this.library.data(small, 4);
+        return [data.getUint16(0, true), data.getUint16(2, true)];
+    }
+
+    /** Returns the shown picture as a PPM file. Refused if there is none. */
+    picture() {
+        const [width, height] = this.shape();
+        return this.bytesOf('picture', 3 * width * height + PPM_HEADER_BYTES).slice();
+    }
+
+    /** Returns the pixels of the shown picture as the data of an ImageData. Refused if there is none. */
+    pictureRgba() {
+        const [width, height] = this.shape();
+        return new Uint8ClampedArray(this.bytesOf('picture_rgba', 4 * width * height));
+    }
+
+    /** Returns the shown picture, or null if there is none.
+     * @returns {Frame | null} */
+    frame() {
+        try {
+            const [width, height] = this.shape();
+            return { width, height, bytes: this.pictureRgba() };
+        } catch (refused) {
+            if (refused instanceof Refused && refused.code === NO_PICTURE) return null;
+            throw refused;
         }
     }
 
-    dma(channel, madr, bcr, chcr) {
-        this.must(this.calls.psxgpu_dma(this.handle, channel, madr, bcr, chcr, this.small));
-    }
-
-    begin(madr, bcr, chcr) { this.must(this.calls.psxgpu_begin(this.handle, madr, bcr, chcr, this.small)); }
-
-    turn() { this.must(this.calls.psxgpu_turn(this.handle)); }
-
-    // The cells of video memory, row by row.
-    vram() {
-        this.must(this.calls.psxgpu_vram(this.handle, this.out, BigInt(VRAM), this.small));
-        return new Uint16Array(this.calls.memory.buffer, Number(this.out), this.written() >> 1);
-    }
-
-    cell(x, y) {
-        this.must(this.calls.psxgpu_cell(this.handle, x, y, this.small));
-        return this.wordsAt(this.small, 1)[0] & 0xFFFF;
-    }
-
-    // The shown picture, four bytes a pixel; null where it has none.
-    picture() {
-        const shape = new Uint16Array(this.calls.memory.buffer, Number(this.small), 2);
-        if (this.calls.psxgpu_shape(this.handle, this.small, this.small + 2n) !== 0) return null;
-        const [width, height] = shape, size = 4 * width * height;
-        this.must(this.calls.psxgpu_picture_rgba(this.handle, this.out, BigInt(size), this.small));
-        const bytes = new Uint8ClampedArray(this.bytes(this.out, size));
-        return { width, height, bytes };
-    }
-
+    /** Returns the thirteen words that `psxgpu_registers` of c/psxgpu.h lists. */
     registers() {
-        this.must(this.calls.psxgpu_registers(this.handle, this.small, BigInt(REGISTERS)));
-        return this.wordsAt(this.small, REGISTERS).slice();
+        this.do('registers', this.library.small, BigInt(REGISTER_WORDS));
+        return [...this.library.words(this.library.small, REGISTER_WORDS)];
     }
 
-    // The state as the bytes of a snapshot, without its End record.
-    save() {
-        this.must(this.calls.psxgpu_save(this.handle, this.out, BigInt(SAVE), this.small));
-        return this.bytes(this.out, this.written() - END);
-    }
+    /** Returns the machine's state as a snapshot without records. */
+    save() { return this.bytesOf('save', SAVE_BYTES).slice(); }
 
-    // Becomes the state of a snapshot. Null, or how it is refused.
-    load(bytes) {
-        this.bytes(this.out, bytes.length).set(bytes);
-        const code = this.calls.psxgpu_load(this.handle, this.out, BigInt(bytes.length), this.small);
-        const told = new DataView(this.calls.memory.buffer, Number(this.small), 32);
-        if (code === 0) return null;
-        return { code, place: Number(told.getBigUint64(16, true)), word: told.getUint32(24, true) };
+    /** Returns the same without its End record, as a view. */
+    stateView() { return this.bytesOf('save', SAVE_BYTES).subarray(0, -END_BYTES); }
+
+    /** Takes the state of a snapshot, or the first state of a capture. If it is refused, the machine keeps its state.
+     * @param {BufferSource} snapshot */
+    load(snapshot) {
+        const data = bytesOf(snapshot), at = this.library.reserve(data.length);
+        this.library.bytes(at, data.length).set(data);
+        this.doEnded('load', at, BigInt(data.length));
     }
 }

@@ -1,22 +1,22 @@
 /* What the machine calls of a C library and of the compiler's own, for a module that has neither: a heap in the module's
- * memory, bytes moved, and products of 128 bits.
+ * memory, functions that move bytes, and products of 128 bits.
  *
- * The heap is a row of blocks from the end of the module's data on, each behind a head with its size. The first free
- * block that is large enough is given; free neighbours become one on the way, and the last block grows with the
- * module's memory. A machine takes a dozen blocks, so the way is short. */
+ * The heap is a row of blocks from the end of the module's data on. Each is preceded by a header with its size. malloc
+ * returns the first free block that is large enough. On its way it joins free neighbours, and the last block grows with
+ * the module's memory. A machine takes a dozen blocks, so the way is short. */
 #include <stdlib.h>
 
 enum { UNIT = 16, PAGE = 65536 };
 
-/* A larger block is refused at once. */
-static const size_t MOST = (size_t)1 << 40;
+/* A larger block is refused at once: the module that runs has addresses of 32 bits. */
+static const size_t MOST = (size_t)1 << 32;
 
-struct head { size_t size, taken; };
+struct header { size_t size, taken; };
 
 extern unsigned char __heap_base;
-static struct head *first, *end;
+static struct header *first, *end;
 
-static struct head *behind(struct head *block) { return (struct head *)((char *)(block + 1) + block->size); }
+static struct header *next_of(struct header *block) { return (struct header *)((char *)(block + 1) + block->size); }
 
 /* Makes the module's memory reach to this address. */
 static int reach(size_t to) {
@@ -24,21 +24,22 @@ static int reach(size_t to) {
     return to <= have || __builtin_wasm_memory_grow(0, (to - have + PAGE - 1) / PAGE) != (size_t)-1;
 }
 
-/* Grows a block over the free ones behind it, and at the end of the row over what lies behind. */
-static int widen(struct head *block, size_t size) {
-    while (behind(block) != end && !behind(block)->taken)
-        block->size += sizeof *block + behind(block)->size;
-    if (block->size < size && behind(block) == end && reach((size_t)(block + 1) + size)) {
+/* Grows a block over the free ones after it, and the last block over the memory after it. Returns whether it has `size`
+ * bytes then. */
+static int widen(struct header *block, size_t size) {
+    while (next_of(block) != end && !next_of(block)->taken)
+        block->size += sizeof *block + next_of(block)->size;
+    if (block->size < size && next_of(block) == end && reach((size_t)(block + 1) + size)) {
         block->size = size;
-        end = behind(block);
+        end = next_of(block);
     }
     return block->size >= size;
 }
 
-/* Takes this much of a block, and leaves the rest free. */
-static void *take(struct head *block, size_t size) {
+/* Takes `size` bytes of a block, and leaves the rest free. */
+static void *take(struct header *block, size_t size) {
     if (block->size >= size + sizeof *block + UNIT) {
-        struct head *rest = (struct head *)((char *)(block + 1) + size);
+        struct header *rest = (struct header *)((char *)(block + 1) + size);
         rest->size = block->size - size - sizeof *block;
         rest->taken = 0;
         block->size = size;
@@ -51,23 +52,23 @@ static size_t in_units(size_t size) { return (size + UNIT - 1) / UNIT * UNIT; }
 
 void *malloc(size_t size) {
     if (size > MOST) return NULL;
-    if (first == NULL) first = end = (struct head *)in_units((size_t)&__heap_base);
-    struct head *block = first;
-    for (; block != end; block = behind(block))
+    if (first == NULL) first = end = (struct header *)in_units((size_t)&__heap_base);
+    struct header *block = first;
+    for (; block != end; block = next_of(block))
         if (!block->taken && widen(block, in_units(size))) return take(block, in_units(size));
     if (!reach((size_t)(block + 1) + in_units(size))) return NULL;
     block->size = in_units(size);
-    end = behind(block);
+    end = next_of(block);
     return take(block, in_units(size));
 }
 
 void free(void *at) {
-    if (at != NULL) ((struct head *)at - 1)->taken = 0;
+    if (at != NULL) ((struct header *)at - 1)->taken = 0;
 }
 
 void *realloc(void *at, size_t size) {
     if (at == NULL || size > MOST) return at == NULL ? malloc(size) : NULL;
-    struct head *block = (struct head *)at - 1;
+    struct header *block = (struct header *)at - 1;
     size_t had = block->size;
     if (widen(block, in_units(size))) return take(block, in_units(size));
     void *now = malloc(size);

@@ -1,8 +1,9 @@
 #!/usr/bin/env python3
-"""The page in Chromium, from the disk, against the program: PLAYER=psxgpu_tool python3 web/test_web.py
+"""The page in Chromium and in Firefox, from the disk, against the program: PLAYER=psxgpu_tool python3 web/test_web.py
 
-`make web` comes first. The sums of what the module writes are compared with the program's, over all examples. The
-script lines of docs/LIBRARY.md are tried, each that ends in a comment with its value."""
+`make web` comes first. The sums of what the module writes are compared with the program's, over all examples. In
+Chromium the module with addresses of 64 bits, from which it is made, has to write the same. The script lines of
+docs/LIBRARY.md are tried, each that ends in a comment with its value."""
 import base64
 import hashlib
 import json
@@ -15,102 +16,29 @@ HERE = os.path.dirname(os.path.abspath(__file__))
 sys.path[:0] = [HERE, os.path.dirname(HERE)]
 
 from tests.library import support as program  # noqa: E402
-from browser import Browser  # noqa: E402
+from browser import Browser, chromium  # noqa: E402
+from firefox import Firefox, firefox  # noqa: E402
 
 COMMANDS = ['play', 'vram', 'shot', 'list', 'report', 'frames', 'frames marks', 'sums', 'sums marks', 'pixel 20 30']
-# Functions of the test in the page.
-HELPERS = r'''
-const bytesOf = text => Uint8Array.from(atob(text), letter => letter.charCodeAt(0));
-const sumOf = async bytes => [...new Uint8Array(await crypto.subtle.digest('SHA-256', bytes))]
-    .map(byte => byte.toString(16).padStart(2, '0')).join('');
-async function plays(command, text) {
-    const [mode, x, y] = command.startsWith('pixel') ? command.split(' ') : [command];
-    try {
-        return [0, await sumOf(library.play(mode, bytesOf(text), [Number(x || 0), Number(y || 0)])), ''];
-    } catch (bad) {
-        return [2, await sumOf(bad.output), bad.message];
-    }
-}
-// What the calls of a machine give: the words read, video memory and the shown picture at the end, what is refused.
-async function callsSee(text) {
-    const lines = [], seen = {};
-    try {
-        psxgpu.playRecords(library, bytesOf(text), (machine, record, words) => {
-            lines.push(...words.map(word => word.toString(16).padStart(8, '0')));
-            if (record !== null) return;
-            seen.vram = machine.vram();
-            lines.push('status ' + machine.status().toString(16).padStart(8, '0'));
-            try { seen.shot = machine.picture(); } catch (bad) { seen.shot = new Uint8Array(); }
-        });
-    } catch (bad) {
-        return [2, bad.message];
-    }
-    return [0, lines.join('\n') + '\n', await sumOf(seen.vram), await sumOf(seen.shot)];
-}
-// Takes and gives back blocks without a pattern; answers how many were written by another block.
-function heapFaults(rounds) {
-    const blocks = [];
-    let state = 1, faults = 0;
-    const below = n => (state = (1664525 * state + 1013904223) >>> 0, (state >>> 8) % n);
-    for (let round = 0; round < rounds; round++) {
-        if (blocks.length < 40 && below(3)) {
-            const size = 1 + below(below(8) ? 500 : 300000), at = library.take(size);
-            library.bytes(at, size).fill(round);
-            blocks.push({ at, size, byte: round % 256 });
-        } else if (blocks.length) {
-            const [{ at, size, byte }] = blocks.splice(below(blocks.length), 1);
-            faults += library.bytes(at, size).some(it => it !== byte);
-            library.give(at);
-        }
-    }
-    for (const { at } of blocks) library.give(at);
-    return faults;
-}
-function machineSeen() {
-    const machine = library.machine(), seen = [];
-    machine.gp0([0x020000FF, 0, 0x00100010]);
-    seen.push(machine.cell(3, 4), machine.cell(16, 4), machine.status());
-    machine.gp0([0xA0000000, 0, 0x00010002, 0x22221111, 0xC0000000, 0, 0x00010002]);
-    seen.push(machine.read());
-    machine.clear();
-    seen.push(machine.cell(3, 4));
-    machine.close();
-    try { machine.read(); } catch (bad) { seen.push(bad.message); }
-    return seen;
-}
-function notesAndPicture() {
-    const machine = library.machine();
-    const notes = machine.gp0Notes([0xE1000000, 0x020000FF, 0, 0x00010010, 0xA0000000, 0, 0x00010002, 0]);
-    const told = notes.map(({ event, word, classNumber, head, area }) => [event, word, classNumber, head, area]);
-    machine.gp1(0x08000001);
-    const pixels = machine.pictureRgba(), [width, height] = machine.shape();
-    machine.close();
-    return [told, [...pixels.subarray(4, 16)], pixels.length === 4 * width * height];
-}
-function stepBack() {
-    const machine = library.machine({ tall: true });
-    machine.gp0([0x020000FF, 0x02580000, 0x00100010]);
-    const before = machine.save();
-    machine.gp0([0x02000000, 0x02580000, 0x00100010]);
-    const between = machine.cell(3, 604);
-    machine.load(before);
-    const seen = [between, machine.cell(3, 604)];
-    machine.close();
-    return seen;
-}
-'''
+# A module whose only part is a memory with addresses of 64 bits.
+WIDE_MEMORY = 'WebAssembly.validate(new Uint8Array([0, 97, 115, 109, 1, 0, 0, 0, 5, 3, 1, 4, 1]))'
+# Functions of the tests in the page.
+with open(os.path.join(HERE, 'test_web.js'), encoding='utf-8') as script:
+    HELPERS = script.read()
 
 
-class InTheBrowser(unittest.TestCase):
+class Page:
+    """The tests in one browser."""
+
     @classmethod
     def setUpClass(cls):
-        cls.browser = Browser()
+        cls.browser = cls.start()
         cls.addClassCleanup(cls.browser.close)
 
     def setUp(self):
         self.browser.open(os.path.join(HERE, 'out', 'index.html'))
         self.browser.evaluate('ready.then(() => true)')
-        self.browser.evaluate(HELPERS)
+        self.browser.define(HELPERS)
 
     def plays(self, command):
         """Whether program and module know this command."""
@@ -158,15 +86,6 @@ class InTheBrowser(unittest.TestCase):
     def test_step_back(self):
         self.assertEqual(self.browser.evaluate('stepBack()'), [0, 31])
 
-    def test_document(self):
-        with open(os.path.join(program.TOP, 'docs', 'LIBRARY.md')) as file:
-            lines = re.search(r'(?ms)^```js\n(.*?)^```', file.read())[1].splitlines()
-        for line in lines:
-            with self.subTest(line=line):
-                found = self.browser.evaluate(line.replace('const library = ', 'library = '), repl=True)
-                if '// ' in line:
-                    self.assertEqual(found, json.loads(line.split('// ')[1]))
-
     def test_heap(self):
         self.assertEqual(self.browser.evaluate('heapFaults(5000)'), 0)
 
@@ -180,6 +99,40 @@ class InTheBrowser(unittest.TestCase):
         # The colours 0x802010 and 0x0000FF as cells of five bits a channel, and these widened again.
         self.assertEqual(self.browser.evaluate(pixel % (5, 5)), [16, 33, 132, 255])
         self.assertEqual(self.browser.evaluate(pixel % (130, 90)), [255, 0, 0, 255])
+
+
+@unittest.skipUnless(chromium(), 'no Chromium')
+class InChromium(Page, unittest.TestCase):
+    start = Browser
+
+    def test_document(self):
+        with open(os.path.join(program.TOP, 'docs', 'LIBRARY.md')) as file:
+            lines = re.search(r'(?ms)^```js\n(.*?)^```', file.read())[1].splitlines()
+        for line in lines:
+            with self.subTest(line=line):
+                line, _, value = line.replace('const library = ', 'library = ').partition('// ')
+                found = self.browser.evaluate(line if value else line + ' null', repl=True)
+                self.assertEqual(found, json.loads(value or 'null'))
+
+    def test_wide(self):
+        """The module before web/lower64.py, where this Chromium knows addresses of 64 bits."""
+        if not self.browser.evaluate(WIDE_MEMORY):
+            self.skipTest('no WebAssembly memory of 64 bits')
+        with open(os.path.join(HERE, 'out', 'psxgpu.64.wasm'), 'rb') as file:
+            module = base64.b64encode(file.read()).decode()
+        self.browser.evaluate("var library64 = null; psxgpu.load(bytesOf('%s')).then(it => { library64 = it; })" % module)
+        for path in program.EXAMPLES:
+            text = base64.b64encode(program.bytes_at(path)).decode()
+            for command in COMMANDS:
+                with self.subTest(path=os.path.basename(path), command=command):
+                    want, found = (self.browser.evaluate("plays('%s', '%s', %s)" % (command, text, on))
+                                   for on in ('library64', 'library'))
+                    self.assertEqual(found, want)
+
+
+@unittest.skipUnless(firefox(), 'no Firefox')
+class InFirefox(Page, unittest.TestCase):
+    start = Firefox
 
 
 if __name__ == '__main__':

@@ -3,11 +3,11 @@
 
     python3 .ci/harness/check_commands.py crates/psxgpu_tool/out/psxgpu_tool README.md docs/*.md
 
-A command stands in an indented block after `$ ` (in a .txt file without the indent); the lines below it, up to a blank
-line or the next command, are what it writes, errors among it. It runs at the top of a copy of examples/, psxgpu/, docs/
-and bench/, with PLAYER as psxgpu_tool. Of a .md file the links to files are checked as well, and that each name after
-a `crate/folder/File: name, name` stands in that file. The last line is `N passed, M failed`. Status: 0 all passed, 1
-some failed, 2 trouble.
+A command is in an indented block after `$ ` (in a .txt file without the indent). The lines below it, up to a blank line
+or the next command, are its output, errors included. It runs at the top of a copy of examples/, psxgpu/, docs/ and
+bench/, with PLAYER as psxgpu_tool. Of a .md file, links to files and headings are checked too, and that each name after
+`crate/folder/File: name, name` is in that file. The last line is `N passed, M failed`. Status: 0 all passed, 1 some
+failed, 2 an error.
 """
 import os
 import re
@@ -55,7 +55,7 @@ def stand_in(folder, player):
     for name in filter(in_root, ('examples', 'psxgpu', 'docs', 'bench')):
         shutil.copytree(os.path.join(ROOT, name), os.path.join(folder, name),
                         ignore=shutil.ignore_patterns('__pycache__'))
-    for name in filter(in_root, ('crates', 'Makefile', 'README.md')):
+    for name in filter(in_root, ('crates', 'systems', 'Makefile', 'README.md')):
         os.symlink(os.path.join(ROOT, name), os.path.join(folder, name))
     os.mkdir(os.path.join(folder, 'bin'))
     os.symlink(os.path.abspath(player), os.path.join(folder, 'bin', 'psxgpu_tool'))
@@ -85,13 +85,23 @@ def first_difference(got, want):
     return k + 1, got[k] if k < len(got) else None, want[k] if k < len(want) else None
 
 
+def anchors(path):
+    """The names by which the headings of a .md file are linked: small letters, hyphens for spaces, no other signs."""
+    with open(path) as file:
+        headings = re.findall('^#+ (.*)', file.read(), re.M)
+    return {re.sub(r'[^\w -]', '', heading.lower()).replace(' ', '-') for heading in headings}
+
+
 def dead_links(path):
-    """Returns the links of a .md file to files that are not there, as lines of text."""
+    """Returns the links of a .md file to files and headings that are not there, as lines of text."""
     with open(path) as file:
         text = file.read()
-    for link in re.findall(r'\]\(([^)#:]+)(?:#[^)]*)?\)', text):
-        if not os.path.exists(os.path.join(os.path.dirname(path), link)):
+    for link, anchor in re.findall(r'\]\(\s*([^)#:]*)(?:#([^):]*))?\)', text):
+        target = os.path.join(os.path.dirname(path), link) if link else path
+        if not os.path.exists(target):
             yield 'no file ' + link
+        elif anchor and target.endswith('.md') and anchor not in anchors(target):
+            yield 'no heading %s#%s' % (link, anchor)
 
 
 def references(path):
@@ -104,6 +114,8 @@ def references(path):
             yield 'no file ' + name
     for name, words in re.findall(r'`(\w+/(?:specs|src|proofs|must-fail)/[\w./-]+)(?:: ([^`]*))?`', text):
         place = os.path.join(ROOT, 'crates', name)
+        if in_root(name):
+            continue            # of a folder beside the crates
         if not os.path.exists(place):
             yield 'no file crates/' + name
             continue

@@ -1,7 +1,7 @@
 #!/usr/bin/env python3
 """Prints the links of documents that lead nowhere: check_links.py FILE.md ..
 
-Status: 0 each leads to a file, 1 some do not.
+Status: 0 each leads to a file and a heading of it, 1 some do not.
 """
 import sys
 

@@ -117,6 +117,13 @@ class Bare(Console):
         return done.stdout.splitlines()
 
 
+def console_of(folder: str, library: str, is_bare: bool) -> Console:
+    """Returns the console: pcsxr if it is here, else the bare processor. Both draw with libpsxgpu.a, `library`."""
+    has_pcsxr = shutil.which('pcsxr', path=os.environ.get('PATH', '') + ':/usr/games') and shutil.which('Xvfb')
+    kind = Pcsxr if has_pcsxr and not is_bare else Bare
+    return kind(folder, os.path.abspath(library))
+
+
 def difference(tool: str, console: Console, folder: str, capture: bytes, packs: bool) -> str:
     """Returns what differs, or nothing."""
     program, recording = os.path.join(folder, 'a.exe'), os.path.join(folder, 'a.capture')
@@ -144,11 +151,9 @@ def main() -> int:
     if not shutil.which('gcc'):
         print('skipped: no gcc on this machine')
         return SKIPPED
-    has_pcsxr = shutil.which('pcsxr', path=os.environ.get('PATH', '') + ':/usr/games') and shutil.which('Xvfb')
     differ = tried = 0
     with tempfile.TemporaryDirectory(prefix='psxgpu') as folder:
-        kind = Pcsxr if has_pcsxr and not words.bare else Bare
-        console: Console = kind(folder, os.path.abspath(words.library))
+        console = console_of(folder, words.library, words.bare)
         for name, capture in captures():
             if words.names and name not in words.names:
                 continue

@@ -3,7 +3,8 @@
 
     python3 .ci/harness/faults.py PLAYER CAPTURE .. [-- COMMAND ..]
 
-For each capture (or snapshot) and each command (play, if none is given; `cut 3` is one word), the run is tried as it
+PLAYER is a program, or a command that starts one by an emulator; the environment's CC then names the compiler of its
+system. For each capture (or snapshot) and each command (play, if none is given; `cut 3` is one word), the run is tried as it
 is, and then once for each growth of memory that is refused, for each read and each write that fails, with reads and
 writes of one byte each, and with a signal that interrupts each read and each write once. What must come: without
 memory status 5, nothing read and nothing on standard output, or, where a smaller growth serves as well and is asked
@@ -12,15 +13,18 @@ written otherwise; where standard error fails, the pieces are short or a signal 
 same output. The calls are made to fail by .ci/harness/faults.c, which gcc makes a library of that is loaded before the
 player. Then the disk is full after some bytes of the output: status 4, with exactly these bytes, and for `list`,
 `pixel`, `flat` and `cut` the event is the one at which the next byte is due, by the line that lacks it or by what the
-command writes of the first events alone. The last line is `N passed, M failed`. Without gcc the exit status is 77.
+command writes of the first events alone. The last line is `N passed, M failed`. Without a compiler the status is 77.
 """
 import os
 import resource
+import shlex
 import shutil
 import signal
 import subprocess
 import sys
 import tempfile
+
+from fault_judges import JUDGES, as_it_was, full_disk
 
 HERE = os.path.dirname(os.path.abspath(__file__))
 ROOT = os.path.dirname(os.path.dirname(HERE))
@@ -63,50 +67,6 @@ class Full:
             self.out = file.read()
 
 
-def is_part(part, whole):
-    return len(part) < len(whole) and whole.startswith(part)
-
-
-def as_it_was(was, now):
-    same = (now.status, now.out, now.err) == (was.status, was.out, was.err)
-    return '' if same else 'status %d, err %r' % (now.status, now.err[:60])
-
-
-def without_memory(was, now):
-    if now.calls['memory'] > was.calls['memory'] and not as_it_was(was, now):
-        return ''
-    if now.status != 5 or now.err != b'psxgpu: memory\n':
-        return 'status %d, err %r' % (now.status, now.err[:60])
-    return 'it read or wrote' if now.out or now.calls['read'] else ''
-
-
-def without_read(was, now):
-    if now.status != 3 or not now.err.startswith(b'psxgpu: read-fault at event '):
-        return 'status %d, err %r' % (now.status, now.err[:60])
-    return '' if was.out.startswith(now.out) else 'out is not a part of what is written else'
-
-
-def without_write(was, now):
-    if now.status != 4 or not now.err.startswith(b'psxgpu: write-fault at event '):
-        return 'status %d, err %r' % (now.status, now.err[:60])
-    return '' if is_part(now.out, was.out) else 'out is no proper part of what is written else'
-
-
-def without_error(was, now):
-    return '' if (now.status, now.out) == (was.status, was.out) else 'status %d' % now.status
-
-
-def full_disk(was, now, room, event):
-    """Judges a run on a full disk; event is None where it is not known."""
-    line = b'psxgpu: write-fault at event '
-    if now.status != 4 or not now.err.startswith(line):
-        return 'status %d, err %r' % (now.status, now.err[:60])
-    if now.out != was.out[:room]:
-        return 'out has not exactly the bytes for which there was room'
-    said = int(now.err[len(line):].split(b'\n')[0])
-    return '' if event in (None, said) else 'event %d, and the byte is due at %d' % (said, event)
-
-
 def ends_of_events(words, capture):
     """How many bytes of the output are due up to each event, by what is written of the first events alone; the End record
     of that is not."""
@@ -121,12 +81,13 @@ def ends_of_events(words, capture):
     return ends
 
 
-def event_of(was, words, capture):
+def event_of(was, start, command, capture):
     """The event at which a byte is due, by its place; None where the command does not let it be told."""
-    if words[1] in ('list', 'pixel'):
+    words = command.split()
+    if words[0] in ('list', 'pixel'):
         return lambda place: int(was.out[was.out.rfind(b'\n', 0, place) + 1:].split()[0])
-    if words[1] in ('flat', 'cut') and was.status == 0:
-        ends = ends_of_events(words, capture)
+    if words[0] in ('flat', 'cut') and was.status == 0:
+        ends = ends_of_events(start + words, capture)
         return lambda place: sum(end <= place for end in ends) + 1
     return lambda place: None
 
@@ -134,9 +95,6 @@ def event_of(was, words, capture):
 def rooms(size):
     """Some numbers of bytes below this, all of them where they are few."""
     return sorted({size * k // PLACES for k in range(PLACES)} if size > PLACES else range(size))
-
-
-JUDGES = {'memory': without_memory, 'read': without_read, 'write': without_write, 'error': without_error}
 
 
 def trials(was):
@@ -148,9 +106,9 @@ def trials(was):
     yield 'signal', 0, as_it_was
 
 
-def tried(library, folder, player, capture, command):
+def tried(library, folder, start, capture, command):
     """How many runs of a command on a capture did what they must, and how many not."""
-    words = [player] + command.split()
+    words = start + command.split()
     was = Run(library, folder, words, capture)
     passed = failed = 0
     for kind, at, judge in trials(was):
@@ -158,7 +116,7 @@ def tried(library, folder, player, capture, command):
         passed, failed = passed + (not wrong), failed + bool(wrong)
         if wrong:
             print('%s, %s: %s %d: %s' % (capture, command, kind, at, wrong))
-    due = event_of(was, words, capture)
+    due = event_of(was, start, command, capture)
     for room in rooms(len(was.out)):
         wrong = full_disk(was, Full(folder, words, capture, room), room, due(room))
         passed, failed = passed + (not wrong), failed + bool(wrong)
@@ -168,12 +126,19 @@ def tried(library, folder, player, capture, command):
 
 
 def built(folder):
-    """The library that lets calls fail; None without gcc."""
-    if not shutil.which('gcc'):
+    """The library that lets calls fail; None without a compiler."""
+    compiler = os.environ.get('CC', 'gcc')
+    if not shutil.which(compiler):
         return None
     library = os.path.join(folder, 'faults.so')
-    subprocess.run(['gcc', '-O2', '-shared', '-fPIC', '-o', library, os.path.join(HERE, 'faults.c')], check=True)
+    subprocess.run([compiler, '-O2', '-shared', '-fPIC', '-o', library, os.path.join(HERE, 'faults.c')], check=True)
     return library
+
+
+def start_of(player):
+    """The words that start a player, which is a path or a command."""
+    words = [player] if os.path.isfile(player) else shlex.split(player)
+    return [shutil.which(words[0]) or os.path.abspath(words[0]), *words[1:]]
 
 
 def main(player, captures, commands):
@@ -181,12 +146,11 @@ def main(player, captures, commands):
     with tempfile.TemporaryDirectory() as folder:
         library = built(folder)
         if library is None:
-            print('skipped: gcc is not on this machine')
+            print('skipped: there is no gcc, and CC names no other compiler')
             return 77
-        player = shutil.which(player) or os.path.abspath(player)
         for capture in captures:
             for command in commands:
-                good, bad = tried(library, folder, player, capture, command)
+                good, bad = tried(library, folder, start_of(player), capture, command)
                 passed, failed = passed + good, failed + bad
     print('%d passed, %d failed' % (passed, failed))
     return 1 if failed else 0

@@ -25,18 +25,18 @@ class Documents(support.InFolder):
         self.assertEqual(run_command(self.folder, command), ['examples/tall.txt', '3'])
 
     def test_references(self):
-        text = ('[a](a.md) [b](b.md) `psxgpu/capture.py` `psxgpu/none.py` `px_num/src/lib.rt` `px_num/src/none.rt` '
-                '`px_num/src/lib.rt: mod, there_is_none`')
+        text = ('# A (b), `c`\n[a](a.md) [b](b.md) [c](#a-b-c) [d](a.md#d) `psxgpu/capture.py` `psxgpu/none.py` '
+                '`px_num/src/lib.rt` `px_num/src/none.rt` `px_num/src/lib.rt: mod, there_is_none`')
         path = self.write('a.md', text)
-        self.assertEqual(list(references(path)), ['no file b.md', 'no file psxgpu/none.py',
+        self.assertEqual(list(references(path)), ['no file b.md', 'no heading a.md#d', 'no file psxgpu/none.py',
                                                   'no file crates/px_num/src/none.rt',
                                                   'no there_is_none in crates/px_num/src/lib.rt'])
 
     def test_co_process(self):
-        """The README shows the example as it is."""
+        """The tutorial shows the example as it is."""
         with open(os.path.join(support.EXAMPLES, 'co_process.py')) as file:
             lines = ['    ' + line if line.strip() else line for line in file]
-        with open(os.path.join(support.TOP, 'README.md')) as file:
+        with open(os.path.join(support.TOP, 'docs', 'TUTORIAL.md')) as file:
             self.assertTrue(''.join(lines) in file.read())
 
 

@@ -1,14 +1,16 @@
 #!/usr/bin/env python3
 """Tests of .ci/harness/faults.py: python3 .ci/harness/test_faults.py. They need no player and no gcc."""
 import os
+import shutil
 import sys
 import unittest
 
 HERE = os.path.dirname(os.path.abspath(__file__))
 sys.path.insert(0, HERE)
 
-from faults import (as_it_was, event_of, full_disk, rooms, trials, without_error, without_memory,  # noqa: E402
-                    without_read, without_write, words_of)
+from fault_judges import (as_it_was, full_disk, without_error, without_memory, without_read,  # noqa: E402
+                          without_write)
+from faults import event_of, rooms, start_of, trials, words_of  # noqa: E402
 
 
 class Ran:
@@ -60,7 +62,7 @@ class Judges(unittest.TestCase):
         self.assertEqual(rooms(3), [0, 1, 2])
         many = rooms(1000)
         self.assertTrue(len(many) == 48 and many[0] == 0 and many[-1] < 1000)
-        due = event_of(Ran(0, b'3 load a0000000 -\n12 fill 02000000 -\n'), ['player', 'list'], '')
+        due = event_of(Ran(0, b'3 load a0000000 -\n12 fill 02000000 -\n'), ['player'], 'list', '')
         self.assertEqual([due(place) for place in (0, 16, 17, 18, 36)], [3, 3, 3, 12, 12])
 
     def test_each_call_is_tried(self):
@@ -70,6 +72,12 @@ class Judges(unittest.TestCase):
 
 
 class Words(unittest.TestCase):
+    def test_start(self):
+        for player, start in ((__file__, [os.path.abspath(__file__)]),
+                              ('true -L "a b" c', [shutil.which('true'), '-L', 'a b', 'c']),
+                              ('./none', [os.path.abspath('none')])):
+            self.assertEqual(start_of(player), start)
+
     def test_words(self):
         here = os.path.abspath(__file__)
         self.assertEqual(words_of(['p', here]), ('p', [here], ['play']))

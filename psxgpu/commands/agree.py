@@ -1,13 +1,14 @@
-"""Plays random captures by two players, class by class, and prints in how many the dumps agree.
+"""Compares two players on random captures, class by class, and prints in how many the dumps are equal.
 
     psxgpu agree psxgpu_tool other_player
     psxgpu agree psxgpu_tool other_player 10 fills 'lines, sloped'
     psxgpu agree --classes
 
-A player is a shell command that reads a capture of version 1 without Ram and Dma records and writes a dump; the mode
-`vram` is added to a command without this word. For the captures
-that differ the table has the share of the cells that either player changed. docs/EMULATORS.md has the reason for each
-class. Status: 0 all agree, 1 some differ, 2 an error, also if a player wrote no dump.
+A player is a shell command that reads a capture of version 1 without Ram and Dma records and writes a dump. The mode
+`vram` is added to a command without this word. For captures that differ, the table has the share of differing cells
+among those that either player changed. docs/EMULATORS.md has the reason for each class.
+
+Status: 0 all are equal, 1 some differ, 2 an error, also if a player wrote no dump.
 """
 import argparse
 
@@ -21,7 +22,7 @@ from psxgpu.players.trial_run import try_commands
 def arguments(parser: argparse.ArgumentParser) -> None:
     """Adds the arguments of this tool."""
     parser.add_argument('ours', nargs='?', metavar='OURS', help='a player')
-    parser.add_argument('theirs', nargs='?', metavar='THEIRS', help='another')
+    parser.add_argument('theirs', nargs='?', metavar='THEIRS', help='another player')
     parser.add_argument('captures', nargs='?', type=decimal(1, 1000000), default=100, metavar='CAPTURES',
                         help='the captures of each class (default: 100)')
     parser.add_argument('names', nargs='*', metavar='CLASS', help='the classes (default: all)')

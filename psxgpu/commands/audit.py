@@ -1,19 +1,20 @@
-"""Which packets of a capture does another player draw differently, each judged by itself?
+"""Compares another player with psxgpu_tool, packet by packet, on a recording.
 
     psxgpu audit mine.capture psxgpu_tool other_player
     psxgpu audit mine.capture psxgpu_tool other_player --first 3000 --last 4000
 
 OURS is this project's player, THEIRS one that knows `play` for captures of version 1 (Gp0, Gp1, Read, Stat records).
-Both are shell commands: the mode stands in the place of the word `vram`, or at the end.
-After each packet that draws, the cells in and around its area are read, and then made what OURS drew. So both players
-have the same video memory before each packet, and a difference stays in the packet that made it. The table has a line
-for each class of packets; the first packet of each class that differs follows. Packets before the first and after the
-last event are played and not judged. The capture has to be flat (`psxgpu_tool flat` makes it so).
+Both are shell commands: the mode replaces the word `vram`, or is added at the end.
 
-With --reduce the first packet of each class that differs is reduced as by `psxgpu reduce --event --keep`; THEIRS then
-has to know `vram`, too.
+After each packet that draws, the cells in and around its area are read, and then set to what OURS drew. So both players
+have the same video memory before each packet, and a difference does not reach later packets. The table has a line for
+each class of packets. The first packet of each class that differs follows. Packets before the first and after the last
+event are played but not compared. The capture must be flat (`psxgpu_tool flat` flattens one).
 
-Status: 0 no packet differs; 1 some do; 2 an error, also if there is no packet to judge.
+With --reduce, the first packet of each class that differs is reduced as by `psxgpu reduce --event --keep`. THEIRS must
+then also know `vram`.
+
+Status: 0 no packet differs; 1 some do; 2 an error, also if there is no packet to compare.
 """
 import argparse
 
@@ -28,12 +29,12 @@ from psxgpu.reduce.classes import reduce_classes
 def arguments(parser: argparse.ArgumentParser) -> None:
     """Adds the arguments of this tool."""
     parser.add_argument('capture', metavar='CAPTURE', help='a flat capture; - is standard input')
-    parser.add_argument('ours', metavar='OURS', help='the player that is right: psxgpu_tool')
-    parser.add_argument('theirs', metavar='THEIRS', help='the player to judge')
+    parser.add_argument('ours', metavar='OURS', help='the reference player: psxgpu_tool')
+    parser.add_argument('theirs', metavar='THEIRS', help='the player to test')
     parser.add_argument('--first', type=decimal(1, 1 << 62), default=1, metavar='EVENT',
-                        help='the first event that is judged (default: 1)')
+                        help='the first event to compare (default: 1)')
     parser.add_argument('--last', type=decimal(1, 1 << 62), default=1 << 60, metavar='EVENT',
-                        help='the last event that is judged (default: that of the capture)')
+                        help='the last event to compare (default: that of the capture)')
     parser.add_argument('--reduce', metavar='DIR',
                         help='write the smallest capture for each class that differs, and index.html, a table of them')
 

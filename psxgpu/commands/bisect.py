@@ -4,18 +4,17 @@
     psxgpu bisect mine.capture 'psxgpu_tool vram' 'other_player vram' --tolerance 1 \\
         --ignore scaled --ignore sloped
 
-Each command reads a capture on standard input and writes a dump. It is given a flat capture of version 1 (3 for tall
-video memory): psxgpu_tool flattens one with DMA, and a read whose word is not shown becomes a plain read. The capture
-is cut by halves between packets. A difference that a later packet heals is not seen, unless a cut falls into it; then
-the packet that is named is still one before which the dumps agree and after which they differ.
+Each command reads a capture on standard input and writes a dump. It receives a flat capture of version 1 (3 for tall
+video memory): psxgpu_tool flattens one with DMA, and a Skip becomes a Read. A binary search cuts the capture between
+packets. A difference that a later packet removes is usually not found. In every case, the dumps are equal before the
+named packet and differ after it.
 
-With --ignore, a packet of that class is not given to the players: in its place stands a load of what psxgpu_tool draws.
+With --ignore, the players do not receive packets of that class: each is replaced by a load of what psxgpu_tool draws.
 Classes are the names polygon, line, rectangle, copy, fill, and gouraud (a polygon of several colours), scaled (a
 textured polygon whose texels are not one for each cell), sloped (a line off axes and diagonals), shaded-line, smear (a
-copy that runs ahead of itself to the right), even-flip (X flip with an even U), far (vertex and offset beyond eleven
-bits).
+copy that overlaps itself to the right), even-flip (X flip with an even U), far (vertex and offset beyond eleven bits).
 
-Status: 0 no difference, 1 one was found, 2 trouble.
+Status: 0 no difference, 1 one was found, 2 an error.
 """
 import argparse
 import contextlib
@@ -38,7 +37,7 @@ def arguments(parser: argparse.ArgumentParser) -> None:
     """Adds the arguments of this tool."""
     parser.add_argument('capture', metavar='CAPTURE', help='a capture or a dump of a GPU; - is standard input')
     parser.add_argument('ours', metavar='OURS', help='a shell command: it reads a capture and writes a dump')
-    parser.add_argument('theirs', metavar='THEIRS', help='another')
+    parser.add_argument('theirs', metavar='THEIRS', help='another such command')
     parser.add_argument('--tolerance', type=decimal(0, 31), default=0, metavar='N',
                         help='cells whose channels are at most N steps apart count as equal')
     parser.add_argument('--ignore', action='append', choices=sorted(CLASSES) + list(NAMES), default=[], metavar='CLASS',

@@ -1,10 +1,12 @@
-"""Reports on a capture, for whoever recorded it.
+"""Reports what a capture contains, and what is unfinished at its end.
 
     psxgpu check mine.capture
 
-Prints its version, its events by kind, how many frames it has (writes of the display start), its packets by class, what
-psxgpu_tool refuses of it, what is not finished at its end (a packet, a load, a store that waits for reads, a transfer
-of DMA), and how much `slim` leaves out. Status: 0 all is well, 1 something is refused or not finished, 2 an error.
+Prints its version, its events by kind, the number of frames (writes of the display start), its packets by class, the
+refusal of psxgpu_tool if there is one, what is unfinished at its end (a packet, a load, a store that waits for reads, a
+DMA transfer), and how much `slim` removes.
+
+Status: 0 complete, 1 something is refused or unfinished, 2 an error.
 """
 import argparse
 

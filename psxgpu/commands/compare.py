@@ -4,15 +4,15 @@
     psxgpu compare ours.ppm theirs.png --tolerance 8 --side side.png
     psxgpu compare before.capture after.psxgpu.zst difference.png
 
-Prints `equal`, or the first cell that differs, how many do, the box around them, and how many differ by how much. A
-cell's difference is that of its farthest channel, in steps: of 31 in a dump, of 255 in a picture; bit 15 of a cell
-counts as one of its own. The first picture has equal cells in dark gray and those that differ in red; that of --side
-has ours, theirs and the difference.
+Prints `equal`, or the first cell that differs, the number of such cells, their bounding box, and their number by the
+size of the difference. The difference of a cell is the greatest of its channels, in steps: 31 in a dump, 255 in a
+picture. Bit 15 of a cell counts as a channel. PICTURE has equal cells in dark gray and different ones in red. The
+picture of --side has ours, theirs and the difference.
 
-Recordings are captures, snapshots or GPU dumps. psxgpu_tool makes their pictures: those after each write of the display
-start, or after each mark (--marks), and the one at the end. Printed are the number of the first frame that differs, its
-event in both recordings, and the size and SHA-256 of both pictures; then how these differ. If all frames are equal,
-video memory after the end is compared. The events may have other numbers: a status read more is no difference.
+Recordings are captures, snapshots or GPU dumps. psxgpu_tool makes their pictures: one after each write of the display
+start, or after each mark (--marks), and one at the end. The tool prints the number of the first frame that differs, its
+event in both recordings, the size and SHA-256 of both pictures, and how they differ. If all frames are equal, it
+compares video memory at the end. Event numbers are not compared, so an additional read of the status is no difference.
 
 Status: 0 equal, 1 different, 2 an error.
 """
@@ -34,11 +34,11 @@ def arguments(parser: argparse.ArgumentParser) -> None:
     parser.add_argument('ours', metavar='OURS',
                         help='a dump of video memory, a picture, or a recording; - is standard input')
     parser.add_argument('theirs', metavar='THEIRS', help='another of the same kind')
-    parser.add_argument('picture', nargs='?', metavar='PICTURE', help='the difference as a picture to write')
+    parser.add_argument('picture', nargs='?', metavar='PICTURE', help='the picture of the difference to write')
     parser.add_argument('--tolerance', type=decimal(0, 255), default=0, metavar='N',
                         help='cells whose channels are at most N steps apart count as equal')
     parser.add_argument('--side', metavar='PICTURE',
-                        help='a picture to write of ours, theirs and the difference side by side')
+                        help='the picture to write of ours, theirs and the difference, side by side')
     parser.add_argument('--marks', action='store_true',
                         help='of recordings: frames end at marks (GP1 3Fh) and not at new display starts')
     player.argument(parser)

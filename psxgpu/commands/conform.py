@@ -1,4 +1,4 @@
-"""Runs the conformance suite on a player: tests of single rules of the graphics processor.
+"""Runs the conformance suite on a player: one test for each rule of the GPU.
 
     psxgpu conform 'my_emulator --headless vram'        a table by chapter, and a line for each test not passed
     psxgpu conform psxgpu_tool --page page.html --junit results.xml
@@ -6,12 +6,12 @@
     psxgpu conform --list
     psxgpu conform --write FOLDER                       the tests as files: captures, dumps, programs for the console
 
-PLAYER is a shell command that reads a capture on standard input. In it, `vram` is the place of the mode; without that
-word the mode is added at the end. `vram` writes a dump of video memory, `play` prints each word that is read and each
-status, and `shot` writes the shown picture. What the player does not take (`play`, `shot`, DMA, turns, the tall
-profile) is found first, and the tests that need it are not taken. docs/CONFORMANCE.md says more.
+PLAYER is a shell command that reads a capture on standard input. The mode replaces the word `vram` in it, or is added
+at the end. `vram` writes a dump of video memory, `play` prints each word that is read and each status, and `shot`
+writes the displayed picture. The suite first finds what the player does not support (`play`, `shot`, DMA, turns, the
+tall profile). Tests that need it are not taken. docs/CONFORMANCE.md has the details.
 
-Status: 0 no test failed, 1 some did (with --strict also where a rule of this project decides), 2 an error.
+Status: 0 no test failed, 1 some did (with --strict also if a rule of this project decides), 2 an error.
 """
 from __future__ import annotations
 
@@ -44,14 +44,14 @@ def arguments(parser: argparse.ArgumentParser) -> None:
     parser.add_argument('--json', metavar='FILE', help='write the verdicts')
     parser.add_argument('--reduce', metavar='FOLDER', help='write the smallest capture that still shows each failure')
     parser.add_argument('--write', metavar='FOLDER', help='write the tests as files, and what they expect')
-    parser.add_argument('--exe', action='store_true', help='with --write: programs for the console, too')
+    parser.add_argument('--exe', action='store_true', help='with --write: also programs for the console')
     parser.add_argument('--jobs', type=decimal(1, 1024), default=1, metavar='N',
                         help='runs of the player at a time (default: %(default)s)')
     parser.add_argument('--seconds', type=decimal(1, 3600), default=20, metavar='N',
                         help='for one run of the player (default: %(default)s)')
     parser.add_argument('--list', action='store_true', help='list the tests: name, who decides, the rule')
     parser.add_argument('--quiet', action='store_true', help='print the table alone')
-    parser.add_argument('--strict', action='store_true', help='status 1 also where a rule of this project decides')
+    parser.add_argument('--strict', action='store_true', help='status 1 also if a rule of this project decides')
     parser.add_argument('--version', action='store_true', help='print the version of the suite')
     player.argument(parser)
 

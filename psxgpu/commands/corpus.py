@@ -1,20 +1,20 @@
-"""Records what a player writes for each capture of a folder, and checks it again.
+"""Stores what a player writes for each capture of a folder, and checks it later.
 
     psxgpu corpus record captures --golden captures.sums
     psxgpu corpus check captures --golden captures.sums --player ./new --reference ./old
     psxgpu corpus split long.capture --parts 8 --into parts
 
 `record` plays all captures, snapshots and GPU dumps of the folders, packed or not, on all processors, and writes a file
-of sums, a block for each. The player is a command to which `sums`, `vram` or `play` is added, with the capture on
-standard input; what it does not
-know is left out. `check` plays them again and reports what is not as recorded, on standard output and as report.txt,
-junit.xml and report.html in the folder of the report. With a reference, a player that writes what was recorded, it
-finds the first packet and draws the difference. `join` makes one file of sums of several, as when each machine played a
-part. `split` cuts a recording after some of its frames into parts that are played side by side, and `glue` makes of
-what the player wrote for each of them what it writes for the whole. docs/CORPUS.md shows all of it.
+of sums. The player is a command to which `sums`, `vram` or `play` is added, with the capture on standard input. Modes
+that it does not know are left out. `check` plays the captures again and reports what differs, on standard output and as
+report.txt, junit.xml and report.html in the folder of the report. With a reference, a player that gives the recorded
+results, it finds the first packet and draws the difference. `join` makes one file of sums of several, for example if
+each machine played a part. `split` cuts a recording after some of its frames into parts that can be played in parallel.
+`glue` joins the output for the parts to the output for the whole. docs/CORPUS.md shows all of it.
 
-A run that was interrupted continues where it was. Status: 0 the same, or done; 1 something differs; 2 an error, also if
-the player plays no capture.
+A run that was interrupted continues where it was.
+
+Status: 0 the same, or done; 1 something differs; 2 an error, also if the player plays no capture.
 """
 import argparse
 import os
@@ -56,21 +56,21 @@ def arguments(parser: argparse.ArgumentParser) -> None:
     parser.add_argument('--jobs', type=decimal(1, 1000), default=len(os.sched_getaffinity(0)), metavar='N',
                         help='players at a time (default: one for each processor)')
     parser.add_argument('--gives', default=','.join(USUAL), metavar='LIST',
-                        help='what is asked for: some of %(default)s')
+                        help='the results to store: some of %(default)s')
     parser.add_argument('--marks', action='store_true',
                         help='record, split: frames end at marks (GP1 3Fh) and not at new display starts')
     parser.add_argument('--names', action='append', metavar='PATTERN',
                         help='record, check: names of captures (default: %s)' % ' '.join(NAMES))
-    parser.add_argument('--reference', metavar='COMMAND', help='check: a player that writes what was recorded')
+    parser.add_argument('--reference', metavar='COMMAND', help='check: a player that gives the recorded results')
     parser.add_argument('--reduce', action='store_true',
                         help='check, with --reference: write the smallest capture for each that differs')
     parser.add_argument('--report', default='corpus-report', metavar='FOLDER',
                         help='check: the folder of the report (default: %(default)s)')
-    parser.add_argument('--played', metavar='FILE', help='check: what was played elsewhere; the rest is played here')
+    parser.add_argument('--played', metavar='FILE', help='check: sums played elsewhere; the rest is played here')
     parser.add_argument('--pictures', type=decimal(0, 100000), default=50, metavar='N',
-                        help='check: at most so many pictures in the report (default: %(default)s)')
-    parser.add_argument('--parts', type=decimal(2, 1000), metavar='N', help='split: how many')
-    parser.add_argument('--into', metavar='FOLDER', help='split: where the parts go')
+                        help='check: the most pictures in the report (default: %(default)s)')
+    parser.add_argument('--parts', type=decimal(2, 1000), metavar='N', help='split: the number of parts')
+    parser.add_argument('--into', metavar='FOLDER', help='split: the folder for the parts')
 
 
 def player_of(words: argparse.Namespace, marks: bool = False) -> Player:

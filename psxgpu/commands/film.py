@@ -3,9 +3,9 @@
     psxgpu film mine.capture film.mp4
     psxgpu film game.psxgpu.zst film.mp4 --rate 50 --scale 3
 
-A frame ends at each mark (GP1(3Fh), which recorders set at a vertical blank) or, in a capture without marks, at each
+A frame ends at each mark (GP1(3Fh), which recorders write at a vertical blank) or, in a capture without marks, at each
 flip: a write of the display start. The film has the size that most frames have, times the scale; the others are scaled
-to it. It is made by ffmpeg, in a format that players show (yuv420p). Status: 0 written, 2 an error.
+to it. ffmpeg makes it, in a format that video players show (yuv420p). Status: 0 written, 2 an error.
 """
 import argparse
 
@@ -24,8 +24,8 @@ def arguments(parser: argparse.ArgumentParser) -> None:
     parser.add_argument('--rate', type=decimal(1, 1000), default=60, metavar='N',
                         help='frames a second (default: %(default)s)')
     parser.add_argument('--scale', type=decimal(1, 16), default=2, metavar='N',
-                        help='how large a pixel is (default: %(default)s)')
-    parser.add_argument('--flips', action='store_true', help='a frame ends at each flip, also if there are marks')
+                        help='the size of a pixel (default: %(default)s)')
+    parser.add_argument('--flips', action='store_true', help='a frame ends at each flip, even if there are marks')
     parser.add_argument('--ffmpeg', metavar='PROGRAM', help='ffmpeg (default: that of the path)')
     player.argument(parser)
 

@@ -1,11 +1,13 @@
-"""Writes the first N events of a capture as a capture of their own, or those after them.
+"""Writes the first N events of a capture, or the rest, as a capture.
 
     psxgpu first 300 mine.capture > begin.capture
     psxgpu first 300 mine.capture --rest > rest.capture
 
-`psxgpu join begin.capture rest.capture` has the events of the whole again. The rest alone begins from zeros: for one
-that begins from the state after the first events take `psxgpu_tool cut N`, which writes a snapshot. Status: 0 written,
-2 an error, also if the capture has fewer than N events. Then no file is written, and an old one stays.
+`psxgpu join begin.capture rest.capture` writes the whole again. The rest begins from zeros. To begin from the state
+after the first events, use `psxgpu_tool cut N`, which writes a snapshot.
+
+Status: 0 written, 2 an error, also if the capture has fewer than N events. Then no file is written, and an old one
+stays.
 """
 import argparse
 from typing import Iterable, Iterator

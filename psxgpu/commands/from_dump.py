@@ -1,17 +1,17 @@
-"""Makes a capture of a GPU dump of DuckStation or PCSX-Redux (.psxgpu, also as .gz, .xz or .zst).
+"""Converts a GPU dump of DuckStation or PCSX-Redux (.psxgpu, also as .gz, .xz or .zst) to a capture.
 
     psxgpu from-dump game.psxgpu.zst -o game.capture
     psxgpu_tool frames marks game.capture | ffmpeg -f image2pipe -c:v ppm -i - film.mp4
 
-Words for GP0 and GP1 become the words of a capture, a VSync the mark of a frame (GP1(3Fh)), and words that are
-discarded or read back become reads. A dump for a GPU of 2 MB becomes a capture of version 3, every other one of version
-1. Packets of unknown types are left out and counted. --about prints what the dump says of itself, and after which event
-its trace begins: `psxgpu_tool cut N` makes a snapshot of the state there. --reads writes the words that were read when
-the dump was made, as `psxgpu_tool play` prints them: a line for each read, `--------` if the dump does not have its
-word. All tools read dumps as they are; docs/DUMPS.md has the details.
+Words for GP0 and GP1 become the words of a capture, a VSync becomes the mark of a frame (GP1(3Fh)), and words that are
+discarded or read back become reads. A dump of a GPU with 2 MB becomes a capture of version 3, every other one of
+version 1. Packets of unknown types are left out and counted. --about prints the descriptions in the dump, and the event
+after which its trace begins: `psxgpu_tool cut N` makes a snapshot of the state there. --reads writes the words that
+were read when the dump was made, as `psxgpu_tool play` prints them: a line for each read, `--------` if the dump does
+not have its word. All tools read dumps directly. docs/DUMPS.md has the details.
 
-Status: 0 written; 2 error. If the dump is cut or says something impossible, the error names the byte, and the capture
-has what was before.
+Status: 0 written; 2 an error. If the dump is cut or invalid, the error names the byte, and the capture has everything
+before it.
 """
 from __future__ import annotations
 
@@ -31,8 +31,8 @@ def arguments(parser: argparse.ArgumentParser) -> None:
     """Adds the arguments of this tool."""
     parser.add_argument('dump', nargs='?', default='-', help='the dump; standard input if left out')
     parser.add_argument('-o', '--output', default='-', metavar='CAPTURE', help='standard output if left out')
-    parser.add_argument('--about', action='store_true', help='prints what the dump says of itself, on standard error')
-    parser.add_argument('--reads', metavar='FILE', help='writes the words that were read, a line each')
+    parser.add_argument('--about', action='store_true', help='print the descriptions in the dump on standard error')
+    parser.add_argument('--reads', metavar='FILE', help='write the words that were read, a line each')
 
 
 @contextlib.contextmanager

@@ -1,9 +1,9 @@
-"""Makes a capture from a text log of port writes, port reads and DMA, as an emulator can print it.
+"""Converts a text log of port writes, port reads and DMA, as an emulator can print it, to a capture.
 
     psxgpu from-log < frame.log > frame.capture
     psxgpu from-log frame.log frame.capture
 
-One event a line, numbers in hexadecimal without 0x, # begins a comment:
+A line has one event. Numbers are hexadecimal, without 0x. # begins a comment:
 
     gp0 WORD ..              words written to 1F801810h
     gp1 WORD                 a word written to 1F801814h
@@ -12,17 +12,17 @@ One event a line, numbers in hexadecimal without 0x, # begins a comment:
     ram ADDRESS WORD ..      main memory, before the DMA that reads it
     dma 2|6 MADR BCR CHCR    a start of channel 2 or 6, done at once
     begin MADR BCR CHCR      a start of channel 2 that continues at each turn
-    turn [N], skip [N]       turns of it; reads whose words are not shown
+    turn [N], skip [N]       turns of it; reads whose words are not printed
     version 3                tall video memory
 
-A log that begins in the middle of a game has the state first, in this order:
+A log that begins in the middle of a game gives the state first, in this order:
 
     vram FILE                a dump of video memory: 1,048,576 bytes, or 2,097,152, which needs version 3
-    settings E1 .. E6        the six values that are in force
+    settings E1 .. E6        the six current values
     display GP1 ..           control words: display mode, ranges, start, DMA direction, on or off
 
-The capture has version 1 if it can, 2 if begin, turn or skip needs it, and 3 if a line asks for it. Status: 0 written,
-2 an error.
+The capture has version 3 if a line asks for it, 2 if it has begin, turn or skip, otherwise 1. Status: 0 written, 2 an
+error.
 """
 import argparse
 import tempfile

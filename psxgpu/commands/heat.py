@@ -1,16 +1,16 @@
-"""Draws how often each cell is covered in a frame, and prints what each frame costs.
+"""Draws how often each cell is covered in a frame, and prints the cost of each frame.
 
     psxgpu heat mine.capture heat.png
     psxgpu heat mine.capture heat.png --frame 12 --flips
 
-Frames end at the marks that recorders set (GP1(3Fh)), with --flips where the display start is written. Without --frame
-the picture shows the frame in which most cells are covered by what is drawn. Each cell counts that a polygon, line or
-rectangle covers within the drawing area, and each cell of a fill, copy or load, whether it was kept by a mask or a
-texel of 0000h or not: the work, and not what came of it. The colours: black never, blue once, then green, yellow, red,
-and white from 16 on.
+Frames end at the marks that recorders write (GP1(3Fh)), with --flips at each write of the display start. Without
+--frame the picture shows the frame with the most covered cells. A polygon, line or rectangle covers its cells in the
+drawing area. A fill, copy or load covers all its cells. A cell counts even if the mask test or a texel of 0000h kept
+its value: the picture shows the work, not the result. The colours: black never, blue once, then green, yellow, red, and
+white from 16 on.
 
-For each frame a line of numbers: the frame, its packets, the cells covered, each as often as it is, the cells covered
-at least once, the mean, and the greatest.
+Each frame gives a line of numbers: the frame, its packets, the cells covered (each as often as it is), the cells
+covered at least once, the mean, and the greatest.
 
 Status: 0 written, 2 an error.
 """
@@ -36,7 +36,7 @@ def arguments(parser: argparse.ArgumentParser) -> None:
     parser.add_argument('capture', help='a capture; - is standard input')
     parser.add_argument('picture', nargs='?', help='the PNG or PPM to write')
     parser.add_argument('--frame', type=decimal(1, 1 << 30), metavar='N', help='the number of a frame, from 1')
-    parser.add_argument('--flips', action='store_true', help='frames end where the display start is written')
+    parser.add_argument('--flips', action='store_true', help='frames end at each write of the display start')
     player.argument(parser)
 
 

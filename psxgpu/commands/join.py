@@ -3,8 +3,9 @@
     psxgpu join begin.capture rest.capture > whole.capture
     psxgpu join whole.capture next.capture -o whole.capture
 
-The result has the greatest version among them. Captures of 512 and of 1024 rows (version 3) cannot be joined. Status:
-0 written, 2 an error, also if the result has more than 2^30 bytes, which a player refuses.
+The result has the greatest version among them. Captures of 512 and of 1024 rows (version 3) cannot be joined.
+
+Status: 0 written, 2 an error, also if the result has more than 2^30 bytes, which a player refuses.
 """
 import argparse
 from typing import Dict, Iterable

@@ -1,17 +1,23 @@
-"""Makes a recording whole whose emulator did not live to end it, or that was cut.
+"""Completes a recording that was cut, or whose emulator ended before it.
 
     psxgpu mend killed.capture
     psxgpu mend killed.capture whole.capture
+    psxgpu mend killed.capture.gz whole.capture.gz
 
 All events that are there are kept, also those of a record that is cut, and End follows. Without OUTPUT, the recording
-itself becomes the whole one. Status: 0 it is whole now; 2 an error, and the recording stays as it is.
+itself becomes the whole one. A recording that is packed (.gz, .xz, .zst) needs an OUTPUT, which is packed if its name
+ends so; of packed bytes that are cut or damaged, what can be unpacked is kept. Status: 0 it is whole now; 2 an error,
+and the recording stays as it is.
 """
 import argparse
-from typing import BinaryIO
+import contextlib
+import tempfile
+from typing import IO, Iterator, Tuple
 
 from psxgpu import progress
 from psxgpu.command import Trouble, pour, writing
 from psxgpu.mending import whole_of
+from psxgpu.packing import MOST_FIRST, PACKED, Damaged, packing, unpacked
 
 
 def arguments(parser: argparse.ArgumentParser) -> None:
@@ -24,7 +30,7 @@ def arguments(parser: argparse.ArgumentParser) -> None:
 class Beginning:
     """The first `left` bytes of a file."""
 
-    def __init__(self, file: BinaryIO, left: int) -> None:
+    def __init__(self, file: IO[bytes], left: int) -> None:
         self.file, self.left = file, left
 
     def read(self, size: int = -1, /) -> bytes:
@@ -34,18 +40,41 @@ class Beginning:
         return data
 
 
+def is_packed(path: str) -> bool:
+    """Returns whether a file is packed, by its first bytes."""
+    with open(path, 'rb') as file:
+        return file.read(MOST_FIRST).startswith(PACKED)
+
+
+@contextlib.contextmanager
+def recording(path: str) -> Iterator[Tuple[IO[bytes], str]]:
+    """The recording as a file that can be sought, and why a packed one cannot be unpacked to its end."""
+    if not is_packed(path):
+        with open(path, 'rb') as file:
+            yield file, ''
+        return
+    damage = ''
+    with tempfile.TemporaryFile(prefix='psxgpu') as copy, unpacked(path) as source:
+        try:
+            pour(source, copy)
+        except Damaged as fault:
+            damage = str(fault)
+        yield copy, damage
+
+
 def run(words: argparse.Namespace) -> None:
     """Writes the whole recording, and prints whether it was whole."""
-    with open(words.capture, 'rb') as file:
+    output = words.output or words.capture
+    if output in ('-', '/dev/stdout'):
+        raise Trouble('%s: name a file' % output)
+    if words.output is None and is_packed(words.capture):
+        raise Trouble('%s is packed: name an output, as in psxgpu mend %s whole.capture' % ((words.capture,) * 2))
+    with recording(words.capture) as (file, damage):
         size, rest = whole_of(file, words.capture)
-        if not rest and words.output is None:
-            print('it was whole')
-            return
-        if words.output in ('-', '/dev/stdout'):
-            raise Trouble('%s: name a file' % words.output)
-        file.seek(0)
-        inputs = [words.capture] if words.output else []
-        with progress.following(file, words.capture), writing(words.output or words.capture, inputs) as target:
-            pour(Beginning(file, size), target)
-            target.write(rest)
-    print('made whole' if rest else 'it was whole')
+        if words.output or rest:
+            file.seek(0)
+            write = packing(output, [words.capture]) if words.output else writing(output)
+            with progress.following(file, words.capture), write as target:
+                pour(Beginning(file, size), target)
+                target.write(rest)
+    print(('made whole' if rest else 'it was whole') + (': all that can be unpacked of %s' % damage if damage else ''))

@@ -1,16 +1,19 @@
-"""Lists a capture in words: packets with their fields, control words, reads and DMA starts.
+"""Decodes a capture: packets with their fields, control words, reads and DMA starts.
 
     psxgpu packets examples/turns.capture
     psxgpu packets mine.capture --name polygon --name dma --cell 100 96
     psxgpu packets mine.capture --events 3000 4000 --line
 
-A packet begins with the line that `psxgpu_tool list` writes for it. Its fields follow on lines of their own, or on the
-same line with --line. psxgpu_tool decides which packets there are and their areas; if it refuses the capture, its line
-and the last packets before it end the list. Status: 0 all was listed, 2 an error, a refusal, or nothing to list.
+A packet begins with the line that `psxgpu_tool list` writes for it. Its fields follow on separate lines, or with --line
+on the same line. psxgpu_tool finds the packets and their areas. If it refuses the capture, its line and the last
+packets before the fault end the list.
+
+Status: 0 all was listed, 2 an error, a refusal, or nothing to list.
 """
 import argparse
 import re
 import sys
+from typing import List
 
 from psxgpu import progress
 from psxgpu.command import SAME, TROUBLE, Trouble, decimal, reading, title
@@ -20,6 +23,8 @@ from psxgpu.packets.listing import NAMES, Entry, Listing, holds
 from psxgpu.players import player
 from psxgpu.stream import Stream
 
+TOGETHER = 256      # entries that are written at once
+
 
 def arguments(parser: argparse.ArgumentParser) -> None:
     """Adds the arguments of this tool."""
@@ -27,7 +32,7 @@ def arguments(parser: argparse.ArgumentParser) -> None:
     parser.add_argument('--name', action='append', choices=NAMES, metavar='NAME',
                         help='only these packets and events, some of: ' + ', '.join(NAMES))
     parser.add_argument('--cell', type=decimal(0, 1023), nargs=2, metavar=('X', 'Y'),
-                        help='only packets whose area has this cell')
+                        help='only packets whose area contains this cell')
     parser.add_argument('--events', type=decimal(1, 1 << 62), nargs=2, metavar=('FIRST', 'LAST'),
                         help='only these events')
     parser.add_argument('--line', action='store_true', help='all of a packet on one line')
@@ -46,7 +51,7 @@ def entry_text(entry: Entry, on_one_line: bool) -> str:
     fields = entry.fields()
     if on_one_line:
         return ' | '.join([entry.line] + (['; '.join(fields)] if fields else [])) + '\n'
-    return '\n    '.join([entry.line, *fields]) + '\n'
+    return '\n    '.join((entry.line, *fields)) + '\n'
 
 
 def show_refusal(said: str) -> None:
@@ -60,22 +65,35 @@ def show_refusal(said: str) -> None:
         print(line, file=sys.stderr)
 
 
+def write_entries(listing: Listing, words: argparse.Namespace, is_whole: bool) -> int:
+    """Writes the entries that are asked for, many at once if all are. Returns their number."""
+    texts: List[str] = []
+    count, together = 0, TOGETHER if is_whole else 1
+    try:
+        for entry in listing:
+            if is_whole or is_asked_for(words, entry):
+                texts.append(entry_text(entry, words.line))
+                count += 1
+                if len(texts) == together:
+                    sys.stdout.write(''.join(texts))
+                    texts.clear()
+    finally:
+        sys.stdout.write(''.join(texts))
+    return count
+
+
 def run(words: argparse.Namespace) -> int:
     """Prints the list."""
     if words.events and words.events[0] > words.events[1]:
         raise Trouble('--events %d %d: the first comes after the last' % tuple(words.events))
     program, name = player.find(words.player), title(words.capture)
-    count, write = 0, sys.stdout.write
     is_whole = not (words.name or words.cell or words.events)
     with plain(words.capture) as path:
         with reading(path) as file:
             Stream(file, name)          # a file that is not a capture is refused at once
         listing = Listing(path, name, program)
         with progress.shown(name):
-            for entry in listing:
-                if is_whole or is_asked_for(words, entry):
-                    write(entry_text(entry, words.line))
-                    count += 1
+            count = write_entries(listing, words, is_whole)
     if listing.refusal:
         show_refusal(listing.refusal)
         return TROUBLE

@@ -1,10 +1,10 @@
-"""Turns a dump of video memory or a PPM into a PNG.
+"""Converts a dump of video memory or a PPM to a PNG.
 
     psxgpu_tool vram < mine.capture > vram.bin
     psxgpu picture vram.bin vram.png
     psxgpu picture vram.bin page.png --bits 4 --palette 0 480 --box 640 0 64 256
 
-A dump is drawn as cells of 15 bits, or as texels of 4 or 8 bits (four or two a cell): in gray, or by a palette of the
+A dump is drawn as cells of 15 bits, or as texels of 4 or 8 bits (four or two a cell), in gray or with a palette of the
 same dump. A picture whose name ends in .ppm is written as PPM. Status: 0 written, 2 an error.
 """
 import argparse
@@ -24,7 +24,7 @@ def arguments(parser: argparse.ArgumentParser) -> None:
     parser.add_argument('--palette', type=decimal(0, 1023), nargs=2, metavar=('X', 'Y'),
                         help='the first cell of the palette')
     parser.add_argument('--box', type=decimal(0, 1024), nargs=4, metavar=('X', 'Y', 'W', 'H'),
-                        help='the cells to draw, all if left out')
+                        help='the cells to draw (default: all)')
 
 
 def draw(cells: Sequence[int], words: argparse.Namespace) -> Image:

@@ -3,17 +3,17 @@
     psxgpu reduce mine.capture 'psxgpu_tool vram' 'other_player vram' -o small
     psxgpu reduce mine.capture 'psxgpu_tool vram' 'other_player vram' --event 81234 --keep
 
-A player is a shell command that reads a capture on standard input and writes a dump; docs/REDUCE.md says more. The
-first packet after which both differ is found as by `bisect`; with --event it is the packet of that event. What is
-before it becomes a state: loads of video memory, and settings. Then whatever is not needed is left out: loads,
-settings, words, bits, texels, size.
+A player is a shell command that reads a capture on standard input and writes a dump. docs/REDUCE.md has the details.
+The first packet after which both differ is found as by `bisect`; with --event it is the packet of that event.
+Everything before it is replaced by a state: loads of video memory, and settings. Then everything that is not needed is
+removed: loads, settings, words, bits, texels, size.
 
-Written are NAME.capture, NAME.log (for from-log), NAME.py (a script that makes it) and NAME.png (ours, theirs, the
+The tool writes NAME.capture, NAME.log (for from-log), NAME.py (a script that makes it) and NAME.png (ours, theirs, the
 difference).
 
-With --words the words of reads and statuses are compared: `play` stands in the place of `vram` in both commands. With
---crash the smallest capture is searched of which THEIRS gives no dump. With --ignore, packets of known classes are no
-fault, as for `bisect`, and the result has none of them. With --keep the packet stays shaded, textured, raw or
+With --words it compares the words of reads and statuses: `play` replaces `vram` in both commands. With --crash it
+searches the smallest capture for which THEIRS gives no dump. With --ignore, differences of known classes are no fault,
+as for `bisect`, and the result has no packet of these classes. With --keep the packet stays shaded, textured, raw or
 semi-transparent as it was.
 
 Status: 0 no difference, 1 one was found, 2 an error.
@@ -24,7 +24,6 @@ import argparse
 import os
 import sys
 import time
-from typing import Optional
 
 from psxgpu import progress
 from psxgpu.command import DIFFERENT, SAME, decimal, title
@@ -44,14 +43,14 @@ def arguments(parser: argparse.ArgumentParser) -> None:
     """Adds the arguments."""
     parser.add_argument('capture', help='a capture; - is standard input')
     parser.add_argument('ours', help='a shell command: capture in, dump out')
-    parser.add_argument('theirs', help='another')
+    parser.add_argument('theirs', help='another such command')
     parser.add_argument('-o', '--output', default='reduced', metavar='NAME',
                         help='the beginning of the files\' names (default: %(default)s)')
     parser.add_argument('--event', type=decimal(1, 1 << 62), metavar='N', help='an event of the flat capture')
     parser.add_argument('--keep', action='store_true', help='the packet stays in its class')
     what = parser.add_mutually_exclusive_group()
-    what.add_argument('--words', action='store_true', help='compare the words that are read, and statuses')
-    what.add_argument('--crash', action='store_true', help='their player breaks down')
+    what.add_argument('--words', action='store_true', help='compare the words of reads and statuses')
+    what.add_argument('--crash', action='store_true', help='THEIRS crashes')
     parser.add_argument('--tolerance', type=decimal(0, 31), default=0, metavar='N',
                         help='cells whose channels are at most N steps apart count as equal')
     parser.add_argument('--ignore', action='append', choices=sorted(CLASSES) + list(NAMES), default=[], metavar='CLASS',
@@ -60,7 +59,7 @@ def arguments(parser: argparse.ArgumentParser) -> None:
                         help='for one run of a player (default: %(default)s)')
     parser.add_argument('--jobs', type=decimal(1, 1000), default=len(os.sched_getaffinity(0)), metavar='N',
                         help='players at a time (default: one for each processor)')
-    parser.add_argument('--exe', action='store_true', help='write NAME.exe, too: a program for the console')
+    parser.add_argument('--exe', action='store_true', help='also write NAME.exe, a program for the console')
     player.argument(parser)
 
 

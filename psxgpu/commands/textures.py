@@ -1,15 +1,15 @@
-"""Writes each texture that a capture draws with as a PNG, in its palette, as it is when it is used.
+"""Writes each texture that a capture uses as a PNG, with its palette at that time.
 
     psxgpu textures mine.capture -o textures
 
-A texture is what packets take of a page: page, depth, palette, window, and the box of their coordinates. It is written
-again if its cells or its palette have changed by then, and once if the texels are the same. A texture that is a part of
-another one is left out (--parts writes it). index.html shows all, with where they are from, the first event that draws
-with each, and how many packets do; it can be searched. sheet.png has all in one picture. Texels of 0000h, which are not
-drawn, are transparent; with --half those with bit 15 are half transparent, as in semi-transparent packets.
+A texture is a part of a page: page, depth, palette, window, and the box of the coordinates of a packet. It is written
+again only if its texels have changed. A texture that is part of another one is left out (--parts writes it). index.html
+shows all textures, with their position, the first event that uses each, and the number of packets that do. It can be
+searched. sheet.png has all in one picture. Texels of 0000h, which are not drawn, are transparent. With --half, texels
+with bit 15 are half transparent, as in semi-transparent packets.
 
-Of a polygon the box ends before its greatest coordinate if that seems to be the edge after the last texel. With a
-texture window the box has the texels that it shows.
+The box of a polygon ends before its greatest coordinate if that seems to be the edge after the last texel. With a
+texture window the box has the texels that the window shows.
 
 Status: 0 written, 2 an error.
 """
@@ -33,7 +33,7 @@ def arguments(parser: argparse.ArgumentParser) -> None:
     parser.add_argument('capture', help='a capture; - is standard input')
     parser.add_argument('-o', '--output', default='textures', metavar='DIR',
                         help='the folder to write (default: %(default)s)')
-    parser.add_argument('--parts', action='store_true', help='also those that are a part of another one')
+    parser.add_argument('--parts', action='store_true', help='also write textures that are part of another one')
     parser.add_argument('--half', action='store_true', help='texels with bit 15 are half transparent')
     player.argument(parser)
 

@@ -1,14 +1,14 @@
-"""Makes a GPU dump, as DuckStation and PCSX-Redux read it, of a capture.
+"""Converts a capture to a GPU dump for DuckStation and PCSX-Redux.
 
     psxgpu to-dump mine.capture mine.psxgpu
     psxgpu to-dump mine.capture mine.psxgpu.zst --game SLUS-00000
 
-A command of GP0 with all its words is a packet of the dump, and a mark of a frame (GP1(3Fh)) a VSync. Reads are
-discarded. A capture with main memory and DMA is flattened first. What a dump cannot have is left out and counted: reads
-of the status, and the control words that DuckStation does not record (04h, DMA direction, and all from 10h on; --all
-keeps them). docs/DUMPS.md has the details.
+A GP0 command with all its words is a packet of the dump, and the mark of a frame (GP1(3Fh)) is a VSync. A read is a
+discard. A capture with main memory and DMA is flattened first. Left out and counted are reads of the status, and the
+control words that DuckStation does not record (04h, DMA direction, and all from 10h on; --all keeps them).
+docs/DUMPS.md has the details.
 
-Status: 0 written, 2 error.
+Status: 0 written, 2 an error.
 """
 from __future__ import annotations
 
@@ -30,13 +30,13 @@ def arguments(parser: argparse.ArgumentParser) -> None:
     parser.add_argument('capture', help='a capture; - is standard input')
     parser.add_argument('dump', nargs='?', default='-',
                         help='the dump, packed if its name ends in .zst, .xz or .gz; standard output if left out')
-    parser.add_argument('--game', default='UNKNOWN', metavar='ID', help='the game, as the dump names it')
+    parser.add_argument('--game', default='UNKNOWN', metavar='ID', help='the name of the game in the dump')
     parser.add_argument('--pal', action='store_true', help='50 frames a second instead of 60')
     parser.add_argument('--flips', action='store_true',
                         help='a VSync after each write of the display start: for recordings without marks')
     parser.add_argument('--begin', type=decimal(0, 1 << 62), default=0, metavar='EVENT',
                         help='the trace begins after this event; those up to it restore the state')
-    parser.add_argument('--all', action='store_true', help='keeps all control words')
+    parser.add_argument('--all', action='store_true', help='keep all control words')
     player.argument(parser)
 
 

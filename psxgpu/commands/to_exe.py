@@ -1,10 +1,10 @@
-"""Makes a test program for the console of a capture: a PS-X EXE, for any emulator or a PlayStation.
+"""Converts a capture to a test program: a PS-X EXE for any emulator or a PlayStation.
 
-    psxgpu to-exe mine.capture -o mine.exe              what the capture does, and the picture at its end
-    psxgpu to-exe mine.capture -o mine.exe --check      and then what differs: on the screen and the TTY
+    psxgpu to-exe mine.capture -o mine.exe              plays the capture and shows the picture at its end
+    psxgpu to-exe mine.capture -o mine.exe --check      also shows what differs, on the screen and the TTY
 
-No compiler is needed. docs/CONSOLE.md says how to run the program. Status 0: written, with a line on standard error for
-each thing that consoles may do otherwise; 2: an error.
+No compiler is needed. docs/CONSOLE.md explains how to run the program. Status: 0 written, with a line on standard error
+for each point where a console may differ; 2 an error.
 """
 import argparse
 import sys
@@ -22,13 +22,13 @@ def arguments(parser: argparse.ArgumentParser) -> None:
     parser.add_argument('capture', metavar='CAPTURE',
                         help='a capture of version 1 or 2, or a dump of a GPU; - is standard input')
     parser.add_argument('-o', dest='out', metavar='EXE', required=True, help='the program; - is standard output')
-    parser.add_argument('--check', action='store_true', help='the program says what differs')
+    parser.add_argument('--check', action='store_true', help='the program finally shows what differs')
     parser.add_argument('--blanks', choices=tuple(BLANKS), default='marks',
                         help='wait for a vertical blank at each mark (default), at each flip, or at none')
     parser.add_argument('--from', dest='first', type=decimal(0, 1 << 30), default=0, metavar='FRAME',
                         help='begin after FRAME frames, with the state before; frames are marks, or else flips')
     parser.add_argument('--frames', type=decimal(1, 1 << 30), metavar='N', help='N frames; all if left out')
-    parser.add_argument('--pack', action='store_true', help='pack what the program does, even if it fits as it is')
+    parser.add_argument('--pack', action='store_true', help='pack the program, even if it fits without')
     player.argument(parser)
 
 

@@ -3,7 +3,9 @@
     captures/CHAPTER/NAME.capture       each test
     flat/CHAPTER/NAME.capture           the same without main memory and DMA, in version 1 (3 if video memory is tall)
     dumps/CHAPTER/NAME.psxgpu           the same as dumps of a GPU
-    exe/CHAPTER/NAME.exe                the same as programs for the console, which say what differs (about a second each)
+    programs/suite-1.exe ..             programs for the console that hold many tests, and show a square for each
+    programs/squares.tsv                which square is which test
+    exe/CHAPTER/NAME.exe                each as a program of its own, which shows what differs from psxgpu_tool
     expected.tsv                        what has to come out of each
 """
 from __future__ import annotations
@@ -15,6 +17,7 @@ from typing import Dict, List, Optional, Sequence
 
 from psxgpu import progress
 from psxgpu.command import Trouble
+from psxgpu.conformance import programs
 from psxgpu.conformance.released import expectations
 from psxgpu.conformance.suite import Test
 from psxgpu.console import executable
@@ -101,6 +104,19 @@ class Folder:
                 self.put('exe', test, '.exe', executable)
 
 
+    def programs(self, tests: Sequence[Test]) -> int:
+        """Writes the programs that hold many tests, and which square is which test. Returns how many no program holds."""
+        folder = os.path.join(self.path, 'programs')
+        os.makedirs(folder, exist_ok=True)
+        lines = ['\t'.join(programs.COLUMNS)]
+        for number, program in enumerate(programs.programs(tests), 1):
+            name = 'suite-%d.exe' % number
+            write_whole(os.path.join(folder, name), program.executable())
+            lines += programs.places(name, program)
+        write_whole(os.path.join(folder, 'squares.tsv'), ('\n'.join(lines) + '\n').encode(), is_text=True)
+        return sum(not programs.is_held(test) for test in tests)
+
+
 def found_program(given: Optional[str]) -> Optional[str]:
     """Returns the path of psxgpu_tool, or None if it is not there. Raises Trouble if the one that is given is not."""
     try:
@@ -117,5 +133,7 @@ def write(tests: Sequence[Test], path: str, program: Optional[str], has_programs
     os.makedirs(path, exist_ok=True)
     for test in progress.counted(tests, path):
         folder.test(test)
+    missing = folder.programs(tests)
     write_whole(os.path.join(path, 'expected.tsv'), expectations(tests).encode(), is_text=True)
-    return ['%d %s are left out' % (count, kind) for kind, count in folder.left_out.items()]
+    lines = ['%d %s are left out' % (count, kind) for kind, count in folder.left_out.items()]
+    return lines + (['%d tests are in none of programs/' % missing] if missing else [])

@@ -7,7 +7,7 @@ from __future__ import annotations
 
 import hashlib
 from itertools import groupby
-from typing import Dict, Iterable, List
+from typing import Dict, Iterable, Iterator, List, Tuple
 
 from psxgpu.conformance.suite import Test
 
@@ -21,14 +21,18 @@ def sum_of(data: bytes) -> str:
     return hashlib.sha256(data).hexdigest()
 
 
-def ignored(test: Test) -> str:
-    """Returns the cells whose value does not matter: runs of a row as X,Y or X,Y*COUNT, or `-`."""
+def ignored_runs(test: Test) -> Iterator[Tuple[int, int, int]]:
+    """Yields the cells whose value does not matter, as runs of a row: x, y and how many."""
     places = sorted((y, x) for x, y in test.draft.ignored)
-    runs = []
     for (y, _), some in groupby(enumerate(places), key=lambda pair: (pair[1][0], pair[1][1] - pair[0])):
         row = [x for _, (_, x) in some]
-        runs.append('%d,%d*%d' % (row[0], y, len(row)) if len(row) > 1 else '%d,%d' % (row[0], y))
-    return ' '.join(runs) or '-'
+        yield row[0], y, len(row)
+
+
+def ignored(test: Test) -> str:
+    """Returns the cells whose value does not matter: runs as X,Y or X,Y*COUNT, or `-`."""
+    return ' '.join('%d,%d*%d' % (x, y, count) if count > 1 else '%d,%d' % (x, y)
+                    for x, y, count in ignored_runs(test)) or '-'
 
 
 def words(test: Test) -> str:

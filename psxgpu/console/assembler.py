@@ -83,7 +83,7 @@ class Assembler:
             try:
                 self.line(line)
             except (ValueError, KeyError, IndexError) as bad:
-                raise ValueError('line %d: %s: %s' % (number, line.strip(), bad))
+                raise ValueError('line %d: %s: %s' % (number, line.strip(), bad)) from bad
 
 
 def assemble(text: str, address: int, names: Mapping[str, int]) -> Tuple[bytes, Dict[str, int]]:

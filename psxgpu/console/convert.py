@@ -75,4 +75,4 @@ def make(source: Source, choices: Choices) -> Program:
                 write_stretch(whole, choices.frames, flat.path)
             return build_smallest(flat, choices)
         except Trouble as trouble:
-            raise Trouble('%s: %s' % (source.name, trouble))
+            raise Trouble('%s: %s' % (source.name, trouble)) from trouble

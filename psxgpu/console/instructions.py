@@ -27,18 +27,18 @@ def register(text: str) -> int:
     return REGISTERS[text.strip()[1:]]
 
 
-def nothing(code: int, words: List[str], operands: Operands) -> int:
+def nothing(code: int, _words: List[str], _: Operands) -> int:
     """nop"""
     return code
 
 
-def three(code: int, words: List[str], operands: Operands) -> int:
+def three(code: int, words: List[str], _: Operands) -> int:
     """addu d, s, t"""
     d, s, t = map(register, words)
     return s << 21 | t << 16 | d << 11 | code
 
 
-def move(code: int, words: List[str], operands: Operands) -> int:
+def move(code: int, words: List[str], _: Operands) -> int:
     """move d, s: `or` with $zero, as GNU as writes it"""
     d, s = map(register, words)
     return s << 21 | d << 11 | code
@@ -50,7 +50,7 @@ def shift(code: int, words: List[str], operands: Operands) -> int:
     return t << 16 | d << 11 | (operands.value(words[2]) & 31) << 6 | code
 
 
-def shift_by(code: int, words: List[str], operands: Operands) -> int:
+def shift_by(code: int, words: List[str], _: Operands) -> int:
     """sllv d, t, s"""
     d, t, s = map(register, words)
     return s << 21 | t << 16 | d << 11 | code
@@ -86,24 +86,24 @@ def jump(code: int, words: List[str], operands: Operands) -> int:
     return code << 26 | operands.value(words[0]) >> 2 & 0x3FFFFFF
 
 
-def jump_register(code: int, words: List[str], operands: Operands) -> int:
+def jump_register(code: int, words: List[str], _: Operands) -> int:
     """jr s"""
     return register(words[0]) << 21 | code
 
 
-def to_coprocessor(code: int, words: List[str], operands: Operands) -> int:
+def to_coprocessor(code: int, words: List[str], _: Operands) -> int:
     """mtc0 t, d"""
     t, d = map(register, words)
     return 0x10 << 26 | code << 21 | t << 16 | d << 11
 
 
-def divide(code: int, words: List[str], operands: Operands) -> int:
+def divide(code: int, words: List[str], _operands: Operands) -> int:
     """divu $zero, s, t"""
     _, s, t = map(register, words)
     return s << 21 | t << 16 | code
 
 
-def from_divider(code: int, words: List[str], operands: Operands) -> int:
+def from_divider(code: int, words: List[str], _: Operands) -> int:
     """mflo d"""
     return register(words[0]) << 11 | code
 

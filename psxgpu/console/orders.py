@@ -28,9 +28,16 @@ class Kind(enum.IntEnum):
     TEXT = 16
     SAY = 17
     MORE = 18           # the next segment of packed orders
+    EXPECT_STORE = 19   # the kinds from here on are those of programs of tests
+    EXPECT = 20
+    EXPECT_STATUS = 21
+    JUDGE = 22
+    BOX = 23
+    SAY_FAILED = 24
 
 
 WORDED = Kind.READ          # the kinds below this one have words
+OF_TESTS = Kind.EXPECT_STORE
 
 
 class Orders:

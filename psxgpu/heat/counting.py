@@ -6,13 +6,12 @@ A packet is drawn flat, with B+F and one step of one of three channels, so a cel
 """
 from __future__ import annotations
 
-from array import array
-from typing import Dict, Iterator, List, Optional, Sequence, Tuple
+from typing import Dict, Iterator, List, Optional, Tuple
 
-from psxgpu.packets.fields import line_parts, rectangle_parts
-from psxgpu.packets.split import (COPY, ENVIRONMENT, FILL, LINE, LOAD, POLYGON, QUAD, RECTANGLE, SHADED,
-                                  TEXTURED)
-from psxgpu.players.listed import Area, Box, Packet, Questions, Walk
+from psxgpu.packets.parts import POLYGONS, line_parts, rectangle_parts
+from psxgpu.packets.split import COPY, ENVIRONMENT, FILL, LINE, LOAD, POLYGON, QUAD, RECTANGLE
+from psxgpu.players.listed import Area, Walk
+from psxgpu.players.questions import Box, Questions
 from psxgpu.stream import GP0, GP1
 from psxgpu.words import corner
 
@@ -34,8 +33,7 @@ def covering(name: str, words: List[int], color: int) -> List[int]:
     """Returns the words that add a colour to each cell that a packet covers."""
     if name == POLYGON:
         opcode = words[0] >> 24
-        vertices = words[1::1 + bool(opcode & SHADED) + bool(opcode & TEXTURED)]
-        return [(0x22 | opcode & QUAD) << 24 | color, *vertices]
+        return [(0x22 | opcode & QUAD) << 24 | color, *words[POLYGONS[opcode].vertices]]
     if name == RECTANGLE:
         point, size, _ = rectangle_parts(words)
         return [0x62000000 | color, vertex(point), corner(*size)]
@@ -51,10 +49,10 @@ class Frame:
         self.areas: List[Area] = []
         self.sums: Dict[Box, int] = {}
 
-    def add(self, box: Box, words: array[int]) -> None:
+    def add(self, box: Box, cells: bytes) -> None:
         """Adds the three channels of each cell of a box."""
-        one = int.from_bytes(words.tobytes(), 'little')
-        mask = int.from_bytes(CHANNEL_MASK * (2 * len(words)), 'little')
+        one = int.from_bytes(cells, 'little')
+        mask = int.from_bytes(CHANNEL_MASK * (len(cells) // 2), 'little')
         total = (one & mask) + (one >> 5 & mask) + (one >> 10 & mask)
         self.sums[box] = self.sums.get(box, 0) + total
 
@@ -79,7 +77,8 @@ class Tiles:
             at = row * (COLUMNS >> TILE)
             for tile in range(at + first, at + last):
                 counts[tile] = count = counts[tile] + times
-                most = max(most, count)
+                if count > most:
+                    most = count
         return most
 
 
@@ -104,7 +103,7 @@ class Counter:
             box = x1, y1, x2 - x1 + 1, y2 - y1 + 1
             for y in range(y1, y2 + 1, 512):
                 part = x1, y, box[2], min(512, y2 + 1 - y)
-                self.questions.store(part)
+                self.questions.ask(part)
                 self.boxes.append((self.frames[-1], part))
             for y in range(y1, y2 + 1, 256):
                 self.words += [0x02000000, corner(x1, y), corner(min(box[2], COLUMNS - 1), min(256, y2 + 1 - y))]
@@ -116,31 +115,34 @@ class Counter:
         self.questions.words(self.words)
         self.words = []
 
-    def draw(self, packet: Packet, area: Area) -> None:
+    def draw(self, name: str, words: List[int], area: Area) -> None:
         """Adds a packet that draws. Both triangles of a quad may cover a cell."""
-        times = 2 if packet.name == POLYGON else 1
+        times = 2 if name == POLYGON else 1
         if self.tiles.cover(area, times) > STEPS:
             self.channel += 1
             if self.channel == CHANNELS:
                 self.ask()
             self.tiles.clear()
             self.tiles.cover(area, times)
-        self.words += covering(packet.name, packet.words, 8 << 8 * self.channel)
-        old = self.area or area
-        self.area = min(old[0], area[0]), min(old[1], area[1]), max(old[2], area[2]), max(old[3], area[3])
+        self.words += covering(name, words, 8 << 8 * self.channel)
+        x1, y1, x2, y2 = old = self.area or area
+        left, top, right, bottom = area
+        if left < x1 or top < y1 or right > x2 or bottom > y2:
+            old = min(x1, left), min(y1, top), max(x2, right), max(y2, bottom)
+        self.area = old
 
-    def packet(self, packet: Packet) -> None:
+    def packet(self, name: str, words: List[int], area: Optional[Area]) -> None:
         """Adds a packet."""
-        if packet.name in DRAWN:
+        if name in DRAWN:
             self.frames[-1].packets += 1
-            if packet.area:
-                self.draw(packet, packet.area)
-        elif packet.name in (FILL, COPY, LOAD):
+            if area:
+                self.draw(name, words, area)
+        elif name in (FILL, COPY, LOAD):
             self.frames[-1].packets += 1
-            if packet.area:
-                self.frames[-1].areas.append(packet.area)
-        elif packet.name == ENVIRONMENT and packet.words[0] >> 24 in KEPT:
-            self.words += packet.words
+            if area:
+                self.frames[-1].areas.append(area)
+        elif name == ENVIRONMENT and words[0] >> 24 in KEPT:
+            self.words += words
 
     def control(self, word: int) -> None:
         """Adds a control word: a reset, or the end of a frame."""
@@ -153,12 +155,12 @@ class Counter:
 
     def go(self) -> None:
         """Goes through the capture."""
-        for kind, _, words, packets in self.walk.records():
+        for kind, _, words, _, packets in self.walk.records():
             if kind == GP1:
                 self.control(words[0])
             elif kind == GP0:
-                for packet in packets:
-                    self.packet(packet)
+                for (name, packet, _), area in packets:
+                    self.packet(name, packet, area)
                 self.flush()
         self.ask()
         self.flush()
@@ -169,8 +171,8 @@ class Counter:
         at = 0
         for frame in self.frames:
             while at < len(self.boxes) and self.boxes[at][0] is frame:
-                _, words = next(answers)
-                frame.add(self.boxes[at][1], words)
+                _, cells = next(answers)
+                frame.add(self.boxes[at][1], cells)
                 at += 1
             yield frame
         for _ in answers:

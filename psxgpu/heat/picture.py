@@ -2,6 +2,7 @@
 from __future__ import annotations
 
 import collections
+import sys
 from array import array
 from typing import Dict, List, NamedTuple, Tuple
 
@@ -53,6 +54,17 @@ def hull(areas: List[Area]) -> Area:
     return min(corners[0]), min(corners[1]), max(corners[2]), max(corners[3])
 
 
+def often_of(cells: array[int]) -> Dict[int, int]:
+    """Returns how many cells have each count. Few are above 255: the others are counted as bytes."""
+    data = cells.tobytes()
+    low, high = data[::2], data[1::2]
+    if sys.byteorder == 'big':
+        low, high = high, low
+    if any(high):
+        return collections.Counter(cells)
+    return {count: low.count(count) for count in set(low)}
+
+
 def counts_of(frame: Frame, rows: int) -> Counts:
     """Returns the counts of a frame in which something is covered."""
     moved = [part for area in frame.areas for part in parts_of(area, rows)]
@@ -71,7 +83,7 @@ def counts_of(frame: Frame, rows: int) -> Counts:
             at = (y - area[1]) * width + x1 - area[0]
             end = at + x2 - x1 + 1
             cells[at:end] = array('H', [count + 1 for count in cells[at:end]])
-    return Counts(area, cells, collections.Counter(cells))
+    return Counts(area, cells, often_of(cells))
 
 
 def color_table(most: int) -> List[bytes]:

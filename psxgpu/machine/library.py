@@ -6,31 +6,12 @@ the lib/ that the package is installed in, or in the system. It is loaded with t
 import ctypes
 import functools
 import os
+import sys
 from typing import Any, List, Optional
 
-NAME = 'libpsxgpu.so.1'
-NO_PICTURE, NO_ROOM, NO_MEMORY = 10, 11, 13
-# What the program says of a code; `place` and `word` are those of the ending.
-WORDS = {
-    2: 'not-capture at event {event} byte {place}',
-    3: 'truncated at event {event} byte {place}',
-    4: 'bad-record at event {event} byte {place} word {word:08x}',
-    5: 'too-long at event {event} byte {place}',
-    7: 'bad-dma at event {event}',
-    8: 'dma-too-long at event {event} words {place}',
-    9: 'list-loop at event {event} node {word:06x}',
-    NO_PICTURE: 'no-picture at event {event}',
-    NO_ROOM: 'no-room',
-    12: 'bad-snapshot at event {event} byte {place} word {word:08x}',
-    NO_MEMORY: 'memory',
-    14: 'the machine is closed',
-    15: 'the machine is open',
-    16: 'the library has no such mode',
-    17: 'no such cell',
-    18: 'main memory has no words there',
-    19: 'no such channel',
-    20: 'more events were played than a snapshot can count',
-}
+NAME = {'win32': 'psxgpu.dll', 'darwin': 'libpsxgpu.1.dylib'}.get(sys.platform, 'libpsxgpu.so.1')
+NO_PICTURE, NO_ROOM, NO_MEMORY, NO_CELL = 10, 11, 13, 17
+LINE_ROOM = 96          # PSXGPU_LINE_ROOM of c/psxgpu.h
 
 
 class Error(Exception):
@@ -49,8 +30,7 @@ class Refused(Error):
     """The library refused a call and left the machine unchanged. `output`: what `play` wrote before the refusal."""
 
     def __init__(self, code: int, event: int = 0, place: int = 0, word: int = 0, output: bytes = b'') -> None:
-        text = WORDS.get(code, 'code %d' % code).format(event=event, place=place, word=word)
-        super().__init__('psxgpu: ' + text.replace(' at event 0', ''))
+        super().__init__('psxgpu: ' + line_of(Ended(0, event, place, word, code)))
         self.code, self.event, self.place, self.word, self.output = code, event, place, word, output
 
 
@@ -93,11 +73,13 @@ CALLS = {
     'save': [HANDLE, BYTES, SIZE, OUT_SIZE], 'load': [HANDLE, BYTES, SIZE, ENDED],
     'gp0_notes': [HANDLE, BYTES, SIZE, ctypes.POINTER(RawNote), SIZE, OUT_SIZE],
     'play': [WORD, WORD, BYTES, SIZE, BYTES, SIZE, ENDED],
+    'version': [], 'text': [WORD], 'line': [ENDED, BYTES, SIZE],
 }
+RESULTS = {'free': None, 'version': ctypes.c_char_p, 'text': ctypes.c_char_p, 'line': SIZE}     # of others: a code
 
 
 class Library:
-    """The loaded library: each call by its name, without `psxgpu_`."""
+    """The loaded library: each call of c/psxgpu.h by its name, without `psxgpu_`. `version()` is its version."""
 
     def __init__(self, path: str) -> None:
         loaded = ctypes.CDLL(path)
@@ -105,8 +87,13 @@ class Library:
         for name, kinds in CALLS.items():
             call = getattr(loaded, 'psxgpu_' + name, None)
             if call is not None:
-                call.argtypes, call.restype = kinds, None if name == 'free' else WORD
+                call.argtypes, call.restype = kinds, RESULTS.get(name, WORD)
+                if call.restype is ctypes.c_char_p:
+                    call.errcheck = lambda text, *_: text.decode()
                 setattr(self, name, call)
+
+    def __repr__(self) -> str:
+        return '<libpsxgpu%s: %s>' % (' ' + self.version() if self.has('version') else '', self.path)
 
     def has(self, name: str) -> bool:
         """Returns whether the library has a call."""
@@ -122,7 +109,7 @@ def places() -> List[str]:
         return [os.environ['PSXGPU_LIB']]
     package = os.path.dirname(os.path.dirname(os.path.abspath(__file__)))
     folders = (package, os.path.join(package, '..', 'out'), os.path.join(package, '..', '..', '..'))
-    return [*(os.path.join(folder, NAME) for folder in folders), NAME]
+    return [*(os.path.normpath(os.path.join(folder, NAME)) for folder in folders), NAME]
 
 
 @functools.lru_cache(maxsize=None)
@@ -135,6 +122,15 @@ def library() -> Library:
         except OSError as bad:
             causes.append(str(bad))
     raise Missing('no libpsxgpu: ' + '; '.join(causes))
+
+
+def line_of(ended: Ended) -> str:
+    """Returns what the program says of an ending, in the library's words."""
+    if not library().has('line'):       # one of before 1.0
+        return 'code %d' % ended.code
+    room = ctypes.create_string_buffer(LINE_ROOM)
+    library().line(ended, room, len(room))
+    return room.value.decode()
 
 
 def check(code: int, ended: Optional[Ended] = None, output: bytes = b'') -> None:

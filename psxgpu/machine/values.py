@@ -4,7 +4,7 @@ import ctypes
 import operator
 import os
 import struct
-from typing import Iterable, NamedTuple, Optional, SupportsIndex, Tuple, Union
+from typing import Any, Iterable, NamedTuple, Optional, SupportsIndex, Tuple, Union
 
 from psxgpu.machine.library import WORD, RawNote
 from psxgpu.output import write_whole
@@ -12,6 +12,9 @@ from psxgpu.output import write_whole
 Bytes = Union[bytes, bytearray, memoryview]
 Words = Union[SupportsIndex, Iterable[int], Bytes]
 Path = Union[str, 'os.PathLike[str]']
+Buffer = Any            # a writable one: a bytearray, an array of numpy
+COLUMNS, ROWS = 1024, (512, 1024)
+WORD_FORMATS = tuple(order + letter for order in ('', '@', '=', '<') for letter in 'ILil')
 
 
 def number(value: SupportsIndex, most: int = 0xFFFFFFFF, name: str = 'word') -> int:
@@ -22,13 +25,30 @@ def number(value: SupportsIndex, most: int = 0xFFFFFFFF, name: str = 'word') -> 
     return value
 
 
+def cell_of(x: SupportsIndex, y: SupportsIndex) -> Tuple[int, int]:
+    """Returns a cell. Raises ValueError if no video memory has it."""
+    return number(x, COLUMNS - 1, 'column'), number(y, ROWS[1] - 1, 'row')
+
+
+def buffer_of(words: Any) -> Optional[bytes]:
+    """Returns the bytes of words that are bytes or a buffer of 4-byte numbers; None for words of another kind."""
+    try:
+        view = memoryview(words)
+    except TypeError:
+        return None
+    is_bytes = isinstance(words, (bytes, bytearray, memoryview)) and view.itemsize == 1
+    return view.tobytes() if is_bytes or view.itemsize == 4 and view.format in WORD_FORMATS else None
+
+
 def words_of(words: Words) -> "array.array[int]":
-    """Returns an array of words of 32 bits: of one number, of numbers, or of bytes, the low byte of each word first."""
-    if isinstance(words, (bytes, bytearray, memoryview)):
+    """Returns an array of words of 32 bits: of one number, of numbers, of a buffer of 4-byte numbers, or of bytes, the
+    low byte of each word first."""
+    data = buffer_of(words)
+    if data is not None:
         found = array.array('I')
-        found.frombytes(words)    # ValueError where they are no words of four bytes
+        found.frombytes(data)       # ValueError if they are not words of four bytes
         return found
-    numbers = [number(words)] if isinstance(words, SupportsIndex) else words
+    numbers = words if isinstance(words, Iterable) else [number(words)]     # arrays of numpy are of both kinds
     try:
         return array.array('I', numbers)
     except OverflowError:
@@ -43,6 +63,12 @@ def address(words: "array.array[int]") -> int:
 NO_WORDS = WORD()
 
 
+def room_of(buffer: Buffer) -> "ctypes.Array[ctypes.c_char]":
+    """Returns a caller's buffer for a call of the library. Raises TypeError if it cannot be written to."""
+    view = memoryview(buffer).cast('B')
+    return (ctypes.c_char * view.nbytes).from_buffer(view)
+
+
 def bytes_of(data: Bytes) -> bytes:
     """Returns bytes as such."""
     return data if isinstance(data, bytes) else memoryview(data).tobytes()
@@ -50,6 +76,9 @@ def bytes_of(data: Bytes) -> bytes:
 
 class Snapshot(bytes):
     """A machine's state: the bytes of a file that `psxgpu_tool` plays."""
+
+    def __repr__(self) -> str:
+        return '<psxgpu.Snapshot: event %d, %d bytes>' % (self.events, len(self))
 
     @classmethod
     def read(cls, path: Path) -> "Snapshot":

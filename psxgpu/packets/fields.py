@@ -1,51 +1,14 @@
 """What a packet says, in words: its colours, vertices, texture and what else is in force for it."""
 from functools import lru_cache
-from typing import Dict, List, Optional, Sequence, Tuple
+from typing import List, Sequence
 
-from psxgpu.packets.split import (COPY, ENVIRONMENT, FILL, LINE, LOAD, POLYGON, POLYLINE, QUAD, RAW, RECTANGLE, SEMI,
-                                  SHADED, STORE, TEXTURED, cells_of)
+from psxgpu.packets.parts import POLYGONS, Registers, line_parts, rectangle_parts, signed
+from psxgpu.packets.split import (COPY, ENVIRONMENT, FILL, LINE, LOAD, POLYGON, POLYLINE, RAW, RECTANGLE, SEMI, SHADED,
+                                  STORE, TEXTURED, cells_of)
+from psxgpu.packets.texts import CACHED, color_text, colors_text, pair, texcoord_text, texcoords_text, vertices_text
 
-CACHED = 1 << 11        # texts that are kept of each kind
 BLENDS = ('B/2+F/2', 'B+F', 'B-F', 'B+F/4')
 DEPTHS = (4, 8, 15, 15)
-Point = Tuple[int, int]
-Registers = Dict[int, int]          # the values of E1h to E6h
-SIZES = {1: (1, 1), 2: (8, 8), 3: (16, 16)}
-
-
-def signed(value: int) -> int:
-    """Returns the lowest eleven bits as a number with a sign."""
-    return (value & 0x7FF ^ 0x400) - 0x400
-
-
-def vertex_of(word: int) -> Point:
-    """Returns X and Y of a vertex."""
-    return signed(word), signed(word >> 16)
-
-
-def texcoord_of(word: int) -> Point:
-    """Returns U and V of a texture coordinate."""
-    return word & 0xFF, word >> 8 & 0xFF
-
-
-def color_of(word: int) -> str:
-    """Returns red, green and blue of a colour."""
-    return '%d %d %d' % (word & 0xFF, word >> 8 & 0xFF, word >> 16 & 0xFF)
-
-
-def pair(place: Point) -> str:
-    """Returns a point as text."""
-    return '(%d, %d)' % place
-
-
-def vertex_text(word: int) -> str:
-    """Returns a vertex as text: `vertex_of` in one line, since captures have many."""
-    return '(%d, %d)' % ((word & 0x7FF ^ 0x400) - 0x400, (word >> 16 & 0x7FF ^ 0x400) - 0x400)
-
-
-def texcoord_text(word: int) -> str:
-    """Returns a texture coordinate as text."""
-    return '(%d, %d)' % (word & 0xFF, word >> 8 & 0xFF)
 
 
 @lru_cache(CACHED)
@@ -97,43 +60,26 @@ def settings_text(opcode: int, registers: Registers, can_dither: bool) -> List[s
     return [text] if text else []
 
 
-def polygon_words(words: Sequence[int]) -> Tuple[Sequence[int], Sequence[int], Sequence[int]]:
-    """Returns the words of the vertices of a polygon, of its colours and of its texture coordinates."""
-    opcode = words[0] >> 24
-    step = 1 + bool(opcode & SHADED) + bool(opcode & TEXTURED)
-    end = 1 + step * (4 if opcode & QUAD else 3)
-    return (words[1:end:step], words[:end - 1:step] if opcode & SHADED else words[:1],
-            words[2:end + 1:step] if opcode & TEXTURED else ())
-
-
-def polygon_parts(words: Sequence[int]) -> Tuple[List[Point], List[int], List[int]]:
-    """Returns the vertices of a polygon, and the words of its colours and texture coordinates."""
-    vertices, colors, texcoords = polygon_words(words)
-    return list(map(vertex_of, vertices)), list(colors), list(texcoords)
+@lru_cache(CACHED)
+def texture_and_settings(opcode: int, attribute: int, mode: int, window: int, offset: int, mask: int) -> List[str]:
+    """Returns the texture of a polygon and what is in force for it. `mode`, `window`, `offset`, `mask`: the values of
+    E1h, E2h, E5h and E6h."""
+    registers = {0xE1: mode, 0xE5: offset, 0xE6: mask}
+    return [texture_text(opcode & RAW, attribute, mode, window), *settings_text(opcode, registers, not opcode & RAW)]
 
 
 def polygon_text(words: Sequence[int], registers: Registers) -> List[str]:
     """Returns the fields of a polygon."""
     opcode = words[0] >> 24
-    vertices, colors, texcoords = polygon_words(words)
-    texts = ['vertices ' + ' '.join(map(vertex_text, vertices))]
-    if not (opcode & TEXTURED and opcode & RAW):
-        texts.append('colours ' + ', '.join(map(color_of, colors)))
-    if texcoords:
-        texts.append('texcoords ' + ' '.join(map(texcoord_text, texcoords)))
-        texts.append(texture_text(opcode & RAW, texcoords[0] >> 16, registers[0xE1], registers[0xE2]))
-    can_dither = bool(opcode & SHADED) if not texcoords else not opcode & RAW
-    return texts + settings_text(opcode, registers, can_dither)
-
-
-def line_parts(words: Sequence[int]) -> Tuple[List[Point], List[int]]:
-    """Returns both ends of a segment, and their colours."""
-    opcode = words[0] >> 24
-    if len(words) == 5:             # a joint of a polyline
-        return [vertex_of(words[2]), vertex_of(words[4])], [words[1], words[3]]
-    if opcode & SHADED:
-        return [vertex_of(words[1]), vertex_of(words[3])], [words[0], words[2]]
-    return [vertex_of(words[1]), vertex_of(words[2])], [words[0]] * 2
+    vertices, colors, texcoords = POLYGONS[opcode]
+    texts = ['vertices ' + vertices_text(words[vertices]), 'colours ' + colors_text(tuple(words[colors]))]
+    if not opcode & TEXTURED:
+        return texts + settings_text(opcode, registers, bool(opcode & SHADED))
+    if opcode & RAW:
+        del texts[1]
+    texts.append('texcoords ' + texcoords_text(tuple(words[texcoords])))
+    return texts + texture_and_settings(opcode, words[2] >> 16, registers[0xE1], registers[0xE2], registers[0xE5],
+                                        registers[0xE6])
 
 
 def line_text(words: Sequence[int], registers: Registers) -> List[str]:
@@ -142,14 +88,7 @@ def line_text(words: Sequence[int], registers: Registers) -> List[str]:
     opcode = words[0] >> 24
     shown = colors if opcode & SHADED else colors[:1]
     return (['%s %s' % ('segment of a polyline' if opcode & POLYLINE else 'ends', ' '.join(map(pair, ends))),
-             'colours ' + ', '.join(map(color_of, shown))] + settings_text(opcode, registers, True))
-
-
-def rectangle_parts(words: Sequence[int]) -> Tuple[Point, Point, Optional[int]]:
-    """Returns the corner and the size of a rectangle, and the word of its texture coordinate or None."""
-    opcode = words[0] >> 24
-    size = SIZES.get(opcode >> 3 & 3) or (words[-1] & 0x3FF, words[-1] >> 16 & 0x1FF)
-    return vertex_of(words[1]), size, words[2] if opcode & TEXTURED else None
+             'colours ' + ', '.join(map(color_text, shown))] + settings_text(opcode, registers, True))
 
 
 def rectangle_text(words: Sequence[int], registers: Registers) -> List[str]:
@@ -158,10 +97,10 @@ def rectangle_text(words: Sequence[int], registers: Registers) -> List[str]:
     corner, size, texcoord = rectangle_parts(words)
     texts = ['corner (%d, %d), size %d by %d' % (corner + size)]
     if texcoord is None or not opcode & RAW:
-        texts.append('colour ' + color_of(words[0]))
+        texts.append('colour ' + color_text(words[0]))
     if texcoord is not None:
         flips = ''.join(', %s flip' % axis for axis, bit in (('X', 12), ('Y', 13)) if mode >> bit & 1)
-        texts.append('texcoord ' + pair(texcoord_of(texcoord)) + flips)
+        texts.append('texcoord ' + texcoord_text(texcoord) + flips)
         texts.append(texture_text(opcode & RAW, texcoord >> 16, registers[0xE1], registers[0xE2]))
     return texts + settings_text(opcode, registers, False)
 
@@ -178,13 +117,18 @@ def fill_text(words: Sequence[int], _: Registers) -> List[str]:
     """Returns the fields of a fill."""
     w, h = ((words[2] & 0x3FF) + 15) & ~15, words[2] >> 16 & 0x1FF
     return ['corner %s, size %d by %d' % (pair((words[1] & 0x3F0, words[1] >> 16 & 0x3FF)), w, h),
-            'colour ' + color_of(words[0])]
+            'colour ' + color_text(words[0])]
 
 
 def environment_text(words: Sequence[int], registers: Registers) -> List[str]:
     """Returns what a word of E1h to E6h sets."""
     opcode = words[0] >> 24
-    value = registers[opcode]
+    return [*setting_text(opcode, registers[opcode])]
+
+
+@lru_cache(CACHED)
+def setting_text(opcode: int, value: int) -> List[str]:
+    """Returns what one of E1h to E6h sets, from the value that is kept."""
     corner = value & 0x3FF, value >> 10 & 0x3FF
     if opcode == 0xE1:
         bits = (('dither', 9), ('drawing to the display', 10), ('X flip', 12), ('Y flip', 13))

@@ -1,8 +1,8 @@
 """Classes of packets that players are known to draw differently, and how they are left out of a comparison."""
 from typing import Callable, Dict, Iterable, List, NamedTuple, Sequence
 
-from psxgpu.packets.fields import (Point, Registers, line_parts, polygon_parts, rectangle_parts, signed, texcoord_of,
-                                   vertex_of)
+from psxgpu.packets.parts import (Point, Registers, line_parts, polygon_parts, rectangle_parts, signed, texcoord_of,
+                                  vertex_of)
 from psxgpu.packets.split import COPY, FILL, LINE, POLYGON, RECTANGLE, SHADED, TEXTURED, cells_of
 
 

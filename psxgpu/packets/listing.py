@@ -1,31 +1,33 @@
 """The entries of a capture in order: packets as `list` writes them with their fields, and events at the ports."""
 import contextlib
-import heapq
+import io
 import re
 from typing import IO, Iterable, Iterator, List, NamedTuple, Optional, Sequence
 
 from psxgpu.command import Trouble, reading
 from psxgpu.packets.control import control
-from psxgpu.packets.fields import Registers, fields
+from psxgpu.packets.fields import fields
+from psxgpu.packets.parts import Registers
 from psxgpu.packets.split import (COPY, ENVIRONMENT, FILL, FINISH, IRQ, LINE, LOAD, NOP, POLYGON, RECTANGLE, STORE,
                                   Splitter)
+from psxgpu.packets.texts import Texts
 from psxgpu.players import player
-from psxgpu.stream import BEGIN, DMA, GP0, GP1, KINDS, RAM, SKIP, STAT, Record, Stream, count_of, is_flat
+from psxgpu.players.flat import is_flat
+from psxgpu.stream import BEGIN, DMA, GP0, GP1, KINDS, RAM, SKIP, STAT, Record, Stream, count_of
 
 CONTROL = KINDS[GP1].lower()
-PORT_FIRST, PACKET_SECOND = 0, 1        # a DMA start comes before its packets
 # The names that entries can have: those of packets, and of events at the ports.
 NAMES = (FILL, POLYGON, LINE, RECTANGLE, COPY, LOAD, STORE, ENVIRONMENT, NOP, IRQ, FINISH,
          *(kind.lower() for number, kind in enumerate(KINDS) if number > GP0))
+HEADS = Texts[int]('{:08x}'.format)          # the first words of packets as `list` writes them
 
 
 class Entry(NamedTuple):
     """An entry: a packet or an event at a port. `registers` are those after the packet. They change when the next entry
     is taken."""
     event: int
-    order: int
     name: str
-    area: bytes
+    area: str
     line: str
     words: Sequence[int]
     registers: Optional[Registers]
@@ -57,10 +59,11 @@ class Listing:
         stream, event = Stream(flat, self.name), 1
         splitter = Splitter(stream.version == 3)
         with player.playing(self.player, ['list'], self.path) as listed:
+            lines = io.TextIOWrapper(listed.out, 'utf-8', 'replace', '\n')
             for kind, count, words in until_fault(stream.gathered()):
                 if kind == GP0:
-                    for packet, line in zip(splitter.push(words), listed.out):
-                        yield packet_entry(line, packet[1], splitter.registers, self.name)
+                    for (_, packet, _), line in zip(splitter.push(words), lines):
+                        yield packet_entry(line, packet, splitter.registers, self.name)
                     event += count
                     continue
                 if kind == GP1:
@@ -82,11 +85,22 @@ class Listing:
         event = 1
         with reading(self.path) as file:
             for kind, count, words in until_fault(Stream(file, self.name)):
-                if self.last_event is not None and event > self.last_event:
-                    return
                 if kind not in (GP0, RAM):
                     yield port_entry(event, kind, count, words)
                 event += count_of(kind, count)
+
+    def merged(self, packets: Iterator[Entry]) -> Iterator[Entry]:
+        """Returns the packets and the events at the ports by event. A DMA start comes before its packets."""
+        ports = self.ports()
+        port = next(ports, None)
+        for packet in packets:
+            while port and port.event <= packet.event:
+                yield port
+                port = next(ports, None)
+            yield packet
+        while port and (self.last_event is None or port.event <= self.last_event):
+            yield port
+            port = next(ports, None)
 
     def __iter__(self) -> Iterator[Entry]:
         if is_flat(self.path):
@@ -94,19 +108,18 @@ class Listing:
                 yield from self.entries(file, True)
         else:
             with player.playing(self.player, ['flat'], self.path) as run:
-                yield from heapq.merge(self.ports(), self.entries(run.out, False), key=lambda entry: entry[:2])
+                yield from self.merged(self.entries(run.out, False))
 
 
-def packet_entry(line: bytes, words: List[int], registers: Registers, capture: str) -> Entry:
+def packet_entry(line: str, words: List[int], registers: Registers, capture: str) -> Entry:
     """Returns the entry of a packet. Raises Trouble if the player's line is not that of the words."""
     try:
-        event, name, word, area = line.split(b' ', 3)
-        if word == b'%08x' % words[0]:
-            return Entry(int(event), PACKET_SECOND, name.decode(), area, line[:-1].decode(), words, registers)
+        event, name, word, area = line.split(' ', 3)
+        if word == HEADS[words[0]]:
+            return Entry(int(event), name, area, line[:-1], words, registers)
     except ValueError:
         pass
-    text = line.decode(errors='replace').strip()[:60]
-    raise Trouble('%s: the player lists `%s` and not a packet of %08x' % (capture, text, words[0]))
+    raise Trouble('%s: the player lists `%s` and not a packet of %08x' % (capture, line.strip()[:60], words[0]))
 
 
 def port_entry(event: int, kind: int, count: int, words: Sequence[int]) -> Entry:
@@ -120,10 +133,10 @@ def port_entry(event: int, kind: int, count: int, words: Sequence[int]) -> Entry
         line += ' %d madr %08x bcr %08x chcr %08x' % (count, madr, bcr, chcr)
     elif kind not in (STAT, SKIP) or count != 1:
         line += ' %d' % count
-    return Entry(event, PORT_FIRST, name, b'', line, words, None)
+    return Entry(event, name, '', line, words, None)
 
 
-def holds(area: bytes, cell: Sequence[int]) -> bool:
+def holds(area: str, cell: Sequence[int]) -> bool:
     """Returns whether an area, which may continue at the opposite edge, has a cell. `area`: as `list` has it."""
     corners = area.split()
     if len(corners) != 4:

@@ -31,7 +31,9 @@ def entry(opcode: int) -> Tuple[str, int]:
 
 
 TABLE = tuple(map(entry, range(256)))
-CHANGING = (ENVIRONMENT, POLYGON, LOAD, LINE)       # packets that change what follows
+CHANGING = (POLYGON, ENVIRONMENT, LOAD, LINE)       # packets that change what follows
+OPENING = (LOAD, LINE)          # packets after which words may belong to them
+PIECE = 512                     # words that are split at once: no packet has so many
 
 
 def name_and_length(word: int) -> Tuple[str, int]:
@@ -54,7 +56,7 @@ def data_words(size: int) -> int:
 class Splitter:
     """Takes words as they come. A joint of a polyline is a packet of the command, the colour and vertex that it starts
     from, and its own colour and vertex. `registers`: the values of E1h to E6h; `pixels`: data words that an open load
-    still takes; `changes`: how often a register was set."""
+    still takes; `changes`: how often a register got another value."""
 
     def __init__(self, is_tall: bool = False) -> None:
         self.kept, self.page = dict(zip(range(0xE1, 0xE7), KEPT[is_tall])), PAGE[is_tall]
@@ -98,32 +100,43 @@ class Splitter:
                 if joint:
                     yield (*joint, at)
             else:
-                name, wanted = TABLE[(self.words or words[at:at + 1])[0] >> 24]
-                taken = min(wanted - len(self.words), end - at)
-                packet = [*self.words, *words[at:at + taken]]
-                at += taken
-                if len(packet) < wanted:
+                piece, begin = [*self.words, *words[at:at + PIECE]], 0
+                at, self.words = at - len(self.words), []
+                while begin < len(piece):
+                    name, wanted = TABLE[piece[begin] >> 24]
+                    packet = piece[begin:begin + wanted]
+                    if len(packet) < wanted:
+                        break
+                    begin += wanted
+                    if name in CHANGING:
+                        self.change(name, packet)
+                    yield name, packet, at + begin
+                    if name in OPENING and (self.pixels or self.last):
+                        break
+                at += begin
+                if len(packet) < wanted and at + len(packet) == end:
                     self.words = packet
                     return
-                self.words = []
-                if name in CHANGING:
-                    self.change(name, packet)
-                yield name, packet, at
 
     def change(self, name: str, words: List[int]) -> None:
         """Does what a packet changes here: registers, an open load, an open polyline."""
         opcode = words[0] >> 24
-        if name == ENVIRONMENT:
-            self.changes += 1
-            self.registers[opcode] = words[0] & self.kept[opcode]
-        elif name == POLYGON and opcode & TEXTURED:
-            self.changes += 1
-            attribute = words[5 if opcode & SHADED else 4] >> 16
-            self.registers[0xE1] = self.registers[0xE1] & ~self.page | attribute & self.page
+        if name == POLYGON:
+            if opcode & TEXTURED:
+                attribute = words[5 if opcode & SHADED else 4] >> 16
+                self.set(0xE1, self.registers[0xE1] & ~self.page | attribute & self.page)
+        elif name == ENVIRONMENT:
+            self.set(opcode, words[0] & self.kept[opcode])
         elif name == LOAD:
             self.pixels = data_words(words[2])
-        elif name == LINE and opcode & POLYLINE:
+        elif opcode & POLYLINE:
             self.command, self.last = words[0], words[-2:] if opcode & SHADED else (words[0], words[-1])
+
+    def set(self, opcode: int, value: int) -> None:
+        """Sets a register."""
+        if self.registers[opcode] != value:
+            self.registers[opcode] = value
+            self.changes += 1
 
     def joint(self, word: int, last: Sequence[int]) -> Optional[Packet]:
         """Takes a word after the vertex `last` of a polyline. Returns the packet that it completes, if any."""

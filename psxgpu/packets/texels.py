@@ -3,7 +3,7 @@ from __future__ import annotations
 
 from typing import Dict, List, Sequence, Tuple
 
-from psxgpu.packets.fields import polygon_parts, rectangle_parts, texcoord_of
+from psxgpu.packets.parts import polygon_parts, rectangle_parts, texcoord_of
 from psxgpu.packets.split import POLYGON, RECTANGLE, TEXTURED
 
 Box = Tuple[int, int, int, int]             # x, y, width, height in cells

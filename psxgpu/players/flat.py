@@ -5,9 +5,16 @@ import contextlib
 import tempfile
 from typing import Iterator, Optional
 
-from psxgpu.command import pour
+from psxgpu.command import Trouble, pour, reading
 from psxgpu.players import player
-from psxgpu.stream import is_flat
+from psxgpu.stream import NOT_FLAT, Stream
+
+
+def is_flat(path: str) -> bool:
+    """Returns whether a capture has port writes and reads alone, as far as it can be read."""
+    with contextlib.suppress(Trouble), reading(path) as file:
+        return not any(kind in NOT_FLAT for kind in Stream(file, path).kinds())
+    return True
 
 
 @contextlib.contextmanager

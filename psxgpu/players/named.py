@@ -63,7 +63,7 @@ def arguments_of(command: str) -> List[str]:
         try:
             words = shlex.split(command)
         except ValueError:
-            raise Trouble('%s: a quote has no end' % command)
+            raise Trouble('%s: a quote has no end' % command) from None
         if words and '=' not in words[0]:
             return words
     return ['sh', '-c', command]
@@ -92,7 +92,7 @@ class CommandPlayer(Player):
             child = subprocess.Popen(words, stdin=subprocess.PIPE, stdout=subprocess.PIPE, stderr=subprocess.PIPE,
                                      start_new_session=True)
         except OSError as error:
-            raise Trouble('%s: %s' % (words[0], error.strerror))
+            raise Trouble('%s: %s' % (words[0], error.strerror)) from error
         try:
             out, err = child.communicate(data, seconds)
         except subprocess.TimeoutExpired:

@@ -9,7 +9,7 @@ from dataclasses import dataclass
 from typing import IO, Iterable, Iterator, List, Optional, Sequence, Tuple
 
 from psxgpu.command import pour
-from psxgpu.packets.fields import Registers
+from psxgpu.packets.parts import Registers
 from psxgpu.packets.split import FINISH, LINE, POLYLINE, Splitter
 from psxgpu.players import player
 from psxgpu.stream import GP0, GP1, HEADS, READ, SKIP, Record, Stream, encode

@@ -3,7 +3,7 @@ from __future__ import annotations
 
 from typing import Iterator, List, Tuple
 
-from psxgpu.packets.fields import signed
+from psxgpu.packets.parts import signed
 from psxgpu.packets.split import (COPY, ENVIRONMENT, FILL, LINE, LOAD, POLYGON, POLYLINE, QUAD, RAW, RECTANGLE,
                                   SHADED, STORE, TEXTURED)
 from psxgpu.reduce.units import Unit

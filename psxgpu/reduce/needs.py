@@ -3,7 +3,7 @@ from __future__ import annotations
 
 from typing import List, Sequence, Tuple
 
-from psxgpu.packets.fields import line_parts, polygon_parts, rectangle_parts, signed
+from psxgpu.packets.parts import line_parts, polygon_parts, rectangle_parts, signed
 from psxgpu.packets.split import COPY, FILL, LINE, LOAD, POLYGON, RECTANGLE, SEMI, STORE, cells_of
 from psxgpu.packets.texels import Box, Registers, texture_of
 

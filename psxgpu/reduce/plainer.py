@@ -3,7 +3,7 @@ from __future__ import annotations
 
 from typing import Iterator, List, Sequence, Tuple
 
-from psxgpu.packets.fields import polygon_parts
+from psxgpu.packets.parts import polygon_parts
 from psxgpu.packets.split import (ENVIRONMENT, LINE, LOAD, POLYGON, POLYLINE, QUAD, RAW, RECTANGLE, SEMI, SHADED,
                                   TEXTURED, data_words)
 from psxgpu.reduce.layout import GRAY, WHOLE_AREA

@@ -3,7 +3,7 @@ from __future__ import annotations
 
 from typing import Iterator, List, Tuple
 
-from psxgpu.packets.fields import signed, texcoord_of
+from psxgpu.packets.parts import signed, texcoord_of
 from psxgpu.packets.split import (COPY, ENVIRONMENT, LINE, LOAD, POLYGON, RECTANGLE, STORE, TEXTURED, cells_of,
                                   data_words)
 from psxgpu.packets.texels import SHIFTS, Box, texture_of

@@ -2,13 +2,16 @@
 from __future__ import annotations
 
 from array import array
-from typing import Dict, Iterator, List, NamedTuple, Optional, Tuple
+from typing import Dict, Iterator, List, NamedTuple, Optional, Sequence, Tuple
 
 from psxgpu.packets.split import POLYGON, RECTANGLE, SHADED, STORE, TEXTURED
-from psxgpu.players.listed import Area, Packet, Questions, Walk
+from psxgpu.players.listed import Area, Packet, Walk
+from psxgpu.players.questions import Questions
+from psxgpu.stream import GP0
 from psxgpu.textures.sources import Box, Source, source_of
 
 TILE_W, TILE_H, COLUMNS = 64, 16, 1024
+DRAWN = (POLYGON, RECTANGLE)        # packets that may have a texture
 Key = Tuple[int, ...]
 
 
@@ -41,19 +44,30 @@ class Ages:
                 for column in range(first, last + 1):
                     self.ages[at + column % self.columns] = now
 
-    def of(self, box: Box) -> int:
-        """Returns when a box was last written."""
+    def tiles(self, box: Box) -> List[int]:
+        """Returns the tiles of a box."""
         x, y, w, h = box
-        return max(self.ages[row % self.rows * self.columns + column % self.columns]
-                   for row in range(y // TILE_H, (y + h - 1) // TILE_H + 1)
-                   for column in range(x // TILE_W, (x + w - 1) // TILE_W + 1))
+        return [row % self.rows * self.columns + column % self.columns
+                for row in range(y // TILE_H, (y + h - 1) // TILE_H + 1)
+                for column in range(x // TILE_W, (x + w - 1) // TILE_W + 1)]
+
+    def of(self, tiles: List[int]) -> int:
+        """Returns when one of these tiles was last written."""
+        return max(map(self.ages.__getitem__, tiles))
 
 
 class Asked:
-    """A question: a source at an event. `last`: the number of its last store; `uses` packets drew with it."""
+    """A question: a source at an event. `last`: the number of its last box; `uses` packets drew with it."""
 
     def __init__(self, source: Source, event: int, age: int, last: int) -> None:
         self.source, self.event, self.age, self.last, self.uses = source, event, age, last, 0
+
+
+class Place(NamedTuple):
+    """A source, its boxes, and the tiles in which they are."""
+    source: Source
+    boxes: List[Box]
+    tiles: List[int]
 
 
 class Collector:
@@ -62,64 +76,69 @@ class Collector:
     def __init__(self, walk: Walk) -> None:
         self.walk, self.questions = walk, Questions(walk.is_tall)
         self.ages = Ages(1024 if walk.is_tall else 512)
-        self.sources: Dict[Key, Optional[Tuple[Source, List[Box]]]] = {}
+        self.places: Dict[Key, Optional[Place]] = {}
         self.latest: Dict[Source, Asked] = {}
         self.asked: List[Asked] = []
         self.packets = 0
 
-    def source_of(self, packet: Packet) -> Optional[Tuple[Source, List[Box]]]:
-        """Returns the source of a packet and its boxes, found once for all packets that are alike."""
-        words, registers = packet.words, self.walk.registers
-        if packet.name == POLYGON:
+    def place_of(self, name: str, words: List[int]) -> Optional[Place]:
+        """Returns where a packet takes its texels from, found once for all packets that are alike."""
+        registers = self.walk.registers
+        if name == POLYGON:
             key = (registers[0xE1], registers[0xE2], *words[2::3 if words[0] >> 24 & SHADED else 2])
         else:
             key = (registers[0xE1], registers[0xE2], words[0] >> 24, *words[2:])
-        if key not in self.sources:
-            source = source_of(packet.name, words, registers)
-            self.sources[key] = (source, source.boxes()) if source else None
-        return self.sources[key]
+        if key not in self.places:
+            source = source_of(name, words, registers)
+            boxes = source.boxes() if source else []
+            tiles = [tile for box in boxes for tile in self.ages.tiles(box)]
+            self.places[key] = Place(source, boxes, tiles) if source else None
+        return self.places[key]
 
-    def age_of(self, source: Source, boxes: List[Box]) -> Optional[int]:
-        """Returns when a source was last written, if it has to be asked for; None if it was asked since."""
-        last, age = self.latest.get(source), max(map(self.ages.of, boxes))
-        return age if last is None or last.age < age else None
+    def use(self, place: Place, event: int) -> bool:
+        """Counts a packet that draws with a source. Returns whether it was asked for again, since it may be new."""
+        last, age = self.latest.get(place.source), self.ages.of(place.tiles)
+        is_new = last is None or last.age < age
+        if last is None or is_new:
+            last = Asked(place.source, event, age, len(self.questions.boxes) + len(place.boxes) - 1)
+            self.latest[place.source] = last
+            self.asked.append(last)
+        last.uses += 1
+        return is_new
 
-    def record(self, words: List[int], packets: Iterator[Packet]) -> None:
-        """Adds a Gp0 record, with stores before the packets whose textures may be new."""
+    def record(self, words: Sequence[int], before: int, packets: Iterator[Packet]) -> None:
+        """Adds a Gp0 record, with questions before the packets whose textures may be new. `before`: events before it."""
         written = 0
-        for packet in packets:
+        for (name, packet, end), area in packets:
             self.packets += 1
-            if packet.name in (POLYGON, RECTANGLE) and packet.words[0] >> 24 & TEXTURED and packet.area:
-                found = self.source_of(packet)
-                if found:
-                    source, boxes = found
-                    age = self.age_of(source, boxes)
-                    if age is not None:
-                        # Before the packet; after it if it began in an earlier record.
-                        place = packet.begin if packet.begin >= written else packet.end
-                        self.questions.words(words[written:place])
-                        written = place
-                        last = max(self.questions.store(box) for box in boxes)
-                        self.latest[source] = Asked(source, packet.event, age, last)
-                        self.asked.append(self.latest[source])
-                    self.latest[source].uses += 1
-            if packet.area and packet.name != STORE:
-                self.ages.write(packet.area, self.packets)
+            if not area:
+                continue
+            if name in DRAWN and packet[0] >> 24 & TEXTURED:
+                place = self.place_of(name, packet)
+                if place and self.use(place, before + end):
+                    # Before the packet; after it if it began in an earlier record.
+                    begin = end - len(packet) if end - len(packet) >= written else end
+                    self.questions.words(words[written:begin])
+                    written = begin
+                    for box in place.boxes:
+                        self.questions.ask(box)
+            if name != STORE:
+                self.ages.write(area, self.packets)
         self.questions.words(words[written:])
 
     def go(self) -> None:
         """Goes through the capture."""
-        for kind, count, words, packets in self.walk.records():
-            if kind == 2:
-                self.record(words, packets)     # type: ignore[arg-type]
+        for kind, count, words, before, packets in self.walk.records():
+            if kind == GP0:
+                self.record(words, before, packets)
             else:
                 self.questions.record(kind, count, words)
 
     def used(self) -> Iterator[Used]:
         """Yields what was asked for, in the order of its events."""
         asked, held = iter(self.asked), None    # type: Iterator[Asked], Optional[array[int]]
-        for number, words in self.questions.answers(self.walk.program):
-            cells = array('H', words.tobytes())
+        for number, data in self.questions.answers(self.walk.program):
+            cells = array('H', data)
             if held is None:
                 one = next(asked)
             if number < one.last:

@@ -1,7 +1,7 @@
 #!/usr/bin/env python3
-"""docs/LIBRARY.md does what it says, after `make lib`: python3 tests/library/test_documents.py
+"""docs/LIBRARY.md and EMBEDDING.md do what they say, after `make lib`: python3 tests/library/test_documents.py
 
-Its Python lines are a doctest. A block behind a name such as `triangle.c` is that file; lines of a console block behind
+The Python lines are a doctest. A block after a name such as `triangle.c` is that file. Lines of a console block after
 `$ ` are run, beside these files, and what they write is compared. The browser's lines are for web/test_web.py."""
 import doctest
 import os
@@ -18,11 +18,12 @@ from tests.library.support import needs_library  # noqa: E402
 
 setUpModule = needs_library
 PAGE = os.path.join(ROOT, 'docs', 'LIBRARY.md')
+PAGES = (PAGE, os.path.join(ROOT, 'docs', 'EMBEDDING.md'))
 
 
-def blocks(kind):
-    """The text before each block of this kind, and the block."""
-    with open(PAGE) as file:
+def blocks(page, kind):
+    """The text before each block of this kind of a page, and the block."""
+    with open(page) as file:
         return re.findall(r'(?ms)([^\n]*)\n\n```%s\n(.*?)^```' % kind, file.read())
 
 
@@ -33,19 +34,24 @@ class Page(unittest.TestCase):
         self.assertGreater(done.attempted, 10)
         self.assertEqual(done.failed, 0)
 
+    def play(self, page, folder):
+        """Runs the commands of a page, beside its files."""
+        for before, text in blocks(page, 'c'):
+            with open(os.path.join(folder, re.search(r'`(\w+\.c)`', before)[1]), 'w') as file:
+                file.write(text)
+        for _, text in blocks(page, 'console'):
+            for command, want in re.findall(r'(?m)^\$ (.*)\n((?:[^$].*\n)*)', text):
+                with self.subTest(command=command):
+                    done = subprocess.run(['sh', '-c', command], cwd=folder, stdout=subprocess.PIPE,
+                                          stderr=subprocess.STDOUT, text=True)
+                    self.assertEqual(done.stdout, want)
+
     def test_console(self):
         with tempfile.TemporaryDirectory() as folder:
             for name in ('c', 'out', 'examples'):
                 os.symlink(os.path.join(ROOT, name), os.path.join(folder, name))
-            for before, text in blocks('c'):
-                with open(os.path.join(folder, re.search(r'`(\w+\.c)`', before)[1]), 'w') as file:
-                    file.write(text)
-            for _, text in blocks('console'):
-                for command, want in re.findall(r'(?m)^\$ (.*)\n((?:[^$].*\n)*)', text):
-                    with self.subTest(command=command):
-                        done = subprocess.run(['sh', '-c', command], cwd=folder, stdout=subprocess.PIPE,
-                                              stderr=subprocess.STDOUT, text=True)
-                        self.assertEqual(done.stdout, want)
+            for page in PAGES:
+                self.play(page, folder)
 
 
 if __name__ == '__main__':

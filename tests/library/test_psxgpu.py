@@ -31,8 +31,9 @@ class Arguments(unittest.TestCase):
         for wrong in (-1, 1 << 32):
             self.assertRaises(ValueError, machine.gp1, wrong)
         self.assertRaises(TypeError, machine.gp1, '1')
-        for column, row in ((1024, 0), (-1, 0), (0, 1024)):
-            self.assertRaises(ValueError, machine.cell, column, row)
+        for column, row, text in ((1024, 0, 'column 1024 is not in 0 to 1023'), (-1, 0, 'column -1 is not'),
+                                  (0, 1024, 'row 1024 is not'), (0, 512, 'row 512 is not in 0 to 511')):
+            self.assertRaisesRegex(ValueError, text, machine.cell, column, row)
         for start, words in ((2, [0]), (0x1FFFFC, [0, 0]), (0x200000, [0]), (-4, [0])):
             self.assertRaises(ValueError, machine.ram, start, words)
         self.assertRaises(ValueError, machine.dma, 3, 0, 0, 0)
@@ -60,6 +61,38 @@ class Arguments(unittest.TestCase):
             for word in packet:
                 machine.gp0(word)
             self.assertEqual(machine.cell(15, 15), 31)
+
+
+class Names(unittest.TestCase):
+    def test_package(self):
+        """The package has the names of `psxgpu.machine`, and no others; each has a text."""
+        from psxgpu import machine
+        self.assertEqual(set(psxgpu.__all__), {*machine.__all__, '__version__'})
+        self.assertEqual(dir(psxgpu), sorted(psxgpu.__all__))
+        for name in machine.__all__:
+            self.assertTrue(getattr(psxgpu, name).__doc__, name)
+        self.assertRaises(AttributeError, getattr, psxgpu, 'words_of')
+
+    def test_library(self):
+        """The library says its version and the texts of its codes."""
+        library = psxgpu.library()
+        self.assertEqual(library.version(), psxgpu.__version__)
+        self.assertIn('libpsxgpu %s: ' % psxgpu.__version__, repr(library))
+        self.assertEqual((library.text(17), library.text(9), library.text(99)),
+                         ('no such cell', 'list-loop', 'unknown code'))
+
+    def test_texts(self):
+        """What a session shows of each object is short."""
+        machine = psxgpu.Machine()
+        self.assertEqual(repr(machine), '<psxgpu.Machine: video memory of 512 rows>')
+        machine.set_tall()
+        self.assertEqual((repr(machine), machine.rows), ('<psxgpu.Machine: video memory of 1024 rows>', 1024))
+        machine.gp0([0, 0])
+        snapshot = machine.save()
+        self.assertEqual(repr(snapshot), '<psxgpu.Snapshot: event 2, %d bytes>' % len(snapshot))
+        machine.close()
+        self.assertEqual(repr(machine), '<psxgpu.Machine: closed>')
+        self.assertEqual(repr(psxgpu.Recording(b'PSXGPUC1')), '<psxgpu.Recording: the recording, 8 bytes>')
 
 
 class Machines(unittest.TestCase):
@@ -99,7 +132,7 @@ class Machines(unittest.TestCase):
             self.assertEqual(str(caught.exception), 'psxgpu: no-picture')
 
     def test_rows(self):
-        self.assertRaises(psxgpu.Refused, self.machine.cell, 0, 512)
+        self.assertRaises(ValueError, self.machine.cell, 0, 512)
         self.machine.set_tall()
         self.assertEqual(self.machine.cell(0, 512), 0)
         self.assertEqual(self.machine.vram(), bytes(1024 * 1024 * 2))

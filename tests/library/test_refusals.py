@@ -9,7 +9,8 @@ import unittest
 ROOT = os.path.dirname(os.path.dirname(os.path.dirname(os.path.abspath(__file__))))
 sys.path.insert(0, ROOT)
 
-from psxgpu import machine  # noqa: E402
+from psxgpu.machine import Machine  # noqa: E402
+from psxgpu.machine.library import SIZE, WORD, Ended, Handle, RawNote, library  # noqa: E402
 from psxgpu.capture import Capture, fill, screen  # noqa: E402
 from tests.library.support import needs_library  # noqa: E402
 
@@ -18,7 +19,7 @@ setUpModule = needs_library
 NO_ROOM, CLOSED, OPEN, BAD_MODE, NO_CELL, BAD_ADDRESS, BAD_CHANNEL = 11, 14, 15, 16, 17, 18, 19
 MARK = 0x5A
 WORDS = (ctypes.c_uint32 * 4)(0xE1000001, 0xE1000002, 0xE1000003, 0xE1000004)
-NOTES = (machine.RawNote * 4)()
+NOTES = (RawNote * 4)()
 
 
 class Room:
@@ -43,7 +44,7 @@ class Room:
 
 class Refusals(unittest.TestCase):
     def setUp(self):
-        self.library, self.gpu = machine.library(), machine.Handle()
+        self.library, self.gpu = library(), Handle()
         self.assertEqual(self.library.new(self.gpu), 0)
         self.addCleanup(self.library.free, self.gpu)
         for word in screen(0, 0, 320, 240):
@@ -52,7 +53,7 @@ class Refusals(unittest.TestCase):
         self.before = self.state()
 
     def state(self):
-        room, written = Room(machine.Machine.SAVE_ROOM), machine.SIZE()
+        room, written = Room(Machine.SAVE_ROOM), SIZE()
         self.assertEqual(self.library.save(self.gpu, room.at, room.size, written), 0)
         self.assertTrue(room.is_kept(written.value))
         return room.held()[:written.value]
@@ -62,8 +63,8 @@ class Refusals(unittest.TestCase):
         self.assertEqual(self.state(), self.before)
 
     def test_closed(self):
-        closed, room, written, ended = machine.Handle(), Room(64), machine.SIZE(7), machine.Ended()
-        word, half = machine.WORD(MARK), ctypes.c_uint16(MARK)
+        closed, room, written, ended = Handle(), Room(64), SIZE(7), Ended()
+        word, half = WORD(MARK), ctypes.c_uint16(MARK)
         calls = (('clear',), ('set_tall',), ('gp0', 0), ('gp0_words', WORDS, 4), ('gp1', 0), ('read', word),
                  ('status', word), ('skip',), ('ram', 0, WORDS, 4), ('dma', 2, 0, 0, 0, ended),
                  ('begin', 0, 0, 0, ended), ('turn',), ('vram', room.at, 64, written), ('cell', 0, 0, half),
@@ -90,7 +91,7 @@ class Refusals(unittest.TestCase):
         dues = {'vram': 1048576, 'picture': len('P6\n320 240\n255\n') + 3 * 320 * 240,
                 'picture_rgba': 4 * 320 * 240, 'save': len(self.before)}
         for name, due in dues.items():
-            call, written = getattr(self.library, name), machine.SIZE(7)
+            call, written = getattr(self.library, name), SIZE(7)
             for short in (0, 1, due - 1):
                 with self.subTest(call=name, room=short):
                     room = Room(short)
@@ -108,20 +109,20 @@ class Refusals(unittest.TestCase):
     def test_notes_room(self):
         """There is to be room for a note of each word; with less no word is taken."""
         for room in (0, 1, 3):
-            notes, written = (machine.RawNote * 4)(), machine.SIZE(7)
+            notes, written = (RawNote * 4)(), SIZE(7)
             ctypes.memset(notes, MARK, ctypes.sizeof(notes))
             self.assertEqual(self.library.gp0_notes(self.gpu, WORDS, 4, notes, room, written), NO_ROOM)
             self.assertEqual((written.value, set(bytes(notes))), (0, {MARK}))
 
     def test_notes_behind(self):
         """No note is written but those that are told."""
-        other = machine.Machine()
-        notes, written = (machine.RawNote * 4)(), machine.SIZE(7)
+        other = Machine()
+        notes, written = (RawNote * 4)(), SIZE(7)
         ctypes.memset(notes, MARK, ctypes.sizeof(notes))
         words = (ctypes.c_uint32 * 4)(*fill(0x0000FF, 0, 0, 16, 16), 0xE1000000)
         self.assertEqual(self.library.gp0_notes(other._handle, words, 4, notes, 4, written), 0)
         self.assertEqual([(it.event, it.word, it.class_number) for it in notes[:2]], [(3, 2, 0), (4, 3, 7)])
-        self.assertEqual((written.value, set(bytes(notes)[2 * ctypes.sizeof(machine.RawNote):])), (2, {MARK}))
+        self.assertEqual((written.value, set(bytes(notes)[2 * ctypes.sizeof(RawNote):])), (2, {MARK}))
 
     def test_cells(self):
         for x, y in ((1024, 0), (0, 512), (0xFFFFFFFF, 0), (0, 0xFFFFFFFF)):
@@ -134,12 +135,12 @@ class Refusals(unittest.TestCase):
 
     def test_channels(self):
         for channel in (0, 3, 7, 0xFFFFFFFF):
-            ended = machine.Ended()
+            ended = Ended()
             self.assertEqual(self.library.dma(self.gpu, channel, 0, 0, 0, ended), BAD_CHANNEL)
             self.assertEqual(ended.code, BAD_CHANNEL)
 
     def test_play(self):
-        capture, ended = Capture().stat(3).bytes(), machine.Ended()
+        capture, ended = Capture().stat(3).bytes(), Ended()
         room = Room(64)
         self.assertEqual(self.library.play(99, 0, capture, len(capture), room.at, 64, ended), BAD_MODE)
         self.assertTrue(room.is_kept())

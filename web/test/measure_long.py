@@ -1,19 +1,21 @@
 #!/usr/bin/env python3
-"""A recording of a minute in the viewer: python3 web/test/measure_long.py. Writes the times that it takes. Not
-part of the checks: what it asks for holds on a machine that does nothing else."""
+"""Long recordings in the viewer: python3 web/test/measure_long.py [RECORDING ..]
+
+Prints the times that each takes. Without a recording it makes one of a minute. Not part of the checks: what docs/VIEWER.md
+says holds on a machine that does nothing else.
+"""
 import os
 import random
+import sys
 import tempfile
 import time
-import unittest
 
 from page import Page
 
 from psxgpu.capture import Capture, corner, display_start, draw_mode, drawing_area, drawing_offset, fill, polygon, screen
 
-# Milliseconds that are said in docs/VIEWER.md: until the page shows the recording, and for a step back.
-OPEN, STEP = 10000, 100
 FRAMES, QUADS = 30, 1650
+CELLS = [(160, 120), (40, 200), (300, 30)]
 
 
 def second(at):
@@ -33,38 +35,66 @@ def second(at):
 
 
 def minute():
+    """A recording of 1,800 frames, about 100 MB."""
     at = random.Random(1)
     head = Capture(2).gp1(screen(0, 0, 320, 240)).gp0(0xA0000000, corner(512, 0), corner(512, 512),
                                                       [at.getrandbits(32) for _ in range(131072)])
     return head.bytes()[:-4] + 60 * second(at) + bytes(4)
 
 
-class Long(unittest.TestCase):
-    def test_a_minute(self):
-        data = minute()
-        with tempfile.TemporaryDirectory() as folder, Page() as page:
-            path = os.path.join(folder, 'minute.capture')
-            with open(path, 'wb') as file:
-                file.write(data)
-            started = time.time()
-            page.choose('#open', path)
-            page.until('document.title.startsWith("minute")')
-            opened = 1000 * (time.time() - started)
-            length = page.evaluate('probe.app.recording.length')
-            page.evaluate('probe.app.seek(%d)' % length)
-            page.until('probe.app.at === %d' % length, 600)
-            ended = time.time() - started
-            at = random.Random(2)
-            places = page.ask('times', [at.randrange(length) for _ in range(100)])
-            back = page.ask('times', [length - 9 * k for k in range(100)])
-            print('%d bytes, %d steps: shown after %d ms; a jump to the end is there after %.1f s'
-                  % (len(data), length, opened, ended))
-            print('then a random place: %d ms in the middle, %d at most; a step back: %d, %d'
-                  % (places[50], places[-1], back[50], back[-1]))
-            print('%d states of %d MB, %d MB in all' % tuple(page.ask('kept')))
-            self.assertLess(opened, OPEN)
-            self.assertLess(back[50], STEP)
+def opened(page, path):
+    """Opens a recording. Returns milliseconds until it is shown, until its last frame is, and until all is played."""
+    page.evaluate('document.title = ""')
+    started = time.time()
+    page.choose('#open', path)
+    page.until('document.title !== ""', 300)
+    shown = time.time()
+    page.until('probe.app.goal < 0', 600)
+    there = time.time()
+    page.until('probe.app.pass.isDone() && !probe.app.pass.isRunning', 600)
+    return [1000 * (at - started) for at in (shown, there, time.time())]
+
+
+def history(page, x, y):
+    """Milliseconds until the first changes of a cell are listed, until all are, and their number."""
+    return page.evaluate('''(async () => {
+        const { app, pixel } = probe.viewer, started = performance.now();
+        let first = 0;
+        pixel.isWhole = false;
+        app.choose({ x: %d, y: %d });
+        while (!pixel.isWhole) {
+            if (!first && pixel.history?.changes.length) first = performance.now() - started;
+            await new Promise(go => setTimeout(go, 5));
+        }
+        return [first, performance.now() - started, pixel.history.changes.length];
+    })()''' % (x, y))
+
+
+def measure(page, path):
+    """Prints the times of one recording."""
+    shown, there, played = opened(page, path)
+    length = page.evaluate('probe.app.recording.length')
+    print('%s: %d bytes, %d steps' % (os.path.basename(path), os.path.getsize(path), length))
+    print('  shown after %d ms, its last frame after %d ms, all played after %d ms' % (shown, there, played))
+    at = random.Random(2)
+    places = page.ask('times', [at.randrange(length) for _ in range(100)])
+    back = page.ask('times', [length - 9 * k for k in range(100)])
+    print('  a random place: %d ms in the middle, %d at most; a step back: %d, %d'
+          % (places[50], places[-1], back[50], back[-1]))
+    for x, y in CELLS:
+        print('  history of (%d, %d): first after %d ms, all after %d ms, %d changes' % (x, y, *history(page, x, y)))
+    print('  %d states of %d MB, %d MB in all' % tuple(page.ask('kept')), flush=True)
+
+
+def main():
+    with tempfile.TemporaryDirectory() as folder, Page() as page:
+        paths = sys.argv[1:] or [os.path.join(folder, 'minute.capture')]
+        if not sys.argv[1:]:
+            with open(paths[0], 'wb') as file:
+                file.write(minute())
+        for path in paths:
+            measure(page, path)
 
 
 if __name__ == '__main__':
-    unittest.main()
+    main()

@@ -43,7 +43,11 @@ class Page(Browser):
         return self
 
     def size(self, width, height):
+        """Makes the window this large. Returns after the page has laid itself out anew."""
         self.call('Emulation.setDeviceMetricsOverride', width=width, height=height, deviceScaleFactor=1, mobile=False)
+        self.until('innerWidth === %d && innerHeight === %d' % (width, height))
+        # Observers of sizes are called between a frame's callbacks and those of the next frame.
+        self.evaluate('new Promise(done => requestAnimationFrame(() => requestAnimationFrame(done)))')
 
     def ask(self, name, *values):
         """What a function of probe.js answers."""
@@ -59,11 +63,30 @@ class Page(Browser):
         node = self.call('DOM.querySelector', nodeId=document, selector=selector)['nodeId']
         self.call('DOM.setFileInputFiles', nodeId=node, files=[os.path.abspath(path)])
 
-    def press(self, key, text=None):
+    def press(self, key, text=None, shift=False):
         """Presses and releases a key."""
         for kind in ('keyDown', 'keyUp'):
             more = {'text': text} if text and kind == 'keyDown' else {}
-            self.call('Input.dispatchKeyEvent', type=kind, key=key, **more)
+            self.call('Input.dispatchKeyEvent', type=kind, key=key, modifiers=8 * shift, **more)
+
+    def write(self, text):
+        """Writes a text, key by key."""
+        for letter in text:
+            self.press(letter, letter)
+
+    def text(self, selector):
+        """What an element says."""
+        return self.evaluate('document.querySelector(%s).textContent' % json.dumps(selector))
+
+    def click(self, selector):
+        """Clicks an element as a script does."""
+        self.evaluate('document.querySelector(%s).click()' % json.dumps(selector))
+
+    def set(self, selector, value):
+        """Gives a field a value, as if it was written and left."""
+        self.evaluate('(() => { const field = document.querySelector(%s); field.value = %s; '
+                      'field.dispatchEvent(new Event("input")); field.dispatchEvent(new Event("change")); })()'
+                      % (json.dumps(selector), json.dumps(value)))
 
     def until(self, expression, seconds=60):
         """Waits until something holds."""

@@ -13,6 +13,13 @@ const probe = (() => {
         while (!app.pass.isDone() || app.pass.isRunning || app.goal >= 0) await later();
     }
 
+    const base64Of = async parts => {
+        const bytes = new Uint8Array(await new Blob(parts).arrayBuffer());
+        let text = '';
+        for (let at = 0; at < bytes.length; at += 8192) text += String.fromCharCode(...bytes.subarray(at, at + 8192));
+        return btoa(text);
+    };
+
     return {
         begin: async () => { viewer = await window.viewer; },
         get app() { return viewer.app; },
@@ -30,7 +37,7 @@ const probe = (() => {
         picture: async () => viewer.app.picture && sumOfParts(module_out.ppmOf(viewer.app.picture)),
 
         // The whole state at this place.
-        state: () => sum(module_outline.renumbered(viewer.app.machine.save(), viewer.app.at)),
+        state: () => sum(module_outline.renumbered(viewer.app.machine.stateView(), viewer.app.at)),
 
         async memoryAtEvent(event) {
             viewer.app.seek(viewer.app.recording.track.stepsUpTo(event));
@@ -75,9 +82,29 @@ const probe = (() => {
 
         // A file that is cut at the last event up to this one that reaches a port: the event, and its sum.
         async cut(event) {
-            viewer.app.seek(viewer.app.recording.track.stepsUpTo(event));
-            return [viewer.out.event, await sumOfParts(await viewer.out.cutParts())];
+            const { app } = viewer;
+            app.seek(app.recording.track.stepsUpTo(event));
+            return [app.recording.eventAt(app.at), await sumOfParts(await viewer.out.cutParts())];
         },
+
+        // The file that is cut at this place, in base64.
+        cutHere: async () => base64Of(await viewer.out.cutParts()),
+
+        // The address of each row, and whether each place is found again by its address.
+        addresses() {
+            const { recording } = viewer.app, { addressOf, rowAddress, stepsAt } = module_address;
+            const places = Array.from({ length: recording.length + 1 }, (_, steps) => steps);
+            return {
+                rows: Array.from({ length: recording.rows.length }, (_, row) => rowAddress(recording, row)),
+                lost: places.filter(steps => stepsAt(recording, addressOf(recording, steps)) !== steps),
+            };
+        },
+
+        // The bytes that the machines' module takes.
+        moduleBytes: () => viewer.app.library.exports.memory.buffer.byteLength,
+
+        // The pixels of the image that a view shows, as a sum.
+        viewSum: () => sum(viewer.views.view.image?.data ?? new Uint8Array(0)),
 
         // Milliseconds of going to places, in order from the least.
         async times(places) {

@@ -33,5 +33,11 @@ class Reader(unittest.TestCase):
         self.assertNotIn('A fault', self.page.evaluate('document.getElementById("said").textContent'))
 
     @property
+    def data(self):
+        """The bytes of the example that is open."""
+        with open(self.file, 'rb') as file:
+            return file.read()
+
+    @property
     def at(self):
         return self.page.evaluate('probe.app.at')

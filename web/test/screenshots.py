@@ -1,5 +1,7 @@
 #!/usr/bin/env python3
-"""Takes the pictures of docs/VIEWER.md: python3 web/test/screenshots.py, behind `make web`."""
+"""Takes the pictures of docs/VIEWER.md: python3 web/test/screenshots.py, after `make web`.
+
+With Pillow (Debian: python3-pil) they have 256 colours, and so a third of the size."""
 import os
 
 from page import EXAMPLES, ROOT, Page
@@ -10,6 +12,19 @@ RIGHT = bytes.fromhex('9080782c8000700000000078')
 WRONG = bytes.fromhex('9080782c8000700000004078')
 
 
+def take(page, name):
+    """Takes a picture of the window."""
+    path = os.path.join(DOCS, name)
+    page.screenshot(path)
+    try:
+        from PIL import Image
+    except ImportError:
+        return
+    with Image.open(path) as image:
+        small = image.convert('RGB').quantize(256, method=Image.Quantize.MEDIANCUT, dither=Image.Dither.NONE)
+    small.save(path, optimize=True)
+
+
 def main():
     with open(os.path.join(EXAMPLES, 'textured-frame.capture'), 'rb') as file:
         data = file.read()
@@ -17,17 +32,15 @@ def main():
         page.size(1360, 800)
         page.load(data, 'textured-frame.capture')
         page.ask('pixel', 110, 130)
-        page.evaluate('probe.app.seekRow(72); probe.viewer.views.choose("memory")')
-        page.screenshot(os.path.join(DOCS, 'viewer.png'))
+        page.evaluate('probe.app.seekRow(72)')
+        take(page, 'viewer.png')
         page.load(data.replace(RIGHT, WRONG), 'wrong.capture')
-        page.evaluate('probe.app.seek(1e12); probe.viewer.views.choose("picture"); probe.viewer.views.view.fit()')
         page.ask('pixel', 150, 140)
-        page.screenshot(os.path.join(DOCS, 'viewer-pixel.png'))
+        take(page, 'viewer-pixel.png')
         page.evaluate('document.querySelector("#history .row[aria-selected=true]").click()')
-        page.press('3', '3')
-        page.evaluate('document.getElementById("palette").value = "0,480"')
-        page.evaluate('document.getElementById("palette").dispatchEvent(new Event("change"))')
-        page.screenshot(os.path.join(DOCS, 'viewer-texture.png'))
+        page.press('4', '4')
+        page.set('#palette', '0,480')
+        take(page, 'viewer-texture.png')
 
 
 if __name__ == '__main__':

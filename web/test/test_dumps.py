@@ -63,7 +63,7 @@ class Dumps(unittest.TestCase):
         dump, _ = dump_of('flips')
         said = self.page.load(dump[:-2], 'cut.psxgpu')
         self.assertRegex(said, r'^cut.psxgpu: byte \d+ of the dump: the dump ends inside a packet, which begins at')
-        self.assertIn('Open what stands before it', self.page.evaluate('document.getElementById("said").textContent'))
+        self.assertIn('Open what is before it', self.page.evaluate('document.getElementById("said").textContent'))
 
 
 if __name__ == '__main__':

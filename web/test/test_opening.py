@@ -20,8 +20,8 @@ ROOT = os.path.dirname(os.path.dirname(HERE))
 sys.path[:0] = [os.path.join(ROOT, 'web'), os.path.join(ROOT, 'web', 'viewer'), ROOT]
 
 from browser import Browser  # noqa: E402
+from bundle import script_of  # noqa: E402
 from made import in_zstd  # noqa: E402
-from pack import as_function, in_order  # noqa: E402
 from psxgpu import capture as c  # noqa: E402
 from psxgpu.dumps.export import About, Export  # noqa: E402
 from psxgpu.dumps.format import HEAD  # noqa: E402
@@ -33,6 +33,7 @@ EXAMPLES = os.path.join(ROOT, 'examples')
 FLAT = ('flips.capture', 'smear.capture', 'tall.capture', 'two-fills.capture', 'ports.capture.gz', 'cube.capture.gz')
 # What a dropped file becomes: its version and steps, or the line that says why not and the steps before that.
 PAGE = '''<!DOCTYPE html><meta charset="utf-8"><script>
+const psxgpu = {};
 %s
 const stepsOf = recording => Array.from({ length: recording?.length ?? 0 }, (_, k) =>
     [recording.track.kind(k), recording.track.word(k)]);
@@ -54,9 +55,7 @@ async function dropped(name, text) {
 
 def page():
     """The page, as text."""
-    texts = {}
-    in_order('opening', texts)
-    return PAGE % ''.join(as_function(name, text) for name, text in texts.items())
+    return PAGE % script_of(os.path.join(ROOT, 'web', 'viewer'), 'opening')
 
 
 def steps(data):
@@ -140,8 +139,8 @@ class Opening(unittest.TestCase):
             if knows:
                 self.assertEqual(found, self.expected(HAND_MADE))
             else:
-                self.assertEqual(found['said'], 'this browser cannot unpack %s: unpack the file first, as with %s'
-                                 % (name, program))
+                self.assertEqual(found['said'], 'this is a file packed by %s, which this browser cannot unpack: '
+                                 'unpack it first with %s' % (name, program))
         self.assertEqual(self.drop(gzip.compress(HAND_MADE)[:-9])['said'], 'damaged: no whole gzip file')
 
 

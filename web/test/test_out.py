@@ -29,7 +29,7 @@ class Out(Reader):
         self.page.until('document.getElementById("compare").textContent.includes("are the same")')
         self.page.choose('#dump', other)
         self.page.until('document.getElementById("compare").textContent.includes("2 cells")')
-        self.page.press('2', '2')
+        self.page.press('3', '3')
         seen = self.page.evaluate('[...probe.viewer.views.view.source.getContext("2d").getImageData(150, 140, 1, 1).data]')
         self.assertEqual(seen, [255, 77, 109, 255])
         told = self.page.evaluate('document.getElementById("compare").textContent')
@@ -38,7 +38,8 @@ class Out(Reader):
         self.assertIn('their box100 140 150 150', told)
         self.assertIn('100 140 150 150', said.stdout)
         lines = program('list', data=data)[0].decode().splitlines()
-        self.assertIn('first drawn byevent %s: %s %s' % tuple(holding(lines, 150, 140)[0].split()[:3]), told)
+        event, name, head = holding(lines, 150, 140)[0].split()[:3]
+        self.assertRegex(told, r'first drawn byevent %s\.\d+: %s %s' % (event, name, head))
 
     def test_a_png_of_the_picture_is_the_picture(self):
         self.page.press('End')
@@ -55,16 +56,17 @@ class Out(Reader):
             data = file.read()
         self.page.call('Browser.setDownloadBehavior', behavior='allow', downloadPath=self.folder)
         self.page.evaluate('probe.app.seek(1e12)')
-        self.assertEqual(self.saved('vram', 'textured-frame-2948.vram'), program('vram', data=data)[0])
-        self.assertEqual(self.saved('ppm', 'textured-frame-2948.ppm'), program('shot', data=data)[0])
-        self.assertEqual(self.saved('cut', 'textured-frame-2948.snapshot'), program('cut', '2948', data=data)[0])
-        self.assertEqual(self.saved('png', 'textured-frame-2948-memory.png')[:4], b'\x89PNG')
+        self.page.press('3', '3')
+        self.assertEqual(self.saved('Video memory', 'textured-frame-2948.vram'), program('vram', data=data)[0])
+        self.assertEqual(self.saved('Picture', 'textured-frame-2948.ppm'), program('shot', data=data)[0])
+        self.assertEqual(self.saved('Capture', 'textured-frame-2948.snapshot'), program('cut', '2948', data=data)[0])
+        self.assertEqual(self.saved('PNG of this view', 'textured-frame-2948-memory.png')[:4], b'\x89PNG')
 
     def saved(self, what, name):
-        """What a choice of Out leaves in the folder of downloads."""
-        self.page.press('2', '2')
-        self.page.evaluate('(() => { const out = document.getElementById("out"); out.value = "%s";'
-                           'out.dispatchEvent(new Event("change")); })()' % what)
+        """The file that an entry of the menu leaves in the folder of downloads."""
+        self.page.click('#out')
+        self.page.evaluate('[...document.querySelectorAll("#out + .menu button")]'
+                           '.find(entry => entry.textContent.startsWith("%s")).click()' % what)
         path = os.path.join(self.folder, name)
         for _ in range(500):
             if os.path.exists(path):
@@ -72,12 +74,6 @@ class Out(Reader):
             time.sleep(0.02)
         with open(path, 'rb') as file:
             return file.read()
-
-    def test_links(self):
-        self.page.evaluate("location.hash = '#event=522&cell=12,34'")
-        self.page.until('probe.app.cell?.x === 12')
-        self.assertEqual(self.page.evaluate('[probe.app.cell.y, probe.app.recording.eventAt(probe.app.at)]'), [34, 522])
-        self.page.evaluate("history.replaceState(null, '', '#')")
 
     def test_the_words_of_a_packet(self):
         self.page.evaluate('probe.app.seekRow(18)')

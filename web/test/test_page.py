@@ -17,20 +17,17 @@ class UsedByHand(Reader):
     def test_keys_go_through_time(self):
         length = self.page.evaluate('probe.app.recording.length')
         ends = self.page.ask('ends')
-        self.page.press('ArrowRight')
-        self.assertEqual(self.at, ends[0])
-        for _ in range(9):
-            self.page.press('ArrowRight')
+        for _ in range(10):
+            self.page.press('ArrowRight', shift=True)
         self.assertEqual(self.at, ends[9])
-        self.page.press('ArrowLeft')
-        self.assertEqual(self.at, ends[8])
         self.page.press('End')
         self.assertEqual(self.at, length)
         flips = self.page.evaluate('probe.app.recording.flips')
-        self.page.press('[', '[')
-        self.assertEqual(self.at, flips[-1] + 1)
-        self.page.press(']', ']')
-        self.assertEqual(self.at, length)
+        for back, on in ('[]', ',.'):
+            self.page.press(back, back)
+            self.assertEqual(self.at, flips[-1] + 1)
+            self.page.press(on, on)
+            self.assertEqual(self.at, length)
         self.page.press('Home')
         self.assertEqual(self.at, 0)
 
@@ -40,7 +37,7 @@ class UsedByHand(Reader):
         self.page.until('document.getElementById("play").textContent === "Play"')
 
     def test_views_and_the_cell_by_keys(self):
-        for key, name in (('2', 'memory'), ('3', 'texture'), ('1', 'picture'), ('2', 'memory')):
+        for key, name in (('2', 'drawn'), ('3', 'memory'), ('4', 'texture'), ('1', 'picture'), ('3', 'memory')):
             self.page.press(key, key)
             self.assertEqual(self.page.evaluate('probe.viewer.views.name'), name)
         self.page.press('End')
@@ -81,14 +78,18 @@ class UsedByHand(Reader):
         self.assertEqual(self.page.evaluate('probe.app.row'), self.page.evaluate('probe.viewer.list.found[0]'))
 
     def test_an_example_opens_and_keys_go_on(self):
-        self.page.evaluate('document.getElementById("examples").value = "smear"')
-        self.page.evaluate('document.getElementById("examples").dispatchEvent(new Event("change"))')
+        self.page.click('#examples')
+        self.page.evaluate('[...document.querySelectorAll("#examples + .menu button")]'
+                           '.find(entry => entry.textContent === "smear").click()')
         self.page.until('document.title.startsWith("smear")')
         self.page.until('document.activeElement.id === "list"')
-        self.page.press('ArrowRight')
-        self.assertEqual(self.at, 515)
+        self.page.ask('played')
+        self.page.press('Home')
+        ends = self.page.ask('ends')
         self.page.press('ArrowDown')
-        self.assertEqual(self.at, 519)
+        self.assertEqual(self.at, ends[0])
+        self.page.press('ArrowDown')
+        self.assertEqual(self.at, ends[1])
 
     def test_no_request_leaves(self):
         self.assertEqual(self.page.evaluate('performance.getEntriesByType("resource").length'), 0)

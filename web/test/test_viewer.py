@@ -1,5 +1,5 @@
 #!/usr/bin/env python3
-"""The viewer against the program, on the examples: python3 web/test/test_viewer.py, behind `make web`."""
+"""The viewer against the program, on the examples: python3 web/test/test_viewer.py, after `make web`."""
 import gzip
 import hashlib
 import random
@@ -158,7 +158,8 @@ class Viewer(unittest.TestCase):
         self.assertIn('damaged', self.page.load(gzip.compress(data)[:500]))
         told = self.page.load(in_zstd(data))
         self.assertEqual(told, True if self.page.ask('unpacks', 'zstd') else
-                         'a.capture: this browser cannot unpack zstd: unpack the file first, as with zstd -d')
+                         'a.capture: this is a file packed by zstd, which this browser cannot unpack: unpack it first '
+                         'with zstd -d')
         self.assertIn('truncated', self.page.load(gzip.compress(data[:500])))
 
 

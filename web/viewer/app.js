@@ -1,34 +1,34 @@
-// What is open and where it stands. The panels listen: 'opened', 'moved' (another place), 'cell' (another cell chosen),
-// 'ahead' (the pass has gone on), 'said' (a line for the reader).
+// What is open, and the place that is shown. The panels listen: 'opened', 'arrived' (an opened recording is at its last
+// frame), 'moved' (another place), 'cell' (another cell is chosen), 'texture' (another page is chosen), 'second' (a
+// recording beside this one), 'goto' (show what differs), 'ahead' (the pass has played on), 'work' (its progress) and
+// 'said' (a line).
 
+import { Ahead } from './ahead.js';
+import { breath } from './breath.js';
 import { Machine } from './machine.js';
 import { Pass } from './pass.js';
 import { Player } from './player.js';
 import { Stopped, openFile } from './opening.js';
-
-const channel = new MessageChannel();
-const waiting = [];
-channel.port1.onmessage = () => waiting.shift()?.();
-
-// Lets the page breathe.
-export const breath = () => new Promise(go => { waiting.push(go); channel.port2.postMessage(0); });
-
-// Milliseconds after a step of the reader in which the pass waits.
-const CALM = 120;
-// Milliseconds between two tellings of how far it is.
-const TOLD = 100;
+import { isDrawing, nextRow } from './stepping.js';
 
 export class App extends EventTarget {
     constructor(library) {
         super();
-        Object.assign(this, { library, recording: null, pass: null, at: 0, cell: null, working: null, goal: -1,
-            touched: 0 });
+        Object.assign(this, { library, recording: null, pass: null, at: 0, cell: null, working: null, how: 'time',
+            listed: null, beside: null, framesBy: 'flips' });
         this.machine = new Machine(library);
+        this.ahead = new Ahead(this);
     }
+
+    /** The place that the page goes to when it is played so far, or -1. */
+    get goal() { return this.ahead.goal; }
+
+    /** The steps at which frames begin: display starts or marks, as the reader chose. */
+    get starts() { return this.recording?.[this.framesBy] ?? []; }
 
     // A browser compiles what runs often better than what runs once: this is done before the reader waits for it.
     async warmUp() {
-        const state = this.machine.save().slice();
+        const state = this.machine.save();
         for (let k = 0; k < 12 && !this.recording; k++) {
             this.machine.load(state);
             await breath();
@@ -41,8 +41,15 @@ export class App extends EventTarget {
 
     tell(name) { this.dispatchEvent(new Event(name)); }
 
+    /** Says something; `choice` is what may be done: { text, does }. */
     say(text, choice = null) {
         this.said = { text, choice };
+        this.tell('said');
+    }
+
+    /** Says what went wrong. */
+    warn(text, choice = null) {
+        this.said = { text, choice, isWarning: true };
         this.tell('said');
     }
 
@@ -57,18 +64,18 @@ export class App extends EventTarget {
             if (stopper === this.stopOpening) this.adopt(Object.assign(recording, { source: blob, ...from }));
             return true;
         } catch (fault) {
-            if (!(fault instanceof Stopped)) this.say(`${name}: ${fault.message}`, this.choiceOf(fault, blob, from));
+            if (!(fault instanceof Stopped)) this.warn(`${name}: ${fault.message}`, this.choiceOf(fault, blob, from));
             return false;
         } finally {
             if (stopper === this.stopOpening) this.work(null);
         }
     }
 
-    // The steps before a fault may be looked at, too.
+    // The steps before a fault can be opened.
     choiceOf(fault, blob, from) {
         if (!fault.before?.length) return null;
         const event = fault.before.eventAt(fault.before.length);
-        return { text: `Open what stands before it (up to event ${event})`,
+        return { text: `Open what is before it (up to event ${event})`,
             does: () => this.adopt(Object.assign(fault.before, { source: blob, isPart: true, ...from })) };
     }
 
@@ -79,106 +86,76 @@ export class App extends EventTarget {
 
     adopt(recording) {
         this.say('');
-        this.goal = -1;
-        this.pass?.machine.free();
+        this.ahead.leave();
+        this.pass?.machine.close();
         this.recording = recording;
         this.player = new Player(recording, this.machine);
         this.pass = new Pass(recording, new Machine(this.library));
         this.cell = null;
+        this.how = 'time';
+        this.framesBy = recording.flips.length > 0 || recording.marks.length === 0 ? 'flips' : 'marks';
         this.at = 0;
-        this.show();
+        this.look();
+        this.ahead.open();
         this.tell('opened');
         this.readAhead(this.pass);
     }
 
-    // Plays on behind the page until the end, or until it is stopped.
-    async readAhead(pass) {
-        if (pass.isRunning) return;
-        pass.isRunning = true;
-        pass.isStopped = false;
-        for (let told = 0; pass === this.pass && !pass.isDone() && !pass.isStopped;) {
-            if (this.goal < pass.at && performance.now() - this.touched < CALM) {
-                await new Promise(go => setTimeout(go, CALM / 4));
-                continue;
-            }
-            this.turn(pass);
-            if (performance.now() - told > TOLD) {
-                told = performance.now();
-                this.tellAhead(pass);
-            }
-            if (this.goal >= 0 && pass.at >= this.goal) this.arrive();
-            await breath();
-        }
-        pass.isRunning = false;
-        if (pass !== this.pass) return;
-        this.goal = -1;
-        this.work(null);
-        this.tell('ahead');
+    readAhead(pass) { this.ahead.run(pass); }
+
+    /**
+     * Goes to the state after a number of steps; where that is far ahead, the pass goes there first.
+     * @param {number} steps
+     * @param {string} how why: 'packet', 'frame', 'cell' (what drew a cell) or 'time'; the views choose by it
+     */
+    seek(steps, how = 'time') {
+        if (!this.recording) return;
+        const to = Math.max(0, Math.min(this.recording.length, Math.round(steps)));
+        this.ahead.leave();
+        this.how = how;
+        if (to <= this.pass.at || to - this.at < 4096) this.showAt(to);
+        else this.ahead.goTo(to);
     }
 
-    // A turn of the pass. One that fails is its last.
-    turn(pass) {
-        try {
-            pass.turn();
-        } catch (fault) {
-            pass.isStopped = true;
-            this.say(`A fault of this page: ${fault.message}`);
-        }
-    }
-
-    tellAhead(pass) {
-        this.work(this.goal > pass.at ? 'playing to there' : 'reading ahead', pass.at / this.recording.length,
-            () => { pass.isStopped = true; });
-        this.tell('ahead');
-    }
-
-    arrive() {
-        const goal = this.goal;
-        this.goal = -1;
-        this.at = goal;
+    showAt(steps) {
+        this.at = steps;
         this.show();
     }
 
-    // Goes to the state after so many steps; where that is far ahead, the pass goes there first.
-    seek(steps) {
-        if (!this.recording) return;
-        const to = Math.max(0, Math.min(this.recording.length, Math.round(steps)));
-        this.goal = -1;
-        this.touched = performance.now();
-        if (to <= this.pass.at || to - this.at < 4096) {
-            this.at = to;
-            this.show();
-        } else {
-            this.goal = to;
-            this.readAhead(this.pass);
-        }
-    }
-
-    // What is seen at this place.
+    // Shows what is seen at this place.
     show() {
-        const before = performance.now(), { machine, recording } = this;
-        this.player.seek(this.at);
-        const cells = machine.vram();
-        if (this.cells?.length !== cells.length) this.cells = new Uint16Array(cells.length);
-        this.cells.set(cells);
-        this.picture = machine.picture();
-        this.registers = machine.registers();
-        this.row = recording.rows.at(this.at);
-        this.difference?.look(this);
+        const before = performance.now();
+        this.look();
         this.tell('moved');
         this.took = performance.now() - before;
     }
 
-    seekRow(row) { if (row >= 0) this.seek(this.recording.endOf(row)); }
+    // Takes what is seen at this place from the machine.
+    look() {
+        const { machine, recording } = this;
+        this.player.seek(this.at);
+        const cells = machine.vramView();
+        if (this.cells?.length !== cells.length) this.cells = new Uint16Array(cells.length);
+        this.cells.set(cells);
+        this.picture = machine.frame();
+        this.registers = machine.registers();
+        this.row = recording.rows.at(this.at);
+        if (this.beside) this.beside.follow(); else this.difference?.look(this);
+    }
 
-    // The packet or word for GP1 before or behind this place.
-    stepRows(by) {
-        const { rows, length } = this.recording ?? {};
-        if (!rows) return;
-        const inside = this.row >= 0 && this.at < this.recording.endOf(this.row);
-        let row = by < 0 && inside ? this.row : this.row + by;
-        while (row >= 0 && row < rows.length && rows.kind[row] > 16) row += by;
-        if (row < 0) this.seek(0); else if (row >= rows.length) this.seek(length); else this.seekRow(row);
+    seekRow(row, how = 'packet') { if (row >= 0) this.seek(this.recording.endOf(row), how); }
+
+    /**
+     * Goes to the next packet that draws, of those that the list shows; to every row with `isEvery`.
+     * @param {number} by 1 or -1
+     * @param {boolean} isEvery
+     */
+    stepRows(by, isEvery = false) {
+        if (!this.recording) return;
+        const { rows, length } = this.recording, list = isEvery ? null : this.listed;
+        const row = nextRow(this, by, list, isEvery || list ? () => true : to => isDrawing(rows, to));
+        if (row >= 0 && row < rows.length) this.seekRow(row);
+        else this.seek(row < 0 ? 0 : length, 'packet');
     }
 
     choose(cell) {

@@ -1,4 +1,4 @@
-// A second dump beside this recording: video memory as `vram` writes it, the picture as `shot` does, or a PNG of one.
+// What is compared with what is seen: video memory as `vram` writes it, the picture as `shot` does, or a PNG of one.
 
 import { imageOfCells, imageOfPicture } from './pixels.js';
 
@@ -25,13 +25,14 @@ function pixelsOfPpm(bytes) {
     return image;
 }
 
-// Reads a second dump: cells, or pixels with the view that they are of.
+/** Reads a second dump: cells, or pixels with the view that they are of. */
 export async function readDump(blob) {
     const bytes = new Uint8Array(await blob.arrayBuffer());
     if (bytes[0] === 0x89 && bytes[1] === 0x50) return ofPixels(await pixelsOfPng(blob));
     if (bytes[0] === 0x50 && bytes[1] === 0x36) return ofPixels(pixelsOfPpm(bytes));
     if (DUMPS.includes(bytes.length)) return { view: 'memory', cells: new Uint16Array(bytes.buffer) };
-    throw new Error(`${bytes.length} bytes: neither a dump of video memory, nor a PPM, nor a PNG`);
+    throw new Error(`it has ${bytes.length} bytes and is neither a recording, nor a dump of video memory (1 or 2 MB), `
+        + 'nor a PPM or PNG');
 }
 
 function ofPixels(image) {
@@ -39,9 +40,16 @@ function ofPixels(image) {
     return { view: isMemory ? 'memory' : 'picture', image };
 }
 
-// Where the dump differs from what is seen at a place.
+/** Where the dump differs from what is seen at a place. */
 export class Difference {
-    constructor(dump, name) { Object.assign(this, { ...dump, name, count: 0, first: null, box: null }); }
+    /**
+     * @param {{view: string, cells: Uint16Array} | {view: string, image: ImageData}} dump
+     * @param {string} name
+     * @param {boolean} isBeside whether it is seen beside the view, so that the view itself stays as it is
+     */
+    constructor(dump, name, isBeside = false) {
+        Object.assign(this, { ...dump, name, isBeside, count: 0, first: null, box: null });
+    }
 
     // Looks again; an error where the sizes differ.
     look(app) {
@@ -52,6 +60,7 @@ export class Difference {
             this.problem = 'The sizes differ here.';
             this.count = 0;
             this.first = null;
+            this.box = null;
             return;
         }
         this.problem = null;
@@ -88,7 +97,7 @@ export class Difference {
     imageOver(app) {
         const image = this.view === 'memory' ? imageOfCells(app.cells)
             : app.picture && imageOfPicture({ ...app.picture, bytes: app.picture.bytes.slice() });
-        if (!image || this.problem) return image;
+        if (!image || this.problem || this.count === 0) return image;
         const pixels = new Uint32Array(image.data.buffer);
         for (let k = 0; k < pixels.length; k++) {
             const grey = ((pixels[k] & 255) + (pixels[k] >> 8 & 255) + (pixels[k] >> 16 & 255)) / 9 + 24;

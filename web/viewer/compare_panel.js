@@ -1,17 +1,20 @@
-// The panel that takes a second dump, and says where it differs and who drew there.
+// The panel that takes something to compare with: a dump, a picture, or a second recording.
 
 import { Difference, readDump } from './compare.js';
-import { element, grouped, made, tableOf } from './dom.js';
-import { rowsAt } from './history.js';
-import { lastUpTo } from './list_panel.js';
+import { button, counted, element, made, tableOf } from './dom.js';
+import { rowAddress } from './address.js';
+import { rowsAt } from './candidates.js';
+import { pictureKind } from './file_kind.js';
 import { hex, nameOf } from './names.js';
+import { lastUpTo } from './numbers.js';
+import { openFile } from './opening.js';
+import { Refusal } from './refusal.js';
 import { KIND } from './rows.js';
+import { SecondPanel } from './second_panel.js';
 import { shownBy } from './pixels.js';
 
-const ABOUT = 'A dump of video memory or a picture, as vram or shot write them, or a PNG of either, is compared with '
-    + 'what is seen at this place.';
-
-const button = (text, onclick) => Object.assign(made('button', '', text), { onclick });
+const ABOUT = 'A second recording is shown beside this one, step by step. A dump of video memory or a picture, as vram or '
+    + 'shot write them, or a PNG of either, is compared with what is seen here.';
 
 export class ComparePanel {
     constructor(app) {
@@ -20,31 +23,56 @@ export class ComparePanel {
         this.input.addEventListener('change', () => this.open(this.input.files[0]));
         this.told = made('div');
         this.told.setAttribute('aria-live', 'polite');
-        const label = made('label', 'button', 'Choose a dump…', this.input);
+        this.second = new SecondPanel(app, this.told, () => { this.forget(); app.tell('cell'); });
+        const label = made('label', 'button', 'Choose a file…', this.input);
         element('compare').append(made('p', 'quiet', ABOUT), made('p', '', label), this.told);
         app.on('opened', () => this.forget());
         app.on('moved ahead', event => { if (event.type === 'moved' || app.pass.isDone()) this.draw(); });
     }
 
     forget() {
+        this.second.close();
         this.app.difference = null;
         this.told.replaceChildren();
     }
 
-    async open(file) {
+    /**
+     * Compares with a file.
+     * @param {Blob} file
+     * @param {string} name
+     */
+    async open(file, name = file?.name) {
+        const { app } = this;
         if (!file) return;
-        try {
-            this.app.difference = new Difference(await readDump(file), file.name);
-            element('compare-box').open = true;
-            if (this.app.recording) this.app.show();
-        } catch (fault) {
-            this.told.replaceChildren(made('p', '', `${file.name}: ${fault.message}`));
-        }
         this.input.value = '';
+        element('compare-box').open = true;
+        try {
+            if (!app.recording) throw new Error('open a recording first');
+            const recording = await pictureKind(file) ? null : await this.recordingOf(file, name);
+            this.forget();
+            if (recording) await this.second.open(recording);
+            else {
+                app.difference = new Difference(await readDump(file), name);
+                app.show();
+            }
+        } catch (fault) {
+            this.told.replaceChildren(made('p', 'warning', `${name}: ${fault.message}`));
+        }
+    }
+
+    // A recording; null for what is none.
+    async recordingOf(file, name) {
+        try {
+            return await openFile(file, name, this.app.library);
+        } catch (fault) {
+            if (fault instanceof Refusal && fault.cause === 'not-capture') return null;
+            throw fault;
+        }
     }
 
     draw() {
         const { app } = this, { difference } = app;
+        if (this.second.second) return this.second.draw();
         if (!difference || !app.recording) return;
         const { name, first, box, count, problem } = difference;
         const close = button('Leave', () => { this.forget(); app.tell('cell'); });
@@ -55,11 +83,11 @@ export class ComparePanel {
         const valueOf = value => hex(value, difference.cells ? 4 : 8);
         this.told.replaceChildren(tableOf([
             ['with', name],
-            ['differ', `${grouped(count)} ${difference.view === 'memory' ? 'cells' : 'pixels'}`],
+            ['differ', counted(count, difference.view === 'memory' ? 'cells' : 'pixels')],
             ['their box', `${box.x1} ${box.y1} ${box.x2} ${box.y2}`],
             ['the first', `(${first.x}, ${first.y}): ${valueOf(first.own)} here, ${valueOf(first.theirs)} there`],
             ...this.drawers(first),
-        ]), close);
+        ]), button('Go to it', () => app.tell('goto')), close);
     }
 
     // The packets whose area holds the first differing cell: the first of all, and the last before this place.
@@ -79,7 +107,7 @@ export class ComparePanel {
     }
 
     nameOf(row) {
-        const { rows, track } = this.app.recording;
-        return `event ${track.event(rows.done[row])}: ${nameOf(rows.kind[row], rows.head[row])} ${hex(rows.head[row])}`;
+        const { recording } = this.app, { rows } = recording;
+        return `event ${rowAddress(recording, row)}: ${nameOf(rows.kind[row], rows.head[row])} ${hex(rows.head[row])}`;
     }
 }

@@ -13,7 +13,7 @@ export class MainMemory {
 
     put(address, words) { this.words.set(words, place(address)); }
 
-    // Channel 6: an ordering table of so many entries, the first at this address and each later one below.
+    // Channel 6: an ordering table of `count` entries, the first at address `first` and each later one below.
     clearTable(first, count) {
         let at = place(first);
         for (let k = 0; k < count; k++) {
@@ -59,7 +59,7 @@ export class MainMemory {
     }
 }
 
-// What a start of channel 2 is to move: null, a list, or so many words. `event`: its number, for a refusal.
+/** Returns what a start of channel 2 moves: null, a list, or a number of words. `event`: its number, for a refusal. */
 export function planOf(madr, bcr, chcr, event) {
     if ((chcr & 0x1000000) === 0) return null;
     const mode = (chcr >>> 9) & 3, toMemory = (chcr & 1) === 0, back = (chcr & 2) !== 0;

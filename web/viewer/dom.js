@@ -2,7 +2,7 @@
 
 export const element = id => document.getElementById(id);
 
-// An element with a class and what stands in it.
+/** Returns a new element with a class and its content. */
 export function made(tag, name, ...inside) {
     const out = document.createElement(tag);
     if (name) out.className = name;
@@ -16,7 +16,7 @@ export function swatch(css) {
     return out;
 }
 
-// A table of two columns; rows without a value are left out.
+/** A table of two columns; rows without a value are left out. */
 export function tableOf(rows) {
     const table = made('table');
     for (const [label, ...value] of rows.filter(Boolean)) {
@@ -26,4 +26,10 @@ export function tableOf(rows) {
     return table;
 }
 
+/** Returns a button with a text. */
+export const button = (text, onclick) => Object.assign(made('button', '', text), { type: 'button', onclick });
+
 export const grouped = number => number.toLocaleString('en');
+
+/** Returns a number with what is counted: '1 flip', '2,781 steps'. `plural` ends in s. */
+export const counted = (number, plural) => `${grouped(number)} ${number === 1 ? plural.slice(0, -1) : plural}`;

@@ -12,7 +12,7 @@ export const paletteOf = attribute => ({ x: (attribute & 0x3F) * 16, y: (attribu
 export const offsetOf = word => ({ x: signed11(word), y: signed11(word >>> 11) });
 export const placeOf = (word, height) => ({ x: word & 0x3FF, y: (word >>> 10) & (height - 1) });
 
-// A texture page, as E1h and the second texcoord of a polygon have it.
+/** A texture page, as E1h and the second texcoord of a polygon have it. */
 export function pageOf(word, height) {
     return {
         x: (word & 15) * 64,
@@ -22,7 +22,7 @@ export function pageOf(word, height) {
     };
 }
 
-// A texture window, in texels.
+/** A texture window, in texels. */
 export function windowOf(word) {
     const field = at => (word >>> at & 31) * 8;
     return { maskX: field(0), maskY: field(5), x: field(10), y: field(15) };
@@ -30,5 +30,5 @@ export function windowOf(word) {
 
 export const BLENDS = ['B/2 + F/2', 'B + F', 'B − F', 'B + F/4'];
 
-// The channels of a cell.
+/** The channels of a cell. */
 export const channelsOf = cell => ({ r: cell & 31, g: cell >> 5 & 31, b: cell >> 10 & 31, mask: cell >> 15 });

@@ -101,7 +101,7 @@ export class Flattener {
         this.runs(run.left === count ? null : { ...run, at: cut(run.at + way * count), left: run.left - count });
     }
 
-    // Moves so many words of a block between memory and the port.
+    // Moves `count` words of a block between memory and the port.
     move(plan, count, event) {
         if (!plan.toMemory) {
             this.track.addWords(this.memory.block(plan.at, count, plan.back), event, false);

@@ -1,108 +1,94 @@
 // What changed a cell: every packet, segment or data word that leaves another value in it than it found, exactly as
-// `psxgpu_tool pixel` says it. The machine's notes say which items may have changed it; each of these is played, and
-// the cell is looked at before and behind it.
+// `psxgpu_tool pixel` lists them. The machine's notes tell which items may have changed it. Each of these is played,
+// and the cell is looked at before and after it.
 
-import { KIND } from './rows.js';
-import { STEP } from './track.js';
+import { candidates } from './candidates.js';
+import { playNarrow } from './narrow.js';
+import { planOf } from './narrow_plan.js';
 import { playSteps, toStart } from './player.js';
 
-// Whether an area with corners that are not wrapped holds a cell.
-function holds(near, far, x, y, height) {
-    const x1 = near & 0xFFFF, y1 = near >>> 16, x2 = far & 0xFFFF, y2 = far >>> 16;
-    return ((x1 <= x && x <= x2) || x + 1024 <= x2) && ((y1 <= y && y <= y2) || y + height <= y2);
-}
-
-// The rows whose area holds a cell.
-export function rowsAt({ rows, height }, { x, y }) {
-    const out = [];
-    for (let row = 0; row < rows.length; row++) {
-        if (rows.near[row] < 0xFFFFFFFE && holds(rows.near[row], rows.far[row], x, y, height)) out.push(row);
-    }
-    return out;
-}
-
-// The step of a load that writes a cell of its rectangle; -1 where the load ends before.
-function dataStep(recording, row, { x, y }) {
-    const { rows, track, height } = recording, { x1, y1, x2 } = rows.area(row);
-    const place = ((y - y1) & (height - 1)) * (x2 - x1 + 1) + ((x - x1) & 1023);
-    return nthWord(track, rows.done[row] + 1, recording.endOf(row), place >> 1);
-}
-
-function nthWord(track, from, to, count) {
-    let left = count;
-    for (let step = from; step < to; step++) if (track.kind(step) === STEP.GP0 && left-- === 0) return step;
-    return -1;
-}
-
-// The steps that may change a cell, in order, each with its row.
-function candidates(recording, cell) {
-    const { rows } = recording, out = [];
-    for (const row of rowsAt(recording, cell)) {
-        const kind = rows.kind[row];
-        if (kind === KIND.STORE) continue;
-        const step = kind === KIND.LOAD ? dataStep(recording, row, cell) : rows.done[row];
-        if (step >= 0) out.push({ step, row });
-    }
-    out.push(...begunLoad(recording, cell));
-    return out.sort((a, b) => a.step - b.step);
-}
-
-// A load that a snapshot begins within has no row: its data words are the first steps.
-function begunLoad({ pending, track, height, length }, { x, y }) {
-    if (pending?.kind !== 'load') return [];
-    const across = (x - pending.x) & 1023, down = (y - pending.y) & (height - 1);
-    if (across >= pending.w || down >= pending.h) return [];
-    const place = down * pending.w + across - pending.next;
-    const step = place < 0 ? -1 : nthWord(track, 0, length, place >> 1);
-    return step < 0 ? [] : [{ step, row: -1 }];
-}
+// How many steps are played as one part: few enough for the page to breathe, many enough to load few states.
+const PART = 1 << 21;
 
 export class History {
+    /**
+     * @param {Recording} recording all of it was played
+     * @param {Machine} machine
+     * @param {{x: number, y: number}} cell
+     */
     constructor(recording, machine, cell) {
         Object.assign(this, { recording, machine, cell, changes: [], isStopped: false });
         this.parts = this.cut(candidates(recording, cell));
     }
 
-    // The candidates by the state that is kept before them.
+    // The candidates by parts, and in a part by the state that is kept before them.
     cut(items) {
         const parts = new Map();
         for (const item of items) {
-            const kept = this.recording.keyframes.indexAt(item.step);
-            if (!parts.has(kept)) parts.set(kept, []);
-            parts.get(kept).push(item);
+            const kept = this.recording.keyframes.indexAt(item.step), part = this.partOf(kept);
+            if (!parts.has(part)) parts.set(part, new Map());
+            const states = parts.get(part);
+            if (!states.has(kept)) states.set(kept, []);
+            states.get(kept).push(item);
         }
         return parts;
     }
 
-    // Looks at every part: first from this place back, then from it on. `told(part)` comes after each, and then others
-    // may run.
+    // The part that a kept state is in.
+    partOf(kept) { return kept < 0 ? -1 : Math.floor(this.recording.keyframes.stepOf(kept) / PART); }
+
+    /**
+     * Looks at every part: first from a place back, then from it on.
+     * @param {number} at the place, in steps
+     * @param {(part: number) => void} told called after each part, with how much of all is done
+     * @param {() => Promise<void>} breath lets others run
+     */
     async run(at, told, breath) {
-        const here = this.recording.keyframes.indexAt(at);
+        const here = this.partOf(this.recording.keyframes.indexAt(at));
         const all = [...this.parts.keys()];
-        const order = [...all.filter(kept => kept <= here).reverse(), ...all.filter(kept => kept > here)];
+        const order = [...all.filter(part => part <= here).reverse(), ...all.filter(part => part > here)];
         let done = 0;
-        for (const kept of order) {
+        for (const part of order) {
             if (this.isStopped) return;
-            this.look(kept, this.parts.get(kept));
+            this.lookAt(this.parts.get(part));
             told(++done / order.length);
             await breath();
         }
     }
 
-    look(kept, items) {
-        const { recording, machine, cell } = this, { keyframes, track } = recording;
-        let at = kept < 0 ? 0 : keyframes.stepOf(kept);
-        if (kept < 0) toStart(machine, recording); else machine.load(keyframes.bytes(kept));
-        const found = [];
-        for (const { step, row } of items) {
-            playSteps(machine, track, at, step);
-            const before = machine.cell(cell.x, cell.y);
-            playSteps(machine, track, step, step + 1);
-            const after = machine.cell(cell.x, cell.y);
-            if (before !== after) found.push({ step, row, before, after });
-            at = step + 1;
+    // The states of a part together, or one by one, or those that cannot be played for this cell alone as they are.
+    lookAt(states) {
+        const [[first]] = states, found = [];
+        if (!this.narrow(first, [...states.values()].flat(), found)) {
+            for (const [kept, items] of states) if (!this.narrow(kept, items, found)) this.whole(kept, items, found);
         }
         this.changes.push(...found);
         this.changes.sort((a, b) => a.step - b.step);
+    }
+
+    // Plays the items for the cell alone. Returns whether that is right for them.
+    narrow(kept, items, found) {
+        const stops = kept < 0 ? null : planOf(this.recording, kept, items);
+        if (!stops) return false;
+        playNarrow(this, kept, stops, (item, play) => this.look(item, play, found));
+        return true;
+    }
+
+    whole(kept, items, found) {
+        const { recording, machine } = this, { keyframes, track } = recording;
+        let at = kept < 0 ? 0 : keyframes.stepOf(kept);
+        if (kept < 0) toStart(machine, recording); else machine.load(keyframes.bytes(kept));
+        for (const item of items) {
+            playSteps(machine, track, at, item.step);
+            at = item.step + 1;
+            this.look(item, () => playSteps(machine, track, item.step, at), found);
+        }
+    }
+
+    look({ step, row }, play, found) {
+        const { machine, cell: { x, y } } = this, before = machine.cell(x, y);
+        play();
+        const after = machine.cell(x, y);
+        if (before !== after) found.push({ step, row, before, after });
     }
 }

@@ -41,7 +41,7 @@ export class Keyframes {
         this.bytesKept = 4 * TILE_WORDS * new Set(this.frames.flatMap(({ tiles }) => tiles)).size;
     }
 
-    // Keeps the state after so many steps, which is behind all that are kept; the bytes are those of a snapshot.
+    // Keeps the state after `step` steps, later than all that are kept. `bytes`: those of a snapshot.
     add(step, bytes) {
         const { vramAt, memoryAt } = outlineOf(bytes);
         this.memory ??= bytes.slice(memoryAt);
@@ -71,6 +71,9 @@ export class Keyframes {
     }
 
     stepOf(index) { return this.frames[index].step; }
+
+    // The registers of a kept state.
+    registers(index) { return outlineOf(this.frames[index].front).registers; }
 
     // A kept state as the bytes of a snapshot.
     bytes(index) {

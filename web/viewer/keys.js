@@ -1,6 +1,7 @@
 // The keys. docs/VIEWER.md and the page's own list name them.
 
 import { element } from './dom.js';
+import { VIEWS } from './looks.js';
 
 const isText = ({ target }) => target.matches('input:not([type=range]):not([type=checkbox]), select, textarea');
 
@@ -10,8 +11,9 @@ export class Keys {
         const { go } = timeline;
         this.everywhere = {
             ArrowRight: go.on, ArrowLeft: go.back, ']': go['frame-on'], '[': go['frame-back'],
+            '.': go['frame-on'], ',': go['frame-back'],
             Home: go.start, End: go.end, ' ': () => timeline.toggle(),
-            1: () => views.choose('picture'), 2: () => views.choose('memory'), 3: () => views.choose('texture'),
+            ...Object.fromEntries(VIEWS.map((name, k) => [k + 1, () => views.choose(name)])),
             g: () => element('event').select(), '/': () => element('query').select(), o: () => element('open').click(),
             v: () => element('canvas').focus(), '?': () => element('keys').showModal(),
             '+': () => views.view.zoom(1.5), '=': () => views.view.zoom(1.5), '-': () => views.view.zoom(1 / 1.5),
@@ -30,7 +32,7 @@ export class Keys {
         const does = this.everywhere[event.key];
         if (!does) return;
         event.preventDefault();
-        does();
+        does(event.shiftKey);
     }
 
     // In the view the arrow keys move the cell.

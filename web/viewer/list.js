@@ -22,7 +22,7 @@ export class List {
 
     get whole() { return this.does.count() * ROW; }
 
-    // How many pixels of the rows one pixel of the scroll bar stands for.
+    // How many pixels of the rows one pixel of the scroll bar moves.
     get ratio() {
         const room = Math.min(this.whole, MOST_PIXELS) - this.seen;
         return room > 0 ? (this.whole - this.seen) / room : 1;
@@ -47,9 +47,11 @@ export class List {
         this.draw();
     }
 
+    // The wheel moves the rows; where there are no more, it moves the page.
     wheel(event) {
-        event.preventDefault();
+        const before = this.offset;
         this.moveTo(this.offset + event.deltaY * (event.deltaMode === 1 ? ROW : 1));
+        if (this.offset !== before) event.preventDefault();
     }
 
     // Brings a row into view.

@@ -1,16 +1,27 @@
 // The list of rows at the left, with search and filter.
 
+import { longestAddress, rowAddress } from './address.js';
 import { KIND } from './rows.js';
 import { List } from './list.js';
 import { element, grouped, made, swatch } from './dom.js';
-import { find } from './search.js';
+import { lastUpTo } from './numbers.js';
+import { cellProblem, find } from './search.js';
+import { isDrawing } from './stepping.js';
 import { hex, nameOf } from './names.js';
 import { colorIn, shortOf } from './words.js';
 
-const FILTERS = {
-    packets: kind => kind <= KIND.JOINT,
-    drawing: kind => kind <= KIND.LOAD || kind === KIND.JOINT,
-};
+const FILTERS = { packets: (rows, row) => rows.isPacket(row), drawing: isDrawing };
+
+// How many characters the names of a recording's packets have at most. Those of words for GP1 may be longer.
+function longestName({ rows }) {
+    const seen = new Set();
+    for (let row = 0; row < rows.length; row++) {
+        if (rows.isPacket(row)) seen.add(rows.kind[row] * 256 + (rows.head[row] >>> 24));
+    }
+    return Math.max(1, ...[...seen].map(key => nameOf(key >>> 8, (key & 255) << 24).length));
+}
+
+const areaText = ({ x1, y1, x2, y2 }) => [x1, y1, x2, y2].map(number => String(number).padStart(3)).join(' ');
 
 export class ListPanel {
     constructor(app) {
@@ -22,15 +33,18 @@ export class ListPanel {
             current: () => this.indexOf(app.row ?? -1),
         });
         app.on('opened', () => this.opened());
-        app.on('moved', () => this.list.reveal(this.list.does.current()));
+        app.on('moved', () => { this.list.reveal(this.list.does.current()); this.tellFound(); });
         app.on('ahead', () => this.list.draw());
+        for (const kind of ['pointerdown', 'wheel', 'input']) {
+            element('left').addEventListener(kind, () => app.ahead.stay(), { passive: true });
+        }
         element('filter').addEventListener('change', () => this.filter());
         element('query').addEventListener('input', () => this.search());
         element('search').addEventListener('submit', event => { event.preventDefault(); this.goOn(1); });
         element('find-back').addEventListener('click', () => this.goOn(-1));
         element('query').addEventListener('keydown', event => {
             if (event.key === 'Enter' && event.shiftKey) { event.preventDefault(); this.goOn(-1); }
-            if (event.key === 'Escape') element('list').focus();
+            if (event.key === 'Escape') element('list').focus({ preventScroll: true });
         });
     }
 
@@ -40,6 +54,9 @@ export class ListPanel {
     indexOf(row) { return this.shown ? lastUpTo(this.shown, row) : row; }
 
     opened() {
+        const { recording } = this.app, { style } = element('list');
+        style.setProperty('--number', `${longestAddress(recording)}ch`);
+        style.setProperty('--name', `${longestName(recording)}ch`);
         this.list.offset = 0;
         this.search();
     }
@@ -48,10 +65,20 @@ export class ListPanel {
         const { recording } = this.app;
         if (!recording) return;
         this.found = find(recording, element('query').value);
-        const ahead = this.app.pass.isDone() ? '' : ' so far';
-        element('found').textContent = this.found === null ? `${grouped(recording.rows.length)} rows`
-            : `${grouped(this.found.length)} found${element('query').value.includes(',') ? ahead : ''}`;
+        this.tellFound();
         this.filter();
+    }
+
+    // How many rows there are; of a search how many were found, and which of them this one is.
+    tellFound() {
+        const { app, found } = this, { recording, row, pass } = app;
+        if (!recording) return;
+        const text = element('query').value, problem = cellProblem(text, recording.height), said = element('found');
+        const at = found ? lastUpTo(found, row) : -1, isHere = at >= 0 && found[at] === row;
+        const count = found && `${isHere ? `${grouped(at + 1)} of ` : ''}${grouped(found.length)} found`;
+        said.textContent = problem ?? (found === null ? `${grouped(recording.rows.length)} rows`
+            : count + (text.includes(',') && !pass.isDone() ? ' so far' : ''));
+        said.classList.toggle('warning', problem !== null);
     }
 
     filter() {
@@ -60,10 +87,10 @@ export class ListPanel {
         this.shown = null;
         if (how === 'found') this.shown = this.found;
         else if (FILTERS[how]) {
-            const keeps = Array.from({ length: 32 }, (_, kind) => FILTERS[how](kind));
             this.shown = [];
-            for (let row = 0; row < rows.length; row++) if (keeps[rows.kind[row]]) this.shown.push(row);
+            for (let row = 0; row < rows.length; row++) if (FILTERS[how](rows, row)) this.shown.push(row);
         }
+        this.app.listed = this.shown;
         this.list.changed();
         this.list.reveal(this.list.does.current());
     }
@@ -78,26 +105,15 @@ export class ListPanel {
     }
 
     draw(line, row) {
-        const { rows, track, height } = this.app.recording, kind = rows.kind[row], head = rows.head[row];
-        if (rows.done[row] >= this.app.at) line.classList.add('later');
+        const { app } = this, { rows, height } = app.recording, kind = rows.kind[row], head = rows.head[row];
+        if (rows.done[row] >= app.at) line.classList.add('later');
         if (kind === KIND.GP1) line.classList.add('control');
         if (kind > KIND.GP1) line.classList.add('read');
-        const count = rows.done[row] - rows.first[row] + 1, color = colorIn(kind, head);
+        const count = rows.done[row] - rows.first[row] + 1, color = colorIn(kind, head), area = rows.area(row);
         const short = kind > KIND.GP1 ? (count > 1 ? `${grouped(count)} times` : '') : shortOf(kind, head, height);
-        const area = rows.area(row), text = area ? `${area.x1} ${area.y1} ${area.x2} ${area.y2}` : '';
-        line.title = kind > KIND.GP1 ? '' : hex(head);
-        const number = made('span', 'number', String(track.event(rows.done[row])));
-        line.replaceChildren(number, made('span', 'name', nameOf(kind, head)), ...(color ? [swatch(color)] : []),
-            made('span', 'rest', short), made('span', 'area', text));
+        line.title = kind > KIND.GP1 ? '' : `${hex(head)} ${short}`;
+        line.replaceChildren(made('span', 'number', rowAddress(app.recording, row)),
+            made('span', 'name', nameOf(kind, head)), color ? swatch(color) : made('span', 'no-swatch'),
+            made('span', 'rest', short), made('span', 'area', area ? areaText(area) : ''));
     }
-}
-
-// The place of the last number of a list in order that is not above another, or -1.
-export function lastUpTo(numbers, most) {
-    let low = 0, high = numbers.length;
-    while (low < high) {
-        const middle = (low + high) >> 1;
-        if (numbers[middle] <= most) low = middle + 1; else high = middle;
-    }
-    return low - 1;
 }

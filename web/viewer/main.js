@@ -2,28 +2,37 @@
 
 import { App } from './app.js';
 import { ComparePanel } from './compare_panel.js';
-import { element, grouped, made } from './dom.js';
+import { counted, element, made } from './dom.js';
+import { addressOf } from './address.js';
 import { Keys } from './keys.js';
+import { wireFolds, wireTheme } from './kept.js';
+import { Follower } from './link.js';
+import { makeMenu } from './menu.js';
 import { nameOf } from './names.js';
 import { ListPanel } from './list_panel.js';
 import { Out } from './out.js';
 import { PacketPanel } from './packet_panel.js';
+import { PalettePanel } from './palette_panel.js';
 import { PixelPanel } from './pixel_panel.js';
+import { Receiver } from './receiver.js';
 import { RegistersPanel } from './registers_panel.js';
 import { Timeline } from './timeline.js';
 import { Views } from './views.js';
 
 const bytesOfText = text => Uint8Array.from(atob(text), letter => letter.charCodeAt(0));
 
-function wireFiles(app) {
+// Opens files: those that are chosen or dropped, and the examples. Returns how an example is opened by its name.
+function wireFiles(app, receiver) {
     const examples = JSON.parse(element('example-files').textContent);
-    const open = async (blob, name, from) => { if (await app.open(blob, name, from)) element('list').focus(); };
-    const openExample = name => open(new Blob([bytesOfText(examples[name])]), `${name}.capture`, { example: name });
-    element('examples').append(...Object.keys(examples).map(name => new Option(name)));
-    element('examples').addEventListener('change', ({ target }) => { if (target.value) openExample(target.value); });
+    const openExample = name => {
+        if (!Object.hasOwn(examples, name)) return false;
+        receiver.open(new Blob([bytesOfText(examples[name])]), `${name}.capture`, { example: name });
+        return true;
+    };
+    makeMenu(element('examples'), Object.keys(examples).map(name => ({ text: name, does: () => openExample(name) })));
     element('open').addEventListener('change', ({ target }) => {
         const [file] = target.files;
-        if (file) open(file, file.name);
+        if (file) receiver.open(file, file.name);
         target.value = '';
     });
     addEventListener('dragover', event => { event.preventDefault(); document.body.classList.add('over'); });
@@ -32,22 +41,24 @@ function wireFiles(app) {
         event.preventDefault();
         document.body.classList.remove('over');
         const [file] = event.dataTransfer.files;
-        if (file) open(file, file.name);
+        if (file) receiver.open(file, file.name);
     });
-    const asked = new URLSearchParams(location.hash.slice(1)).get('example');
-    if (asked in examples) openExample(asked);
+    return openExample;
 }
 
 function wireSaid(app) {
     app.on('said', () => {
-        const { text, choice } = app.said, line = element('said');
+        const { text, choice, isWarning } = app.said, line = element('said');
         line.hidden = text === '';
+        line.classList.toggle('warning', Boolean(isWarning));
+        line.setAttribute('role', isWarning ? 'alert' : 'status');
         line.replaceChildren(text);
         if (choice) line.append(Object.assign(made('button', '', choice.text), { onclick: choice.does }));
         if (text) line.append(Object.assign(made('button', '', 'Close'), { onclick: () => app.say('') }));
     });
     app.on('work', () => {
-        element('work').hidden = !app.working;
+        element('work').classList.toggle('idle', !app.working);
+        element('stop').disabled = !app.working;
         if (!app.working) return;
         element('progress').value = app.working.part;
         element('work-text').textContent = app.working.text;
@@ -56,10 +67,9 @@ function wireSaid(app) {
     app.on('opened', () => {
         const { name, head, length, rows, flips, marks, isPart } = app.recording;
         const counts = { steps: length, rows: rows.length, flips: flips.length, marks: marks.length };
-        const parts = [head, ...Object.entries(counts).map(([what, count]) => `${grouped(count)} ${what}`)];
+        const parts = [head, ...Object.entries(counts).map(([what, count]) => counted(count, what))];
         element('file').textContent = `${name}${isPart ? ', up to its fault' : ''}: ${parts.join(', ')}`;
         document.title = `${name}: Valerianpane`;
-        element('examples').value = app.recording.example ?? '';
     });
 }
 
@@ -72,22 +82,14 @@ function wireSpoken(app, timeline) {
         timer = setTimeout(() => {
             const { recording, row, at } = app, { rows } = recording;
             const name = row < 0 ? 'before the first packet' : nameOf(rows.kind[row], rows.head[row]);
-            element('spoken').textContent = `event ${recording.eventAt(at)}: ${name}`;
+            element('spoken').textContent = `event ${addressOf(recording, at)}: ${name}`;
         }, 300);
     });
 }
 
 function wireFaults(app) {
-    addEventListener('error', event => app.say(`A fault of this page: ${event.message}`));
-    addEventListener('unhandledrejection', event => app.say(`A fault of this page: ${event.reason?.message}`));
-}
-
-function wireTheme() {
-    const root = document.documentElement;
-    element('theme').addEventListener('click', () => {
-        const now = root.dataset.theme ?? (matchMedia('(prefers-color-scheme: dark)').matches ? 'dark' : 'light');
-        root.dataset.theme = now === 'dark' ? 'light' : 'dark';
-    });
+    addEventListener('error', event => app.warn(`A fault of this page: ${event.message}`));
+    addEventListener('unhandledrejection', event => app.warn(`A fault of this page: ${event.reason?.message}`));
 }
 
 export async function main() {
@@ -95,17 +97,20 @@ export async function main() {
     const app = new App(library);
     const list = new ListPanel(app), views = new Views(app), pixel = new PixelPanel(app);
     new PacketPanel(app);
+    new PalettePanel(app, views);
     new RegistersPanel(app);
-    new ComparePanel(app);
+    const compare = new ComparePanel(app);
     const timeline = new Timeline(app), out = new Out(app, views);
     new Keys({ app, views, timeline });
     wireFaults(app);
     wireSaid(app);
     wireSpoken(app, timeline);
-    wireTheme();
-    wireFiles(app);
+    wireTheme(() => timeline.marks.repaint());
+    wireFolds();
+    const receiver = new Receiver(app, compare);
+    out.follower = new Follower(app, views, wireFiles(app, receiver));
     app.warmUp();
-    return { app, list, views, pixel, timeline, out };
+    return { app, list, views, pixel, timeline, out, compare, receiver };
 }
 
 // Settled when the page can be used: the checks wait for it.

@@ -16,7 +16,7 @@ export function controlName(word) {
     return CONTROLS[opcode] ?? ((opcode & 0x30) === 0x10 ? 'information' : 'nothing');
 }
 
-// The name of a row by its kind and its head.
+/** The name of a row by its kind and its head. */
 export function nameOf(kind, head) {
     const opcode = head >>> 24;
     switch (kind) {

@@ -1,14 +1,19 @@
 // What leaves the page: files that are saved, text for the clipboard, a link to a place.
 
+import { addressOf } from './address.js';
 import { Machine } from './machine.js';
 import { cutAt } from './cut.js';
 import { element, made } from './dom.js';
+import { linkTo } from './link.js';
+import { makeMenu } from './menu.js';
 import { rowHere } from './packet_panel.js';
+import { pageWithAlpha } from './pixels.js';
 import { copyOf } from './words.js';
 
 const CHOICES = {
-    png: 'PNG of this view', vram: 'video memory (bytes)', ppm: 'picture (PPM)', words: 'copy the words of the packet',
-    cut: 'capture cut at this event', link: 'copy a link to this place',
+    png: 'PNG of this view', texture: 'PNG of the texture page, with alpha', vram: 'Video memory (bytes)',
+    ppm: 'Picture (PPM)', cut: 'Capture cut at this place', words: 'Copy the words of the packet',
+    link: 'Copy a link to this place',
 };
 
 export function save(parts, name, type = 'application/octet-stream') {
@@ -19,7 +24,7 @@ export function save(parts, name, type = 'application/octet-stream') {
 
 const shortened = text => text.length > 400 ? `${text.slice(0, 400)}…` : text;
 
-// The picture as `shot` writes it.
+/** The picture as `shot` writes it. */
 export function ppmOf({ width, height, bytes }) {
     const pixels = new Uint8Array(3 * width * height);
     for (let k = 0; k < width * height; k++) pixels.set(bytes.subarray(4 * k, 4 * k + 3), 3 * k);
@@ -27,27 +32,35 @@ export function ppmOf({ width, height, bytes }) {
 }
 
 export class Out {
+    /** `follower` is what follows links. */
     constructor(app, views) {
-        Object.assign(this, { app, views });
-        element('out').append(...Object.entries(CHOICES).map(([value, text]) => new Option(text, value)));
-        element('out').addEventListener('change', () => {
-            const choice = element('out').value;
-            element('out').value = '';
-            if (app.recording && choice) this[choice]().catch(fault => app.say(fault.message));
-        });
-        addEventListener('hashchange', () => this.follow());
-        app.on('opened', () => this.follow());
+        Object.assign(this, { app, views, follower: null });
+        makeMenu(element('out'), Object.entries(CHOICES).map(([what, text]) => ({ text, does: () => this.does(what) })));
     }
 
-    get base() { return `${this.app.recording.name.replace(/\.[a-z0-9.]*$/i, '')}-${this.event}`; }
+    does(what) {
+        const { app } = this;
+        if (!app.recording) app.say('Nothing is open yet: open a recording, or choose an example.');
+        else this[what]().catch(fault => app.warn(`${CHOICES[what]}: ${fault.message}`));
+    }
 
-    get event() { return this.app.recording.eventAt(this.app.at); }
+    get base() { return `${this.app.recording.name.replace(/\.[a-z0-9.]*$/i, '')}-${this.place}`; }
+
+    get place() { return addressOf(this.app.recording, this.app.at); }
 
     async png() {
         const { view, name } = this.views;
         if (!view.image) throw new Error('there is no picture here');
         const blob = await new Promise(go => view.source.toBlob(go));
         save([blob], `${this.base}-${name}.png`, 'image/png');
+    }
+
+    // The page that Texture shows. Texels of value 0, which are not drawn, have alpha 0.
+    async texture() {
+        const { app, views } = this, image = pageWithAlpha(app.cells, views.choice.how(rowHere(app)));
+        const canvas = Object.assign(made('canvas'), { width: image.width, height: image.height });
+        canvas.getContext('2d').putImageData(image, 0, 0);
+        save([await new Promise(go => canvas.toBlob(go))], `${this.base}-texture.png`, 'image/png');
     }
 
     async vram() { save([this.app.cells], `${this.base}.vram`); }
@@ -67,17 +80,14 @@ export class Out {
 
     async cutParts() {
         const { app } = this;
-        if (this.event === 0) throw new Error('nothing is played yet: choose a later event');
+        if (app.recording.eventAt(app.at) === 0) throw new Error('nothing is played yet: choose a later event');
         this.machine ??= new Machine(app.library);
-        return cutAt(app.recording, this.event, { player: app.player, machine: this.machine });
+        return cutAt(app.recording, app.at, { player: app.player, machine: this.machine });
     }
 
-    // A link to this event and cell, in the same recording.
+    // A link to what is seen, in the same recording.
     async link() {
-        const { cell, recording } = this.app;
-        const parts = [...(recording.example ? [`example=${recording.example}`] : []), `event=${this.event}`,
-            ...(cell ? [`cell=${cell.x},${cell.y}`] : [])];
-        history.replaceState(null, '', `#${parts.join('&')}`);
+        this.follower.set(linkTo(this.app, this.views));
         await this.copy(location.href, 'the link');
     }
 
@@ -88,15 +98,5 @@ export class Out {
         } catch {
             this.app.say(text);
         }
-    }
-
-    // Goes where the address of the page says.
-    follow() {
-        const { app } = this, asked = new URLSearchParams(location.hash.slice(1)), { recording } = app;
-        if (!recording) return;
-        if (asked.has('example') && asked.get('example') !== recording.example) return;
-        if (/^\d+$/.test(asked.get('event') ?? '')) app.seek(recording.track.stepsUpTo(Number(asked.get('event'))));
-        const cell = /^(\d{1,4}),(\d{1,4})$/.exec(asked.get('cell') ?? '');
-        if (cell) app.choose({ x: Number(cell[1]) & 1023, y: Number(cell[2]) & (recording.height - 1) });
     }
 }

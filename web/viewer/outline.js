@@ -32,7 +32,7 @@ function runAt(words, at) {
     return kind === 2 ? [{ list: true, at: words[at + 1] }, at + 2] : [null, at + 1];
 }
 
-// The outline of a snapshot that the machine has admitted, and where its memories lie, in bytes.
+/** The outline of a snapshot that the machine has admitted, and where its memories lie, in bytes. */
 export function outlineOf(bytes) {
     const room = bytes.slice(HEAD_BYTES, HEAD_BYTES + 4 * 64);
     const words = new Uint32Array(room.buffer, 0, room.length >> 2);
@@ -45,7 +45,7 @@ export function outlineOf(bytes) {
     return { height, played, registers, pending, store, running, vramAt, memoryAt, size: memoryAt + MEMORY_BYTES };
 }
 
-// The same bytes, with another number of events played.
+/** The same bytes, with another number of events played. */
 export function renumbered(bytes, played) {
     const out = bytes.slice();
     const view = new DataView(out.buffer);

@@ -1,5 +1,6 @@
-// What is drawn above video memory and the picture: areas, pages, palettes, the packet's own outline.
+// What is drawn above video memory and what it shows: areas, pages, palettes, the packet's own outline.
 
+import { made } from './dom.js';
 import { KIND } from './rows.js';
 import { offsetOf, placeOf, windowOf } from './fields.js';
 
@@ -10,11 +11,28 @@ export const OVERLAYS = [
     { name: 'page', label: 'texture page', color: '#4da3ff', on: true },
     { name: 'window', label: 'window', color: '#22c7c7', on: false },
     { name: 'palette', label: 'palette', color: '#c86bff', on: true },
+    { name: 'wire', label: 'wireframe', color: '#e05bff', on: false },
+    { name: 'overdraw', label: 'overdraw', color: '#f0a020', on: false },
 ];
+
+/**
+ * Makes a box to check for each overlay.
+ * @param {HTMLElement} parent
+ * @param {{[name: string]: boolean}} on which are on; changed by the boxes
+ * @param {(name: string) => void} changed called with the overlay whose box was changed
+ */
+export function makeToggles(parent, on, changed) {
+    parent.append(...OVERLAYS.map(({ name, label, color }) => {
+        const box = Object.assign(made('input'), { type: 'checkbox', checked: on[name] });
+        box.style.color = color;
+        box.addEventListener('change', () => { on[name] = box.checked; changed(name); });
+        return made('label', '', box, label);
+    }));
+}
 
 const boxOf = (x, y, w, h) => ({ x, y, w, h });
 
-// The boxes of each overlay, in cells: by the registers, the row's area and packet, the shown picture, the height.
+/** The boxes of each overlay, in cells: by the registers, the row's area and packet, the shown picture, the height. */
 export function boxesOf({ registers, area, packet, picture, height }) {
     const boxes = {};
     const near = placeOf(registers[2], height), far = placeOf(registers[3], height);
@@ -41,25 +59,25 @@ function textureBoxes({ page, palette }, { maskX, maskY, x, y }, height) {
     return boxes;
 }
 
-// A box that reaches over an edge goes on at the opposite one.
+// A box that reaches over an edge continues at the opposite one.
 function wrapped({ x, y, w, h }, height) {
     const columns = x + w > 1024 ? [[x, 1024 - x], [0, x + w - 1024]] : [[x, w]];
     const rows = y + h > height ? [[y, height - y], [0, y + h - height]] : [[y, h]];
     return columns.flatMap(([x1, w1]) => rows.map(([y1, h1]) => boxOf(x1, y1, w1, h1)));
 }
 
-// Draws boxes; `place` is where a cell lies in the image.
+/** Draws boxes; `place(x, y)` is the place of a cell in the image. */
 export function drawBoxes(context, view, boxes, { color, place }) {
     for (const { x, y, w, h } of boxes ?? []) {
         const at = place(x, y), from = view.toScreen(at.x, at.y);
         for (const [width, style] of [[3, '#000a'], [1.5, color]]) {
             Object.assign(context, { strokeStyle: style, lineWidth: width });
-            context.strokeRect(from.x - 1, from.y - 1, w * view.scale + 2, h * view.scale + 2);
+            context.strokeRect(from.x - 1, from.y - 1, w * view.scaleX + 2, h * view.scale + 2);
         }
     }
 }
 
-// The edges of a polygon, or the segment of a line.
+/** The edges of a polygon, or the segment of a line. */
 export function drawOutline(context, view, { packet, registers, kind, color, place }) {
     if (!packet?.vertices || kind === KIND.RECTANGLE || packet.vertices.length < 2) return;
     const offset = offsetOf(registers[4]);
@@ -70,7 +88,7 @@ export function drawOutline(context, view, { packet, registers, kind, color, pla
     drawPoints(context, view, points, color);
 }
 
-// Points in order, joined; four are two triangles.
+/** Points in order, joined; four are two triangles. */
 export function drawPoints(context, view, points, color) {
     const orders = points.length === 4 ? [[0, 1, 2], [1, 2, 3]] : [points.map((_, k) => k)];
     Object.assign(context, { strokeStyle: color, lineWidth: 1.5 });

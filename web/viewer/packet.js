@@ -6,7 +6,7 @@ import { sizeOf } from './splitter.js';
 
 const FIXED = [0, 1, 8, 16];
 
-// `registers`: the values of E1h to E6h that are in force; `height`: of video memory.
+/** `registers`: the values of E1h to E6h that are in force; `height`: of video memory. */
 export function packetOf(kind, head, words, { registers, height }) {
     const opcode = head >>> 24;
     const flags = { semi: (opcode & 2) !== 0, shaded: (opcode & 16) !== 0, textured: (opcode & 4) !== 0,

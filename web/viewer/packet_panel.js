@@ -1,13 +1,14 @@
 // What the packet at this place says: its fields, its vertices, its words.
 
+import { rowAddress } from './address.js';
 import { KIND } from './rows.js';
 import { element, grouped, made, swatch, tableOf } from './dom.js';
-import { cssOf } from './fields.js';
+import { cssOf, offsetOf } from './fields.js';
 import { hex, nameOf } from './names.js';
 import { packetOf } from './packet.js';
 import { controlText, fieldsOf, settingText } from './words.js';
 
-// The row at this place with all that is known of it, or null.
+/** The row at this place with all that is known of it, or null. */
 export function rowHere({ recording, row, registers }) {
     if (!recording || row < 0) return null;
     const { rows, track, height } = recording;
@@ -16,16 +17,19 @@ export function rowHere({ recording, row, registers }) {
     return { row, kind, head, words, packet, area: rows.area(row), isKnown: rows.near[row] !== 0xFFFFFFFE };
 }
 
-function verticesOf(packet) {
-    const textured = packet.vertices[0].u !== undefined;
+// The vertices as the words have them, and the cells that they are at with the drawing offset added.
+function verticesOf(packet, offset) {
+    const textured = packet.vertices[0].u !== undefined, isMoved = offset.x !== 0 || offset.y !== 0;
     const table = made('table');
     const head = table.createTHead().insertRow();
-    const titles = ['vertex', 'colour', ...(textured ? ['u, v'] : [])];
+    const titles = ['vertex', ...(isMoved ? ['with offset'] : []), 'colour', ...(textured ? ['u, v'] : [])];
     head.append(...titles.map(text => Object.assign(made('th', '', text), { scope: 'col' })));
     for (const { x, y, color, u, v } of packet.vertices) {
         const line = table.insertRow();
         const shown = color === undefined ? '' : [swatch(cssOf(color)), ` ${cssOf(color)}`];
-        line.append(made('td', 'mono', `(${x}, ${y})`), made('td', 'mono', ...shown));
+        line.append(made('td', 'mono', `(${x}, ${y})`));
+        if (isMoved) line.append(made('td', 'mono', `(${x + offset.x}, ${y + offset.y})`));
+        line.append(made('td', 'mono', ...shown));
         if (textured) line.append(made('td', 'mono', `${u}, ${v}`));
     }
     return table;
@@ -44,7 +48,7 @@ export class PacketPanel {
             return;
         }
         const { recording } = this.app, { rows, track } = recording, { kind, head, words, packet, row } = here;
-        const done = recording.endOf(row), event = track.event(rows.done[row]);
+        const done = recording.endOf(row), event = rowAddress(recording, row);
         const tells = { [KIND.GP1]: controlText, [KIND.SETTING]: settingText }[kind];
         const told = tells?.(head, recording.height);
         const count = rows.done[row] - rows.first[row] + 1;
@@ -56,7 +60,8 @@ export class PacketPanel {
             packet.color !== undefined && ['colour', swatch(cssOf(packet.color)), ` ${cssOf(packet.color)}`],
             ...fieldsOf(kind, head, packet, this.app.registers),
             ['area', this.areaText(here)],
-        ]), ...(packet.vertices ? [verticesOf(packet)] : []), ...this.wordsOf(words, done - rows.done[row] - 1));
+        ]), ...(packet.vertices ? [verticesOf(packet, offsetOf(this.app.registers[4]))] : []),
+        ...this.wordsOf(words, done - rows.done[row] - 1));
     }
 
     areaText({ area, isKnown }) {

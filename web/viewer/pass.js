@@ -5,7 +5,7 @@ import { KIND, NO_AREA } from './rows.js';
 import { playOther, toStart } from './player.js';
 
 // Milliseconds that a slice is to be played in, and how many steps it has at least and at most.
-const WANTED = 16, LEAST = 2048, MOST = 65536;
+const WANTED = 16, LEAST = 16384, MOST = 65536;
 
 export class Pass {
     constructor(recording, machine) {
@@ -18,7 +18,7 @@ export class Pass {
     // Plays the next slice.
     turn() {
         const { machine, recording } = this;
-        this.keep(machine.save());
+        this.keep(machine.stateView());
         const started = performance.now();
         this.play(Math.min(this.at + this.slice, recording.length));
         this.fit(performance.now() - started);
@@ -45,7 +45,7 @@ export class Pass {
         const { machine, recording: { track } } = this;
         while (this.at < to) {
             const run = track.run(this.at, to);
-            if (run.length > 0) machine.gp0Notes(run, (notes, from) => this.write(notes, this.at + from));
+            if (run.length > 0) this.write(machine.gp0NotesView(run), this.at);
             else playOther(machine, track.kind(this.at), track.word(this.at));
             this.at += run.length || 1;
         }
@@ -62,10 +62,11 @@ export class Pass {
 
     writeArea(row, notes, k, first) {
         const { rows } = this.recording, kind = rows.kind[row] === KIND.JOINT ? KIND.LINE : rows.kind[row];
-        if (first + notes.place(k) !== rows.done[row] || notes.head(k) !== rows.head[row] || notes.kind(k) !== kind) {
+        if (first + notes.word(k) !== rows.done[row] || notes.head(k) !== rows.head[row] || notes.classNumber(k) !== kind) {
             throw new Error(`row ${row}: the machine tells of another packet`);
         }
-        if (notes.hasArea(k)) rows.setArea(row, ...notes.corner(k, 0), ...notes.corner(k, 1));
+        const area = notes.area(k);
+        if (area) rows.setArea(row, ...area);
         else rows.near[row] = NO_AREA;
     }
 }

@@ -1,16 +1,20 @@
 // The cell that is pointed at, the cell that is chosen, and what changed it.
 
+import { addressOf, longestAddress, rowAddress } from './address.js';
 import { Machine } from './machine.js';
 import { History } from './history.js';
 import { List } from './list.js';
-import { breath } from './app.js';
+import { breath } from './breath.js';
 import { element, grouped, made, swatch, tableOf } from './dom.js';
 import { channelsOf } from './fields.js';
-import { lastUpTo } from './list_panel.js';
+import { lastUpTo } from './numbers.js';
 import { cssOfCell } from './pixels.js';
 import { hex, nameOf } from './names.js';
 
-// The item that a change is of: its name and its head.
+// Milliseconds between two reports of what is found.
+const TOLD = 250;
+
+/** The item that a change is of: its name and its head. */
 export function itemOf(recording, { step, row }) {
     const { rows, track } = recording;
     if (row < 0 || step > rows.done[row]) return { name: 'pixels', head: track.word(step) };
@@ -30,10 +34,13 @@ export class PixelPanel {
         this.list = new List(element('history'), {
             count: () => this.history?.changes.length ?? 0,
             draw: (line, index) => this.drawChange(line, this.history.changes[index]),
-            pick: index => app.seek(this.history.changes[index].step + 1),
+            pick: index => app.seek(this.history.changes[index].step + 1, 'cell'),
             current: () => this.current(),
         });
-        app.on('opened', () => this.forget());
+        app.on('opened', () => {
+            this.forget();
+            element('history').style.setProperty('--number', `${longestAddress(app.recording)}ch`);
+        });
         app.on('moved', () => { this.draw(); this.list.reveal(this.current()); });
         app.on('cell', () => { this.draw(); this.look(); });
         app.on('ahead', () => { if (this.waits && app.pass.isDone()) this.look(); });
@@ -82,7 +89,12 @@ export class PixelPanel {
         this.machine ??= new Machine(app.library);
         const history = this.history = new History(app.recording, this.machine, app.cell);
         element('history').hidden = false;
-        await history.run(app.at, part => { if (history === this.history) this.found(part); }, breath);
+        let told = -TOLD;
+        await history.run(app.at, part => {
+            if (history !== this.history || performance.now() - told < TOLD) return;
+            told = performance.now();
+            this.found(part);
+        }, breath);
         if (history === this.history) this.found(1);
     }
 
@@ -98,11 +110,17 @@ export class PixelPanel {
         this.isWhole = part === 1;
     }
 
+    // The row that made the change; of a load's data word its own place.
+    addressOf({ step, row }) {
+        const { recording } = this.app;
+        return row >= 0 && recording.rows.done[row] === step ? rowAddress(recording, row) : addressOf(recording, step + 1);
+    }
+
     drawChange(line, change) {
         const { recording, at } = this.app, { name } = itemOf(recording, change);
         if (change.step >= at) line.classList.add('later');
         line.title = 'go to what drew this';
-        const number = made('span', 'number', String(recording.track.event(change.step)));
+        const number = made('span', 'number', this.addressOf(change));
         const valueOf = cell => [swatch(cssOfCell(cell)), made('span', '', hex(cell, 4))];
         line.replaceChildren(number, made('span', 'name', name), ...valueOf(change.before), made('span', 'quiet', '→'),
             ...valueOf(change.after));

@@ -1,22 +1,28 @@
-// An image on a canvas, looked at from near or far: zoom by wheel and keys, pan by dragging, a grid at high zoom, and a
-// cursor that keys move.
+// An image on a canvas, looked at from near or far, with a grid at high zoom and a cursor that keys move.
 
-const GRID_FROM = 8, TEXT_FROM = 40, MOST = 128, LEAST = 1 / 8;
+import { Pointing } from './pointing.js';
+
+// Scales: from which there is a grid, and a value in each pixel; the greatest and the least; that of one pixel shown alone.
+const GRID_FROM = 8, TEXT_FROM = 40, MOST = 128, LEAST = 1 / 8, NEAR = 24;
 
 export class PixelView {
-    // `does`: hover(place), pick(place), moved(place) by keys, and draw(context, view) for what lies above the image.
-    constructor(canvas, does) {
+    /**
+     * @param {HTMLCanvasElement} canvas
+     * @param {object} does hover(place), pick(place), moved(place) by keys, and draw(context, view) for what is above the
+     *     image
+     * @param {PixelView} leader the view that the pointer moves here, if it is another one
+     */
+    constructor(canvas, does, leader = null) {
         Object.assign(this, { canvas, does, image: null, width: 0, height: 0, scale: 1, x: 0, y: 0, cursor: null });
         this.source = document.createElement('canvas');
         this.fits = true;
-        canvas.addEventListener('wheel', event => this.wheel(event), { passive: false });
-        canvas.addEventListener('pointerdown', event => this.press(event));
-        canvas.addEventListener('pointermove', event => this.move(event));
-        canvas.addEventListener('pointerup', event => this.release(event));
-        canvas.addEventListener('pointercancel', () => { this.pressed = null; });
-        canvas.addEventListener('pointerleave', () => does.hover(null));
+        // How wide a pixel is, of its height.
+        this.aspect = 1;
+        this.pointing = new Pointing(leader ?? this, canvas, does);
         new ResizeObserver(() => this.resize()).observe(canvas);
     }
+
+    get scaleX() { return this.scale * this.aspect; }
 
     resize() {
         const { canvas } = this, ratio = devicePixelRatio || 1;
@@ -33,15 +39,15 @@ export class PixelView {
             if (isOther) Object.assign(this.source, { width: image.width, height: image.height });
             this.source.getContext('2d').putImageData(image, 0, 0);
         }
-        if (isOther && this.fits) this.fit(); else this.draw();
+        if (this.fits) this.fit(); else this.draw();
     }
 
     fit() {
         if (!this.width) return this.draw();
         const { width, height } = this.canvas;
-        const scale = Math.min(width / this.width, height / this.height) * 0.98;
+        const scale = Math.min(width / (this.width * this.aspect), height / this.height) * 0.98;
         this.scale = scale >= 1 ? Math.floor(scale * 2) / 2 : scale;
-        this.x = (width - this.width * this.scale) / 2;
+        this.x = (width - this.width * this.scaleX) / 2;
         this.y = (height - this.height * this.scale) / 2;
         this.fits = true;
         this.draw();
@@ -56,52 +62,43 @@ export class PixelView {
         this.draw();
     }
 
+    moveTo(x, y) {
+        Object.assign(this, { x, y, fits: false });
+        this.draw();
+    }
+
+    /** Returns the place of the image in the middle of the canvas. */
+    middle() {
+        const { width, height } = this.canvas;
+        return { x: (width / 2 - this.x) / this.scaleX, y: (height / 2 - this.y) / this.scale };
+    }
+
+    /** Shows a place of the image in the middle, at a scale. */
+    lookAt(scale, x, y) {
+        this.scale = Math.max(LEAST, Math.min(MOST, scale));
+        this.moveTo(this.canvas.width / 2 - x * this.scaleX, this.canvas.height / 2 - y * this.scale);
+    }
+
+    /** Shows a box of the image in the middle, as large as half of the canvas, and no larger than is useful. */
+    showBox({ x1, y1, x2, y2 }) {
+        const { width, height } = this.canvas, [wide, high] = [x2 - x1 + 1, y2 - y1 + 1];
+        const scale = Math.min(NEAR, width / (2 * wide), height / (2 * high));
+        this.lookAt(scale, (x1 + x2 + 1) / 2, (y1 + y2 + 1) / 2);
+    }
+
     // Brings a place into view.
     reveal(x, y) {
         const { width, height } = this.canvas, at = this.toScreen(x, y);
-        if (at.x < 0 || at.x + this.scale > width) this.x += width / 2 - at.x;
+        if (at.x < 0 || at.x + this.scaleX > width) this.x += width / 2 - at.x;
         if (at.y < 0 || at.y + this.scale > height) this.y += height / 2 - at.y;
     }
 
-    toScreen(x, y) { return { x: this.x + x * this.scale, y: this.y + y * this.scale }; }
+    toScreen(x, y) { return { x: this.x + x * this.scaleX, y: this.y + y * this.scale }; }
 
-    placeOf(event) {
-        const ratio = this.canvas.width / this.canvas.clientWidth;
-        const x = Math.floor((event.offsetX * ratio - this.x) / this.scale);
-        const y = Math.floor((event.offsetY * ratio - this.y) / this.scale);
-        return x >= 0 && y >= 0 && x < this.width && y < this.height ? { x, y } : null;
-    }
-
-    wheel(event) {
-        event.preventDefault();
-        const ratio = this.canvas.width / this.canvas.clientWidth;
-        this.zoom(Math.exp(-event.deltaY * 0.0025), event.offsetX * ratio, event.offsetY * ratio);
-    }
-
-    press(event) {
-        this.canvas.setPointerCapture(event.pointerId);
-        this.pressed = { x: event.clientX, y: event.clientY, wasX: this.x, wasY: this.y, isDrag: false };
-    }
-
-    move(event) {
-        if (this.pressed) {
-            const ratio = this.canvas.width / this.canvas.clientWidth;
-            const dx = event.clientX - this.pressed.x, dy = event.clientY - this.pressed.y;
-            if (Math.hypot(dx, dy) > 4) this.pressed.isDrag = true;
-            if (this.pressed.isDrag) {
-                this.x = this.pressed.wasX + dx * ratio;
-                this.y = this.pressed.wasY + dy * ratio;
-                this.fits = false;
-                this.draw();
-            }
-        }
-        this.does.hover(this.placeOf(event));
-    }
-
-    release(event) {
-        const place = this.placeOf(event);
-        if (this.pressed && !this.pressed.isDrag && place) this.does.pick(place);
-        this.pressed = null;
+    // The place of the image at a pixel of the canvas; null outside of the image.
+    placeAt(x, y) {
+        const place = { x: Math.floor((x - this.x) / this.scaleX), y: Math.floor((y - this.y) / this.scale) };
+        return place.x >= 0 && place.y >= 0 && place.x < this.width && place.y < this.height ? place : null;
     }
 
     // Moves the cursor by keys.
@@ -115,8 +112,8 @@ export class PixelView {
         const context = this.canvas.getContext('2d'), { width, height } = this.canvas;
         context.clearRect(0, 0, width, height);
         if (!this.image) return;
-        context.imageSmoothingEnabled = this.scale < 1;
-        context.drawImage(this.source, this.x, this.y, this.width * this.scale, this.height * this.scale);
+        context.imageSmoothingEnabled = this.scale < 1 || this.aspect !== 1;
+        context.drawImage(this.source, this.x, this.y, this.width * this.scaleX, this.height * this.scale);
         if (this.scale >= GRID_FROM) this.drawGrid(context);
         if (this.scale >= TEXT_FROM && this.textOf) this.drawTexts(context);
         this.does.draw(context, this);
@@ -125,8 +122,8 @@ export class PixelView {
 
     seen() {
         const { width, height } = this.canvas;
-        return { x1: Math.max(0, Math.floor(-this.x / this.scale)), y1: Math.max(0, Math.floor(-this.y / this.scale)),
-            x2: Math.min(this.width, Math.ceil((width - this.x) / this.scale)),
+        return { x1: Math.max(0, Math.floor(-this.x / this.scaleX)), y1: Math.max(0, Math.floor(-this.y / this.scale)),
+            x2: Math.min(this.width, Math.ceil((width - this.x) / this.scaleX)),
             y2: Math.min(this.height, Math.ceil((height - this.y) / this.scale)) };
     }
 
@@ -159,10 +156,11 @@ export class PixelView {
     }
 
     drawCursor(context) {
-        const { x, y } = this.toScreen(this.cursor.x, this.cursor.y), size = Math.max(this.scale, 5);
+        const { x, y } = this.toScreen(this.cursor.x, this.cursor.y);
+        const [w, h] = [Math.max(this.scaleX, 5), Math.max(this.scale, 5)];
         for (const [width, color] of [[4, '#000'], [2, '#fff']]) {
             Object.assign(context, { strokeStyle: color, lineWidth: width });
-            context.strokeRect(x - 1.5, y - 1.5, size + 3, size + 3);
+            context.strokeRect(x - 1.5, y - 1.5, w + 3, h + 3);
         }
     }
 }

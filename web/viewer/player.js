@@ -1,8 +1,8 @@
-// A machine at a place of a recording: after so many of its steps.
+// A machine at a place of a recording: after a number of its steps.
 
 import { STEP } from './track.js';
 
-// Plays one step that is not a word for GP0.
+/** Plays one step that is not a word for GP0. */
 export function playOther(machine, kind, word) {
     if (kind === STEP.GP1) machine.gp1(word);
     else if (kind === STEP.READ) machine.read();
@@ -10,7 +10,7 @@ export function playOther(machine, kind, word) {
     else machine.skip();
 }
 
-// Plays the steps from one place to another.
+/** Plays the steps from one place to another. */
 export function playSteps(machine, track, from, to) {
     for (let at = from; at < to;) {
         const run = track.run(at, to);
@@ -20,7 +20,7 @@ export function playSteps(machine, track, from, to) {
     }
 }
 
-// The state before the first step.
+/** The state before the first step. */
 export function toStart(machine, recording) {
     if (recording.start) {
         machine.load(recording.start);
@@ -35,7 +35,7 @@ export class Player {
         Object.assign(this, { recording, machine, at: -1 });
     }
 
-    // Goes to the state after so many steps, from the nearest one before that is known.
+    // Goes to the state after `step` steps, from the nearest one before that is kept.
     seek(step) {
         const { keyframes, track } = this.recording;
         const kept = keyframes.indexAt(step);

@@ -1,4 +1,4 @@
-// Takes a capture apart as its bytes come. What stands in its records goes to a sink, record by record.
+// Takes a capture apart as its bytes come. The content of its records goes to a sink, record by record.
 
 import { Refusal } from './refusal.js';
 
@@ -7,7 +7,7 @@ const HEADS = ['PSXGPUC1', 'PSXGPUC2', 'PSXGPUC3', 'PSXGPUS1'];
 const LIMIT = 2 ** 30;
 const RAM_BYTES = 0x200000;
 
-// The beginning of a file: which of the heads it has.
+/** The beginning of a file: which of the heads it has. */
 export function headOf(bytes) {
     if (bytes.length < 8) throw new Refusal('truncated', 1, { byte: bytes.length });
     const text = String.fromCharCode(...bytes.subarray(0, 8));
@@ -32,7 +32,7 @@ function isAllowed(kind, count, version) {
 }
 
 export class RecordReader {
-    // `place`: how many bytes stand before those that come; `version`: 1 to 3.
+    // `place`: the offset of the next byte; `version`: 1 to 3.
     constructor(sink, version, place) {
         Object.assign(this, { sink, version, place, done: false });
         this.rest = new Uint8Array(0);

@@ -27,7 +27,7 @@ export class Recording {
 
     get marks() { return this.splitter.marks; }
 
-    // The number of the last event of which a step was played after so many.
+    // The number of the event of the last of `steps` steps.
     eventAt(steps) { return steps === 0 ? this.track.before : this.track.event(steps - 1); }
 
     // After how many steps a row has done all that it does: of a load, when its data are there.

@@ -1,12 +1,12 @@
 // The registers at this place, the status word, and what is pending: an unfinished packet, an open load or store.
 
 import { element, made, tableOf } from './dom.js';
-import { lastUpTo } from './list_panel.js';
+import { lastUpTo } from './numbers.js';
 import { hex } from './names.js';
 import { outlineOf } from './outline.js';
 import { controlText, modeText, settingText } from './words.js';
 
-// What is pending is taken from a state, which takes some milliseconds: it waits until the place stands still.
+// What is pending is taken from a state, which takes some milliseconds: it waits until the place is the same for a while.
 const STILL = 80;
 
 const DIRECTIONS = ['off', 'FIFO', 'processor to GP0', 'data port to processor'];
@@ -15,7 +15,7 @@ function transferText({ x, y, w, h, next }) {
     return `at (${x}, ${y}), ${w} × ${h}: ${next} of ${w * h} cells are done`;
 }
 
-// What a state's outline says is pending.
+/** What a state's outline says is pending. */
 export function pendingText({ pending, store }) {
     const out = [];
     if (pending.kind === 'packet') out.push(`a packet, so far ${pending.words.map(word => hex(word)).join(' ')}`);
@@ -67,7 +67,7 @@ export class RegistersPanel {
 
     drawPending() {
         const { machine } = this.app;
-        this.pending.textContent = pendingText(outlineOf(machine.save()));
+        this.pending.textContent = pendingText(outlineOf(machine.stateView()));
         this.status.textContent = hex(machine.status());
     }
 }

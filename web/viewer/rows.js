@@ -1,11 +1,11 @@
-// The rows of the list: packets and their parts, words for GP1, and reads in a row. They stand in the order in which
+// The rows of the list: packets and their parts, words for GP1, and reads in a row. They are in the order in which
 // they are completed. A row has its first step and the one that completes it, its kind, its head and its area.
 
-// 0 to 8 are the classes of notes; a joint of a polyline is of class 2, too.
+/** 0 to 8 are the classes of notes; a joint of a polyline is of class 2, too. */
 export const KIND = { OTHER: 0, POLYGON: 1, LINE: 2, RECTANGLE: 3, COPY: 4, LOAD: 5, STORE: 6, SETTING: 7, FINISH: 8,
     JOINT: 12, GP1: 16, READS: 17, STATUS: 18 };
 
-// In the place of an area: there is none, or it is not known yet.
+/** In the place of an area: there is none, or it is not known yet. */
 export const NO_AREA = 0xFFFFFFFF;
 export const NOT_YET = 0xFFFFFFFE;
 
@@ -52,7 +52,7 @@ export class Rows {
         this.far[row] = (x2 | y2 << 16) >>> 0;
     }
 
-    // The last row that is complete after so many steps, or -1.
+    // The last row that is complete after `steps` steps, or -1.
     at(steps) {
         let low = 0, high = this.length;
         while (low < high) {

@@ -2,16 +2,26 @@
 
 import { KIND } from './rows.js';
 import { nameOf } from './names.js';
-import { rowsAt } from './history.js';
+import { rowsAt } from './candidates.js';
 import { tagsOf } from './words.js';
 
-// The cell that a text names, or null.
+/** The cell that a text names, or null. */
 export function cellIn(text) {
     const found = /^@?\s*\(?(\d{1,4})\s*[, ]\s*(\d{1,4})\)?$/.exec(text.trim());
     return found && { x: Number(found[1]), y: Number(found[2]) };
 }
 
-// The rows that a text asks for, in order, or null where it asks for nothing.
+/**
+ * Returns why a text names no cell of video memory, or null if it names one or none.
+ * @param {string} text
+ * @param {number} height of video memory
+ */
+export function cellProblem(text, height) {
+    const cell = cellIn(text.toLowerCase());
+    return !cell || (cell.x < 1024 && cell.y < height) ? null : `no such cell: write @ x,y up to 1023,${height - 1}`;
+}
+
+/** The rows that a text asks for, in order, or null where it asks for nothing. */
 export function find(recording, text) {
     const asked = text.trim().toLowerCase();
     if (asked === '') return null;

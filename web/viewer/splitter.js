@@ -19,9 +19,12 @@ const LENGTHS = Uint8Array.from({ length: 256 }, (_, opcode) => {
     }
 });
 
+/** Returns how many words a packet has by its first word. */
+export const lengthOf = head => LENGTHS[head >>> 24];
+
 export const isEndWord = word => (word & 0xF000F000) === 0x50005000;
 
-// The cells of a load or store by its word of size, and how many words hold them.
+/** The cells of a load or store by its word of size, and how many words hold them. */
 export const sizeOf = word => ({ w: ((word - 1) & 0x3FF) + 1, h: (((word >>> 16) - 1) & 0x1FF) + 1 });
 export function dataWords(word) {
     const { w, h } = sizeOf(word);

@@ -10,7 +10,7 @@ const yes = (bit, text) => bit ? [text] : [];
 
 export const pageText = ({ x, y, depth }) => `(${x}, ${y}), ${depth} bits`;
 
-// The words by which a row is found, and which stand in the list.
+/** The words by which a row is found, and which the list shows. */
 export function tagsOf(kind, head) {
     const bit = k => (head >>> k & 1) === 1;
     if (kind === KIND.POLYGON) {
@@ -29,16 +29,18 @@ export function tagsOf(kind, head) {
 
 const SETTINGS = { 0xE1: 'draw mode', 0xE2: 'texture window', 0xE3: 'drawing area from', 0xE4: 'drawing area to',
     0xE5: 'drawing offset', 0xE6: 'mask setting' };
+// What the list writes before the values of a setting.
+const IN_LIST = { 0xE1: '', 0xE2: 'window ', 0xE3: 'area from ', 0xE4: 'area to ', 0xE5: 'offset ', 0xE6: '' };
 const settingName = head => SETTINGS[head >>> 24] ?? '';
 
-// The colour that stands in a row's first word, or null.
+/** The colour in a row's first word, or null. */
 export function colorIn(kind, head) {
     const isFill = kind === KIND.OTHER && head >>> 24 === 2;
     const has = isFill || kind === KIND.POLYGON || kind === KIND.LINE || kind === KIND.RECTANGLE;
     return has ? cssOf(colorOf(head)) : null;
 }
 
-// What a word of E1h to E6h says.
+/** What a word of E1h to E6h says. */
 export function settingText(word, height) {
     switch (word >>> 24) {
     case 0xE1: {
@@ -59,7 +61,7 @@ export function settingText(word, height) {
     }
 }
 
-// What a word for GP1 says.
+/** What a word for GP1 says. */
 export function controlText(word, height) {
     const low = word & 0xFFF, high = word >>> 12 & 0xFFF;
     switch (word >>> 24 & 0x3F) {
@@ -79,14 +81,14 @@ export function modeText(word) {
         ...yes(word & 16, '24 bits a pixel'), ...yes(word & 32, 'interlaced')].join(', ');
 }
 
-// A row in short.
+/** A row in short. */
 export function shortOf(kind, head, height) {
     if (kind === KIND.GP1) return controlText(head, height);
-    if (kind === KIND.SETTING && settingName(head)) return `${settingName(head)} ${settingText(head, height)}`;
+    if (kind === KIND.SETTING && settingName(head)) return `${IN_LIST[head >>> 24]}${settingText(head, height)}`;
     return tagsOf(kind, head).join(' ');
 }
 
-// The fields of a packet: pairs of a label and a text.
+/** The fields of a packet: pairs of a label and a text. */
 export function fieldsOf(kind, head, packet, registers) {
     const { from, to, size, page, palette, flipX, flipY } = packet, what = tagsOf(kind, head).join(', ');
     const blend = page ?? pageOf(registers[0], 512);
@@ -101,7 +103,7 @@ export function fieldsOf(kind, head, packet, registers) {
     ].filter(Boolean);
 }
 
-// A row as text for the clipboard.
+/** A row as text for the clipboard. */
 export function copyOf(kind, head, words) {
     const port = kind === KIND.GP1 ? 'gp1' : 'gp0';
     return `${port} ${words.map(word => hex(word)).join(' ')}    # ${nameOf(kind, head)}\n`;

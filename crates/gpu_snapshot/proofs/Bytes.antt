@@ -1,16 +1,13 @@
 -- Words of a memory and their bytes.
-use Rattle.std.proofs.Common.{◌≡◌, ◌≤◌, ◌<◌, ◌+◌, ◌*◌, ◌++◌, List, [], ◌∷◌, ℕ, Option, length, ap, refl, ◌∙◌}
+use Rattle.std.proofs.Common.{◌≡◌, ◌≤◌, ◌+◌, ◌*◌, ◌++◌, List, [], ◌∷◌, ℕ, Option, length, ap, refl, ◌∙◌}
 use Rattle.std.proofs.Common.{length-append}
 use Rattle.std.proofs.Common.{arith, append_assoc, append-nil, sym}
 use Rattle.dev_io.specs.Device.{prepended}
 use Rattle.dev_io.proofs.Parts.{taken_on}
 use Rattle.gpu_capture.specs.Whole.{AreWords}
 use Rattle.gpu_capture.specs.Written.{word_bytes}
-use Rattle.gpu_capture.specs.declared.event.Stop.TheVariants.{End, NotCapture, BadRecord, TooLong, Truncated, ReadFault}
 use Rattle.snapshot_words.specs.Outline.{bytes_of, AreCells}
-use Rattle.snapshot_words.specs.Taking.{EndsWord, SaysNoWord}
 use Rattle.snapshot_words.specs.declared.fault.SnapFault.{SnapFault}
-use Rattle.snapshot_words.specs.declared.fault.SnapFault.TheVariants as fault
 use Rattle.gpu_snapshot.specs.Memories.{LacksWords, SaysShort}
 
 word_long : (word : ℕ) → length (word_bytes word) ≡ 4
@@ -44,37 +41,10 @@ pub AreCells-append : (xs ys : List ℕ) → AreCells xs → AreCells ys → Are
 AreCells-append [] ys are more = more
 AreCells-append (x ∷ xs) ys are more = (are.0, AreCells-append xs ys are.1 more)
 
--- where a word is not had, fewer bytes than its four came
-short_by : (why : SnapFault) (place : ℕ) (taken : List ℕ) (now : Option (List ℕ)) → SaysNoWord why place taken now
-    → (length taken < 4) × SaysShort why (place + length taken) now
-short_by (fault.Stop (Truncated byte)) place taken now says = (says.0, (says.1, says.2))
-short_by (fault.Stop (ReadFault byte)) place taken now says = (says.0, says.1)
-short_by (fault.Stop End) place taken now says = absurd says
-short_by (fault.Stop (NotCapture byte)) place taken now says = absurd says
-short_by (fault.Stop (BadRecord byte word)) place taken now says = absurd says
-short_by (fault.Stop (TooLong byte)) place taken now says = absurd says
-short_by (fault.Bad byte word) place taken now says = absurd says
-
 -- the same place, counted otherwise
 pub short_at : (why : SnapFault) (place other : ℕ) (now : Option (List ℕ)) → place ≡ other → SaysShort why place now
     → SaysShort why other now
 short_at why place other now e says = rw (← e) says
-
--- after these words the next one is not had
-pub lacks_behind : (before mid now : Option (List ℕ)) (words : List ℕ) (place at count : ℕ) (why : SnapFault)
-    → before ≡ prepended (bytes_of words) mid → length words < count → at ≡ place + 4 * length words
-    → EndsWord mid now at why → LacksWords before now place count why
-lacks_behind before mid now words place at count why were few is lack =
-    let says = short_by why at lack.taken now lack.says in
-    let long = length-bytes_of words in
-    let all = length-append (bytes_of words) lack.taken in
-    record {
-      taken = bytes_of words ++ lack.taken;
-      bytes = taken_on before mid now (bytes_of words) lack.taken were lack.bytes;
-      few = omega (arith, long, all, says.0, few);
-      says = short_at why (at + length lack.taken) (place + length (bytes_of words ++ lack.taken)) now
-          (omega (arith, long, all, is)) says.1;
-    }
 
 -- after these words the next ones are not had
 pub lacks_later : (before mid now : Option (List ℕ)) (words : List ℕ) (place at few count : ℕ) (why : SnapFault)

@@ -1,19 +1,21 @@
 -- Cells, two in each word.
 use Rattle.std.proofs.Common.{◌≡◌, ◌<◌, ◌+◌, ◌-◌, ◌*◌, ◌/◌, ◌%◌, ◌^◌, ◌++◌, List, [], ◌∷◌, ℕ, zero, suc, Option}
-use Rattle.std.proofs.Common.{length, take, slice_set, get_or, get_or-take, length-append, inl, inr, refl, ap, sym, ◌∙◌}
-use Rattle.std.proofs.Common.{arith}
+use Rattle.std.proofs.Common.{Some, drop, subst, length, take, slice_set, get_or, get_or-take, length-append, inl}
+use Rattle.std.proofs.Common.{inr, refl, ap, sym, ◌∙◌, arith}
 use Rattle.std.proofs.lemmas.List.{length-take-le, take_all, get_or_append_left, get_or-append_right}
 use Rattle.std.proofs.lemmas.Bool.{cases_lt}
 use Rattle.std.proofs.lemmas.Grind.{same_number_lists}
+use Rattle.dev_io.specs.Device.{prepended}
 use Rattle.dev_io.proofs.Parts.{taken_on, prepended-nil}
 use Rattle.event_play.specs.RigState.{RigState}
 use Rattle.snapshot_words.specs.Outline.{bytes_of}
-use Rattle.snapshot_words.specs.Taking.{IsWord, EndsWord}
+use Rattle.snapshot_words.specs.Taking.{IsWord}
 use Rattle.snapshot_words.specs.Values.{cell_words}
 use Rattle.snapshot_words.specs.declared.fault.SnapFault.{SnapFault}
 use Rattle.gpu_core.specs.Kept.{IsSet}
 use Rattle.gpu_snapshot.specs.Memories.{TakesCells, LacksWords, with_cells}
-use Rattle.gpu_snapshot.proofs.Bytes.{bytes_of-append, AreCells-append, alone, lacks_behind, lacks_later}
+use Rattle.gpu_snapshot.proofs.Bytes.{bytes_of-append, AreCells-append, alone, lacks_later}
+use Rattle.gpu_snapshot.proofs.Blocks.{cells_behind, none_behind}
 
 pub cell_words-append : (xs ys : List ℕ) → length xs % 2 ≡ 0 → cell_words (xs ++ ys) ≡ cell_words xs ++ cell_words ys
 cell_words-append [] ys even = refl
@@ -58,27 +60,40 @@ pair_taken before now word took = record {
   each = (omega (arith), (omega (arith, took.fits), tt));
 }
 
-pub lanes_on : (before mid now : Option (List ℕ)) (xs new : List ℕ) (k word low high : ℕ) → length xs ≡ 16 → k < 8
-    → TakesCells before mid (take (2 * k) xs) → IsWord mid now word → low ≡ word % 2 ^ 16 → high ≡ word / 2 ^ 16
-    → new ≡ slice_set (slice_set xs (2 * k) low) (2 * k + 1) high → TakesCells before now (take (2 * (k + 1)) new)
-lanes_on before mid now xs new k word low high long within were took is_low is_high is =
+pub lanes_none : (block : List ℕ) (c : ℕ) (lanes : List ℕ)
+    → TakesCells (Some (drop (32 * c) block)) (Some (drop (4 * (8 * c + 0)) block)) (take 0 lanes)
+lanes_none block c lanes =
+    let e : 32 * c ≡ 4 * (8 * c + 0) = omega arith in
+    subst (λ at. TakesCells (Some (drop (32 * c) block)) (Some (drop at block)) (take 0 lanes)) e
+    (none_taken (Some (drop (32 * c) block)) lanes)
+
+pub lanes_on : (block xs new : List ℕ) (c k word low high : ℕ) → length xs ≡ 16 → k < 8
+    → TakesCells (Some (drop (32 * c) block)) (Some (drop (4 * (8 * c + k)) block)) (take (2 * k) xs)
+    → IsWord (Some (drop (4 * (8 * c + k)) block)) (Some (drop (4 * (8 * c + k + 1)) block)) word
+    → low ≡ word % 2 ^ 16 → high ≡ word / 2 ^ 16
+    → new ≡ slice_set (slice_set xs (2 * k) low) (2 * k + 1) high
+    → TakesCells (Some (drop (32 * c) block)) (Some (drop (4 * (8 * c + (k + 1))) block)) (take (2 * (k + 1)) new)
+lanes_on block xs new c k word low high long within were took is_low is_high is =
     let e : 2 * (k + 1) ≡ suc (suc (2 * k)) = omega arith in
+    let at : 4 * (8 * c + k + 1) ≡ 4 * (8 * c + (k + 1)) = omega arith in
     let even : length (take (2 * k) xs) % 2 ≡ 0 =
     let n = length-take-le (2 * k) xs (omega (arith, long, within)) in omega (arith, n) in
     let set : take (2 * (k + 1)) new ≡ take (2 * k) xs ++ low ∷ high ∷ [] =
     rw (e, is) (two_set xs (2 * k) low high (omega (arith, long, within))) in
-    rw (set, is_low, is_high) (cells_on before mid now (take (2 * k) xs) (word % 2 ^ 16 ∷ word / 2 ^ 16 ∷ []) even were
-    (pair_taken mid now word took))
+    let first = Some (drop (32 * c) block) in
+    rw (set, is_low, is_high) (subst (λ place. TakesCells first (Some (drop place block))
+    (take (2 * k) xs ++ word % 2 ^ 16 ∷ word / 2 ^ 16 ∷ [])) at
+    (cells_on first (Some (drop (4 * (8 * c + k)) block)) (Some (drop (4 * (8 * c + k + 1)) block)) (take (2 * k) xs)
+    (word % 2 ^ 16 ∷ word / 2 ^ 16 ∷ []) even were
+    (pair_taken (Some (drop (4 * (8 * c + k)) block)) (Some (drop (4 * (8 * c + k + 1)) block)) word took)))
 
-pub lanes_lack : (before mid now : Option (List ℕ)) (xs : List ℕ) (place k : ℕ) (why : SnapFault) → length xs ≡ 16
-    → k < 8
-    → TakesCells before mid (take (2 * k) xs) → EndsWord mid now (place + 4 * k) why → LacksWords before now place 8 why
-lanes_lack before mid now xs place k why long within were lack =
-    let n = length-take-le (2 * k) xs (omega (arith, long, within)) in
-    let count : length (cell_words (take (2 * k) xs)) ≡ k =
-    let c = count_words (take (2 * k) xs) (omega (arith, n)) in omega (arith, n, c) in
-    lacks_behind before mid now (cell_words (take (2 * k) xs)) place (place + 4 * k) 8 why were.bytes
-    (omega (arith, count, within)) (omega (arith, count)) lack
+pub lanes_all : (block xs : List ℕ) (c k : ℕ) → length xs ≡ 16 → k ≡ 8
+    → TakesCells (Some (drop (32 * c) block)) (Some (drop (4 * (8 * c + k)) block)) (take (2 * k) xs)
+    → TakesCells (Some (drop (32 * c) block)) (Some (drop (32 * (c + 1)) block)) xs
+lanes_all block xs c k long all takes =
+    let at : 4 * (8 * c + k) ≡ 32 * (c + 1) = omega (arith, all) in
+    let e : take (2 * k) xs ≡ xs = take_all (2 * k) xs (omega (arith, long, all)) in
+    rw (at, e) at takes
 
 pub all_taken : (before now : Option (List ℕ)) (xs : List ℕ) (k : ℕ) → k ≡ length xs → TakesCells before now (take k xs)
     → TakesCells before now xs
@@ -117,14 +132,49 @@ chunk_taken before mid now old new lanes c long set were took =
     rw (e, chunk_on old new lanes (16 * c) long set)
     (cells_on before mid now (take (16 * c) old) lanes even were took)
 
-pub chunk_lacks : (before mid now : Option (List ℕ)) (m : List ℕ) (place c chunks : ℕ) (why : SnapFault)
-    → 16 * chunks ≡ length m → c < chunks → TakesCells before mid (take (16 * c) m)
-    → LacksWords mid now (place + 32 * c) 8 why → LacksWords before now place (8 * chunks) why
-chunk_lacks before mid now m place c chunks why all within were lack =
-    let n = length-take-le (16 * c) m (omega (arith, all, within)) in
-    let count : length (cell_words (take (16 * c) m)) ≡ 8 * c =
-    let w = count_words (take (16 * c) m) (omega (arith, n)) in omega (arith, n, w) in
-    lacks_later before mid now (cell_words (take (16 * c) m)) place (place + 32 * c) 8 (8 * chunks) why were.bytes
+-- a block was taken next
+pub block_next : (before mid now : Option (List ℕ)) (cells block : List ℕ) → TakesCells before mid cells
+    → mid ≡ prepended block now → TakesCells before (prepended block now) cells
+block_next before mid now cells block were took = subst (λ left. TakesCells before left cells) took were
+
+-- a row begins
+pub row_begins : (before now : Option (List ℕ)) (m block : List ℕ) (y : ℕ)
+    → TakesCells before (prepended block now) (take (1024 * y) m)
+    → TakesCells before (prepended (drop (32 * 0) block) now) (take (16 * (64 * y + 0)) m)
+row_begins before now m block y were =
+    let e : 1024 * y ≡ 16 * (64 * y + 0) = omega arith in
+    subst (λ n. TakesCells before (prepended block now) (take n m)) e were
+
+-- and it ends where nothing is left of the block
+pub row_ends : (before now : Option (List ℕ)) (m block : List ℕ) (y c : ℕ) → length block ≡ 2048 → c ≡ 64
+    → TakesCells before (prepended (drop (32 * c) block) now) (take (16 * (64 * y + c)) m)
+    → TakesCells before now (take (1024 * (y + 1)) m)
+row_ends before now m block y c long all takes =
+    let e : 16 * (64 * y + c) ≡ 1024 * (y + 1) = omega (arith, all) in
+    let none = none_behind block (32 * c) now (omega (arith, long, all)) in
+    rw (none, e) at takes
+
+-- sixteen cells more of a row
+pub row_on : (before now : Option (List ℕ)) (old new lanes block : List ℕ) (y c : ℕ) → length lanes ≡ 16
+    → IsSet old (16 * (64 * y + c)) lanes new
+    → TakesCells before (prepended (drop (32 * c) block) now) (take (16 * (64 * y + c)) old)
+    → TakesCells (Some (drop (32 * c) block)) (Some (drop (32 * (c + 1)) block)) lanes
+    → TakesCells before (prepended (drop (32 * (c + 1)) block) now) (take (16 * (64 * y + (c + 1))) new)
+row_on before now old new lanes block y c long set were took =
+    let e : 64 * y + c + 1 ≡ 64 * y + (c + 1) = omega arith in
+    subst (λ n. TakesCells before (prepended (drop (32 * (c + 1)) block) now) (take (16 * n) new)) e
+    (chunk_taken before (prepended (drop (32 * c) block) now) (prepended (drop (32 * (c + 1)) block) now) old new lanes
+    (64 * y + c) long set were (cells_behind (drop (32 * c) block) (drop (32 * (c + 1)) block) lanes now took))
+
+-- the block of a row breaks off
+pub row_lacks : (before mid now : Option (List ℕ)) (m : List ℕ) (place y rows : ℕ) (why : SnapFault)
+    → length m ≡ 1024 * rows → y < rows → TakesCells before mid (take (1024 * y) m)
+    → LacksWords mid now (place + 2048 * y) 512 why → LacksWords before now place (512 * rows) why
+row_lacks before mid now m place y rows why all within were lack =
+    let n = length-take-le (1024 * y) m (omega (arith, all, within)) in
+    let count : length (cell_words (take (1024 * y) m)) ≡ 512 * y =
+    let w = count_words (take (1024 * y) m) (omega (arith, n)) in omega (arith, n, w) in
+    lacks_later before mid now (cell_words (take (1024 * y) m)) place (place + 2048 * y) 512 (512 * rows) why were.bytes
     (omega (arith, count, within)) (omega (arith, count)) lack
 
 pub others_on : (first mid now : RigState) → ◌≡◌ {A = RigState} mid (with_cells first mid.gpu.parts.m)
@@ -135,7 +185,7 @@ others_on first mid now were is =
 
 -- all cells were taken, but not all of main memory
 pub ram_lacks : (before mid now : Option (List ℕ)) (m : List ℕ) (place at height : ℕ) (why : SnapFault)
-    → length m ≡ 1024 * height → at ≡ place + 32 * (64 * height) → TakesCells before mid m
+    → length m ≡ 1024 * height → at ≡ place + 2048 * height → TakesCells before mid m
     → LacksWords mid now at 524288 why → LacksWords before now place (512 * height + 524288) why
 ram_lacks before mid now m place at height why long is were lack =
     let count = count_words m (omega (arith, long)) in

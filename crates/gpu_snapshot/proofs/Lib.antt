@@ -1,4 +1,5 @@
 pub mod Bytes
+pub mod Blocks
 pub mod CellWords
 pub mod RamWords
 pub mod Profiles

@@ -1,5 +1,5 @@
 -- The memories of a state, as they are taken from a source.
-use Rattle.std.specs.Prelude.{◌≡◌, ◌≤◌, ◌<◌, ℕ, ◌+◌, ◌*◌, List, ◌++◌, Option, Result, IfErr, length}
+use Rattle.std.specs.Prelude.{◌≡◌, ◌≤◌, ◌<◌, ℕ, ◌+◌, ◌*◌, List, ◌++◌, Option, Result, IfErr, length, take}
 use Rattle.dev_io.specs.Device.{prepended, IsAtEnd, Rose}
 use Rattle.px_num.specs.Height.{IsHeight}
 use Rattle.event_play.specs.RigState.{RigState}
@@ -21,6 +21,17 @@ pub record TakesWords (before now : Option (List ℕ)) (words : List ℕ) : Type
   pub bytes : before ≡ prepended (bytes_of words) now
   pub each : AreWords words
 
+-- whatever took the rows before this one, and has the bytes of the block next, took this row too
+abbrev pub HasRow : (block : List ℕ) → (y : ℕ) → (m now : List ℕ) → Type 0
+HasRow block y m now = (before left : Option (List ℕ)) → TakesCells before (prepended block left) (take (1024 * y) m)
+    → TakesCells before left (take (1024 * (y + 1)) now)
+
+-- the same of 512 words
+abbrev pub HasBlock : (block : List ℕ) → (b : ℕ) → (ram now : List ℕ) → Type 0
+HasBlock block b ram now = (before left : Option (List ℕ))
+    → TakesWords before (prepended block left) (take (512 * b) ram)
+    → TakesWords before left (take (512 * (b + 1)) now)
+
 -- both memories were taken, and no byte more
 pub record TakesMemories (before now : Option (List ℕ)) (m ram : List ℕ) : Type 0 where
   pub bytes : before ≡ prepended (bytes_of (cell_words m) ++ bytes_of ram) now
@@ -33,11 +44,11 @@ pub record HasMemories (rig : RigState) : Type 0 where
   pub rows : length rig.gpu.parts.m ≡ 1024 * rig.gpu.parts.regs.height
   pub words : length rig.ram ≡ 524288
 
--- video memory is so many chunks of sixteen cells, in whole rows
-pub record HasChunks (rig : RigState) (chunks : ℕ) : Type 0 where
-  pub all : 16 * chunks ≡ length rig.gpu.parts.m
-  pub rows : length rig.gpu.parts.m ≡ 1024 * rig.gpu.parts.regs.height
-  pub most : chunks ≤ 65536
+-- video memory has this number of rows, which is the height
+pub record HasRows (rig : RigState) (rows : ℕ) : Type 0 where
+  pub all : length rig.gpu.parts.m ≡ 1024 * rows
+  pub height : rig.gpu.parts.regs.height ≡ rows
+  pub most : rows ≤ 1024
 
 -- why a word breaks off at a place
 abbrev pub SaysShort : SnapFault → (place : ℕ) → (now : Option (List ℕ)) → Type 0

@@ -1,78 +1,85 @@
-// Cells of video memory, read sixteen at a time.
-ghost use Rattle.std.specs.Prelude.{◌≡◌, ◌≤◌, ◌<◌, ◌+◌, ◌*◌, ◌/◌, ◌%◌, ◌^◌, length, IfOk, IfErr, OnOk};
-ghost use Rattle.dev_io.specs.Device.{Rose};
-ghost use Rattle.snapshot_words.specs.Taking.{IsReadFault};
+// Cells of video memory, sixteen at a time.
+ghost use Rattle.std.specs.Prelude.{◌≡◌, ◌≤◌, ◌<◌, ◌+◌, ◌*◌, ◌/◌, ◌%◌, ◌^◌, Some, drop, length, IfErr, OnOk};
 ghost use Rattle.gpu_core.specs.Kept.{IsSet};
-ghost use Rattle.gpu_snapshot.specs.Memories.{HasCause, HasChunks, LacksWords, TakesCells, with_cells};
+ghost use Rattle.gpu_snapshot.specs.Memories.{HasCause, HasRow, HasRows, LacksWords, TakesCells, with_cells};
 
+use crate::block::{take_block, word_in};
 use dev_io::Source;
 use event_play::Rig;
-use snapshot_words::{SnapFault, take_word};
+use snapshot_words::SnapFault;
 use std::simd::prelude::*;
 use std::sync::ledger::Ledger;
 use vram_store::Steps;
 
-/// The cell in the low half of a word.
+/// Returns the cell in the low half of a word.
 fn low_half(word: u32) -> u16
     ensures { result ≡ word % 2 ^ 16 }
 {
     (word & 0xffff) as u16
 }
 
-/// The cell in the high half of a word.
+/// Returns the cell in the high half of a word.
 fn high_half(word: u32) -> u16
     ensures { result ≡ word / 2 ^ 16 }
 {
     (word >> 16) as u16
 }
 
-/// Sixteen cells, two in each of eight words, the first in the low half.
-fn read_lanes<S: Source>(source: &mut S, place: u32) -> Result<[u16; 16], SnapFault>
-    requires place { place < 2 ^ 30 }
-    ensures takes { IfOk result (λ lanes. TakesCells (S.left source.old) (S.left source.new) lanes) }
-    ensures fault { IfErr result (λ fault. LacksWords (S.left source.old) (S.left source.new) place 8 fault) }
-    ensures cause { IfErr result (λ fault. IsReadFault fault → Rose (S.faults source.old) (S.faults source.new)) }
-    ensures faults { S.faults source.old ≤ S.faults source.new }
+/// Returns sixteen cells of a block, from word `8 * c` on: two in each word, the first in the low half.
+fn lanes_in(block: &[u8; 2048], c: usize) -> [u16; 16]
+    requires { c < 64 }
+    ensures { TakesCells (Some (drop (32 * c) block.now)) (Some (drop (32 * (c + 1)) block.now)) result }
 {
     let mut lanes = [0u16; 16];
-    'words: for k in 0..8usize {
-        let word = match take_word(source, place + 4 * k as u32) {
-            Ok(word) => word,
-            Err(fault) => return Err(fault),
-        };
+    'words: for k in 0..8 {
+        let word = word_in(block, 8 * c + k);
         lanes[2 * k] = low_half(word);
         lanes[2 * k + 1] = high_half(word);
     }
-    Ok(lanes)
+    lanes
 }
 
-/// All cells of video memory, in so many chunks of sixteen. Their number is a variable here, so that no proof computes
-/// the list.
+/// Reads the cells of `rows` rows, which are all of video memory. The number of rows is a variable here, so that no
+/// proof computes the list.
 pub(crate) fn read_cells<S: Source, L: Ledger>(
     source: &mut S,
     place: u32,
     rig: &mut Rig,
-    chunks: u32,
+    rows: u32,
     steps: &mut Steps<L>,
 ) -> Result<(), SnapFault>
-    requires chunks { HasChunks rig.old chunks }
+    requires rows { HasRows rig.old rows }
     requires place { place < 2 ^ 29 }
     ensures takes { OnOk result (TakesCells (S.left source.old) (S.left source.new) rig.new.gpu.parts.m) }
     ensures others { rig.new ≡ with_cells rig.old rig.new.gpu.parts.m }
     ensures long { length rig.new.gpu.parts.m ≡ length rig.old.gpu.parts.m }
     ensures fault { IfErr result (λ fault.
-        LacksWords (S.left source.old) (S.left source.new) place (8 * chunks) fault) }
+        LacksWords (S.left source.old) (S.left source.new) place (512 * rows) fault) }
     ensures cause { HasCause (S.faults source.old) (S.faults source.new) result }
-    ensures cost { steps.new ≤ steps.old + chunks }
+    ensures cost { steps.new ≤ steps.old + 64 * rows }
 {
-    'chunks: for c in 0..chunks {
-        let lanes = match read_lanes(source, place + 32 * c) {
-            Ok(lanes) => lanes,
-            Err(fault) => return Err(fault),
-        };
-        set_chunk(rig, c, lanes, steps);
+    let mut block = [0u8; 2048];
+    'rows: for y in 0..rows {
+        if let Err(fault) = take_block(source, place + 2048 * y, &mut block) {
+            return Err(fault);
+        }
+        set_row(rig, y, &block, steps);
     }
     Ok(())
+}
+
+/// Sets the cells of row `y` to those of a block.
+fn set_row<L: Ledger>(rig: &mut Rig, y: u32, block: &[u8; 2048], steps: &mut Steps<L>)
+    requires row { y < rig.old.gpu.parts.regs.height }
+    requires most { y < 1024 }
+    ensures row { HasRow block.now y rig.old.gpu.parts.m rig.new.gpu.parts.m }
+    ensures others { rig.new ≡ with_cells rig.old rig.new.gpu.parts.m }
+    ensures long { length rig.new.gpu.parts.m ≡ length rig.old.gpu.parts.m }
+    ensures cost { steps.new ≡ steps.old + 64 }
+{
+    'chunks: for c in 0..64 {
+        set_chunk(rig, 64 * y + c, lanes_in(block, c as usize), steps);
+    }
 }
 
 /// Sets the chunk of this number, counted row by row.

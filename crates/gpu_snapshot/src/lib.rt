@@ -2,6 +2,7 @@
 //! passed on from `capture_cut`, and the error of opening from `snapshot_words`.
 #![tactic(auto)]
 
+mod block;
 mod cells;
 mod ending;
 mod head;

@@ -10,8 +10,11 @@ use snapshot_words::SnapFault;
 use std::sync::ledger::Ledger;
 use vram_store::Steps;
 
-/// How many words main memory has.
-const MEMORY_WORDS: u32 = 524_288;
+/// How many blocks of 512 words main memory has.
+const MEMORY_BLOCKS: u32 = 1024;
+
+/// How many bytes a block has, and a row of cells.
+const BLOCK_BYTES: u32 = 2048;
 
 /// Both memories, from a place on, which is then the place behind them.
 pub(crate) fn read_memories<S: Source, L: Ledger>(
@@ -32,14 +35,14 @@ pub(crate) fn read_memories<S: Source, L: Ledger>(
     ensures cost { steps.new ≤ steps.old + 64 * rig.old.gpu.parts.regs.height }
 {
     let start = *place;
-    let chunks = 64 * u32::from(rig.gpu().height());
-    if let Err(fault) = read_cells(source, start, rig, chunks, steps) {
+    let rows = u32::from(rig.gpu().height());
+    if let Err(fault) = read_cells(source, start, rig, rows, steps) {
         return Err(fault);
     }
-    let behind = start + 32 * chunks;
-    if let Err(fault) = read_words(source, behind, rig, MEMORY_WORDS) {
+    let behind = start + BLOCK_BYTES * rows;
+    if let Err(fault) = read_words(source, behind, rig, MEMORY_BLOCKS) {
         return Err(fault);
     }
-    *place = behind + 4 * MEMORY_WORDS;
+    *place = behind + BLOCK_BYTES * MEMORY_BLOCKS;
     Ok(())
 }

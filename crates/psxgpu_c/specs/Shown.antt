@@ -16,13 +16,16 @@ pub record StandsInFront {Value : Type 0} (due before now : List Value) : Type 0
   pub front : take (length due) now ≡ due
   pub behind : drop (length due) now ≡ drop (length due) before
 
--- What was due was put in front, and its length is the answer; or nothing was put there: there is too little room, or
--- memory ran out.
+-- What is due was put in front, and its length is the answer. Or there is too little room, and nothing was put there.
+abbrev pub PutsIfRoom : (due before now : List ℕ) → Result ℕ Refusal → Type 0
+PutsIfRoom due before now (Ok count) = StandsInFront due before now × (count ≡ length due)
+PutsIfRoom due before now (Err refusal.NoRoom) = (now ≡ before) × (length before < length due)
+PutsIfRoom due before now (Err other) = ⊥
+
+-- The same; or memory ran out, and nothing was put there.
 abbrev pub Puts : (due before now : List ℕ) → Result ℕ Refusal → Type 0
-Puts due before now (Ok count) = StandsInFront due before now × (count ≡ length due)
-Puts due before now (Err refusal.NoRoom) = (now ≡ before) × (length before < length due)
 Puts due before now (Err refusal.NoMemory) = now ≡ before
-Puts due before now (Err other) = ⊥
+Puts due before now answer = PutsIfRoom due before now answer
 
 -- the same where there may be no picture
 abbrev pub PutsDue : (due : Option (List ℕ)) → (before now : List ℕ) → Result ℕ Refusal → Type 0
@@ -34,6 +37,12 @@ abbrev pub Views : (held : Option RigState) → (RigState → Option (List ℕ))
     → Result ℕ Refusal → Type 0
 Views None due before now answer = (answer ≡ Err refusal.Closed) × (now ≡ before)
 Views (Some rig) due before now answer = PutsDue (due rig) before now answer
+
+-- the same of a handle whose registers are put: that needs no memory
+abbrev pub SeesWords : (held : Option RigState) → (RigState → List ℕ) → (before now : List ℕ)
+    → Result ℕ Refusal → Type 0
+SeesWords None due before now answer = (answer ≡ Err refusal.Closed) × (now ≡ before)
+SeesWords (Some rig) due before now answer = PutsIfRoom (due rig) before now answer
 
 -- how many values an answer says were put
 abbrev pub count_of : Result ℕ Refusal → ℕ

@@ -1,7 +1,7 @@
 // Values that are put in front of a caller's.
 ghost use Rattle.psxgpu_c.specs.Codes.{code_of};
 ghost use Rattle.std.specs.Prelude.{◌≡◌, ◌≤◌, length};
-ghost use Rattle.psxgpu_c.specs.Shown.{Puts, StandsInFront, count_of};
+ghost use Rattle.psxgpu_c.specs.Shown.{Puts, PutsIfRoom, StandsInFront, count_of};
 
 use crate::ended::code_for;
 use crate::refusal::Refusal;
@@ -27,7 +27,7 @@ pub(crate) fn put_all(out: &mut [u8], bytes: &[u8])
 
 /// Puts words in front, if there is room, and answers how many they are.
 pub(crate) fn put_words(out: &mut [u32], words: &[u32]) -> Result<usize, Refusal>
-    ensures { Puts words.now out.old out.new result }
+    ensures { PutsIfRoom words.now out.old out.new result }
 {
     let n = words.len();
     if n > out.len() {

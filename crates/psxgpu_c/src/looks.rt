@@ -2,7 +2,7 @@
 ghost use Rattle.std.specs.Prelude.{◌≡◌, ◌<◌, ◌^◌, IsTrue, Some};
 ghost use Rattle.gp1_status.specs.Words.{words_of};
 ghost use Rattle.picture_out.specs.Dump.{dump};
-ghost use Rattle.psxgpu_c.specs.Shown.{Answers, SeesCell, Tells, Views, cell_due, has_cell};
+ghost use Rattle.psxgpu_c.specs.Shown.{Answers, SeesCell, SeesWords, Tells, Views, cell_due, has_cell};
 
 use crate::ended::code_for;
 use crate::front::{code_of, put_words, tell};
@@ -90,7 +90,7 @@ fn has_cell(rig: &Rig, x: u32, y: u32) -> bool
 /// Puts the words of the registers in front of the caller's words.
 #[unsafe(no_mangle)]
 pub extern "C" fn psxgpu_registers(alloc: Global, gpu: &mut Psxgpu, words: &mut [u32]) -> u32
-    ensures words { Answers (Views gpu.old.held.value (λ rig. Some (words_of rig.gpu.parts.regs)) words.old words.new)
+    ensures words { Answers (SeesWords gpu.old.held.value (λ rig. words_of rig.gpu.parts.regs) words.old words.new)
         result }
     ensures same { gpu.new.held.value ≡ gpu.old.held.value }
 {
@@ -98,7 +98,7 @@ pub extern "C" fn psxgpu_registers(alloc: Global, gpu: &mut Psxgpu, words: &mut 
 }
 
 fn registers_of(alloc: Global, gpu: &mut Psxgpu, words: &mut [u32]) -> Result<usize, Refusal>
-    ensures words { Views gpu.old.held.value (λ rig. Some (words_of rig.gpu.parts.regs)) words.old words.new result }
+    ensures words { SeesWords gpu.old.held.value (λ rig. words_of rig.gpu.parts.regs) words.old words.new result }
     ensures same { gpu.new.held.value ≡ gpu.old.held.value }
 {
     match gpu.take(alloc) {

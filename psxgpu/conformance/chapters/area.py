@@ -30,13 +30,13 @@ def cuts_lines(t: Draft) -> None:
     t.art(4, 5, 'xxx x.x x.x xxx', x=CELL)
 
 
-@CHAPTER.test('An area whose left lies right of its right draws nothing.')
+@CHAPTER.test('An area whose left edge is right of its right edge draws nothing.')
 def empty_in_x(t: Draft) -> None:
     t.open(7, 0, 6, 511)
     t.packet(rectangle(RED, 0, 0, 16, 16), line([(0, 0), (9, 9)], RED))
 
 
-@CHAPTER.test('An area whose top lies below its bottom draws nothing.')
+@CHAPTER.test('An area whose upper edge is below its lower edge draws nothing.')
 def empty_in_y(t: Draft) -> None:
     t.open(0, 7, 1023, 6)
     t.packet(rectangle(RED, 0, 0, 16, 16), line([(0, 0), (9, 9)], RED))
@@ -92,7 +92,7 @@ def offset_leaves_the_area(t: Draft) -> None:
     t.box(4, 4, 4, 4, CELL)
 
 
-@CHAPTER.test('The sum of a rectangle\'s corner and the offset is not wrapped: -1024 and -1020 lie far outside.', OWN)
+@CHAPTER.test('The sum of a rectangle\'s corner and the offset is not wrapped: -1024 and -1020 are far outside.', OWN)
 def sum_not_wrapped_below(t: Draft) -> None:
     t.open()
     t.before(drawing_offset(-1024, 0))

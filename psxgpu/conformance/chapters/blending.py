@@ -73,6 +73,32 @@ def only_texels_with_bit_15(t: Draft) -> None:
     t.row(0, 0, [cell(2, 2, 2), cell(6, 6, 6, 1)])
 
 
+def textured(t: Draft, back: int, texel: int, results: list[int]) -> None:
+    """A textured rectangle and, below it, a textured polygon for each mode, on cells of one colour."""
+    t.open()
+    t.given(512, 0, 2, [texel] * 2)
+    for mode, result in enumerate(results):
+        page, x = texture_page(512, 0, 2, mode), 4 * mode
+        t.given(x, 0, 2, [back] * 4)
+        t.before(draw_mode(page))
+        t.packet(0x67000000, x, 0, 1 << 16 | 2)         # with its size as a word: not every emulator knows 6Fh
+        t.packet(polygon([(x, 1), (x + 2, 1), (x, 2), (x + 2, 2)], 0, texture=[(0, 0)] * 4, page=page, semi=True,
+                         raw=True))
+        t.box(x, 0, 2, 2, result)
+
+
+@CHAPTER.test('Texels are blended by each of the four modes, in rectangles and in polygons.')
+def textured_modes(t: Draft) -> None:
+    textured(t, cell(8, 12, 20), cell(16, 8, 4, 1),
+             [cell(12, 10, 12, 1), cell(24, 20, 24, 1), cell(0, 4, 16, 1), cell(12, 14, 21, 1)])
+
+
+@CHAPTER.test('Texels are blended with the same rounding: the half of the sum, and F div 4.', OWN)
+def textured_rounding(t: Draft) -> None:
+    textured(t, cell(7, 12, 31), cell(16, 7, 31, 1),
+             [cell(11, 9, 31, 1), cell(23, 19, 31, 1), cell(0, 5, 0, 1), cell(11, 13, 31, 1)])
+
+
 @CHAPTER.test('The texel 8000h is black and drawn: blended where the packet is semi-transparent.')
 def texel_8000(t: Draft) -> None:
     t.open()

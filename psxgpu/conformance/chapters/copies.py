@@ -16,7 +16,7 @@ def moves_a_box(t: Draft) -> None:
     t.row(40, 51, SIX[3:])
 
 
-@CHAPTER.test('A source over the right edge is read on from X 0 of the same row.')
+@CHAPTER.test('A source over the right edge continues at X 0 of the same row.')
 def source_wraps_right(t: Draft) -> None:
     t.given(1022, 4, 2, [0x1111, 0x2222])
     t.given(0, 4, 2, [0x3333, 0x4444])
@@ -24,7 +24,7 @@ def source_wraps_right(t: Draft) -> None:
     t.row(100, 9, [0x1111, 0x2222, 0x3333, 0x4444])
 
 
-@CHAPTER.test('A target over the right edge is written on from X 0 of the same row.')
+@CHAPTER.test('A target over the right edge continues at X 0 of the same row.')
 def target_wraps_right(t: Draft) -> None:
     t.given(100, 4, 4, SIX[:4])
     t.packet(copy(100, 4, 1022, 9, 4, 1))
@@ -40,7 +40,7 @@ def wraps_bottom(t: Draft) -> None:
     t.cell(9, 0, 0x2222)
 
 
-@CHAPTER.test('A width of 0 stands for 1024.')
+@CHAPTER.test('A width of 0 means 1024.')
 def width_0_is_1024(t: Draft) -> None:
     t.given(0, 4, 2, [0x1111, 0x2222])
     t.given(1022, 4, 2, [0x3333, 0x4444])
@@ -49,7 +49,7 @@ def width_0_is_1024(t: Draft) -> None:
     t.row(1022, 9, [0x3333, 0x4444])
 
 
-@CHAPTER.test('A height of 0 stands for 512.')
+@CHAPTER.test('A height of 0 means 512.')
 def height_0_is_512(t: Draft) -> None:
     t.given(4, 0, 1, [0x1111])
     t.given(4, 511, 1, [0x2222])
@@ -87,6 +87,13 @@ def overlap_down(t: Draft) -> None:
     t.packet(copy(10, 4, 10, 5, 2, 2))
     for y in (4, 5, 6):
         t.row(10, y, SIX[:2])
+
+
+@CHAPTER.test('X has ten bits, Y nine, the width ten and the height nine: what is above them is dropped.')
+def bits_above(t: Draft) -> None:
+    t.given(10, 4, 2, SIX[:2])
+    t.packet(0x80000000, 0xFE04FC0A, 0xFE09FC14, 0xFE01FC02)
+    t.row(20, 9, SIX[:2])
 
 
 @CHAPTER.test('A copy is not cut by the drawing area, nor moved by the drawing offset.')

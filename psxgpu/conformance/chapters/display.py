@@ -53,7 +53,7 @@ def fifteen_bits(t: Draft) -> None:
     t.picture = Picture(4, 2, b''.join(map(wide, cells)))
 
 
-@CHAPTER.test('The picture goes on at X 0 over the right edge, and at row 0 over the bottom.', OWN, FORMULA)
+@CHAPTER.test('The picture continues at X 0 over the right edge, and at row 0 over the bottom.', OWN, FORMULA)
 def wraps(t: Draft) -> None:
     t.given(1022, 511, 2, [0x0001, 0x0002])
     t.given(0, 511, 2, [0x0003, 0x0004])
@@ -87,9 +87,9 @@ def nothing(name: str, says: str, x1: int, x2: int, y1: int, y2: int) -> None:
 
 
 nothing('no-height', 'A vertical range whose end is its beginning shows nothing.', 0x200, 0x228, 0x20, 0x20)
-nothing('no-height-backward', 'A vertical range whose end lies before its beginning shows nothing.', 0x200, 0x228, 0x20,
+nothing('no-height-backward', 'A vertical range whose end is before its beginning shows nothing.', 0x200, 0x228, 0x20,
         0x1F)
-nothing('no-width', 'A horizontal range whose end lies before its beginning shows nothing.', 0x300, 0x2FF, 0x10, 0x12)
+nothing('no-width', 'A horizontal range whose end is before its beginning shows nothing.', 0x300, 0x2FF, 0x10, 0x12)
 nothing('no-width-equal', 'A horizontal range whose end is its beginning shows nothing.', 0x200, 0x200, 0x10, 0x12)
 nothing('no-width-one-pixel', 'A width of one pixel is rounded to 0.', 0x200, 0x20A, 0x10, 0x12)
 
@@ -116,7 +116,7 @@ def mode_bits(t: Draft) -> None:
     t.picture = Picture(8, 3, bytes(3 * 8 * 3))
 
 
-@CHAPTER.test('24 bits: the cells of a row go on at X 0 over the right edge.', OWN, FORMULA)
+@CHAPTER.test('24 bits: the cells of a row continue at X 0 over the right edge.', OWN, FORMULA)
 def twenty_four_bits_wraps(t: Draft) -> None:
     row = bytes(range(1, 13))
     cells = [row[at] | row[at + 1] << 8 for at in range(0, 12, 2)]
@@ -124,3 +124,15 @@ def twenty_four_bits_wraps(t: Draft) -> None:
     t.given(0, 200, 4, cells[2:])
     show(t, 1022, 200, 40, 1, 0x10)
     t.picture = Picture(4, 1, row)
+
+
+@CHAPTER.test('At first 256 by 240 pixels are shown, from the cell (0, 0) on.', OWN)
+def at_first(t: Draft) -> None:
+    t.picture = Picture(256, 240, bytes(3 * 256 * 240))
+
+
+@CHAPTER.test('A doubled picture has twice as many rows of video memory: none is shown twice.', OWN, FORMULA)
+def doubled_rows(t: Draft) -> None:
+    t.given(100, 200, 4, list(range(1, 17)))
+    show(t, 100, 200, 40, 2, 0x24)
+    t.picture = Picture(4, 4, b''.join(map(wide, range(1, 17))))

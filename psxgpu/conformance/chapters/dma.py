@@ -185,3 +185,22 @@ def one_block_backward_into_main_memory(t: Draft) -> None:
     t.packet(load(8, 8, 4, 1, [0] * 4)[:3])
     t.capture.dma(2, 0x1000, 1 << 16 | 2, BLOCKS_IN)
     t.row(8, 8, [0x3333, 0x4444, 0x1111, 0x2222])
+
+
+@CHAPTER.test('Bits 21 and 22 of an address in a list mean nothing.', OWN)
+def mirrors_of_a_list(t: Draft) -> None:
+    t.open()
+    t.capture.ram(0x1000, 2 << 24 | 0x602000, dot(0))
+    t.capture.ram(0x2000, 2 << 24 | 0xFFFFFF, dot(1))
+    t.capture.dma(2, 0x401000, 0, LIST)
+    t.row(0, 0, [CELL] * 2)
+
+
+@CHAPTER.test('Backward below address 0 the words continue at 1FFFFCh.', OWN)
+def backward_below_0(t: Draft) -> None:
+    t.open()
+    words = dot(0) + dot(1)
+    t.capture.ram(0x0, [words[1], words[0]])
+    t.capture.ram(0x1FFFF8, [words[3], words[2]])
+    t.capture.dma(2, 0x4, 1 << 16 | 4, BLOCKS_IN | 2)
+    t.row(0, 0, [CELL] * 2)

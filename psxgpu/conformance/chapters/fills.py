@@ -32,9 +32,9 @@ fills('corner-bits', 'X has ten bits and Y nine: what is above them is dropped.'
       (0x30, 5, 16, 2))
 fills('size-bits', 'The width has ten bits and the height nine: what is above them is dropped.',
       fill_words(0x30, 5, 0x0410, 0x0202), (0x30, 5, 16, 2))
-fills('wraps-right', 'A fill over the right edge goes on at X 0 of the same row.', fill_words(1008, 9, 32, 2),
+fills('wraps-right', 'A fill over the right edge continues at X 0 of the same row.', fill_words(1008, 9, 32, 2),
       (1008, 9, 16, 2), (0, 9, 16, 2))
-fills('wraps-bottom', 'A fill over the bottom goes on at row 0.', fill_words(64, 511, 16, 2), (64, 511, 16, 1),
+fills('wraps-bottom', 'A fill over the bottom continues at row 0.', fill_words(64, 511, 16, 2), (64, 511, 16, 1),
       (64, 0, 16, 1))
 fills('size-0', 'A fill of width 0 or height 0 fills nothing.', fill_words(16, 16, 0, 4) + fill_words(16, 16, 16, 0),
       decides=OWN)

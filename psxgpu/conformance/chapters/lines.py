@@ -29,7 +29,7 @@ draws('rising-diagonal', 'A rising diagonal has one cell a row.', [(1, 4), (4, 1
 draws('backward', 'A line from right to left has both its ends.', [(5, 1), (1, 1)], '...... .xxxxx')
 draws('point', 'A line with both ends in one place is a point.', [(3, 2), (3, 2)], '. . ...x')
 draws('thirds', 'A slope of a third goes to the nearest row.', [(0, 0), (6, 2)], 'xx ..xxx .....xx', OWN)
-draws('half-falling', 'A half goes upward: the second cell of a slope of a half lies on the lower row.',
+draws('half-falling', 'A half goes to the greater Y: the second cell of a slope of a half is on the lower row.',
       [(0, 0), (4, 2)], 'x .xx ...xx', OWN)
 draws('half-backward', 'From the other end the same cells are drawn, where Y falls as X does.',
       [(4, 2), (0, 0)], 'x .xx ...xx', OWN)
@@ -162,3 +162,11 @@ def bit_26(t: Draft) -> None:
     t.open()
     t.packet(0x44000000 | RED, 0, 3)
     t.row(0, 0, [CELL] * 4)
+
+
+@CHAPTER.test('X and Y of an end have eleven bits: what is above them is dropped.')
+def vertex_bits(t: Draft) -> None:
+    t.open()
+    t.packet(0x40000000 | RED, 0xF801F802, 0xF801F806)
+    t.row(2, 1, [CELL] * 4)
+    t.ignore(6, 1, 1)           # whether the last point is drawn is another test

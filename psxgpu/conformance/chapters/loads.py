@@ -34,28 +34,28 @@ def odd_count(t: Draft) -> None:
     t.cell(9, 0, 0x001F)
 
 
-@CHAPTER.test('A load over the right edge goes on at X 0 of the same row.', worked=FORMULA)
+@CHAPTER.test('A load over the right edge continues at X 0 of the same row.', worked=FORMULA)
 def wraps_right(t: Draft) -> None:
     t.packet(load(1022, 12, 4, 2, ramp(8)))
     t.row(1022, 12, ramp(8)[:4])
     t.row(1022, 13, ramp(8)[4:])
 
 
-@CHAPTER.test('A load over the bottom goes on at row 0.', worked=FORMULA)
+@CHAPTER.test('A load over the bottom continues at row 0.', worked=FORMULA)
 def wraps_bottom(t: Draft) -> None:
     t.packet(load(20, 510, 2, 4, ramp(8)))
     for down in range(4):
         t.row(20, (510 + down) % 512, ramp(8)[2 * down:2 * down + 2])
 
 
-@CHAPTER.test('A width of 0 stands for 1024.', worked=FORMULA)
+@CHAPTER.test('A width of 0 means 1024.', worked=FORMULA)
 def width_0_is_1024(t: Draft) -> None:
     cells = ramp(1024)
     t.packet(0xA0000000, 6 << 16, 1 << 16, load(0, 0, 1024, 1, cells)[3:])
     t.row(0, 6, cells)
 
 
-@CHAPTER.test('A height of 0 stands for 512.', worked=FORMULA)
+@CHAPTER.test('A height of 0 means 512.', worked=FORMULA)
 def height_0_is_512(t: Draft) -> None:
     cells = ramp(512)
     t.packet(0xA0000000, 6, 1, load(0, 0, 512, 1, cells)[3:])

@@ -83,3 +83,11 @@ def raw_without_texture(t: Draft) -> None:
     t.packet(0x690000FF, 0, 0x210000FF, 2, 3, 1 << 16 | 2)
     t.cell(0, 0, 0x001F)
     t.cell(2, 0, 0x001F)
+
+
+@CHAPTER.test('A flat textured polygon multiplies by its colour.')
+def flat_polygon(t: Draft) -> None:
+    t.open()
+    t.given(512, 0, 1, [cell(16, 8, 30)])
+    t.packet(polygon([(0, 0), (2, 0), (0, 2), (2, 2)], 0x408040, texture=[(0, 0)] * 4, page=PAGE))
+    t.box(0, 0, 2, 2, cell(8, 8, 15))

@@ -21,7 +21,7 @@ def ordering_table(t: Draft) -> None:
     t.row(0, 0, halves(*words))
 
 
-@CHAPTER.test('A BCR of 0 stands for 10000h entries of a table.')
+@CHAPTER.test('A BCR of 0 means 10000h entries of a table.')
 def ordering_table_of_0(t: Draft) -> None:
     t.capture.dma(6, 0x40000, 0, CLEAR_TABLE)
     t.packet(load(0, 0, 6, 1, [0] * 6)[:3])
@@ -29,7 +29,7 @@ def ordering_table_of_0(t: Draft) -> None:
     t.row(0, 0, halves(0x00000000, 0x00FFFFFF, 0x00000004))
 
 
-@CHAPTER.test('Below address 0 a table goes on at 1FFFFCh.', OWN)
+@CHAPTER.test('Below address 0 a table continues at 1FFFFCh.', OWN)
 def ordering_table_below_0(t: Draft) -> None:
     t.capture.dma(6, 0x4, 4, CLEAR_TABLE)
     t.packet(load(0, 0, 10, 1, [0] * 10)[:3])
@@ -48,3 +48,12 @@ def ordering_table_by_bit_24(t: Draft) -> None:
     t.capture.dma(2, 0x1000, 1 << 16 | 2, BLOCKS_IN)
     t.row(0, 0, halves(0x55555555, 0x55555555))
     t.row(0, 1, halves(0x00FFFFFF, 0x00001000))
+
+
+@CHAPTER.test('For channel 6, too, MADR bits 21 to 31 and the two lowest bits mean nothing.', OWN)
+def ordering_table_bits_of_madr(t: Draft) -> None:
+    t.capture.ram(0x1000, [0x55555555] * 4)
+    t.capture.dma(6, 0x8060100B, 2, CLEAR_TABLE)
+    t.packet(load(0, 0, 8, 1, [0] * 8)[:3])
+    t.capture.dma(2, 0x1000, 1 << 16 | 4, BLOCKS_IN)
+    t.row(0, 0, halves(0x55555555, 0x00FFFFFF, 0x00001004, 0x55555555))

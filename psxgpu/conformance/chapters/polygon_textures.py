@@ -53,3 +53,27 @@ def attributes_of_a_polygon(t: Draft) -> None:
     t.packet(words)
     t.row(8, 8, [0x1234, 0x1234])
     t.cell(8, 9, 0x1234)
+
+
+def mapped_with_palette(t: Draft, depth: int, cells: list[int], indexes: range) -> None:
+    """A row of a polygon, mapped one to one, and the entries that it shows."""
+    t.open()
+    entries = [0x1000 + at for at in range(16)]
+    t.given(0, 480, 16, entries)
+    t.given(512, 0, len(cells), cells)
+    end = len(indexes)
+    t.packet(polygon([(16, 8), (16 + end, 8), (16, 9), (16 + end, 9)], 0, texture=[(0, 0), (end, 0), (0, 0), (end, 0)],
+                     palette=clut(0, 480), page=texture_page(512, 0, depth), raw=True))
+    t.row(16, 8, [entries[index] for index in indexes])
+
+
+@CHAPTER.test('A polygon of 4 bits: a cell has four texels, the lowest four bits being the left one.',
+              section='GPU Render Polygon Commands')
+def polygon_four_bits(t: Draft) -> None:
+    mapped_with_palette(t, 0, [0x3210, 0x7654], range(8))
+
+
+@CHAPTER.test('A polygon of 8 bits: a cell has two texels, the low byte being the left one.',
+              section='GPU Render Polygon Commands')
+def polygon_eight_bits(t: Draft) -> None:
+    mapped_with_palette(t, 1, [0x0A09, 0x0C0B], range(9, 13))

@@ -32,13 +32,21 @@ covers('upper-right-half', 'The cells on a rising left edge are drawn.',
        [(1, 1), (6, 1), (6, 6)], '...... .xxxxx ..xxxx ...xxx ....xx .....x', OWN)
 covers('lower-left-half', 'The cells on a rising right edge are left out.',
        [(1, 1), (6, 6), (1, 6)], '...... ...... .x.... .xx... .xxx.. .xxxx.', OWN)
-covers('steep', 'An edge between whole cells covers those whose corner lies inside.',
+covers('steep', 'An edge between whole cells covers those whose corner is inside.',
        [(1, 0), (4, 9), (1, 9)], '..... .x... .x... .x... .xx.. .xx.. .xx.. .xxx. .xxx.', OWN)
 covers('one-cell', 'A triangle of one cell\'s size draws its upper left cell alone.',
        [(3, 3), (4, 3), (3, 4)], '.... .... .... ...x', OWN)
 covers('no-area', 'Three vertices on a line draw nothing.', [(1, 1), (4, 4), (8, 8)], '.', PSX_SPX)
-covers('negative', 'Vertices left of and above video memory: what lies inside is drawn.',
+covers('negative', 'Vertices left of and above video memory: what is inside is drawn.',
        [(-2, -2), (4, -2), (-2, 4)], 'xx x', OWN)
+
+
+@CHAPTER.test('X and Y of a vertex have eleven bits: what is above them is dropped.')
+def vertex_bits(t: Draft) -> None:
+    t.open()
+    words = polygon([(2, 1), (6, 1), (2, 4), (6, 4)], RED)
+    t.packet(words[0], [word | 0xF800F800 for word in words[1:]])
+    t.box(2, 1, 4, 3, CELL)
 
 
 @CHAPTER.test('The order of the vertices does not matter for which cells are drawn.')

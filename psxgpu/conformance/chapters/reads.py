@@ -15,13 +15,14 @@ def info(name: str, says: str, words: list[int], index: int, expected: int, mask
     CHAPTER.add(name, says, decides, HAND, write)
 
 
-info('window', '2 gives the texture window.', [0xE20ABCDE], 2, 0xABCDE, 0xFFFFF)
-info('top-left', '3 gives the top left of the drawing area.', [0xE3000000 | 0x155 << 10 | 0x2AA], 3, 0x556AA, 0xFFFFF)
-info('bottom-right', '4 gives the bottom right of the drawing area.', [0xE4000000 | 0x0AA << 10 | 0x155], 4, 0x2A955,
+info('window', 'Information 2 is the texture window.', [0xE20ABCDE], 2, 0xABCDE, 0xFFFFF)
+info('top-left', 'Information 3 is the top left of the drawing area.', [0xE3000000 | 0x155 << 10 | 0x2AA], 3, 0x556AA,
      0xFFFFF)
-info('offset', '5 gives the drawing offset.', [0xE52AAAAA], 5, 0x2AAAAA, 0x3FFFFF)
-info('version', '7 gives the version, 2.', [], 7, 2, 0xFFFFFF)
-info('zero', '8 gives 0.', [], 8, 0, 0xFFFFFFFF)
+info('bottom-right', 'Information 4 is the bottom right of the drawing area.', [0xE4000000 | 0x0AA << 10 | 0x155], 4,
+     0x2A955, 0xFFFFF)
+info('offset', 'Information 5 is the drawing offset.', [0xE52AAAAA], 5, 0x2AAAAA, 0x3FFFFF)
+info('version', 'Information 7 is the version, 2.', [], 7, 2, 0xFFFFFF)
+info('zero', 'Information 8 is 0.', [], 8, 0, 0xFFFFFFFF)
 info('upper-bits', 'The upper bits of an information are 0, also after a word of other bits.', [0xE20ABCDE], 2,
      0x000ABCDE, 0xFFFFFFFF, OWN)
 info('window-of-20-bits', 'The texture window has 20 bits.', [0xE2FFFFFF], 2, 0x000FFFFF, 0xFFFFFFFF)
@@ -29,7 +30,7 @@ info('corner-of-19-bits', 'A corner of the drawing area has 19 bits.', [0xE4FFFF
 info('offset-of-22-bits', 'The drawing offset has 22 bits.', [0xE5FFFFFF], 5, 0x003FFFFF, 0xFFFFFFFF)
 
 
-@CHAPTER.test('0, 1, 6 and 9 leave what the last information gave.', OWN)
+@CHAPTER.test('0, 1, 6 and 9 leave what the last information was.', OWN)
 def others_leave_it(t: Draft) -> None:
     t.gp1(information(7))
     for index in (0, 1, 6, 9, 15):
@@ -51,12 +52,12 @@ def read_again(t: Draft) -> None:
     t.read(0x12345, 0x12345)
 
 
-@CHAPTER.test('Without a store and without information a read gives 0.', OWN)
+@CHAPTER.test('Without a store and without information a read returns 0.', OWN)
 def at_first(t: Draft) -> None:
     t.read(0)
 
 
-@CHAPTER.test('A read after a store gives the store\'s last word again.', OWN)
+@CHAPTER.test('A read after a store returns the store\'s last word again.', OWN)
 def after_a_store(t: Draft) -> None:
     t.given(0, 0, 2, [0x1111, 0x2222])
     t.packet(store(0, 0, 2, 1))
@@ -83,7 +84,7 @@ def index_of_four_bits(t: Draft) -> None:
     t.read(2)
 
 
-@CHAPTER.test('20h to 3Fh leave what the last information gave.', OWN)
+@CHAPTER.test('20h to 3Fh leave what the last information was.', OWN)
 def opcodes_20_to_3f(t: Draft) -> None:
     t.gp1(information(7))
     for opcode in range(0x20, 0x40):

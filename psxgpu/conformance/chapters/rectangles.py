@@ -31,7 +31,7 @@ sized('size-bits', 'The width has ten bits and the height nine.',
       [0x60000000 | RED, 5 << 16 | 3, 0x0202 << 16 | 0x0403], (3, 5, 3, 2), OWN)
 sized('wider-than-the-size-rule', 'The size rule of polygons and lines does not hold for rectangles.',
       rectangle(RED, 0, 5, 1023, 1), (0, 5, 1023, 1))
-sized('negative-corner', 'X and Y have eleven bits with a sign: what lies left and above is cut.',
+sized('negative-corner', 'X and Y have eleven bits with a sign: what is left and above is cut.',
       [0x60000000 | RED, 0x7FE << 16 | 0x7FD, 4 << 16 | 5], (0, 0, 2, 2))
 sized('corner-bits', 'The bits of a corner above the eleventh are dropped.',
       [0x68000000 | RED, 0xF805 << 16 | 0xF803], (3, 5, 1, 1))
@@ -54,6 +54,23 @@ def textured(t: Draft, u: int, width: int, **mode: bool) -> None:
     t.packet(rectangle(0, 8, 8, width, 1, texture=(u, 0), raw=True))
 
 
+def sized_texture(name: str, opcode: int, side: int) -> None:
+    """A textured rectangle of a size code: its cells are all different. The colour is 80h, which leaves the texels."""
+    def write(t: Draft) -> None:
+        t.open()
+        texels = [0x1000 + at for at in range(side * side)]
+        t.given(512, 0, side, texels)
+        t.before(draw_mode(PAGE))
+        t.packet(opcode << 24 | 0x808080, 8 << 16 | 8, 0)
+        for down in range(side):
+            t.row(8, 8 + down, texels[side * down:side * down + side])
+    CHAPTER.add(name, '%02Xh draws %d by %d texels.' % (opcode, side, side), PSX_SPX, HAND, write)
+
+
+sized_texture('textured-8', 0x74, 8)
+sized_texture('textured-16', 0x7C, 16)
+
+
 @CHAPTER.test('U and V go up by one a cell from the top left corner.')
 def texture_one_to_one(t: Draft) -> None:
     t.open()
@@ -64,7 +81,7 @@ def texture_one_to_one(t: Draft) -> None:
     t.row(8, 9, TEXELS[5:8])
 
 
-@CHAPTER.test('U goes on from 255 to 0.')
+@CHAPTER.test('U continues from 255 to 0.')
 def u_wraps(t: Draft) -> None:
     t.open()
     t.given(512, 0, 2, TEXELS[:2])
@@ -74,7 +91,7 @@ def u_wraps(t: Draft) -> None:
     t.row(8, 8, [TEXELS[2], TEXELS[3], TEXELS[0], TEXELS[1]])
 
 
-@CHAPTER.test('V goes on from 255 to 0.')
+@CHAPTER.test('V continues from 255 to 0.')
 def v_wraps(t: Draft) -> None:
     t.open()
     t.given(512, 0, 1, TEXELS[:2])
@@ -108,7 +125,7 @@ def flip_y(t: Draft) -> None:
         t.cell(8, 8 + down, TEXELS[3 - down])
 
 
-@CHAPTER.test('A flipped U goes on from 0 to 255.', OWN, section='GP0(E1h) Draw Mode setting')
+@CHAPTER.test('A flipped U continues from 0 to 255.', OWN, section='GP0(E1h) Draw Mode setting')
 def flip_x_wraps(t: Draft) -> None:
     t.open()
     t.given(512, 0, 2, TEXELS[:2])

@@ -169,3 +169,8 @@ def bit_26_in_a_packet_and_a_store(t: Draft) -> None:
     t.gp1(0x04000002)
     t.packet(store(0, 0, 2, 1), 0x20000000)
     t.stat(0, mask=1 << 26)
+
+
+@CHAPTER.test('At first the status is 14802000h.', OWN)
+def at_first(t: Draft) -> None:
+    t.stat(0x14802000, mask=0x7FFFDFFF)

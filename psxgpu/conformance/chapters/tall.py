@@ -1,15 +1,15 @@
 """The tall profile, video memory of 1024 rows: captures of version 3."""
 from __future__ import annotations
 
-from psxgpu.capture import (clut, copy, display_mode, draw_mode, drawing_area, fill, horizontal_range, information, polygon,
-                            rectangle, texture_page, vertical_range)
+from psxgpu.capture import (clut, copy, display_mode, draw_mode, drawing_area, fill, horizontal_range, information, line,
+                            load, polygon, rectangle, store, texture_page, vertical_range)
 from psxgpu.conformance.suite import OWN, Chapter, Draft, Picture
 
 CHAPTER = Chapter('tall', 'Video memory of 2 MB', needs=('tall',), version=3)
 RED, CELL = 0x0000FF, 0x001F
 
 
-@CHAPTER.test('A fill at row 600 stays there, and one over row 1023 goes on at row 0.', OWN)
+@CHAPTER.test('A fill at row 600 stays there, and one over row 1023 continues at row 0.', OWN)
 def fills(t: Draft) -> None:
     t.packet(fill(RED, 0, 600, 16, 1), fill(RED, 0, 1023, 16, 2))
     t.box(0, 600, 16, 1, CELL)
@@ -91,9 +91,41 @@ def corner_of_20_bits(t: Draft) -> None:
     t.read(0x000FFFFF)
 
 
-@CHAPTER.test('The picture begins at any of 1024 rows, and goes on at row 0 over the bottom.', OWN)
+@CHAPTER.test('The picture begins at any of 1024 rows, and continues at row 0 over the bottom.', OWN)
 def picture(t: Draft) -> None:
     t.given(0, 1023, 4, [1, 2, 3, 4])
     t.given(0, 0, 4, [5, 6, 7, 8])
     t.gp1(0x05000000 | 1023 << 10, horizontal_range(0x200, 0x228), vertical_range(0x10, 0x12), display_mode(0))
     t.picture = Picture(4, 2, b''.join(bytes([8 * red + red // 4, 0, 0]) for red in range(1, 9)))
+
+
+@CHAPTER.test('A load wraps at row 1024.', OWN)
+def loads(t: Draft) -> None:
+    t.packet(load(5, 1022, 1, 3, [0x1111, 0x2222, 0x3333]))
+    t.cell(5, 1022, 0x1111)
+    t.cell(5, 1023, 0x2222)
+    t.cell(5, 0, 0x3333)
+
+
+@CHAPTER.test('A store wraps at row 1024.', OWN)
+def stores(t: Draft) -> None:
+    t.given(5, 1023, 1, [0x1111])
+    t.given(5, 0, 1, [0x2222])
+    t.packet(store(5, 1023, 1, 2))
+    t.read(0x22221111)
+
+
+@CHAPTER.test('Polygons and lines draw below row 511.', OWN)
+def polygons_and_lines(t: Draft) -> None:
+    t.open(0, 0, 1023, 1023)
+    t.packet(polygon([(0, 600), (4, 600), (0, 602), (4, 602)], RED), line([(8, 1023), (11, 1023)], RED))
+    t.box(0, 600, 4, 2, CELL)
+    t.box(8, 1023, 3, 1, CELL)
+    t.ignore(11, 1023, 1)       # whether the last point is drawn is a test of the chapter lines
+
+
+@CHAPTER.test('A reset leaves the 1024 rows.', OWN)
+def reset(t: Draft) -> None:
+    t.gp1(0)
+    t.packet(fill(RED, 16, 600, 16, 1))
+    t.box(16, 600, 16, 1, CELL)

@@ -126,7 +126,7 @@ def palette_bit_15(t: Draft) -> None:
     t.cell(300, 8, 0x1234)
 
 
-@CHAPTER.test('A page at the right edge goes on at X 0 of the same row.', OWN)
+@CHAPTER.test('A page at the right edge continues at X 0 of the same row.', OWN)
 def page_wraps(t: Draft) -> None:
     t.open()
     t.given(1023, 5, 1, [0x1111])
@@ -136,7 +136,18 @@ def page_wraps(t: Draft) -> None:
     t.row(300, 8, [0x1111, 0x2222])
 
 
-@CHAPTER.test('A palette at the right edge goes on at X 0 of the same row.', OWN)
+@CHAPTER.test('A page of 8 bits at the right edge continues at X 0 of the same row.', OWN)
+def page_of_eight_bits_wraps(t: Draft) -> None:
+    t.open()
+    t.given(0, 480, 16, PALETTE)
+    t.given(1023, 5, 1, [0x0201])
+    t.given(0, 5, 1, [0x0403])
+    t.before(draw_mode(texture_page(960, 0, 1)))
+    t.packet(sprite(300, 8, 4, 126, 5, clut(0, 480)))
+    t.row(300, 8, PALETTE[1:5])
+
+
+@CHAPTER.test('A palette at the right edge continues at X 0 of the same row.', OWN)
 def palette_wraps(t: Draft) -> None:
     t.open()
     t.given(1008, 400, 16, [0x1000 + at for at in range(16)])

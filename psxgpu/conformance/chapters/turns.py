@@ -128,3 +128,22 @@ def skipped_read(t: Draft) -> None:
     t.packet(store(0, 0, 4, 1))
     t.capture.skip()
     t.read(0x44443333)
+
+
+@CHAPTER.test('A backward transfer continues below where the last turn ended.', OWN)
+def backward(t: Draft) -> None:
+    t.open()
+    t.capture.ram(0x1000, list(reversed(dot(0) + dot(1) + dot(2))))
+    t.capture.begin(0x1014, 3 << 16 | 2, BLOCKS_IN | 2)
+    t.capture.turn(2)
+    t.row(0, 0, [CELL] * 2)
+
+
+@CHAPTER.test('A turn of a block of 0 words moves 10000h.', OWN)
+def block_of_0(t: Draft) -> None:
+    t.open()
+    t.capture.ram(0x1000 + 4 * 0xFFFE, dot(0), dot(1))
+    t.capture.begin(0x1000, 2 << 16, BLOCKS_IN)
+    t.capture.turn()
+    t.packet(dot(2))            # no word more was moved
+    t.row(0, 0, [CELL, 0, CELL])

@@ -84,7 +84,7 @@ def polygons(t: Draft) -> None:
     t.row(8, 8, [texels[8 + at % 8] for at in range(16)])
 
 
-@CHAPTER.test('U goes on from 255 to 0 before the window is applied.')
+@CHAPTER.test('U continues from 255 to 0 before the window is applied.')
 def after_the_wrap(t: Draft) -> None:
     t.open()
     texels = [0x1000 + at for at in range(16)]

@@ -1,19 +1,18 @@
-use Rattle.std.proofs.Common.{ap, arith}
-use Rattle.event_play.specs.RigState.{RigState}
-use Rattle.gpu_snapshot.proofs.RamWords.{others_on, word_lacks, word_taken}
+use Rattle.std.proofs.Common.{arith}
+use Rattle.gpu_snapshot.proofs.RamWords.{block_lacks, block_next, others_on}
 use Rattle.gpu_snapshot.proofs.memory.read_words.Goals as goal
 
 pub returns-in-Err-clause-fault : goal.returns-in-Err-clause-fault
 returns-in-Err-clause-fault g c =
-    word_lacks _ _ _ c.words.rig.ram c.args.place c.words.i c.args.count _ c.words.invariant.long c.words-test.true
-    (omega (arith, c.requires.all, c.requires.long)) c.words.invariant.takes c.in-Err.ensures.fault
+    block_lacks _ _ _ c.all.rig.ram c.args.place c.all.b c.args.blocks _ c.all.invariant.long c.all-test.true
+    (omega (arith, c.requires.all, c.requires.long)) c.all.invariant.takes c.in-Err.ensures.fault
 
-pub words-preserved : goal.words-preserved
-words-preserved g c = record {
-  takes = word_taken _ _ _ c.words.rig.ram c.set_word.new.self.ram c.words.i c.in-Ok.word c.words.invariant.long
-      (omega (arith, c.words-test.true, c.requires.all, c.requires.long)) c.words.invariant.takes c.in-Ok.ensures.word
-      (ap (λ (r : RigState). r.ram) c.set_word.ensures.word);
-  others = others_on c.args.rig.now c.words.rig c.set_word.new.self _ c.words.invariant.others c.set_word.ensures.word;
-  long = c.set_word.ensures.long;
-  faults = omega (arith, c.words.invariant.faults, c.in-Ok.ensures.faults);
+pub all-preserved : goal.all-preserved
+all-preserved g c = record {
+  takes = c.set_block.ensures.words _ _ (block_next _ _ _ _ c.take_block.new.block c.all.invariant.takes
+      c.in_default.ensures.takes);
+  others = others_on c.args.rig.now c.all.rig c.set_block.new.rig c.set_block.new.rig.ram c.all.invariant.others
+      c.set_block.ensures.others;
+  long = c.set_block.ensures.long;
+  faults = omega (arith, c.all.invariant.faults, c.in_default.ensures.cause.faults);
 }

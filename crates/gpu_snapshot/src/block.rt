@@ -1,0 +1,47 @@
+// Blocks of 512 words, taken from a source.
+ghost use Rattle.std.specs.Prelude.{◌≡◌, ◌<◌, ◌+◌, ◌*◌, ◌^◌, Some, drop, length, IfErr, OnOk};
+ghost use Rattle.dev_io.specs.Device.{prepended};
+ghost use Rattle.gpu_snapshot.specs.Memories.{HasCause, LacksWords};
+ghost use Rattle.snapshot_words.specs.Taking.{IsWord};
+
+use byteorder::{ByteOrder, LittleEndian};
+use dev_io::{Source, fill};
+use gpu_capture::Stop;
+use snapshot_words::SnapFault;
+
+/// Takes the next 512 words. The first is at byte `place`. No byte after them is taken.
+pub(crate) fn take_block<S: Source>(
+    source: &mut S,
+    place: u32,
+    block: &mut [u8; 2048],
+) -> Result<(), SnapFault>
+    requires { place < 2 ^ 31 }
+    ensures takes { OnOk result (S.left source.old ≡ prepended block.new (S.left source.new)) }
+    ensures long { length block.new ≡ 2048 }
+    ensures fault { IfErr result (λ fault. LacksWords (S.left source.old) (S.left source.new) place 512 fault) }
+    ensures cause { HasCause (S.faults source.old) (S.faults source.new) result }
+{
+    match fill(source, block) {
+        Ok(2048) => Ok(()),
+        Ok(n) => {
+            let stop = Stop::Truncated {
+                byte: place + n as u32,
+            };
+            Err(SnapFault::Stop { stop })
+        }
+        Err(n) => {
+            let stop = Stop::ReadFault {
+                byte: place + n as u32,
+            };
+            Err(SnapFault::Stop { stop })
+        }
+    }
+}
+
+/// Returns word `k` of a block.
+pub(crate) fn word_in(block: &[u8; 2048], k: usize) -> u32
+    requires { k < 512 }
+    ensures { IsWord (Some (drop (4 * k) block.now)) (Some (drop (4 * (k + 1)) block.now)) result }
+{
+    LittleEndian::read_u32(&block[4 * k..4 * k + 4])
+}

@@ -1,0 +1,82 @@
+// Functions of test_web.py in the page.
+
+function bytesOf(text) { return Uint8Array.from(atob(text), letter => letter.charCodeAt(0)); }
+async function sumOf(bytes) {
+    const sum = new Uint8Array(await crypto.subtle.digest('SHA-256', bytes));
+    return [...sum].map(byte => byte.toString(16).padStart(2, '0')).join('');
+}
+async function plays(command, text, on = library) {
+    const [mode, x, y] = command.startsWith('pixel') ? command.split(' ') : [command];
+    try {
+        return [0, await sumOf(on.play(mode, bytesOf(text), [Number(x || 0), Number(y || 0)])), ''];
+    } catch (bad) {
+        return [2, await sumOf(bad.output), bad.message];
+    }
+}
+// What the calls of a machine give: the words read, video memory and the shown picture at the end, what is refused.
+async function callsSee(text) {
+    const lines = [], seen = {};
+    try {
+        psxgpu.playRecords(library, bytesOf(text), (machine, record, words) => {
+            lines.push(...words.map(word => word.toString(16).padStart(8, '0')));
+            if (record !== null) return;
+            seen.vram = machine.vram();
+            lines.push('status ' + machine.status().toString(16).padStart(8, '0'));
+            try { seen.shot = machine.picture(); } catch (bad) { seen.shot = new Uint8Array(); }
+        });
+    } catch (bad) {
+        return [2, bad.message];
+    }
+    return [0, lines.join('\n') + '\n', await sumOf(seen.vram), await sumOf(seen.shot)];
+}
+// Takes and gives back blocks without a pattern; answers how many were written by another block.
+function heapFaults(rounds) {
+    const blocks = [];
+    let state = 1, faults = 0;
+    const below = n => (state = (1664525 * state + 1013904223) >>> 0, (state >>> 8) % n);
+    for (let round = 0; round < rounds; round++) {
+        if (blocks.length < 40 && below(3)) {
+            const size = 1 + below(below(8) ? 500 : 300000), at = library.take(size);
+            library.bytes(at, size).fill(round);
+            blocks.push({ at, size, byte: round % 256 });
+        } else if (blocks.length) {
+            const [{ at, size, byte }] = blocks.splice(below(blocks.length), 1);
+            faults += library.bytes(at, size).some(it => it !== byte);
+            library.give(at);
+        }
+    }
+    for (const { at } of blocks) library.give(at);
+    return faults;
+}
+function machineSeen() {
+    const machine = library.machine(), seen = [];
+    machine.gp0([0x020000FF, 0, 0x00100010]);
+    seen.push(machine.cell(3, 4), machine.cell(16, 4), machine.status());
+    machine.gp0([0xA0000000, 0, 0x00010002, 0x22221111, 0xC0000000, 0, 0x00010002]);
+    seen.push(machine.read());
+    machine.clear();
+    seen.push(machine.cell(3, 4));
+    machine.close();
+    try { machine.read(); } catch (bad) { seen.push(bad.message); }
+    return seen;
+}
+function notesAndPicture() {
+    const machine = library.machine();
+    const notes = machine.gp0Notes([0xE1000000, 0x020000FF, 0, 0x00010010, 0xA0000000, 0, 0x00010002, 0]);
+    const told = notes.map(({ event, word, classNumber, head, area }) => [event, word, classNumber, head, area]);
+    machine.gp1(0x08000001);
+    const pixels = machine.pictureRgba(), [width, height] = machine.shape();
+    machine.close();
+    return [told, [...pixels.subarray(4, 16)], pixels.length === 4 * width * height];
+}
+function stepBack() {
+    const machine = library.machine({ tall: true });
+    machine.gp0([0x020000FF, 0x02580000, 0x00100010]);
+    const before = machine.save();
+    machine.gp0([0x02000000, 0x02580000, 0x00100010]);
+    const between = machine.cell(3, 604);
+    machine.load(before);
+    const seen = [between, machine.cell(3, 604)];
+    machine.close();
+    return seen;
+}
