@@ -13,4 +13,4 @@ mod pixel;
 mod wide;
 
 pub use pixel::{blend, modulate, pack, shift_at, tone};
-pub use wide::{blend_lanes, modulate_lanes, plain_tone_lanes, tone_lanes};
+pub use wide::{blend_lanes, modulate_lanes, tone_lanes, undithered_tone_lanes};

@@ -31,7 +31,7 @@ pub fn tone_lanes(red: u16x16, green: u16x16, blue: u16x16, shifts: i16x16) -> u
 
 /// [`tone`](crate::tone) without dither in each lane, of channels that are at most 255.
 #[inline(always)]
-pub fn plain_tone_lanes(red: u16x16, green: u16x16, blue: u16x16) -> u16x16
+pub fn undithered_tone_lanes(red: u16x16, green: u16x16, blue: u16x16) -> u16x16
     requires long { (length red ≡ 16) × (length green ≡ 16) × (length blue ≡ 16) }
     requires channels { EachLane (λ i. (slice_index red i ≤ 255)
         × (slice_index green i ≤ 255) × (slice_index blue i ≤ 255)) }

@@ -44,14 +44,14 @@ pub record IsAreaOf (d : Divisor) (t : Corners) : Type 0 where
 
 pub area_held : (v : Corners) (d : Divisor) (a b c : Vertex) → d ≡ divisor_for v → corners a b c ≡ oriented v
     → IsUpright (corners a b c) → IsAreaOf d (corners a b c)
-area_held v d a b c is same_as upright =
+area_held v d a b c is same_as oriented_triangle =
     let whole : d.area ≡ unsigned_abs (doubled_area (corners a b c)) = ap (λ e. e.area) is ∙ sym (area_oriented v)
     ∙ ap (λ w. unsigned_abs (doubled_area w)) (sym same_as) in
-    let bound = area_bound a b c upright.small.one upright.small.three in record {
+    let bound = area_bound a b c oriented_triangle.small.one oriented_triangle.small.three in record {
       divisor = record {
-        some = omega (arith, ints, whole, upright.area);
-        most = omega (arith, ints, whole, upright.area, bound);
+        some = omega (arith, ints, whole, oriented_triangle.area);
+        most = omega (arith, ints, whole, oriented_triangle.area, bound);
         reciprocal = rw is refl;
       };
-      is = omega (arith, ints, whole, upright.area);
+      is = omega (arith, ints, whole, oriented_triangle.area);
     }

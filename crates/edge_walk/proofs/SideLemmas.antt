@@ -5,7 +5,7 @@ use Rattle.std.proofs.lemmas.Int.{ints, unsigned_abs-mul}
 use Rattle.std.proofs.lemmas.Nat.{mul-le}
 use Rattle.px_num.proofs.Ring.{at, add, sub, mul, same}
 use Rattle.px_num.specs.declared.shape.Vertex.{Vertex}
-use Rattle.edge_walk.specs.declared.side.Side.{Side}
+use Rattle.edge_walk.specs.declared.edge_stepper.EdgeStepper.{EdgeStepper}
 use Rattle.edge_walk.specs.declared.slope.Bound.{Bound}
 use Rattle.edge_walk.specs.declared.slope.Bound.TheVariants.{AtMost, Above}
 use Rattle.edge_walk.specs.Triangle.{is_on_side, IsNear}
@@ -64,7 +64,7 @@ placed start_held far_held start far slack is far_is low high = record {
   value = omega (arith, ints, is, far_is, low);
 }
 
-pub moved_with : (p q : Vertex) (y : ℤ) (s : Side) (next : ℕ) → IsNear p q
+pub moved_with : (p q : Vertex) (y : ℤ) (s : EdgeStepper) (next : ℕ) → IsNear p q
     → unsigned_abs ((y +ℤ pos 1) -ℤ p.y) ≤ 512 → IsSide p q y s → next ≡ (s.at + s.by) % 2 ^ 64
     → IsSide p q (y +ℤ pos 1) (record { bound = s.bound; at = next; by = s.by })
 moved_with p q y s next near reach h next_is =
@@ -101,7 +101,7 @@ parts_apart p x = same (add (mul (at x) (at (pos (2 ^ 30)))) (at (pos (2 ^ 62)))
     (mul (sub (at x) (at p)) (at (pos (2 ^ 30))))) (omega arith)
 
 -- an edge leaves the columns of the cells on its inner side
-pub bounded : (p q : Vertex) (x y : ℤ) (s : Side) → IsSide p q y s → unsigned_abs (x -ℤ p.x) ≤ 1023
+pub bounded : (p q : Vertex) (x y : ℤ) (s : EdgeStepper) → IsSide p q y s → unsigned_abs (x -ℤ p.x) ≤ 1023
     → IsTrue (is_on_side p q x y) ↔ IsBounded s.bound (pos s.at) (in_parts x)
 bounded p q x y s h near =
     let on = on_side_iff p q x y in

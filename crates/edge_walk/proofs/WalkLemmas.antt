@@ -4,9 +4,9 @@ use Rattle.std.proofs.Common.{FitsSigned, MatchOption, Option, None, Some, w32, 
 use Rattle.std.specs.Int.{int_max, int_min}
 use Rattle.std.proofs.lemmas.Int.{ints, clamps}
 use Rattle.px_num.specs.declared.shape.Box2.{Box2}
-use Rattle.edge_walk.specs.declared.side.Ends.{Ends}
+use Rattle.edge_walk.specs.declared.edge_stepper.Ends.{Ends}
 use Rattle.edge_walk.specs.declared.slope.Bound.TheVariants.{AtMost, Above}
-use Rattle.edge_walk.specs.declared.walk.RowWalk.{RowWalk}
+use Rattle.edge_walk.specs.declared.row_scan.RowScan.{RowScan}
 use Rattle.edge_walk.specs.Extent.{bounding_box}
 use Rattle.edge_walk.specs.Row.{IsBetween, IsInBox, IsRowSpan}
 use Rattle.edge_walk.specs.Triangle.{Corners, oriented, is_inside, is_on_side, IsDrawn}
@@ -40,7 +40,7 @@ lesser_of : (a b x : ℤ) → (x ≤ℤ int_min a b) ↔ ((x ≤ℤ a) × (x ≤
 lesser_of a b x =
     (λ h. (omega (arith, ints, clamps, h), omega (arith, ints, clamps, h)), λ h. omega (arith, ints, clamps, h.0, h.1))
 
-module _ (t : Corners) (clip : Box2) (x y : ℤ) (rows : RowWalk) (h : AreRows t clip y rows) where
+module _ (t : Corners) (clip : Box2) (x y : ℤ) (rows : RowScan) (h : AreRows t clip y rows) where
   own_columns : IsWithin rows.ends (in_parts x)
       ↔ (IsBetween clip.x1 clip.x2 x × IsBetween (bounding_box t).x1 (bounding_box t).x2 x)
   own_columns =
@@ -108,7 +108,7 @@ back raised = omega (arith, ints)
 abbrev pub Lowers : ℕ → ℤ → Type 0
 Lowers raised column = (x : ℤ) → FitsSigned w32 x → pos raised ≡ raised_column x → column ≡ x
 
-module _ (t : Corners) (clip : Box2) (y : ℤ) (rows : RowWalk) (h : AreRows t clip y rows) (low high : ℕ)
+module _ (t : Corners) (clip : Box2) (y : ℤ) (rows : RowScan) (h : AreRows t clip y rows) (low high : ℕ)
     (cells : (x : ℤ) → (IsBetween clip.x1 clip.x2 x × IsTrue (is_inside t x y))
     ↔ IsBetween (pos low) (pos high) (raised_column x)) where
   abbrev lowered_of : ℕ → ℤ

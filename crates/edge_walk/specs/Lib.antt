@@ -5,9 +5,9 @@ pub mod Held
 pub mod Line
 pub mod Plane
 pub mod Ramp
-pub mod Ramped
+pub mod PlaneRamp
 pub mod Row
 pub mod Triangle
-pub mod Upright
+pub mod Oriented
 pub mod Walk
 pub mod Weights

@@ -4,12 +4,12 @@ use Rattle.std.specs.Prelude.{◌≤ℤ◌, ◌<ℤ◌, unsigned_abs, FitsSigned
 use Rattle.std.specs.Int.{int_max, int_min, w32}
 use Rattle.px_num.specs.declared.shape.Box2.{Box2}
 use Rattle.px_num.specs.declared.shape.Vertex.{Vertex}
-use Rattle.edge_walk.specs.declared.side.Ends.{Ends}
-use Rattle.edge_walk.specs.declared.side.Side.{Side}
+use Rattle.edge_walk.specs.declared.edge_stepper.Ends.{Ends}
+use Rattle.edge_walk.specs.declared.edge_stepper.EdgeStepper.{EdgeStepper}
 use Rattle.edge_walk.specs.declared.slope.Slope.{Slope}
 use Rattle.edge_walk.specs.declared.slope.Bound.{Bound}
 use Rattle.edge_walk.specs.declared.slope.Bound.TheVariants.{AtMost, Above}
-use Rattle.edge_walk.specs.declared.walk.RowWalk.{RowWalk}
+use Rattle.edge_walk.specs.declared.row_scan.RowScan.{RowScan}
 use Rattle.edge_walk.specs.Extent.{bounding_box}
 use Rattle.edge_walk.specs.Row.{least_value}
 use Rattle.edge_walk.specs.Triangle.{Corners, IsDrawn, IsSmall, IsTurn, oriented}
@@ -51,7 +51,7 @@ abbrev pub start_value : Vertex → Vertex → ℤ → ℤ
 start_value p q y = (q.x -ℤ p.x) *ℤ (y -ℤ p.y)
 
 -- the edge from p to q in row y
-pub record IsSide (p q : Vertex) (y : ℤ) (s : Side) : Type 0 where
+pub record IsSide (p q : Vertex) (y : ℤ) (s : EdgeStepper) : Type 0 where
   pub slope : Slope
   pub is_slope : IsSlope p q slope
   pub bound : s.bound ≡ slope.bound
@@ -68,7 +68,7 @@ pub record HasRows (t : Corners) (clip : Box2) : Type 0 where
   pub bottom : clip.y2 ≤ℤ (bounding_box t).y2
 
 -- a walk over the rows of a triangle in a box stands at row y, or below the box
-pub record AreRows (t : Corners) (clip : Box2) (y : ℤ) (rows : RowWalk) : Type 0 where
+pub record AreRows (t : Corners) (clip : Box2) (y : ℤ) (rows : RowScan) : Type 0 where
   pub small : IsSmall (oriented t)
   pub around : Corners
   pub turn : IsTurn (oriented t) around

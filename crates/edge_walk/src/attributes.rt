@@ -43,7 +43,7 @@ impl Tri {
         requires divisor { divisor.now ≡ divisor_for self.now }
         ensures { IsPlane self.now which result }
     {
-        let t = self.upright();
+        let t = self.oriented_triangle();
         Plane::of(&t, which, divisor)
     }
 
@@ -53,7 +53,7 @@ impl Tri {
         ensures value { IfSome result (λ color. (x y : ℤ) → IsTrue (is_inside self.now x y)
             → HasColor self.now x y color) }
     {
-        let t = self.upright();
+        let t = self.oriented_triangle();
         let color = t.a.color % 0x100_0000;
         if t.b.color % 0x100_0000 == color && t.c.color % 0x100_0000 == color {
             Some(color)
@@ -66,7 +66,7 @@ impl Tri {
     pub fn is_unscaled(&self) -> bool
         ensures { IsTrue result → IsUnscaled self.now }
     {
-        let t = self.upright();
+        let t = self.oriented_triangle();
         let across = t.step_across(3);
         let down = t.step_across(4);
         across == self.area as i64 && down == 0

@@ -8,22 +8,22 @@
 mod attributes;
 mod divisor;
 mod edge;
+mod edge_stepper;
 mod extent;
 mod line;
+mod oriented;
 mod plane;
+mod plane_ramp;
 mod ramp;
-mod ramped;
-mod side;
+mod row_scan;
 mod slope;
 mod steps;
 mod triangle;
-mod upright;
-mod walk;
 mod weights;
 
 pub use divisor::Divisor;
 pub use line::RowLine;
 pub use plane::Plane;
-pub use ramped::RampedPlane;
+pub use plane_ramp::PlaneRamp;
+pub use row_scan::RowScan;
 pub use triangle::Tri;
-pub use walk::RowWalk;

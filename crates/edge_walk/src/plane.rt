@@ -5,12 +5,12 @@ ghost use Rattle.edge_walk.specs.Divisor.{IsDivisor};
 ghost use Rattle.edge_walk.specs.Line.{IsRowLine};
 ghost use Rattle.edge_walk.specs.Plane.{IsPlane, IsPlaneOf, from_least, line_at, number_at};
 ghost use Rattle.edge_walk.specs.Triangle.{Corners, is_inside};
-ghost use Rattle.edge_walk.specs.Upright.{corners_of};
+ghost use Rattle.edge_walk.specs.Oriented.{corners_of};
 
 use crate::divisor::Divisor;
 use crate::line::{RowLine, scaled};
+use crate::oriented::Oriented;
 use crate::steps::attribute;
-use crate::upright::Upright;
 
 /// An attribute over a triangle, of whose rows it gives the lines.
 ///
@@ -49,7 +49,7 @@ fn before_steps(to: u64, step: u64, steps: u64) -> u64
 impl Plane {
     // The plane whose sum at the first vertex is that vertex's share of the area.
     #[inline(always)]
-    pub(crate) fn of(t: &Upright, which: u8, divisor: &Divisor) -> Plane
+    pub(crate) fn of(t: &Oriented, which: u8, divisor: &Divisor) -> Plane
         requires which { which ≤ 4 }
         requires divisor { IsDivisor divisor.now }
         ensures { IsPlaneOf (corners_of t.now) which divisor.now result }

@@ -1,10 +1,10 @@
 // Attributes of vertices, and how much the sum of one grows from cell to cell.
 ghost use Rattle.std.specs.Prelude.{◌≡◌, ◌≤◌, pos, ◌-ℤ◌, ◌*ℤ◌, unsigned_abs};
 ghost use Rattle.edge_walk.specs.Attribute.{AreBytes, attribute, step_of, row_step_of};
-ghost use Rattle.edge_walk.specs.Upright.{corners_of};
+ghost use Rattle.edge_walk.specs.Oriented.{corners_of};
 
 use crate::edge::difference;
-use crate::upright::Upright;
+use crate::oriented::Oriented;
 use px_num::Vertex;
 
 pub(crate) fn attribute(v: &Vertex, which: u8) -> u8
@@ -46,7 +46,7 @@ fn opposite_sum(s: &Slopes) -> i64
     0 - s.first - s.second - s.third
 }
 
-impl Upright {
+impl Oriented {
     // How much the sum of an attribute grows from one cell of a row to the next.
     pub(crate) fn step_across(&self, which: u8) -> i64
         requires { which ≤ 4 }

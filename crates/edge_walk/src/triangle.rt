@@ -1,11 +1,11 @@
 // A triangle and its cells.
 use crate::edge::{all_three, doubled_area, is_on_side, is_small};
+use crate::edge_stepper::{EdgeStepper, Ends};
 use crate::extent::bounding_box;
-use crate::side::{Ends, Side};
+use crate::oriented::Oriented;
+use crate::row_scan::RowScan;
 use crate::slope::{falling, rising, slope_of};
 use crate::steps::attribute;
-use crate::upright::Upright;
-use crate::walk::RowWalk;
 use crate::weights::mixed;
 use px_num::{Box2, Vertex};
 use std::marker::Model;
@@ -56,7 +56,7 @@ impl Tri {
     ghost use Rattle.edge_walk.specs.Row.{IsInBox, IsRowSpan};
     ghost use Rattle.edge_walk.specs.Walk.{AreRows, HasRows};
     ghost use Rattle.edge_walk.specs.Triangle.{corners, oriented, IsDrawn, is_drawn, is_inside};
-    ghost use Rattle.edge_walk.specs.Upright.{corners_of};
+    ghost use Rattle.edge_walk.specs.Oriented.{corners_of};
 
     /// The triangle with these vertices. None exactly where its doubled area is 0, or the size rule refuses it: two of
     /// its vertices lie more than 1023 apart in X or more than 511 in Y (psx-spx, "GPU Render Polygon Commands").
@@ -81,18 +81,18 @@ impl Tri {
     }
 
     // This triangle, its second and third vertex exchanged where the doubled area is below 0.
-    pub(crate) fn upright(&self) -> Upright
+    pub(crate) fn oriented_triangle(&self) -> Oriented
         ensures same { corners_of result ≡ oriented self.now }
         ensures drawn { IsDrawn self.now }
     {
         if self.turned {
-            return Upright {
+            return Oriented {
                 a: self.a,
                 b: self.c,
                 c: self.b,
             };
         }
-        Upright {
+        Oriented {
             a: self.a,
             b: self.b,
             c: self.c,
@@ -104,7 +104,7 @@ impl Tri {
         ensures value { result ≡ is_inside self.now x y }
         ensures in_bounds { IsTrue result → IsInBox (bounding_box self.now) x y }
     {
-        let t = self.upright();
+        let t = self.oriented_triangle();
         let first = is_on_side(&t.a, &t.b, x, y);
         let second = is_on_side(&t.b, &t.c, x, y);
         let third = is_on_side(&t.c, &t.a, x, y);
@@ -147,7 +147,7 @@ impl Tri {
         ensures value { result ≡ attribute_at self.now which x y }
         ensures byte { result ≤ 255 }
     {
-        let t = self.upright();
+        let t = self.oriented_triangle();
         let weights = t.weights_at(x, y);
         mixed(
             &weights,
@@ -160,17 +160,17 @@ impl Tri {
 
     /// A walk over the rows of a box, which are rows of `bounds`. It stands at the first one.
     #[inline(always)]
-    pub fn rows(&self, clip: &Box2) -> RowWalk
+    pub fn rows(&self, clip: &Box2) -> RowScan
         requires { HasRows self.now clip.now }
         ensures { AreRows self.now clip.now clip.now.y1 result }
     {
-        let t = self.upright().around_top();
+        let t = self.oriented_triangle().rotated_to_top();
         let own = self.bounds();
-        RowWalk {
+        RowScan {
             ends: Ends::of(clip, &own),
-            first: Side::at(&rising(&t.a, &t.b), &t.a, &t.b, clip.y1),
-            second: Side::at(&falling(&t.b, &t.c), &t.b, &t.c, clip.y1),
-            third: Side::at(&slope_of(&t.c, &t.a), &t.c, &t.a, clip.y1),
+            first: EdgeStepper::at(&rising(&t.a, &t.b), &t.a, &t.b, clip.y1),
+            second: EdgeStepper::at(&falling(&t.b, &t.c), &t.b, &t.c, clip.y1),
+            third: EdgeStepper::at(&slope_of(&t.c, &t.a), &t.c, &t.a, clip.y1),
         }
     }
 }

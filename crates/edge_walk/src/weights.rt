@@ -2,11 +2,11 @@
 ghost use Rattle.std.specs.Prelude.{◌≡◌, ◌+◌, ◌*◌, ◌/◌, ◌≤◌, pos, ◌≤ℤ◌, IsTrue};
 ghost use Rattle.edge_walk.specs.Triangle.{IsNear, doubled_area, edge, is_within};
 ghost use Rattle.edge_walk.specs.Divisor.{IsDivisor};
-ghost use Rattle.edge_walk.specs.Upright.{corners_of};
+ghost use Rattle.edge_walk.specs.Oriented.{corners_of};
 
 use crate::divisor::Divisor;
 use crate::edge::edge;
-use crate::upright::Upright;
+use crate::oriented::Oriented;
 use px_num::Vertex;
 
 // The edge values of a cell inside, each of the edge opposite to a vertex. Their sum is the doubled area.
@@ -26,7 +26,7 @@ fn weight(p: &Vertex, q: &Vertex, x: i32, y: i32) -> u32
     edge(p, q, x, y) as u32
 }
 
-impl Upright {
+impl Oriented {
     ghost use Rattle.edge_walk.specs.Weights.{AreWeightsOf};
 
     pub(crate) fn weights_at(&self, x: i32, y: i32) -> Weights

@@ -1,3 +1,3 @@
-pub mod LateLemmas
+pub mod ReadAfterWriteLemmas
 pub mod Places
 pub mod TestLemmas

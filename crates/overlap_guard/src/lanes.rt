@@ -35,27 +35,27 @@ fn lanes_read_written(xs: u16x16, ys: u16x16, clut: Option<Strip>, to: Cell, n: 
     requires target { to.x + n ≤ 1024 }
     ensures { IsTrue result ↔ HasTextureHazard (lane_cells xs ys n) clut to n }
 {
-    let texel = have_late(xs, ys, to, n);
+    let texel = any_read_after_write(xs, ys, to, n);
     let palette = clut_hazard(clut, to, n);
     texel || palette
 }
 
 // Whether some lane reads as its texel a cell that an earlier lane writes.
 #[inline(always)]
-fn have_late(xs: u16x16, ys: u16x16, to: Cell, n: u8) -> bool
+fn any_read_after_write(xs: u16x16, ys: u16x16, to: Cell, n: u8) -> bool
     requires few { n ≤ 16 }
     requires long { (length xs ≡ 16) × (length ys ≡ 16) }
     requires in_row { EachLane (λ i. slice_index xs i < 1024) }
     requires target { to.x < 1024 }
     ensures { IsTrue result ↔ HasTexelHazard (lane_cells xs ys n) to }
 {
-    !are_zero(late_lanes(xs, ys, to, n))
+    !are_zero(read_after_write_lanes(xs, ys, to, n))
 }
 
 // Of n lanes whose texels are at these places, those that read what an earlier one writes are above 0, and all others
 // are 0.
 #[inline(always)]
-fn late_lanes(xs: u16x16, ys: u16x16, to: Cell, n: u8) -> u16x16
+fn read_after_write_lanes(xs: u16x16, ys: u16x16, to: Cell, n: u8) -> u16x16
     requires long { (length xs ≡ 16) × (length ys ≡ 16) }
     requires in_row { EachLane (λ i. slice_index xs i < 1024) }
     requires target { to.x < 1024 }

@@ -3,7 +3,7 @@ use Rattle.std.proofs.Common.{◌≡◌, ℕ, ℤ, ◌≤ℤ◌, int_lt, Bool, t
 use Rattle.std.proofs.Common.{arith}
 use Rattle.std.proofs.lemmas.Int.{ints, clamps}
 use Rattle.px_num.specs.declared.shape.Box2.{Box2}
-use Rattle.prim_draw.specs.Boxes.{some_box, overlap, block_of, IsOnScreen, LiesIn}
+use Rattle.prim_draw.specs.Boxes.{some_box, overlap, clip_rect_of, IsOnScreen, LiesIn}
 use Rattle.prim_draw.specs.Rectangles.{cells_box, IsExtent, IsPartOf}
 use Rattle.prim_draw.specs.declared.rectangles.Extent.{Extent}
 use Rattle.gp1_status.specs.Drawing.{IsArea}
@@ -69,8 +69,8 @@ if_both (Some a) f p q = f a p q
 
 -- a part of a rectangle, by its block
 pub part_of : (e : Extent) (height : ℕ) (b : Box2) → IsExtent e → IsOnScreen height b → LiesIn (cells_box e) b
-    → IsPartOf e (block_of b)
-unfolding block_of
+    → IsPartOf e (clip_rect_of b)
+unfolding clip_rect_of
 part_of e height b is on lies = record {
   left = omega (arith, ints, on.left, lies.left);
   top = omega (arith, ints, on.top, lies.top);

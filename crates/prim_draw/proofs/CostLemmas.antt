@@ -12,19 +12,19 @@ use Rattle.edge_walk.specs.Triangle.{Corners}
 use Rattle.line_walk.specs.Line.{Ends, is_near}
 use Rattle.span_lanes.specs.Cells.{cell_in_row, row_cells}
 use Rattle.span_lanes.proofs.CostLemmas.{cost_law as span_small}
-use Rattle.prim_draw.specs.Boxes.{block_of, block_row, count_in}
+use Rattle.prim_draw.specs.Boxes.{clip_rect_of, clip_row, count_in}
 use Rattle.prim_draw.specs.Costs.{side_by_side, cost_down, inside_cost, triangle_cost, polygon_cost}
 use Rattle.prim_draw.specs.Costs.{all_cost, rectangle_cost, ends_cost, draw_cost, box_cost}
 use Rattle.prim_draw.specs.Laws.{CostLaw}
 use Rattle.prim_draw.specs.Lines.{placed_ends, segment_box}
 use Rattle.prim_draw.specs.Parts.{polygon, polygon_style, rectangle_style}
-use Rattle.prim_draw.specs.Pattern.{Pattern, even, span_from}
-use Rattle.prim_draw.specs.Rectangles.{extent_at, pattern_of, rectangle_box, tile_in}
-use Rattle.prim_draw.specs.Triangles.{draws, row_inside, lower_half, triangle_box, triangle_coat, upper_half}
-use Rattle.span_lanes.specs.declared.span.Coat.{Coat}
+use Rattle.prim_draw.specs.Pattern.{Pattern, uniform, span_from}
+use Rattle.prim_draw.specs.Rectangles.{extent_at, pattern_of, rectangle_box, rectangle_setup_in}
+use Rattle.prim_draw.specs.Triangles.{draws, row_inside, lower_half, triangle_box, triangle_state, upper_half}
+use Rattle.span_lanes.specs.declared.span.DrawState.{DrawState}
 use Rattle.prim_draw.specs.declared.polygon.Polygon.{Polygon}
 use Rattle.prim_draw.specs.declared.rectangles.Extent.{Extent}
-use Rattle.prim_draw.specs.declared.rectangles.Tile.{Tile}
+use Rattle.prim_draw.specs.declared.rectangles.RectangleSetup.{RectangleSetup}
 use Rattle.prim_draw.specs.declared.style.Style.{Style}
 use Rattle.prim_draw.proofs.PointCounts.{points_small}
 
@@ -61,20 +61,20 @@ rows_small p row w top (suc h) few =
     more (cost_down p row top h) (side_by_side p (row (top + h))) w h (rows_small p row w top h few)
     (omega (arith, here, cells))
 
-inside_small : (coat : Coat) (t : Corners) (box : Option Box2) → inside_cost coat t box ≤ 4 * count_in box
-inside_small coat t None = omega arith
-inside_small coat t (Some b) =
-    rows_small (even coat) (row_inside t (block_of b)) (block_of b).w (block_of b).y (block_of b).h
+inside_small : (state : DrawState) (t : Corners) (box : Option Box2) → inside_cost state t box ≤ 4 * count_in box
+inside_small state t None = omega arith
+inside_small state t (Some b) =
+    rows_small (uniform state) (row_inside t (clip_rect_of b)) (clip_rect_of b).w (clip_rect_of b).y (clip_rect_of b).h
     (λ y.
-    let cells = row_cells (block_of b).x y (block_of b).w in
+    let cells = row_cells (clip_rect_of b).x y (clip_rect_of b).w in
     let few = filter_small (draws t) cells in
-    let long = row_length (block_of b).x y (block_of b).w in
+    let long = row_length (clip_rect_of b).x y (clip_rect_of b).w in
     omega (arith, few, long))
 
 triangle_small : (r : Registers) (style : Style) (t : Corners)
     → triangle_cost r style t ≤ 4 * count_in (triangle_box r t)
 unfolding triangle_cost
-triangle_small r style t = inside_small (triangle_coat r style t) t (triangle_box r t)
+triangle_small r style t = inside_small (triangle_state r style t) t (triangle_box r t)
 
 sum_small : (four : Bool) (a b c d : ℕ) → a ≤ c → b ≤ d → a + cond four b 0 ≤ c + cond four d 0
 sum_small true a b c d f g = omega arith
@@ -82,16 +82,16 @@ sum_small false a b c d f g = omega arith
 
 -- ---- rectangles
 
-all_small : (tile : Tile) (e : Extent) (box : Option Box2) → all_cost tile e box ≤ 4 * count_in box
-all_small tile e None = omega arith
-all_small tile e (Some b) =
-    rows_small (pattern_of tile e) (block_row (block_of b)) (block_of b).w (block_of b).y (block_of b).h
-    (λ y. let long = row_length (block_of b).x y (block_of b).w in omega (arith, long))
+all_small : (rectangle_setup : RectangleSetup) (e : Extent) (box : Option Box2) → all_cost rectangle_setup e box ≤ 4 * count_in box
+all_small rectangle_setup e None = omega arith
+all_small rectangle_setup e (Some b) =
+    rows_small (pattern_of rectangle_setup e) (clip_row (clip_rect_of b)) (clip_rect_of b).w (clip_rect_of b).y (clip_rect_of b).h
+    (λ y. let long = row_length (clip_rect_of b).x y (clip_rect_of b).w in omega (arith, long))
 
-rectangle_small : (r : Registers) (tile : Tile) (e : Extent)
-    → rectangle_cost r tile e ≤ 4 * count_in (rectangle_box r e)
+rectangle_small : (r : Registers) (rectangle_setup : RectangleSetup) (e : Extent)
+    → rectangle_cost r rectangle_setup e ≤ 4 * count_in (rectangle_box r e)
 unfolding rectangle_cost
-rectangle_small r tile e = all_small tile e (rectangle_box r e)
+rectangle_small r rectangle_setup e = all_small rectangle_setup e (rectangle_box r e)
 
 -- ---- segments
 
@@ -114,7 +114,7 @@ cost_law r (packet.Poly four a b c d shaded textured semi raw clut page) =
     sum_small four _ _ _ _ (triangle_small r style (upper_half r p)) (triangle_small r style (lower_half r p))
 cost_law r (packet.Segment a b semi) = ends_small r (placed_ends r a b)
 cost_law r (packet.Rect x y w h color textured semi raw u v clut) =
-    rectangle_small r (tile_in r (rectangle_style color textured semi raw clut) u v) (extent_at r x y w h)
+    rectangle_small r (rectangle_setup_in r (rectangle_style color textured semi raw clut) u v) (extent_at r x y w h)
 cost_law r (packet.Fill color x y w h) = omega arith
 cost_law r (packet.Copy from to w h) = omega arith
 cost_law r (packet.Load x y w h) = omega arith

@@ -10,10 +10,10 @@ use Rattle.line_walk.specs.Line.{Ends, len_of, point_of, steps_of, color_along, 
 use Rattle.line_walk.specs.Walk.{Walking}
 use Rattle.line_walk.proofs.RiseLemmas.{point_of-between, color-same}
 use Rattle.span_lanes.specs.declared.span.Brush.{Brush}
-use Rattle.span_lanes.specs.Shade.{shift_of}
+use Rattle.span_lanes.specs.Shade.{dither_of}
 use Rattle.vram_store.specs.Vram.{set}
 use Rattle.prim_draw.specs.Costs.{points_cost}
-use Rattle.prim_draw.specs.Ink.{IsInk, AreInked, IsInMemory, inked_points}
+use Rattle.prim_draw.specs.PointColor.{IsPointColor, ArePointsColored, IsInMemory, colored_points}
 use Rattle.prim_draw.specs.Lines.{cell_of, drawn_point, drawn_points, is_between, is_in, plotted}
 use Rattle.gp1_status.specs.Drawing.{IsArea}
 use Rattle.prim_draw.proofs.PointLemmas.{columns_of, rows_of}
@@ -44,13 +44,13 @@ cost_next area s k start now new p so_far at step =
     (λ (v : Vertex). cond (is_in area v) 2 0) at in
     rw (add-one k) (omega (arith, here, so_far, step))
 
-pub inked_next : (s : Ends) (ink k : ℕ) (m now new : List ℕ) (p : Vertex) → now ≡ inked_points s ink k m
+pub inked_next : (s : Ends) (point_color k : ℕ) (m now new : List ℕ) (p : Vertex) → now ≡ colored_points s point_color k m
     → p ≡ point_of s k
-    → new ≡ set now (cell_of p).x (cell_of p).y ink → new ≡ inked_points s ink (k + 1) m
-inked_next s ink k m now new p so_far at put =
-    put ∙ ap (λ (v : Vertex). set now (cell_of v).x (cell_of v).y ink) at
-    ∙ ap (λ cells. set cells (cell_of (point_of s k)).x (cell_of (point_of s k)).y ink) so_far
-    ∙ sym (each_below-next (λ i cells. set cells (cell_of (point_of s i)).x (cell_of (point_of s i)).y ink) k m)
+    → new ≡ set now (cell_of p).x (cell_of p).y point_color → new ≡ colored_points s point_color (k + 1) m
+inked_next s point_color k m now new p so_far at put =
+    put ∙ ap (λ (v : Vertex). set now (cell_of v).x (cell_of v).y point_color) at
+    ∙ ap (λ cells. set cells (cell_of (point_of s k)).x (cell_of (point_of s k)).y point_color) so_far
+    ∙ sym (each_below-next (λ i cells. set cells (cell_of (point_of s i)).x (cell_of (point_of s i)).y point_color) k m)
 
 -- ---- points between two that lie in a box
 
@@ -77,42 +77,42 @@ all_within b s p first second amid =
 
 -- ---- one halfword
 
-drawn_inked : (area : Box2) (brush : Brush) (p : Vertex) (color ink : ℕ) (m : List ℕ) → is_in area p ≡ true
-    → p.color ≡ color → IsInk brush color ink
-    → drawn_point area brush p m ≡ set m (cell_of p).x (cell_of p).y ink
+drawn_inked : (area : Box2) (brush : Brush) (p : Vertex) (color point_color : ℕ) (m : List ℕ) → is_in area p ≡ true
+    → p.color ≡ color → IsPointColor brush color point_color
+    → drawn_point area brush p m ≡ set m (cell_of p).x (cell_of p).y point_color
 unfolding drawn_point
-drawn_inked area brush p color ink m inside same is = rw inside
+drawn_inked area brush p color point_color m inside same is = rw inside
     (ap (λ c. plotted brush (cell_of p) c m) same ∙ is (cell_of p) m)
 
-pub all_inked : (area : Box2) (brush : Brush) (s : Ends) (color ink : ℕ) → color ≡ s.first.color % 2 ^ 24
+pub all_inked : (area : Box2) (brush : Brush) (s : Ends) (color point_color : ℕ) → color ≡ s.first.color % 2 ^ 24
     → s.first.color ≡ s.second.color
-    → is_in area s.first ≡ true → is_in area s.second ≡ true → IsInk brush color ink → AreInked area brush s ink
-all_inked area brush s color ink is same first second inks k lt =
+    → is_in area s.first ≡ true → is_in area s.second ≡ true → IsPointColor brush color point_color → ArePointsColored area brush s point_color
+all_inked area brush s color point_color is same first second inks k lt =
     let inside = all_within area s (point_of s k) first second (point_of-between s k lt) in
-    let tint : (point_of s k).color ≡ color =
+    let shading : (point_of s k).color ≡ color =
     ap (λ c. color_along s.first.color c (steps_of s) k) (sym same) ∙ color-same s.first.color (steps_of s) k
     ∙ sym is in
-    record { inside = inside; drawn = λ m. drawn_inked area brush (point_of s k) color ink m inside tint inks }
+    record { inside = inside; drawn = λ m. drawn_inked area brush (point_of s k) color point_color m inside shading inks }
 
 pub some_inked : (area : Box2) (brush : Brush) (s : Ends) (color : ℕ) (found : Option ℕ)
-    → ((ink : ℕ) → IsInk brush color ink → AreInked area brush s ink)
-    → IfSome found (λ ink. IsInk brush color ink) → IfSome found (λ ink. AreInked area brush s ink)
+    → ((point_color : ℕ) → IsPointColor brush color point_color → ArePointsColored area brush s point_color)
+    → IfSome found (λ point_color. IsPointColor brush color point_color) → IfSome found (λ point_color. ArePointsColored area brush s point_color)
 some_inked area brush s color None all is = tt
-some_inked area brush s color (Some ink) all is = all ink is
+some_inked area brush s color (Some point_color) all is = all point_color is
 
-pub inked_are : (area : Box2) (brush : Brush) (s : Ends) (ink n : ℕ) (m : List ℕ) → AreInked area brush s ink
+pub inked_are : (area : Box2) (brush : Brush) (s : Ends) (point_color n : ℕ) (m : List ℕ) → ArePointsColored area brush s point_color
     → n ≤ len_of s
-    → inked_points s ink n m ≡ drawn_points area brush s n m
-inked_are area brush s ink n m inked le =
-    each_below-same (λ k cells. set cells (cell_of (point_of s k)).x (cell_of (point_of s k)).y ink)
+    → colored_points s point_color n m ≡ drawn_points area brush s n m
+inked_are area brush s point_color n m inked le =
+    each_below-same (λ k cells. set cells (cell_of (point_of s k)).x (cell_of (point_of s k)).y point_color)
     (λ k. drawn_point area brush (point_of s k)) n m
     (λ k cells lt. sym ((inked k (omega (arith, lt, le))).drawn cells))
 
-pub inked_cost : (area : Box2) (brush : Brush) (s : Ends) (ink n : ℕ) → AreInked area brush s ink → n ≤ len_of s
+pub inked_cost : (area : Box2) (brush : Brush) (s : Ends) (point_color n : ℕ) → ArePointsColored area brush s point_color → n ≤ len_of s
     → n ≤ points_cost area s n
-inked_cost area brush s ink zero inked le = omega arith
-inked_cost area brush s ink (suc n) inked le =
-    let so_far = inked_cost area brush s ink n inked (omega (arith, le)) in
+inked_cost area brush s point_color zero inked le = omega arith
+inked_cost area brush s point_color (suc n) inked le =
+    let so_far = inked_cost area brush s point_color n inked (omega (arith, le)) in
     rw ((inked n (omega (arith, le))).inside) (omega (arith, so_far))
 
 pub in_memory : (height : ℕ) (area : Box2) (p : Vertex) → IsArea height area → is_in area p ≡ true → IsInMemory height p
@@ -127,6 +127,6 @@ in_memory height area p is inside =
       reach = omega (arith, ints, v.to, is.bottom, is.reach);
     }
 
-pub undithered_shift : (dither : Bool) (x y : ℕ) → dither ≡ false → shift_of dither x y ≡ pos 0
-unfolding shift_of
+pub undithered_shift : (dither : Bool) (x y : ℕ) → dither ≡ false → dither_of dither x y ≡ pos 0
+unfolding dither_of
 undithered_shift dither x y off = rw off refl

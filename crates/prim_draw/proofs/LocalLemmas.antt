@@ -12,20 +12,20 @@ use Rattle.span_lanes.specs.Shade.{paint_pixel}
 use Rattle.span_lanes.specs.declared.span.Brush.{Brush}
 use Rattle.span_lanes.specs.declared.span.Paint.{Paint}
 use Rattle.span_lanes.specs.declared.span.Paint.TheVariants.{Flat, Shaded, TexturedTri, TexturedRow}
-use Rattle.prim_draw.specs.Boxes.{block_of, cells_of}
+use Rattle.prim_draw.specs.Boxes.{clip_rect_of, cells_of}
 use Rattle.prim_draw.specs.Draw.{drawn_packet}
 use Rattle.prim_draw.specs.Lines.{drawn_ends, drawn_point, drawn_points, is_in, cell_of as cell_at, placed_ends}
 use Rattle.prim_draw.specs.Parts.{polygon, polygon_style, rectangle_style}
-use Rattle.prim_draw.specs.Rectangles.{extent_at, drawn_all, drawn_rectangle, rectangle_box, tile_in, tile_paint}
+use Rattle.prim_draw.specs.Rectangles.{extent_at, drawn_all, drawn_rectangle, rectangle_box, rectangle_setup_in, rectangle_paint}
 use Rattle.prim_draw.specs.Rectangles.{pattern_of}
-use Rattle.prim_draw.specs.Pattern.{even, pixel_at}
+use Rattle.prim_draw.specs.Pattern.{uniform, pixel_at}
 use Rattle.gp1_status.specs.Drawing.{drawing_area}
 use Rattle.prim_draw.specs.Settings.{brush_in}
 use Rattle.prim_draw.specs.Triangles.{draws, drawn_inside, drawn_polygon, drawn_triangle}
-use Rattle.prim_draw.specs.Triangles.{triangle_box, triangle_coat, triangle_paint, upper_half, lower_half}
-use Rattle.span_lanes.specs.declared.span.Coat.{Coat}
+use Rattle.prim_draw.specs.Triangles.{triangle_box, triangle_state, triangle_paint, upper_half, lower_half}
+use Rattle.span_lanes.specs.declared.span.DrawState.{DrawState}
 use Rattle.prim_draw.specs.declared.rectangles.Extent.{Extent}
-use Rattle.prim_draw.specs.declared.rectangles.Tile.{Tile}
+use Rattle.prim_draw.specs.declared.rectangles.RectangleSetup.{RectangleSetup}
 use Rattle.prim_draw.specs.declared.style.Style.{Style}
 use Rattle.prim_draw.specs.declared.polygon.Polygon.{Polygon}
 use Rattle.prim_draw.specs.Apart.{SameAt}
@@ -49,11 +49,11 @@ toned_local (TexturedRow color texture u v flip) brush bare = absurd bare
 
 -- ---- triangles
 
-inside_same : (coat : Coat) (t : Corners) (b : Option Box2) (k : ℕ) (m now : List ℕ) → IsUntexturedPaint coat.paint
-    → SameAt k m now → SameAt k (drawn_inside coat t b m) (drawn_inside coat t b now)
-inside_same coat t None k m now bare same = same
-inside_same coat t (Some b) k m now bare same = cells_same (pixel_at (even coat)) coat.brush.mask k
-    (toned_local coat.paint coat.brush bare) (filter (draws t) (cells_of (block_of b))) m now same
+inside_same : (state : DrawState) (t : Corners) (b : Option Box2) (k : ℕ) (m now : List ℕ) → IsUntexturedPaint state.paint
+    → SameAt k m now → SameAt k (drawn_inside state t b m) (drawn_inside state t b now)
+inside_same state t None k m now bare same = same
+inside_same state t (Some b) k m now bare same = cells_same (pixel_at (uniform state)) state.brush.mask k
+    (toned_local state.paint state.brush bare) (filter (draws t) (cells_of (clip_rect_of b))) m now same
 
 flat_or_shaded : (b : Bool) (color : ℕ) (t : Corners) → IsUntexturedPaint (cond b (Shaded t) (Flat color))
 flat_or_shaded true color t = tt
@@ -66,8 +66,8 @@ untextured_paint r style t e = rw e (flat_or_shaded style.shaded style.color t)
 
 triangle_same : (r : Registers) (style : Style) (t : Corners) (k : ℕ) (m now : List ℕ) → style.textured ≡ false
     → SameAt k m now → SameAt k (drawn_triangle r style t m) (drawn_triangle r style t now)
-unfolding drawn_triangle triangle_coat
-triangle_same r style t k m now e same = inside_same (triangle_coat r style t) t (triangle_box r t) k m now
+unfolding drawn_triangle triangle_state
+triangle_same r style t k m now e same = inside_same (triangle_state r style t) t (triangle_box r t) k m now
     (untextured_paint r style t e) same
 
 polygon_same : (r : Registers) (style : Style) (p : Polygon) (k : ℕ) (m now : List ℕ) → style.textured ≡ false
@@ -88,26 +88,26 @@ polygon_same r style p k m now e same = by_test p.four
 
 -- ---- rectangles
 
-tile_local : (tile : Tile) (e : Extent) → tile.texture ≡ None → IsLocal (pixel_at (pattern_of tile e))
-unfolding tile_paint
-tile_local tile e none = λ cell m now same. rw none (rw same refl)
+tile_local : (rectangle_setup : RectangleSetup) (e : Extent) → rectangle_setup.texture ≡ None → IsLocal (pixel_at (pattern_of rectangle_setup e))
+unfolding rectangle_paint
+tile_local rectangle_setup e none = λ cell m now same. rw none (rw same refl)
 
-all_same : (tile : Tile) (e : Extent) (b : Option Box2) (k : ℕ) (m now : List ℕ) → tile.texture ≡ None
-    → SameAt k m now → SameAt k (drawn_all tile e b m) (drawn_all tile e b now)
-all_same tile e None k m now none same = same
-all_same tile e (Some b) k m now none same = cells_same (pixel_at (pattern_of tile e)) tile.brush.mask k (tile_local
-    tile e none)
-    (cells_of (block_of b)) m now same
+all_same : (rectangle_setup : RectangleSetup) (e : Extent) (b : Option Box2) (k : ℕ) (m now : List ℕ) → rectangle_setup.texture ≡ None
+    → SameAt k m now → SameAt k (drawn_all rectangle_setup e b m) (drawn_all rectangle_setup e b now)
+all_same rectangle_setup e None k m now none same = same
+all_same rectangle_setup e (Some b) k m now none same = cells_same (pixel_at (pattern_of rectangle_setup e)) rectangle_setup.brush.mask k (tile_local
+    rectangle_setup e none)
+    (cells_of (clip_rect_of b)) m now same
 
-rectangle_same : (r : Registers) (tile : Tile) (e : Extent) (k : ℕ) (m now : List ℕ) → tile.texture ≡ None
+rectangle_same : (r : Registers) (rectangle_setup : RectangleSetup) (e : Extent) (k : ℕ) (m now : List ℕ) → rectangle_setup.texture ≡ None
     → SameAt k m now
-    → SameAt k (drawn_rectangle r tile e m) (drawn_rectangle r tile e now)
+    → SameAt k (drawn_rectangle r rectangle_setup e m) (drawn_rectangle r rectangle_setup e now)
 unfolding drawn_rectangle
-rectangle_same r tile e k m now none same = all_same tile e (rectangle_box r e) k m now none same
+rectangle_same r rectangle_setup e k m now none same = all_same rectangle_setup e (rectangle_box r e) k m now none same
 
 untextured_tile : (r : Registers) (color : ℕ) (semi raw : Bool) (u v clut : ℕ)
-    → (tile_in r (rectangle_style color false semi raw clut) u v).texture ≡ None
-unfolding tile_in
+    → (rectangle_setup_in r (rectangle_style color false semi raw clut) u v).texture ≡ None
+unfolding rectangle_setup_in
 untextured_tile r color semi raw u v clut = refl
 
 -- ---- lines
@@ -119,11 +119,11 @@ point_same area brush p k m now same = by_test (is_in area p)
   where
     by_test : (b : Bool)
         → SameAt k
-        (cond b (drawn_cells (pixel_at (even (record { paint = Flat p.color; brush = brush }))) brush.mask
+        (cond b (drawn_cells (pixel_at (uniform (record { paint = Flat p.color; brush = brush }))) brush.mask
         (cell_at p ∷ []) m) m)
-        (cond b (drawn_cells (pixel_at (even (record { paint = Flat p.color; brush = brush }))) brush.mask
+        (cond b (drawn_cells (pixel_at (uniform (record { paint = Flat p.color; brush = brush }))) brush.mask
         (cell_at p ∷ []) now) now)
-    by_test true = cells_same (pixel_at (even (record { paint = Flat p.color; brush = brush }))) brush.mask k
+    by_test true = cells_same (pixel_at (uniform (record { paint = Flat p.color; brush = brush }))) brush.mask k
         (toned_local (Flat p.color) brush tt) (cell_at p ∷ []) m now same
     by_test false = same
 
@@ -153,7 +153,7 @@ drawing_is_local r (packet.Poly four a b c d shaded false semi raw clut page) k 
 drawing_is_local r (packet.Segment a b semi) k m now bare same = ends_same r semi (placed_ends r a b) k m now same
 drawing_is_local r (packet.Rect x y w h color true semi raw u v clut) k m now bare same = absurd bare
 drawing_is_local r (packet.Rect x y w h color false semi raw u v clut) k m now bare same =
-    rectangle_same r (tile_in r (rectangle_style color false semi raw clut) u v) (extent_at r x y w h) k m now
+    rectangle_same r (rectangle_setup_in r (rectangle_style color false semi raw clut) u v) (extent_at r x y w h) k m now
     (untextured_tile r color semi raw u v clut) same
 drawing_is_local r (packet.Fill color x y w h) k m now bare same = same
 drawing_is_local r (packet.Copy from to w h) k m now bare same = same

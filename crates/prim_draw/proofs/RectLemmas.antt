@@ -5,25 +5,25 @@ use Rattle.std.proofs.Common.{refl, sym, ap, ◌∙◌, subst, arith}
 use Rattle.std.proofs.lemmas.Int.{ints}
 use Rattle.vram_store.specs.Vram.{height_of}
 use Rattle.span_lanes.specs.Cells.{Stage}
-use Rattle.span_lanes.specs.Frame.{IsInBlock}
-use Rattle.span_lanes.specs.Pen.{DrawsCells}
+use Rattle.span_lanes.specs.ClipRect.{IsInClip}
+use Rattle.span_lanes.specs.SpanDrawer.{DrawsCells}
 use Rattle.span_lanes.specs.Shade.{HasInside, IsSpan, LiesIn, paint_pixel, row_u, texture_of}
 use Rattle.span_lanes.specs.TexelRows.{CanDrawTexels, texel_span}
-use Rattle.span_lanes.specs.declared.block.Block.{Block}
+use Rattle.span_lanes.specs.declared.clip_rect.ClipRect.{ClipRect}
 use Rattle.span_lanes.specs.declared.span.Brush.{Brush}
 use Rattle.span_lanes.specs.declared.span.Paint.TheVariants.{Flat}
 use Rattle.span_lanes.specs.declared.span.Span.{Span}
 use Rattle.span_lanes.specs.declared.texel_rows.TexelRows.{TexelRows}
 use Rattle.texel_lanes.specs.declared.texture.Texture.{Texture}
-use Rattle.prim_draw.specs.Pattern.{even}
-use Rattle.prim_draw.specs.Rectangles.{paint_from, tile_paint}
+use Rattle.prim_draw.specs.Pattern.{uniform}
+use Rattle.prim_draw.specs.Rectangles.{paint_from, rectangle_paint}
 use Rattle.prim_draw.specs.Rows.{CanDraw, DrawsRun, run_span}
 use Rattle.prim_draw.proofs.RowLemmas.{run_drawn}
 use Rattle.prim_draw.specs.Rectangles.{IsPartOf}
-use Rattle.prim_draw.specs.declared.in_tile.FirstRow.{FirstRow}
-use Rattle.prim_draw.specs.Tiled.{AreTexelsOf, CanTile, IsFirstRow, IsWholeRow, texels_of, tiled_pattern}
-use Rattle.prim_draw.specs.declared.rectangles.Tile.{Tile}
-use Rattle.prim_draw.specs.declared.tiled.Tiled.{Tiled}
+use Rattle.prim_draw.specs.declared.texel_rows_drawer.FirstRow.{FirstRow}
+use Rattle.prim_draw.specs.ClippedRectangle.{AreTexelsOf, CanDrawRectangle, IsFirstRow, IsWholeRow, texels_of, rectangle_pattern}
+use Rattle.prim_draw.specs.declared.rectangles.RectangleSetup.{RectangleSetup}
+use Rattle.prim_draw.specs.declared.clipped_rectangle.ClippedRectangle.{ClippedRectangle}
 use Rattle.span_lanes.specs.declared.span.Run.{Run}
 
 -- the column of a texel, some cells on from some cells on
@@ -33,21 +33,21 @@ unfolding row_u
 row_u-more u true a i le = omega arith
 row_u-more u false a i le = omega arith
 
-along : (tile : Tile) (texture : Option Texture) (brush : Brush) (a row i x y : ℕ) (m : List ℕ) → a + i ≤ 1023
-    → paint_pixel (paint_from tile texture a row) brush x y i m
-    ≡ paint_pixel (paint_from tile texture (a + i) row) brush x y 0 m
-along tile None brush a row i x y m le = refl
-along tile (Some texture) brush a row i x y m le = rw (row_u-more tile.u tile.flip_x a i le) refl
+along : (rectangle_setup : RectangleSetup) (texture : Option Texture) (brush : Brush) (a row i x y : ℕ) (m : List ℕ) → a + i ≤ 1023
+    → paint_pixel (paint_from rectangle_setup texture a row) brush x y i m
+    ≡ paint_pixel (paint_from rectangle_setup texture (a + i) row) brush x y 0 m
+along rectangle_setup None brush a row i x y m le = refl
+along rectangle_setup (Some texture) brush a row i x y m le = rw (row_u-more rectangle_setup.u rectangle_setup.flip_x a i le) refl
 
-texture_is : (tile : Tile) (texture : Option Texture) (column row : ℕ)
-    → texture_of (paint_from tile texture column row) ≡ texture
-texture_is tile None column row = refl
-texture_is tile (Some texture) column row = refl
+texture_is : (rectangle_setup : RectangleSetup) (texture : Option Texture) (column row : ℕ)
+    → texture_of (paint_from rectangle_setup texture column row) ≡ texture
+texture_is rectangle_setup None column row = refl
+texture_is rectangle_setup (Some texture) column row = refl
 
-free : (tile : Tile) (texture : Option Texture) (column row x y n : ℕ)
-    → HasInside (paint_from tile texture column row) x y n
-free tile None column row x y n = tt
-free tile (Some texture) column row x y n = tt
+free : (rectangle_setup : RectangleSetup) (texture : Option Texture) (column row x y n : ℕ)
+    → HasInside (paint_from rectangle_setup texture column row) x y n
+free rectangle_setup None column row x y n = tt
+free rectangle_setup (Some texture) column row x y n = tt
 
 -- the row of a texel, some rows down from some rows down
 row_further : (v : ℕ) (falls : Bool) (rows j : ℕ) → rows + j ≤ 1023
@@ -57,70 +57,70 @@ row_further v true rows j le = omega arith
 row_further v false rows j le = omega arith
 
 -- the row of the page whose texels a row of a block has
-pub texel_row_is : (tiled : Tiled) (first : FirstRow) (y v : ℕ) → IsPartOf tiled.extent.now tiled.block.now
-    → IsFirstRow tiled first → tiled.block.now.y ≤ y → y < tiled.block.now.y + tiled.block.now.h
+pub texel_row_is : (rectangle : ClippedRectangle) (first : FirstRow) (y v : ℕ) → IsPartOf rectangle.extent.now rectangle.clip_rect.now
+    → IsFirstRow rectangle first → rectangle.clip_rect.now.y ≤ y → y < rectangle.clip_rect.now.y + rectangle.clip_rect.now.h
     → v ≡ row_u first.v first.falls (y - first.y)
-    → v ≡ row_u tiled.tile.now.v tiled.tile.now.flip_y (unsigned_abs (pos y -ℤ tiled.extent.now.top))
-texel_row_is tiled first y v part is above below v_is =
-    let b = tiled.block.now in
-    let top = tiled.extent.now.top in
+    → v ≡ row_u rectangle.rectangle_setup.now.v rectangle.rectangle_setup.now.flip_y (unsigned_abs (pos y -ℤ rectangle.extent.now.top))
+texel_row_is rectangle first y v part is above below v_is =
+    let b = rectangle.clip_rect.now in
+    let top = rectangle.extent.now.top in
     let before : ℕ = unsigned_abs (pos b.y -ℤ top) in
     let near : before + (y - b.y) ≤ 1023 = omega (arith, ints, part.top, part.bottom, above, below) in
     let row : before + (y - b.y) ≡ unsigned_abs (pos y -ℤ top) = omega (arith, ints, part.top, above) in
     v_is
     ∙ ap (λ k. row_u first.v first.falls (y - k)) is.y
     ∙ ap (λ k. row_u first.v k (y - b.y)) is.falls
-    ∙ ap (λ k. row_u k tiled.tile.now.flip_y (y - b.y)) is.v
-    ∙ row_further tiled.tile.now.v tiled.tile.now.flip_y before (y - b.y) near
-    ∙ ap (row_u tiled.tile.now.v tiled.tile.now.flip_y) row
+    ∙ ap (λ k. row_u k rectangle.rectangle_setup.now.flip_y (y - b.y)) is.v
+    ∙ row_further rectangle.rectangle_setup.now.v rectangle.rectangle_setup.now.flip_y before (y - b.y) near
+    ∙ ap (row_u rectangle.rectangle_setup.now.v rectangle.rectangle_setup.now.flip_y) row
 
 -- without a texture it is one colour
-pub flat_pattern : (tiled : Tiled) → tiled.tile.now.texture ≡ None
-    → tiled_pattern tiled ≡ even (record { paint = Flat tiled.tile.now.color; brush = tiled.tile.now.brush })
-unfolding tile_paint
-flat_pattern tiled none = rw none refl
+pub flat_pattern : (rectangle : ClippedRectangle) → rectangle.rectangle_setup.now.texture ≡ None
+    → rectangle_pattern rectangle ≡ uniform (record { paint = Flat rectangle.rectangle_setup.now.color; brush = rectangle.rectangle_setup.now.brush })
+unfolding rectangle_paint
+flat_pattern rectangle none = rw none refl
 
-module _ (tiled : Tiled) (y : ℕ) (run : Run) (whole : IsWholeRow tiled.block.now y run) where
-  pub tile_can_draw : (height : ℕ) → CanTile height tiled → CanDraw height (tiled_pattern tiled) y run
-  unfolding tile_paint
+module _ (rectangle : ClippedRectangle) (y : ℕ) (run : Run) (whole : IsWholeRow rectangle.clip_rect.now y run) where
+  pub tile_can_draw : (height : ℕ) → CanDrawRectangle height rectangle → CanDraw height (rectangle_pattern rectangle) y run
+  unfolding rectangle_paint
   tile_can_draw height can =
-      let tile = tiled.tile.now in
-      let e = tiled.extent.now in
+      let rectangle_setup = rectangle.rectangle_setup.now in
+      let e = rectangle.extent.now in
       let column : ℕ = unsigned_abs (pos run.x -ℤ e.left) in
       let row : ℕ = unsigned_abs (pos y -ℤ e.top) in
-      let texture = texture_is tile tile.texture column row in
+      let texture = texture_is rectangle_setup rectangle_setup.texture column row in
       record {
         span = record {
           some = omega (arith, whole.count, can.small.columns);
           in_row = omega (arith, whole.first, whole.count, can.small.right);
-          brush = can.tile.brush;
-          texture = rw texture can.tile.texture;
-          inside = free tile tile.texture column row run.x y run.n;
+          brush = can.rectangle_setup.brush;
+          texture = rw texture can.rectangle_setup.texture;
+          inside = free rectangle_setup rectangle_setup.texture column row run.x y run.n;
         };
-        lies = record { row = omega (arith, whole.bottom, can.block.bottom); page = rw texture can.tile.page };
+        lies = record { row = omega (arith, whole.bottom, can.clip_rect.bottom); page = rw texture can.rectangle_setup.page };
         alike = λ i lt m.
             let on : unsigned_abs (pos (run.x + i) -ℤ e.left) ≡ column + i = omega
             (arith, ints, can.part.left, whole.first) in
             let near : column + i ≤ 1023 = omega
             (arith, ints, can.part.left, can.part.right, whole.first, whole.count, lt) in
-            rw on (along tile tile.texture tile.brush column row i (run.x + i) y m near);
+            rw on (along rectangle_setup rectangle_setup.texture rectangle_setup.brush column row i (run.x + i) y m near);
       }
 
   -- its texels are those of the pattern
-  texels_are : (t : Texture) (v : ℕ) → tiled.tile.now.texture ≡ Some t
-      → v ≡ row_u tiled.tile.now.v tiled.tile.now.flip_y (unsigned_abs (pos y -ℤ tiled.extent.now.top))
-      → texel_span (texels_of tiled t) y v ≡ run_span (tiled_pattern tiled) y run
-  unfolding tile_paint
+  texels_are : (t : Texture) (v : ℕ) → rectangle.rectangle_setup.now.texture ≡ Some t
+      → v ≡ row_u rectangle.rectangle_setup.now.v rectangle.rectangle_setup.now.flip_y (unsigned_abs (pos y -ℤ rectangle.extent.now.top))
+      → texel_span (texels_of rectangle t) y v ≡ run_span (rectangle_pattern rectangle) y run
+  unfolding rectangle_paint
   texels_are t v texture row = rw (whole.first, whole.count, texture, row) refl
 
-  row_is : (rows : TexelRows) (v : ℕ) → AreTexelsOf tiled rows
-      → v ≡ row_u tiled.tile.now.v tiled.tile.now.flip_y (unsigned_abs (pos y -ℤ tiled.extent.now.top))
-      → texel_span rows y v ≡ run_span (tiled_pattern tiled) y run
+  row_is : (rows : TexelRows) (v : ℕ) → AreTexelsOf rectangle rows
+      → v ≡ row_u rectangle.rectangle_setup.now.v rectangle.rectangle_setup.now.flip_y (unsigned_abs (pos y -ℤ rectangle.extent.now.top))
+      → texel_span rows y v ≡ run_span (rectangle_pattern rectangle) y run
   row_is rows v of row = ap (λ (r : TexelRows). texel_span r y v) of.are ∙ texels_are rows.texture v of.texture row
 
-  pub can_draw_texels : (rows : TexelRows) (v : ℕ) (m : List ℕ) → AreTexelsOf tiled rows
-      → v ≡ row_u tiled.tile.now.v tiled.tile.now.flip_y (unsigned_abs (pos y -ℤ tiled.extent.now.top))
-      → CanDraw (height_of m) (tiled_pattern tiled) y run → CanDrawTexels rows y v m
+  pub can_draw_texels : (rows : TexelRows) (v : ℕ) (m : List ℕ) → AreTexelsOf rectangle rows
+      → v ≡ row_u rectangle.rectangle_setup.now.v rectangle.rectangle_setup.now.flip_y (unsigned_abs (pos y -ℤ rectangle.extent.now.top))
+      → CanDraw (height_of m) (rectangle_pattern rectangle) y run → CanDrawTexels rows y v m
   can_draw_texels rows v m of row can =
       let is = row_is rows v of row in
       record {
@@ -128,14 +128,14 @@ module _ (tiled : Tiled) (y : ℕ) (run : Run) (whole : IsWholeRow tiled.block.n
           span = subst (λ (s : Span). IsSpan s) (sym is) can.span;
           lies = subst (λ (s : Span). LiesIn (height_of m) s) (sym is) can.lies;
         };
-        in_block = subst (λ (b : Block). IsInBlock b b.x y b.w) (sym (ap (λ (r : TexelRows). r.block) of.are))
+        in_block = subst (λ (b : ClipRect). IsInClip b b.x y b.w) (sym (ap (λ (r : TexelRows). r.clip_rect) of.are))
             (record { left = omega arith; right = omega arith; top = whole.top; bottom = whole.bottom });
       }
 
-  pub texels_drawn : (rows : TexelRows) (height v : ℕ) (before after : Stage) → AreTexelsOf tiled rows
-      → v ≡ row_u tiled.tile.now.v tiled.tile.now.flip_y (unsigned_abs (pos y -ℤ tiled.extent.now.top))
-      → CanDraw height (tiled_pattern tiled) y run
+  pub texels_drawn : (rows : TexelRows) (height v : ℕ) (before after : Stage) → AreTexelsOf rectangle rows
+      → v ≡ row_u rectangle.rectangle_setup.now.v rectangle.rectangle_setup.now.flip_y (unsigned_abs (pos y -ℤ rectangle.extent.now.top))
+      → CanDraw height (rectangle_pattern rectangle) y run
       → DrawsCells (texel_span rows y v) before after
-      → DrawsRun (tiled_pattern tiled) y (Some run) before after
+      → DrawsRun (rectangle_pattern rectangle) y (Some run) before after
   texels_drawn rows height v before after of row can drawn =
-      run_drawn height (tiled_pattern tiled) y run (texel_span rows y v) before after can (row_is rows v of row) drawn
+      run_drawn height (rectangle_pattern rectangle) y run (texel_span rows y v) before after can (row_is rows v of row) drawn

@@ -13,7 +13,7 @@ use Rattle.edge_walk.specs.Triangle.{Corners, is_inside}
 use Rattle.span_lanes.specs.Cells.{drawn_cells, cell_in_row, row_cells}
 use Rattle.span_lanes.specs.Cost.{span_cost}
 use Rattle.span_lanes.specs.Cells.{Stage}
-use Rattle.span_lanes.specs.Pen.{DrawsCells}
+use Rattle.span_lanes.specs.SpanDrawer.{DrawsCells}
 use Rattle.span_lanes.specs.Shade.{shade, shade_at}
 use Rattle.span_lanes.specs.declared.span.Span.{Span}
 use Rattle.span_lanes.proofs.CellsLemmas.{cells_append, row_more, row_none, row_same}
@@ -23,7 +23,7 @@ use Rattle.prim_draw.specs.Pattern.{Pattern, painted_cells, pixel_at, span_from}
 use Rattle.prim_draw.specs.Rows.{CanDraw, DrawsRows, DrawsRun, Figure, run_span}
 use Rattle.prim_draw.specs.Triangles.{draws, row_inside, run_cells}
 use Rattle.span_lanes.specs.declared.span.Run.{Run}
-use Rattle.span_lanes.specs.declared.block.Block.{Block}
+use Rattle.span_lanes.specs.declared.clip_rect.ClipRect.{ClipRect}
 
 -- a test holds in a row from one column on, of so many cells, and nowhere else in its first w cells
 pub record HoldsInRun (test : Cell → Bool) (x y w first count : ℕ) : Type 0 where
@@ -85,14 +85,14 @@ not_true true h = absurd (h refl)
 not_true false h = refl
 
 -- the first column of a run and its number of cells, from its ends
-pub record IsFound (t : Corners) (b : Block) (y x n : ℕ) : Type 0 where
+pub record IsFound (t : Corners) (b : ClipRect) (y x n : ℕ) : Type 0 where
   pub some : 1 ≤ n
   pub left : b.x ≤ x
   pub right : x + n ≤ b.x + b.w
   pub inside : (i : ℕ) → i < n → IsTrue (is_inside t (pos (x + i)) (pos y))
   pub cells : HoldsInRun (draws t) b.x y b.w x n
 
-module _ (t : Corners) (b : Block) (y : ℕ) (first last : ℤ) (some : 1 ≤ b.w)
+module _ (t : Corners) (b : ClipRect) (y : ℕ) (first last : ℤ) (some : 1 ≤ b.w)
     (h : IsRowSpan t (pos y) (row_box b y) first last) where
   pub first_in : (pos b.x ≤ℤ first) × (first ≤ℤ pos (b.x + b.w - 1))
   first_in = (((h.cells first).1 (omega (arith, ints), h.order)).0).0
@@ -129,7 +129,7 @@ module _ (t : Corners) (b : Block) (y : ℕ) (first last : ℤ) (some : 1 ≤ b.
       }
 
 -- no cell of a row is inside
-pub none_found : (t : Corners) (b : Block) (y : ℕ) → 1 ≤ b.w
+pub none_found : (t : Corners) (b : ClipRect) (y : ℕ) → 1 ≤ b.w
     → ((x : ℤ) → IsInBox (row_box b y) x (pos y) → is_inside t x (pos y) ≡ false)
     → filter (draws t) (row_cells b.x y b.w) ≡ []
 none_found t b y some none =
@@ -207,7 +207,7 @@ rows_next f count found before now after is so_far run = record {
 }
 
 -- the cells of a block that a triangle draws, by rows
-pub inside_rows : (t : Corners) (b : Block) (h : ℕ)
+pub inside_rows : (t : Corners) (b : ClipRect) (h : ℕ)
     → cells_down (row_inside t b) b.y h ≡ filter (draws t) (cells_in_rows b.x b.y b.w h)
 inside_rows t b zero = refl
 inside_rows t b (suc h) =

@@ -4,23 +4,23 @@ use Rattle.std.proofs.lemmas.Int.{ints}
 use Rattle.px_num.specs.declared.shape.Box2.{Box2}
 use Rattle.edge_walk.specs.Triangle.{Corners}
 use Rattle.span_lanes.specs.Cells.{Stage}
-use Rattle.span_lanes.specs.Frame.{IsBlock}
-use Rattle.span_lanes.specs.declared.block.Block.{Block}
-use Rattle.prim_draw.specs.Blocks.{CanDrawRows}
-use Rattle.prim_draw.specs.Boxes.{IsOnScreen, block_of}
-use Rattle.prim_draw.specs.Pattern.{Pattern, even}
-use Rattle.prim_draw.specs.Rows.{CanDraw, DrawsRows, LiesInBlock}
+use Rattle.span_lanes.specs.ClipRect.{IsClipRect}
+use Rattle.span_lanes.specs.declared.clip_rect.ClipRect.{ClipRect}
+use Rattle.prim_draw.specs.ClippedTriangle.{CanDrawRows}
+use Rattle.prim_draw.specs.Boxes.{IsOnScreen, clip_rect_of}
+use Rattle.prim_draw.specs.Pattern.{Pattern, uniform}
+use Rattle.prim_draw.specs.Rows.{CanDraw, DrawsRows, LiesInClip}
 use Rattle.prim_draw.specs.Triangles.{IsRun, row_inside}
 use Rattle.prim_draw.specs.Walks.{AreRowsIn, StandAt}
-use Rattle.span_lanes.specs.declared.span.Coat.{Coat}
-use Rattle.prim_draw.specs.declared.tri_rows.TriRows.{TriRows}
+use Rattle.span_lanes.specs.declared.span.DrawState.{DrawState}
+use Rattle.prim_draw.specs.declared.triangle_rows.TriangleRows.{TriangleRows}
 use Rattle.span_lanes.specs.declared.span.Run.{Run}
 use Rattle.prim_draw.proofs.WalkLemmas.{box_is}
 
 -- a run of a triangle can be drawn with its coat
-can_draw : (height : ℕ) (coat : Coat) (t : Corners) (clip : Box2) (y : ℕ) (run : Run) → CanDrawRows height coat t clip
-    → IsRun t y run → LiesInBlock (block_of clip) y run → CanDraw height (even coat) y run
-can_draw height coat t clip y run can is lies =
+can_draw : (height : ℕ) (state : DrawState) (t : Corners) (clip : Box2) (y : ℕ) (run : Run) → CanDrawRows height state t clip
+    → IsRun t y run → LiesInClip (clip_rect_of clip) y run → CanDraw height (uniform state) y run
+can_draw height state t clip y run can is lies =
     let box = box_is clip can.small in
     record {
       span = record {
@@ -34,14 +34,14 @@ can_draw height coat t clip y run can is lies =
         row = omega (arith, ints, lies.bottom, box.bottom, box.rows, can.in_height.bottom);
         page = can.is_coat.page;
       };
-      alike = λ i lt m. can.is_coat.alike.alike coat.brush (run.x + i) y i 0 m;
+      alike = λ i lt m. can.is_coat.alike.alike state.brush (run.x + i) y i 0 m;
     }
 
-module _ (t : Corners) (clip : Box2) (rows : TriRows) (are : AreRowsIn t clip rows) where
-  pub tri_block : IsOnScreen 1024 clip → IsBlock 1024 rows.block
+module _ (t : Corners) (clip : Box2) (rows : TriangleRows) (are : AreRowsIn t clip rows) where
+  pub tri_block : IsOnScreen 1024 clip → IsClipRect 1024 rows.clip_rect
   tri_block small =
       let box = box_is clip small in
-      subst (IsBlock 1024) (sym are.block)
+      subst (IsClipRect 1024) (sym are.clip_rect)
       (record {
         columns = box.some;
         rows = box.rows;
@@ -49,22 +49,22 @@ module _ (t : Corners) (clip : Box2) (rows : TriRows) (are : AreRowsIn t clip ro
         bottom = omega (arith, ints, box.bottom, box.rows, small.bottom);
       })
 
-  pub tri_stands : StandAt rows rows.block.y
-  tri_stands = subst (λ (b : Block). StandAt rows b.y) (sym are.block) are.stand
+  pub tri_stands : StandAt rows rows.clip_rect.y
+  tri_stands = subst (λ (b : ClipRect). StandAt rows b.y) (sym are.clip_rect) are.stand
 
-  pub tri_can_draw : (height : ℕ) (coat : Coat) (y : ℕ) (run : Run) → CanDrawRows height coat t clip
-      → IsRun rows.tri.now y run × LiesInBlock rows.block y run → CanDraw height (even coat) y run
-  tri_can_draw height coat y run can gives =
-      can_draw height coat t clip y run can (subst (λ (k : Corners). IsRun k y run) are.tri gives.0)
-      (subst (λ (b : Block). LiesInBlock b y run) are.block gives.1)
+  pub tri_can_draw : (height : ℕ) (state : DrawState) (y : ℕ) (run : Run) → CanDrawRows height state t clip
+      → IsRun rows.tri.now y run × LiesInClip rows.clip_rect y run → CanDraw height (uniform state) y run
+  tri_can_draw height state y run can gives =
+      can_draw height state t clip y run can (subst (λ (k : Corners). IsRun k y run) are.tri gives.0)
+      (subst (λ (b : ClipRect). LiesInClip b y run) are.clip_rect gives.1)
 
   pub tri_drawn : (p : Pattern) (before after : Stage)
-      → DrawsRows (record { pattern = p; row = row_inside rows.tri.now rows.block; top = rows.block.y })
-      rows.block.h before after
-      → DrawsRows (record { pattern = p; row = row_inside t (block_of clip); top = (block_of clip).y })
-      (block_of clip).h before after
+      → DrawsRows (record { pattern = p; row = row_inside rows.tri.now rows.clip_rect; top = rows.clip_rect.y })
+      rows.clip_rect.h before after
+      → DrawsRows (record { pattern = p; row = row_inside t (clip_rect_of clip); top = (clip_rect_of clip).y })
+      (clip_rect_of clip).h before after
   tri_drawn p before after drawn =
-      subst (λ (b : Block). DrawsRows (record { pattern = p; row = row_inside t b; top = b.y }) b.h before after)
-      are.block
-      (subst (λ (k : Corners). DrawsRows (record { pattern = p; row = row_inside k rows.block; top = rows.block.y })
-      rows.block.h before after) are.tri drawn)
+      subst (λ (b : ClipRect). DrawsRows (record { pattern = p; row = row_inside t b; top = b.y }) b.h before after)
+      are.clip_rect
+      (subst (λ (k : Corners). DrawsRows (record { pattern = p; row = row_inside k rows.clip_rect; top = rows.clip_rect.y })
+      rows.clip_rect.h before after) are.tri drawn)

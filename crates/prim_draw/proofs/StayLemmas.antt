@@ -17,21 +17,21 @@ use Rattle.span_lanes.specs.Cells.{drawn_cells, row_cells, cell_in_row}
 use Rattle.span_lanes.specs.declared.span.Brush.{Brush}
 use Rattle.span_lanes.specs.declared.span.Paint.TheVariants.{Flat}
 use Rattle.prim_draw.specs.Areas.{area_of, hull, joined, polygon_area}
-use Rattle.prim_draw.specs.Boxes.{block_of, cells_in_rows, cells_of, clipped, overlap, some_box}
+use Rattle.prim_draw.specs.Boxes.{clip_rect_of, cells_in_rows, cells_of, clipped, overlap, some_box}
 use Rattle.prim_draw.specs.Draw.{drawn_packet}
 use Rattle.prim_draw.specs.Lines.{drawn_ends, drawn_point, drawn_points, ends_box, is_in, cell_of, placed_ends}
 use Rattle.prim_draw.specs.Lines.{segment_box}
 use Rattle.prim_draw.specs.Parts.{polygon, polygon_style, rectangle_style}
-use Rattle.prim_draw.specs.Rectangles.{cells_box, extent_at, drawn_all, drawn_rectangle, rectangle_box, tile_in}
+use Rattle.prim_draw.specs.Rectangles.{cells_box, extent_at, drawn_all, drawn_rectangle, rectangle_box, rectangle_setup_in}
 use Rattle.prim_draw.specs.Rectangles.{pattern_of}
-use Rattle.prim_draw.specs.Pattern.{even, pixel_at}
+use Rattle.prim_draw.specs.Pattern.{uniform, pixel_at}
 use Rattle.gp1_status.specs.Drawing.{drawing_area}
 use Rattle.prim_draw.specs.Settings.{brush_in}
 use Rattle.prim_draw.specs.Triangles.{draws, drawn_inside, drawn_polygon, drawn_triangle}
-use Rattle.prim_draw.specs.Triangles.{triangle_box, triangle_coat, upper_half, lower_half}
-use Rattle.span_lanes.specs.declared.span.Coat.{Coat}
+use Rattle.prim_draw.specs.Triangles.{triangle_box, triangle_state, upper_half, lower_half}
+use Rattle.span_lanes.specs.declared.span.DrawState.{DrawState}
 use Rattle.prim_draw.specs.declared.rectangles.Extent.{Extent}
-use Rattle.prim_draw.specs.declared.rectangles.Tile.{Tile}
+use Rattle.prim_draw.specs.declared.rectangles.RectangleSetup.{RectangleSetup}
 use Rattle.prim_draw.specs.declared.style.Style.{Style}
 use Rattle.prim_draw.specs.declared.polygon.Polygon.{Polygon}
 use Rattle.prim_draw.proofs.PointLemmas.{LiesBetween, columns_of, rows_of}
@@ -81,9 +81,9 @@ pub record IsSeen (b : Box2) : Type 0 where
   pub top : pos 0 ≤ℤ b.y1
   pub down : b.y1 ≤ℤ b.y2
 
-in_block : (b : Box2) (i j : ℕ) → IsSeen b → i < (block_of b).w → j < (block_of b).h
-    → Has b (1024 * ((block_of b).y + j) + ((block_of b).x + i))
-unfolding block_of
+in_block : (b : Box2) (i j : ℕ) → IsSeen b → i < (clip_rect_of b).w → j < (clip_rect_of b).h
+    → Has b (1024 * ((clip_rect_of b).y + j) + ((clip_rect_of b).x + i))
+unfolding clip_rect_of
 in_block b i j seen lt lu =
     let column : pos (unsigned_abs b.x1 + i) ≤ℤ b.x2 = omega (arith, ints, seen.left, seen.across, lt) in
     let row : pos (unsigned_abs b.y1 + j) ≤ℤ b.y2 = omega (arith, ints, seen.top, seen.down, lu) in
@@ -98,8 +98,8 @@ in_block b i j seen lt lu =
       bottom = rw y row;
     }
 
-each_in_box : (b : Box2) → IsSeen b → EachCell (Has b) (cells_of (block_of b))
-each_in_box b seen = each_rows (Has b) (block_of b).x (block_of b).y (block_of b).w (block_of b).h
+each_in_box : (b : Box2) → IsSeen b → EachCell (Has b) (cells_of (clip_rect_of b))
+each_in_box b seen = each_rows (Has b) (clip_rect_of b).x (clip_rect_of b).y (clip_rect_of b).w (clip_rect_of b).h
     (λ i j lt lu. in_block b i j seen lt lu)
 
 -- ---- boxes that are cut by the drawing area
@@ -143,16 +143,16 @@ rectangle_seen r e = test_unseen r (cells_box e) _
 
 -- ---- triangles
 
-inside_stays : (coat : Coat) (t : Corners) (b : Option Box2) (m : List ℕ) → IfSome b IsSeen
-    → AgreeOutside b m (drawn_inside coat t b m)
-inside_stays coat t None m seen = but_same _ m
-inside_stays coat t (Some b) m seen = cells_but (Has b) (pixel_at (even coat)) coat.brush.mask _ m
-    (each_filter (Has b) (draws t) (cells_of (block_of b)) (each_in_box b seen))
+inside_stays : (state : DrawState) (t : Corners) (b : Option Box2) (m : List ℕ) → IfSome b IsSeen
+    → AgreeOutside b m (drawn_inside state t b m)
+inside_stays state t None m seen = but_same _ m
+inside_stays state t (Some b) m seen = cells_but (Has b) (pixel_at (uniform state)) state.brush.mask _ m
+    (each_filter (Has b) (draws t) (cells_of (clip_rect_of b)) (each_in_box b seen))
 
 triangle_stays : (r : Registers) (style : Style) (t : Corners) (m : List ℕ)
     → AgreeOutside (triangle_box r t) m (drawn_triangle r style t m)
 unfolding drawn_triangle
-triangle_stays r style t m = inside_stays (triangle_coat r style t) t (triangle_box r t) m (triangle_seen r t)
+triangle_stays r style t m = inside_stays (triangle_state r style t) t (triangle_box r t) m (triangle_seen r t)
 
 in_first : (a b : Option Box2) (k : ℕ) → IsIn a k → IsIn (joined a b) k
 unfolding hull
@@ -200,16 +200,16 @@ polygon_stays r style p m = by_test p.four
 
 -- ---- rectangles
 
-all_stays : (tile : Tile) (e : Extent) (b : Option Box2) (m : List ℕ) → IfSome b IsSeen
-    → AgreeOutside b m (drawn_all tile e b m)
-all_stays tile e None m seen = but_same _ m
-all_stays tile e (Some b) m seen = cells_but (Has b) (pixel_at (pattern_of tile e)) tile.brush.mask _ m
+all_stays : (rectangle_setup : RectangleSetup) (e : Extent) (b : Option Box2) (m : List ℕ) → IfSome b IsSeen
+    → AgreeOutside b m (drawn_all rectangle_setup e b m)
+all_stays rectangle_setup e None m seen = but_same _ m
+all_stays rectangle_setup e (Some b) m seen = cells_but (Has b) (pixel_at (pattern_of rectangle_setup e)) rectangle_setup.brush.mask _ m
     (each_in_box b seen)
 
-rectangle_stays : (r : Registers) (tile : Tile) (e : Extent) (m : List ℕ)
-    → AgreeOutside (rectangle_box r e) m (drawn_rectangle r tile e m)
+rectangle_stays : (r : Registers) (rectangle_setup : RectangleSetup) (e : Extent) (m : List ℕ)
+    → AgreeOutside (rectangle_box r e) m (drawn_rectangle r rectangle_setup e m)
 unfolding drawn_rectangle
-rectangle_stays r tile e m = all_stays tile e (rectangle_box r e) m (rectangle_seen r e)
+rectangle_stays r rectangle_setup e m = all_stays rectangle_setup e (rectangle_box r e) m (rectangle_seen r e)
 
 -- ---- lines
 
@@ -267,10 +267,10 @@ point_stays r brush s p m amid = by_test (is_in (drawing_area r) p) refl
   where
     by_test : (b : Bool) → is_in (drawing_area r) p ≡ b
         → AgreeOutside (clipped r (ends_box s)) m
-        (cond b (drawn_cells (pixel_at (even (record { paint = Flat p.color; brush = brush }))) brush.mask
+        (cond b (drawn_cells (pixel_at (uniform (record { paint = Flat p.color; brush = brush }))) brush.mask
         (cell_of p ∷ []) m) m)
     by_test true e = cells_but (IsIn (clipped r (ends_box s)))
-        (pixel_at (even (record { paint = Flat p.color; brush = brush }))) brush.mask (cell_of p ∷ []) m
+        (pixel_at (uniform (record { paint = Flat p.color; brush = brush }))) brush.mask (cell_of p ∷ []) m
         (in_segment r s p amid e, tt)
     by_test false e = but_same _ m
 
@@ -295,7 +295,7 @@ drawing_stays r (packet.Poly four a b c d shaded textured semi raw clut page) m 
     polygon_stays r (polygon_style shaded textured semi raw clut a) (polygon four a b c d) m
 drawing_stays r (packet.Segment a b semi) m = ends_stays r semi (placed_ends r a b) m
 drawing_stays r (packet.Rect x y w h color textured semi raw u v clut) m =
-    rectangle_stays r (tile_in r (rectangle_style color textured semi raw clut) u v) (extent_at r x y w h) m
+    rectangle_stays r (rectangle_setup_in r (rectangle_style color textured semi raw clut) u v) (extent_at r x y w h) m
 drawing_stays r (packet.Fill color x y w h) m = but_same _ m
 drawing_stays r (packet.Copy from to w h) m = but_same _ m
 drawing_stays r (packet.Load x y w h) m = but_same _ m

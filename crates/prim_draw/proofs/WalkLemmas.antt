@@ -6,10 +6,10 @@ use Rattle.edge_walk.specs.Extent.{bounding_box}
 use Rattle.edge_walk.specs.Row.{IsInBox, IsRowSpan}
 use Rattle.edge_walk.specs.Triangle.{Corners, is_inside}
 use Rattle.edge_walk.specs.Walk.{HasRows}
-use Rattle.edge_walk.specs.declared.walk.RowWalk.{RowWalk}
-use Rattle.prim_draw.specs.Boxes.{block_of, row_box, IsOnScreen, LiesIn}
+use Rattle.edge_walk.specs.declared.row_scan.RowScan.{RowScan}
+use Rattle.prim_draw.specs.Boxes.{clip_rect_of, row_box, IsOnScreen, LiesIn}
 use Rattle.prim_draw.specs.Walks.{IsRowOf, StandAt}
-use Rattle.prim_draw.specs.declared.tri_rows.TriRows.{TriRows}
+use Rattle.prim_draw.specs.declared.triangle_rows.TriangleRows.{TriangleRows}
 
 -- a block of video memory and its box
 pub record IsBoxOf (clip : Box2) (x y w h : ℕ) : Type 0 where
@@ -21,9 +21,9 @@ pub record IsBoxOf (clip : Box2) (x y w h : ℕ) : Type 0 where
   pub rows : 1 ≤ h
   pub in_row : x + w ≤ 1024
 
-pub box_is : (clip : Box2) → IsOnScreen 1024 clip → IsBoxOf clip (block_of clip).x (block_of clip).y (block_of clip).w
-    (block_of clip).h
-unfolding block_of
+pub box_is : (clip : Box2) → IsOnScreen 1024 clip → IsBoxOf clip (clip_rect_of clip).x (clip_rect_of clip).y (clip_rect_of clip).w
+    (clip_rect_of clip).h
+unfolding clip_rect_of
 box_is clip h = record {
   left = omega (arith, ints, h.left);
   right = omega (arith, ints, h.left, h.across);
@@ -34,38 +34,38 @@ box_is clip h = record {
   in_row = omega (arith, ints, h.left, h.across, h.right);
 }
 
-module _ (t : Corners) (clip : Box2) (y : ℕ) (rows : RowWalk) (h : IsRowOf t clip y rows) where
-  in_clip : (x : ℤ) → IsInBox (row_box (block_of clip) y) x (pos y) → IsInBox clip x (pos y)
+module _ (t : Corners) (clip : Box2) (y : ℕ) (rows : RowScan) (h : IsRowOf t clip y rows) where
+  in_clip : (x : ℤ) → IsInBox (row_box (clip_rect_of clip) y) x (pos y) → IsInBox clip x (pos y)
   in_clip x i = let b = box_is clip h.on_screen in
       ((omega (arith, ints, i.0.0, b.left), omega (arith, ints, i.0.1, b.right)), (h.stands.above, h.in_box))
 
-  in_row : (x : ℤ) → IsInBox clip x (pos y) → IsInBox (row_box (block_of clip) y) x (pos y)
+  in_row : (x : ℤ) → IsInBox clip x (pos y) → IsInBox (row_box (clip_rect_of clip) y) x (pos y)
   in_row x i = let b = box_is clip h.on_screen in (
     (omega (arith, ints, i.0.0, b.left), omega (arith, ints, i.0.1, b.right)),
     (omega (arith, ints), omega (arith, ints)),
   )
 
   pub row_span : (first last : ℤ) → IsRowSpan t (pos y) clip first last
-      → IsRowSpan t (pos y) (row_box (block_of clip) y) first last
+      → IsRowSpan t (pos y) (row_box (clip_rect_of clip) y) first last
   row_span first last s = record {
     order = s.order;
     cells = λ x. (λ i. (s.cells x).0 (in_clip x i.0, i.1), λ i. let r = (s.cells x).1 i in (in_row x r.0, r.1));
   }
 
   pub row_none : ((x : ℤ) → IsInBox clip x (pos y) → is_inside t x (pos y) ≡ false) → (x : ℤ)
-      → IsInBox (row_box (block_of clip) y) x (pos y) → is_inside t x (pos y) ≡ false
+      → IsInBox (row_box (clip_rect_of clip) y) x (pos y) → is_inside t x (pos y) ≡ false
   row_none none x i = none x (in_clip x i)
 
 pub has_rows : (t : Corners) (clip : Box2) → IsOnScreen 1024 clip → LiesIn (bounding_box t) clip → HasRows t clip
 has_rows t clip h lies = record { top = lies.top; some = h.down; bottom = lies.bottom }
 
-pub at_row : (rows : TriRows) (y : ℕ) → StandAt rows y → y < rows.block.y + rows.block.h
+pub at_row : (rows : TriangleRows) (y : ℕ) → StandAt rows y → y < rows.clip_rect.y + rows.clip_rect.h
     → IsRowOf rows.tri.now rows.clip.now y rows.walk
 at_row rows y at within =
     let clip = rows.clip.now in
     let box = box_is clip at.on_screen in
-    let y_is : rows.block.y ≡ (block_of clip).y = ap (λ k. k.y) at.block in
-    let h_is : rows.block.h ≡ (block_of clip).h = ap (λ k. k.h) at.block in
+    let y_is : rows.clip_rect.y ≡ (clip_rect_of clip).y = ap (λ k. k.y) at.clip_rect in
+    let h_is : rows.clip_rect.h ≡ (clip_rect_of clip).h = ap (λ k. k.h) at.clip_rect in
     record {
       stands = at.stands;
       on_screen = at.on_screen;

@@ -7,7 +7,7 @@ use Rattle.px_num.specs.declared.shape.Cell.{Cell}
 use Rattle.gp1_status.specs.Registers.{Registers}
 use Rattle.span_lanes.specs.Cells.{row_cells}
 use Rattle.gp1_status.specs.Drawing.{drawing_area}
-use Rattle.span_lanes.specs.declared.block.Block.{Block}
+use Rattle.span_lanes.specs.declared.clip_rect.ClipRect.{ClipRect}
 
 -- a box, or none where it has no cell
 unfoldable pub some_box : Box2 → Option Box2
@@ -43,8 +43,8 @@ pub record LiesIn (outer b : Box2) : Type 0 where
   pub bottom : b.y2 ≤ℤ outer.y2
 
 -- a box of video memory by its first cell and its sides
-unfoldable pub block_of : Box2 → Block
-block_of b = record {
+unfoldable pub clip_rect_of : Box2 → ClipRect
+clip_rect_of b = record {
   x = unsigned_abs b.x1;
   y = unsigned_abs b.y1;
   w = unsigned_abs (b.x2 -ℤ b.x1) + 1;
@@ -61,22 +61,22 @@ abbrev pub cells_in_rows : (x y w h : ℕ) → List Cell
 cells_in_rows x y w h = cells_down (λ row. row_cells x row w) y h
 
 -- all cells of row y of a block
-abbrev pub block_row : Block → (y : ℕ) → List Cell
-block_row b y = row_cells b.x y b.w
+abbrev pub clip_row : ClipRect → (y : ℕ) → List Cell
+clip_row b y = row_cells b.x y b.w
 
 -- all cells of a block
-abbrev pub cells_of : Block → List Cell
+abbrev pub cells_of : ClipRect → List Cell
 cells_of b = cells_in_rows b.x b.y b.w b.h
 
 -- their number
-abbrev pub count_of : Block → ℕ
+abbrev pub count_of : ClipRect → ℕ
 count_of b = b.w * b.h
 
 -- the cells that none or a box has
 abbrev pub count_in : Option Box2 → ℕ
 count_in None = 0
-count_in (Some b) = count_of (block_of b)
+count_in (Some b) = count_of (clip_rect_of b)
 
 -- one row of a block, as a box
-abbrev pub row_box : Block → ℕ → Box2
+abbrev pub row_box : ClipRect → ℕ → Box2
 row_box b y = record { x1 = pos b.x; y1 = pos y; x2 = pos (b.x + b.w - 1); y2 = pos y }

@@ -8,17 +8,17 @@ use Rattle.gp1_status.specs.Registers.{Registers}
 use Rattle.edge_walk.specs.Triangle.{Corners}
 use Rattle.line_walk.specs.Line.{Ends, is_near, len_of, point_of}
 use Rattle.span_lanes.specs.Cost.{span_cost}
-use Rattle.prim_draw.specs.Boxes.{block_of, block_row, count_in}
+use Rattle.prim_draw.specs.Boxes.{clip_rect_of, clip_row, count_in}
 use Rattle.prim_draw.specs.Lines.{is_in, placed_ends, segment_box}
 use Rattle.prim_draw.specs.Parts.{polygon, polygon_style, rectangle_style}
-use Rattle.prim_draw.specs.Pattern.{Pattern, even, span_from}
-use Rattle.prim_draw.specs.Rectangles.{extent_at, pattern_of, rectangle_box, tile_in}
+use Rattle.prim_draw.specs.Pattern.{Pattern, uniform, span_from}
+use Rattle.prim_draw.specs.Rectangles.{extent_at, pattern_of, rectangle_box, rectangle_setup_in}
 use Rattle.gp1_status.specs.Drawing.{drawing_area}
-use Rattle.prim_draw.specs.Triangles.{lower_half, row_inside, triangle_box, triangle_coat, upper_half}
-use Rattle.span_lanes.specs.declared.span.Coat.{Coat}
+use Rattle.prim_draw.specs.Triangles.{lower_half, row_inside, triangle_box, triangle_state, upper_half}
+use Rattle.span_lanes.specs.declared.span.DrawState.{DrawState}
 use Rattle.prim_draw.specs.declared.polygon.Polygon.{Polygon}
 use Rattle.prim_draw.specs.declared.rectangles.Extent.{Extent}
-use Rattle.prim_draw.specs.declared.rectangles.Tile.{Tile}
+use Rattle.prim_draw.specs.declared.rectangles.RectangleSetup.{RectangleSetup}
 use Rattle.prim_draw.specs.declared.style.Style.{Style}
 
 -- the drawn cells of a row, which stand side by side, as one span
@@ -33,12 +33,12 @@ cost_down p row top (suc count) = cost_down p row top count + side_by_side p (ro
 
 -- ---- triangles
 
-abbrev pub inside_cost : Coat → Corners → Option Box2 → ℕ
-inside_cost coat t None = 0
-inside_cost coat t (Some b) = cost_down (even coat) (row_inside t (block_of b)) (block_of b).y (block_of b).h
+abbrev pub inside_cost : DrawState → Corners → Option Box2 → ℕ
+inside_cost state t None = 0
+inside_cost state t (Some b) = cost_down (uniform state) (row_inside t (clip_rect_of b)) (clip_rect_of b).y (clip_rect_of b).h
 
 unfoldable pub triangle_cost : Registers → Style → Corners → ℕ
-triangle_cost r style t = inside_cost (triangle_coat r style t) t (triangle_box r t)
+triangle_cost r style t = inside_cost (triangle_state r style t) t (triangle_box r t)
 
 unfoldable pub polygon_cost : Registers → Style → Polygon → ℕ
 polygon_cost r style p =
@@ -46,12 +46,12 @@ polygon_cost r style p =
 
 -- ---- rectangles
 
-abbrev pub all_cost : Tile → Extent → Option Box2 → ℕ
-all_cost tile e None = 0
-all_cost tile e (Some b) = cost_down (pattern_of tile e) (block_row (block_of b)) (block_of b).y (block_of b).h
+abbrev pub all_cost : RectangleSetup → Extent → Option Box2 → ℕ
+all_cost rectangle_setup e None = 0
+all_cost rectangle_setup e (Some b) = cost_down (pattern_of rectangle_setup e) (clip_row (clip_rect_of b)) (clip_rect_of b).y (clip_rect_of b).h
 
-unfoldable pub rectangle_cost : Registers → Tile → Extent → ℕ
-rectangle_cost r tile e = all_cost tile e (rectangle_box r e)
+unfoldable pub rectangle_cost : Registers → RectangleSetup → Extent → ℕ
+rectangle_cost r rectangle_setup e = all_cost rectangle_setup e (rectangle_box r e)
 
 -- ---- segments
 
@@ -71,7 +71,7 @@ draw_cost r (packet.Poly four a b c d shaded textured semi raw clut page) =
     polygon_cost r (polygon_style shaded textured semi raw clut a) (polygon four a b c d)
 draw_cost r (packet.Segment a b semi) = ends_cost r (placed_ends r a b)
 draw_cost r (packet.Rect x y w h color textured semi raw u v clut) =
-    rectangle_cost r (tile_in r (rectangle_style color textured semi raw clut) u v) (extent_at r x y w h)
+    rectangle_cost r (rectangle_setup_in r (rectangle_style color textured semi raw clut) u v) (extent_at r x y w h)
 draw_cost r (packet.Fill color x y w h) = 0
 draw_cost r (packet.Copy from to w h) = 0
 draw_cost r (packet.Load x y w h) = 0

@@ -1,10 +1,10 @@
 pub mod Apart
 pub mod Areas
-pub mod Blocks
+pub mod ClippedTriangle
 pub mod Boxes
 pub mod Costs
 pub mod Draw
-pub mod Ink
+pub mod PointColor
 pub mod Laws
 pub mod Lines
 pub mod Parts
@@ -13,8 +13,8 @@ pub mod Rectangles
 pub mod Rows
 pub mod Settings
 pub mod Solids
-pub mod Spots
+pub mod ScreenPoints
 pub mod Staying
-pub mod Tiled
+pub mod ClippedRectangle
 pub mod Triangles
 pub mod Walks

@@ -12,7 +12,7 @@ use Rattle.span_lanes.specs.declared.span.Brush.{Brush}
 use Rattle.span_lanes.specs.declared.span.Paint.TheVariants.{Flat}
 use Rattle.prim_draw.specs.Boxes.{clipped}
 use Rattle.gp1_status.specs.Drawing.{drawing_area}
-use Rattle.prim_draw.specs.Pattern.{even, painted_cells}
+use Rattle.prim_draw.specs.Pattern.{uniform, painted_cells}
 use Rattle.prim_draw.specs.Settings.{brush_in, placed}
 
 -- the smallest box that has both ends
@@ -40,7 +40,7 @@ cell_of p = record { x = unsigned_abs p.x; y = unsigned_abs p.y }
 
 -- a cell is drawn in one colour
 abbrev pub plotted : Brush → Cell → ℕ → List ℕ → List ℕ
-plotted brush cell color m = painted_cells (even (record { paint = Flat color; brush = brush })) (cell ∷ []) m
+plotted brush cell color m = painted_cells (uniform (record { paint = Flat color; brush = brush })) (cell ∷ []) m
 
 -- a point is drawn where it lies in the drawing area
 unfoldable pub drawn_point : Box2 → Brush → Vertex → List ℕ → List ℕ

@@ -20,11 +20,11 @@ abbrev pub polygon : (four : Bool) → (a b c d : Vertex) → Polygon
 polygon four a b c d = record { four = four; a = a; b = b; c = c; d = d }
 
 -- black without a texture
-abbrev pub plain_style : Style
-plain_style = record { shaded = false; textured = false; semi = false; raw = false; clut = 0; color = 0 }
+abbrev pub no_style : Style
+no_style = record { shaded = false; textured = false; semi = false; raw = false; clut = 0; color = 0 }
 
 -- how the pixels of a packet are made, which has a meaning for polygons and rectangles alone
 abbrev pub style_of : Packet → Style
 style_of (packet.Poly four a b c d shaded textured semi raw clut page) = polygon_style shaded textured semi raw clut a
 style_of (packet.Rect x y w h color textured semi raw u v clut) = rectangle_style color textured semi raw clut
-style_of other = plain_style
+style_of other = no_style

@@ -6,7 +6,7 @@ use Rattle.span_lanes.specs.Shade.{paint_pixel}
 use Rattle.span_lanes.specs.declared.span.Brush.{Brush}
 use Rattle.span_lanes.specs.declared.span.Paint.{Paint}
 use Rattle.span_lanes.specs.declared.span.Span.{Span}
-use Rattle.span_lanes.specs.declared.span.Coat.{Coat}
+use Rattle.span_lanes.specs.declared.span.DrawState.{DrawState}
 
 -- the paint of cells of a row, by the first of them, and how the pixels come to the cells
 pub record Pattern : Type 0 where
@@ -14,8 +14,8 @@ pub record Pattern : Type 0 where
   pub brush : Brush
 
 -- one paint for all cells
-abbrev pub even : Coat → Pattern
-even coat = record { paint = λ cell. coat.paint; brush = coat.brush }
+abbrev pub uniform : DrawState → Pattern
+uniform state = record { paint = λ cell. state.paint; brush = state.brush }
 
 -- the pixel, or none, that a primitive draws at a cell, with video memory as it is then
 abbrev pub pixel_at : Pattern → Cell → List ℕ → Option ℕ

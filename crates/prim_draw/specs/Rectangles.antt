@@ -10,12 +10,12 @@ use Rattle.span_lanes.specs.declared.span.Paint.TheVariants.{Flat, TexturedRow}
 use Rattle.texel_lanes.specs.declared.texture.Texture.{Texture}
 use Rattle.texel_lanes.specs.Texture.{HasPage, IsTexture}
 use Rattle.span_lanes.specs.Shade.{IsBrush, row_u}
-use Rattle.prim_draw.specs.Boxes.{block_of, cells_of, clipped}
+use Rattle.prim_draw.specs.Boxes.{clip_rect_of, cells_of, clipped}
 use Rattle.prim_draw.specs.Pattern.{Pattern, painted_cells}
 use Rattle.prim_draw.specs.Settings.{brush_in, texture_in}
-use Rattle.span_lanes.specs.declared.block.Block.{Block}
+use Rattle.span_lanes.specs.declared.clip_rect.ClipRect.{ClipRect}
 use Rattle.prim_draw.specs.declared.rectangles.Extent.{Extent}
-use Rattle.prim_draw.specs.declared.rectangles.Tile.{Tile}
+use Rattle.prim_draw.specs.declared.rectangles.RectangleSetup.{RectangleSetup}
 use Rattle.prim_draw.specs.declared.style.Style.{Style}
 
 -- w by h cells from a first one on, which is moved by the offset
@@ -48,8 +48,8 @@ abbrev pub optional_texture : Registers → Bool → ℕ → Bool → Option Tex
 optional_texture r textured clut raw = if textured then Some (texture_in r clut raw) else None
 
 -- what a rectangle is drawn with; it is never dithered
-unfoldable pub tile_in : Registers → Style → (u v : ℕ) → Tile
-tile_in r style u v = record {
+unfoldable pub rectangle_setup_in : Registers → Style → (u v : ℕ) → RectangleSetup
+rectangle_setup_in r style u v = record {
   color = style.color;
   texture = optional_texture r style.textured style.clut style.raw;
   u = u;
@@ -60,13 +60,13 @@ tile_in r style u v = record {
 }
 
 -- the paint from a column and a row of the whole rectangle on
-abbrev pub paint_from : Tile → Option Texture → ℕ → ℕ → Paint
-paint_from tile None column row = Flat tile.color
-paint_from tile (Some texture) column row =
-    TexturedRow tile.color texture (row_u tile.u tile.flip_x column) (row_u tile.v tile.flip_y row) tile.flip_x
+abbrev pub paint_from : RectangleSetup → Option Texture → ℕ → ℕ → Paint
+paint_from rectangle_setup None column row = Flat rectangle_setup.color
+paint_from rectangle_setup (Some texture) column row =
+    TexturedRow rectangle_setup.color texture (row_u rectangle_setup.u rectangle_setup.flip_x column) (row_u rectangle_setup.v rectangle_setup.flip_y row) rectangle_setup.flip_x
 
-unfoldable pub tile_paint : Tile → ℕ → ℕ → Paint
-tile_paint tile column row = paint_from tile tile.texture column row
+unfoldable pub rectangle_paint : RectangleSetup → ℕ → ℕ → Paint
+rectangle_paint rectangle_setup column row = paint_from rectangle_setup rectangle_setup.texture column row
 
 -- the column and the row of a cell in the whole rectangle
 abbrev pub column_of : Extent → Cell → ℕ
@@ -76,26 +76,26 @@ abbrev pub row_of : Extent → Cell → ℕ
 row_of e cell = unsigned_abs (pos cell.y -ℤ e.top)
 
 -- what its cells are drawn with
-abbrev pub pattern_of : Tile → Extent → Pattern
-pattern_of tile e = record { paint = λ cell. tile_paint tile (column_of e cell) (row_of e cell); brush = tile.brush }
+abbrev pub pattern_of : RectangleSetup → Extent → Pattern
+pattern_of rectangle_setup e = record { paint = λ cell. rectangle_paint rectangle_setup (column_of e cell) (row_of e cell); brush = rectangle_setup.brush }
 
 -- a block of cells of a rectangle that has at most 1023 columns and as many rows
-pub record IsPartOf (e : Extent) (b : Block) : Type 0 where
+pub record IsPartOf (e : Extent) (b : ClipRect) : Type 0 where
   pub left : e.left ≤ℤ pos b.x
   pub top : e.top ≤ℤ pos b.y
   pub right : pos (b.x + b.w) ≤ℤ (e.left +ℤ pos 1023)
   pub bottom : pos (b.y + b.h) ≤ℤ (e.top +ℤ pos 1023)
 
 -- what video memory of a height can be drawn with
-pub record IsTile (height : ℕ) (tile : Tile) : Type 0 where
-  pub brush : IsBrush tile.brush
-  pub texture : IfSome tile.texture IsTexture
-  pub page : IfSome tile.texture (HasPage height)
+pub record IsRectangleSetup (height : ℕ) (rectangle_setup : RectangleSetup) : Type 0 where
+  pub brush : IsBrush rectangle_setup.brush
+  pub texture : IfSome rectangle_setup.texture IsTexture
+  pub page : IfSome rectangle_setup.texture (HasPage height)
 
 -- all cells of a box, in scan order
-abbrev pub drawn_all : Tile → Extent → Option Box2 → List ℕ → List ℕ
-drawn_all tile e None m = m
-drawn_all tile e (Some b) m = painted_cells (pattern_of tile e) (cells_of (block_of b)) m
+abbrev pub drawn_all : RectangleSetup → Extent → Option Box2 → List ℕ → List ℕ
+drawn_all rectangle_setup e None m = m
+drawn_all rectangle_setup e (Some b) m = painted_cells (pattern_of rectangle_setup e) (cells_of (clip_rect_of b)) m
 
-unfoldable pub drawn_rectangle : Registers → Tile → Extent → List ℕ → List ℕ
-drawn_rectangle r tile e m = drawn_all tile e (rectangle_box r e) m
+unfoldable pub drawn_rectangle : Registers → RectangleSetup → Extent → List ℕ → List ℕ
+drawn_rectangle r rectangle_setup e m = drawn_all rectangle_setup e (rectangle_box r e) m

@@ -2,9 +2,9 @@
 use Rattle.std.specs.Prelude.{ℕ, ◌+◌, ◌<◌, ◌≤◌, ◌≡◌, List, Option, length}
 use Rattle.px_num.specs.declared.shape.Cell.{Cell}
 use Rattle.span_lanes.specs.Cells.{Stage}
-use Rattle.span_lanes.specs.Frame.{IsInBlock}
+use Rattle.span_lanes.specs.ClipRect.{IsInClip}
 use Rattle.span_lanes.specs.Shade.{IsSpan, LiesIn, paint_pixel}
-use Rattle.span_lanes.specs.declared.block.Block.{Block}
+use Rattle.span_lanes.specs.declared.clip_rect.ClipRect.{ClipRect}
 use Rattle.span_lanes.specs.declared.span.Span.{Span}
 use Rattle.prim_draw.specs.Boxes.{cells_down}
 use Rattle.prim_draw.specs.Costs.{cost_down, side_by_side}
@@ -13,8 +13,8 @@ use Rattle.prim_draw.specs.Triangles.{run_cells}
 use Rattle.span_lanes.specs.declared.span.Run.{Run}
 
 -- cells of row y that lie in a block
-abbrev pub LiesInBlock : Block → ℕ → Run → Type 0
-LiesInBlock b y run = IsInBlock b run.x y run.n
+abbrev pub LiesInClip : ClipRect → ℕ → Run → Type 0
+LiesInClip b y run = IsInClip b run.x y run.n
 
 -- a run of cells of row y
 abbrev pub run_span : Pattern → ℕ → Run → Span

@@ -4,18 +4,18 @@ use Rattle.span_lanes.specs.Lanes.{IsSolid}
 use Rattle.span_lanes.specs.declared.span.Brush.{Brush}
 use Rattle.span_lanes.specs.declared.span.Paint.{Paint}
 use Rattle.span_lanes.specs.declared.span.Paint.TheVariants.{Flat}
-use Rattle.span_lanes.specs.declared.span.Coat.{Coat}
+use Rattle.span_lanes.specs.declared.span.DrawState.{DrawState}
 use Rattle.prim_draw.specs.declared.solid.Solid.{Solid}
 
-abbrev pub flat_coat : (color : ℕ) → Brush → Coat
-flat_coat color brush = record { paint = Flat color; brush = brush }
+abbrev pub flat_state : (color : ℕ) → Brush → DrawState
+flat_state color brush = record { paint = Flat color; brush = brush }
 
 -- what cells are drawn with
 abbrev pub solid_paint : Solid → Paint
 solid_paint solid = Flat solid.color
 
-abbrev pub solid_coat : Solid → Coat
-solid_coat solid = flat_coat solid.color solid.brush
+abbrev pub solid_state : Solid → DrawState
+solid_state solid = flat_state solid.color solid.brush
 
 -- the cells of each span become the same halfword
 abbrev pub IsEven : Solid → Type 0

@@ -14,11 +14,11 @@ use Rattle.span_lanes.specs.declared.span.Paint.TheVariants.{Flat, Shaded, Textu
 use Rattle.texel_lanes.specs.Texture.{HasPage, IsTexture}
 use Rattle.span_lanes.specs.Shade.{AreInside, HasInside, IsBrush, paint_pixel, texture_of}
 use Rattle.span_lanes.specs.Cells.{row_cells}
-use Rattle.prim_draw.specs.Boxes.{block_of, cells_of, clipped}
-use Rattle.prim_draw.specs.Pattern.{even, painted_cells}
+use Rattle.prim_draw.specs.Boxes.{clip_rect_of, cells_of, clipped}
+use Rattle.prim_draw.specs.Pattern.{uniform, painted_cells}
 use Rattle.prim_draw.specs.Settings.{brush_in, placed, texture_in}
-use Rattle.span_lanes.specs.declared.block.Block.{Block}
-use Rattle.span_lanes.specs.declared.span.Coat.{Coat}
+use Rattle.span_lanes.specs.declared.clip_rect.ClipRect.{ClipRect}
+use Rattle.span_lanes.specs.declared.span.DrawState.{DrawState}
 use Rattle.prim_draw.specs.declared.polygon.Polygon.{Polygon}
 use Rattle.prim_draw.specs.declared.style.Style.{Style}
 use Rattle.span_lanes.specs.declared.span.Run.{Run}
@@ -38,17 +38,17 @@ triangle_paint r style t =
     else (if style.shaded then Shaded t
     else Flat style.color)
 
-unfoldable pub triangle_coat : Registers → Style → Corners → Coat
-triangle_coat r style t =
+unfoldable pub triangle_state : Registers → Style → Corners → DrawState
+triangle_state r style t =
     record { paint = triangle_paint r style t; brush = brush_in r style.semi (style.shaded || style.textured) }
 
 -- the cells of a box that the triangle draws, in scan order
-abbrev pub drawn_inside : Coat → Corners → Option Box2 → List ℕ → List ℕ
-drawn_inside coat t None m = m
-drawn_inside coat t (Some b) m = painted_cells (even coat) (filter (draws t) (cells_of (block_of b))) m
+abbrev pub drawn_inside : DrawState → Corners → Option Box2 → List ℕ → List ℕ
+drawn_inside state t None m = m
+drawn_inside state t (Some b) m = painted_cells (uniform state) (filter (draws t) (cells_of (clip_rect_of b))) m
 
 unfoldable pub drawn_triangle : Registers → Style → Corners → List ℕ → List ℕ
-drawn_triangle r style t m = drawn_inside (triangle_coat r style t) t (triangle_box r t) m
+drawn_triangle r style t m = drawn_inside (triangle_state r style t) t (triangle_box r t) m
 
 -- three vertices of a packet
 abbrev pub placed_corners : Registers → Vertex → Vertex → Vertex → Corners
@@ -70,7 +70,7 @@ drawn_polygon r style p m =
 -- ---- by rows
 
 -- the cells of row y of a block that the triangle draws
-abbrev pub row_inside : Corners → Block → ℕ → List Cell
+abbrev pub row_inside : Corners → ClipRect → ℕ → List Cell
 row_inside t b y = filter (draws t) (row_cells b.x y b.w)
 
 -- the cells of a run, or of none
@@ -94,8 +94,8 @@ pub record IsAlike (paint : Paint) : Type 0 where
       → paint_pixel paint brush x y i m ≡ paint_pixel paint brush x y j m
 
 -- what video memory of a height can be drawn with
-pub record IsCoat (height : ℕ) (coat : Coat) : Type 0 where
-  pub brush : IsBrush coat.brush
-  pub texture : IfSome (texture_of coat.paint) IsTexture
-  pub alike : IsAlike coat.paint
-  pub page : IfSome (texture_of coat.paint) (HasPage height)
+pub record IsDrawState (height : ℕ) (state : DrawState) : Type 0 where
+  pub brush : IsBrush state.brush
+  pub texture : IfSome (texture_of state.paint) IsTexture
+  pub alike : IsAlike state.paint
+  pub page : IfSome (texture_of state.paint) (HasPage height)

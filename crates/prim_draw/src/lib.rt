@@ -6,23 +6,23 @@
 #![tactic(auto)]
 
 mod area;
-mod blocks;
 mod boxes;
+mod clipped_rectangle;
+mod clipped_triangle;
 mod corners;
-mod in_tile;
 pub mod laws;
 mod lines;
 mod point;
 mod polygon;
 mod primitives;
 mod rectangles;
-mod row_pen;
+mod row_drawer;
 mod rows;
 mod settings;
 mod solid;
 mod style;
-mod tiled;
-mod tri_rows;
+mod texel_rows_drawer;
+mod triangle_rows;
 mod triangles;
 
 pub use area::area_of;

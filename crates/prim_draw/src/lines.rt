@@ -4,13 +4,13 @@ ghost use Rattle.vram_store.specs.Vram.{height_of};
 ghost use Rattle.gp0_packets.specs.Ranges.{IsPlace};
 ghost use Rattle.line_walk.specs.Line.{len_of, point_of};
 ghost use Rattle.prim_draw.specs.Costs.{ends_cost, points_cost};
-ghost use Rattle.prim_draw.specs.Ink.{AreInked, IsInMemory, inked_points};
+ghost use Rattle.prim_draw.specs.PointColor.{ArePointsColored, IsInMemory, colored_points};
 ghost use Rattle.prim_draw.specs.Lines.{drawn_ends, drawn_point, drawn_points, ends_box, is_in};
 ghost use Rattle.prim_draw.specs.Lines.{placed_ends, segment_box};
 ghost use Rattle.gp1_status.specs.Drawing.{IsArea};
 
-use crate::boxes::{box_from, clipped, greatest, is_in, least, spot_of};
-use crate::point::{ink_of, plot_color};
+use crate::boxes::{box_from, clipped, greatest, is_in, least, screen_point_of};
+use crate::point::{plot_color, point_color_of};
 use crate::settings::{brush_in, placed};
 use gp1_status::Regs;
 use line_walk::Segment;
@@ -70,25 +70,25 @@ fn lies_in(b: &Box2, segment: &Segment) -> bool
 }
 
 // The halfword that each point of a segment is drawn as. None where that may differ, or a point may lie outside.
-fn ink_for(area: &Box2, brush: &Brush, segment: &Segment) -> Option<u16>
+fn point_color_for(area: &Box2, brush: &Brush, segment: &Segment) -> Option<u16>
     requires { brush.now.mode ≤ 3 }
-    ensures { IfSome result (λ ink. AreInked area.now brush.now segment.now ink) }
+    ensures { IfSome result (λ point_color. ArePointsColored area.now brush.now segment.now point_color) }
 {
     let color = segment.first().color;
     if color != segment.second().color {
         None
     } else if lies_in(area, segment) {
-        ink_of(brush, color % 0x100_0000)
+        point_color_of(brush, color % 0x100_0000)
     } else {
         None
     }
 }
 
 // Writes the points of a segment as one halfword.
-fn put_points<L: Ledger>(vram: &mut Vram, segment: &Segment, ink: u16, steps: &mut Steps<L>)
+fn put_points<L: Ledger>(vram: &mut Vram, segment: &Segment, point_color: u16, steps: &mut Steps<L>)
     requires in_memory { (k : ℕ) → k < len_of segment.now
         → IsInMemory (height_of vram.old) (point_of segment.now k) }
-    ensures cells { vram.new ≡ inked_points segment.now ink (len_of segment.now) vram.old }
+    ensures cells { vram.new ≡ colored_points segment.now point_color (len_of segment.now) vram.old }
     ensures long { length vram.new ≡ length vram.old }
     ensures cost { steps.new ≡ steps.old + len_of segment.now }
 {
@@ -96,7 +96,7 @@ fn put_points<L: Ledger>(vram: &mut Vram, segment: &Segment, ink: u16, steps: &m
     let mut walk = segment.walk();
     for k in 0..points {
         let point = walk.next();
-        vram.put(point.x as u16, point.y as u16, ink, steps);
+        vram.put(point.x as u16, point.y as u16, point_color, steps);
     }
 }
 
@@ -114,8 +114,8 @@ fn draw_points<L: Ledger>(
     ensures long { length vram.new ≡ length vram.old }
     ensures cost { steps.new ≤ steps.old + points_cost area.now segment.now (len_of segment.now) }
 {
-    if let Some(ink) = ink_for(area, brush, segment) {
-        put_points(vram, segment, ink, steps);
+    if let Some(point_color) = point_color_for(area, brush, segment) {
+        put_points(vram, segment, point_color, steps);
         return;
     }
     let mut walk = segment.walk();
@@ -180,7 +180,7 @@ pub(crate) fn draw_segment<L: Ledger>(
 fn ends_box(ends: &Ends) -> Box2
     ensures { result ≡ ends_box ends.now }
 {
-    let (a, b) = (spot_of(&ends.first), spot_of(&ends.second));
+    let (a, b) = (screen_point_of(&ends.first), screen_point_of(&ends.second));
     box_from(&least(&a, &b), &greatest(&a, &b))
 }
 

@@ -1,10 +1,10 @@
 // One point in one colour.
 ghost use Rattle.std.specs.Prelude.{◌≡◌, ◌≤◌, ◌<◌, ◌+◌, IfSome, Some, false, length};
 ghost use Rattle.blend_dither.specs.Color.{IsShift};
-ghost use Rattle.span_lanes.specs.Shade.{blended_if, flat_pixel, shift_of};
+ghost use Rattle.span_lanes.specs.Shade.{blended_if, flat_pixel, dither_of};
 ghost use Rattle.vram_store.specs.Plot.{is_testing, written_over};
 ghost use Rattle.vram_store.specs.Vram.{height_of};
-ghost use Rattle.prim_draw.specs.Ink.{IsInk};
+ghost use Rattle.prim_draw.specs.PointColor.{IsPointColor};
 ghost use Rattle.prim_draw.specs.Lines.{plotted};
 
 use blend_dither::{blend, pack, shift_at, tone};
@@ -14,9 +14,9 @@ use std::sync::ledger::Ledger;
 use vram_store::mask::{force, keeps, tests};
 use vram_store::{Steps, Vram};
 
-#[tactic(auto, unfolding(span_lanes::specs::Shade::shift_of))]
+#[tactic(auto, unfolding(span_lanes::specs::Shade::dither_of))]
 fn shift_for(dither: bool, to: Cell) -> i8
-    ensures value { result ≡ shift_of dither to.x to.y }
+    ensures value { result ≡ dither_of dither to.x to.y }
     ensures small { IsShift result }
 {
     if dither { shift_at(to.x, to.y) } else { 0 }
@@ -129,9 +129,9 @@ fn asks_for_cell(brush: &Brush) -> bool
 }
 
 /// The halfword that a colour is plotted as. None where that may hang on the cell.
-pub(crate) fn ink_of(brush: &Brush, color: u32) -> Option<u16>
+pub(crate) fn point_color_of(brush: &Brush, color: u32) -> Option<u16>
     requires { brush.now.mode ≤ 3 }
-    ensures { IfSome result (λ ink. IsInk brush.now color ink) }
+    ensures { IfSome result (λ point_color. IsPointColor brush.now color point_color) }
 {
     if asks_for_cell(brush) {
         None

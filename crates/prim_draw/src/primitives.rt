@@ -10,7 +10,7 @@ use crate::area::{area_of, joined};
 use crate::corners::placed_corners;
 use crate::lines::{draw_segment, placed_ends};
 use crate::polygon::Polygon;
-use crate::rectangles::{extent_at, tile_in};
+use crate::rectangles::{extent_at, rectangle_setup_in};
 use crate::style::{Style, style_of};
 use crate::triangles::draw_triangle;
 use gp0_packets::Packet;
@@ -94,8 +94,8 @@ pub fn draw<L: Ledger>(
             v,
             ..
         } => {
-            let tile = tile_in(regs, &style_of(packet), u, v);
-            tile.draw(vram, regs, &extent_at(regs, x, y, w, h), steps)
+            let rectangle_setup = rectangle_setup_in(regs, &style_of(packet), u, v);
+            rectangle_setup.draw(vram, regs, &extent_at(regs, x, y, w, h), steps)
         }
         Packet::Nop
         | Packet::Irq

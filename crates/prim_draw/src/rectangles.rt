@@ -2,15 +2,15 @@
 ghost use Rattle.std.specs.Prelude.{◌≡◌, ◌≤◌, ◌<◌, ◌+◌, ◌*◌, IfSome, length};
 ghost use Rattle.gp0_packets.specs.Ranges.{IsPlace};
 ghost use Rattle.texel_lanes.specs.Texture.{HasPage, IsTexture};
-ghost use Rattle.prim_draw.specs.Boxes.{IsOnScreen, block_of};
+ghost use Rattle.prim_draw.specs.Boxes.{IsOnScreen, clip_rect_of};
 ghost use Rattle.prim_draw.specs.Costs.{rectangle_cost};
 ghost use Rattle.prim_draw.specs.Rectangles.{cells_box, drawn_rectangle, extent_at, optional_texture, rectangle_box};
-ghost use Rattle.prim_draw.specs.Rectangles.{tile_in, IsExtent, IsTile, IsPartOf};
+ghost use Rattle.prim_draw.specs.Rectangles.{rectangle_setup_in, IsExtent, IsRectangleSetup, IsPartOf};
 
-use crate::boxes::{block_of, clipped};
+use crate::boxes::{clip_rect_of, clipped};
+use crate::clipped_rectangle::ClippedRectangle;
 use crate::settings::{brush_in, texture_in};
 use crate::style::Style;
-use crate::tiled::Tiled;
 use gp1_status::Regs;
 use px_num::Box2;
 use span_lanes::{Brush, Texture};
@@ -32,7 +32,7 @@ pub(crate) struct Extent {
 
 /// What the cells of a rectangle are drawn with.
 #[derive(Clone, Copy)]
-pub(crate) struct Tile {
+pub(crate) struct RectangleSetup {
     /// Its colour.
     pub(crate) color: u32,
     /// Its texture, if it has one.
@@ -86,7 +86,7 @@ pub(crate) fn rectangle_box(regs: &Regs, extent: &Extent) -> Option<Box2>
     ensures value { result ≡ rectangle_box regs.now extent.now }
     ensures on_screen { IfSome result (IsOnScreen regs.now.height) }
     ensures in_reach { regs.now.height ≤ 1024 }
-    ensures part { IfSome result (λ b. IsPartOf extent.now (block_of b)) }
+    ensures part { IfSome result (λ b. IsPartOf extent.now (clip_rect_of b)) }
 {
     if extent.w == 0 || extent.h == 0 {
         let _height = regs.height();
@@ -109,13 +109,13 @@ fn optional_texture(regs: &Regs, textured: bool, clut: u16, raw: bool) -> Option
 }
 
 /// What a rectangle is drawn with, whose first texel has these coordinates.
-#[tactic(auto, unfolding(crate::specs::Rectangles::tile_in))]
-pub(crate) fn tile_in(regs: &Regs, style: &Style, u: u8, v: u8) -> Tile
-    ensures value { result ≡ tile_in regs.now style.now u v }
-    ensures is { IsTile regs.now.height result }
+#[tactic(auto, unfolding(crate::specs::Rectangles::rectangle_setup_in))]
+pub(crate) fn rectangle_setup_in(regs: &Regs, style: &Style, u: u8, v: u8) -> RectangleSetup
+    ensures value { result ≡ rectangle_setup_in regs.now style.now u v }
+    ensures is { IsRectangleSetup regs.now.height result }
 {
     let flips = regs.flips();
-    Tile {
+    RectangleSetup {
         color: style.color,
         texture: optional_texture(regs, style.textured, style.clut, style.raw),
         u,
@@ -126,7 +126,7 @@ pub(crate) fn tile_in(regs: &Regs, style: &Style, u: u8, v: u8) -> Tile
     }
 }
 
-impl Tile {
+impl RectangleSetup {
     /// Draws a rectangle, and answers its box as [`rectangle_box`] does.
     pub(crate) fn draw<L: Ledger>(
         &self,
@@ -136,7 +136,7 @@ impl Tile {
         steps: &mut Steps<L>,
     ) -> Option<Box2>
         requires rows { length vram.old ≡ 1024 * regs.now.height }
-        requires tile { IsTile regs.now.height self.now }
+        requires rectangle_setup { IsRectangleSetup regs.now.height self.now }
         requires is { IsExtent extent.now }
         ensures area { result ≡ rectangle_box regs.now extent.now }
         ensures cells { vram.new ≡ drawn_rectangle regs.now self.now extent.now vram.old }
@@ -145,12 +145,12 @@ impl Tile {
     {
         let area = rectangle_box(regs, extent);
         if let Some(clip) = &area {
-            let tiled = Tiled {
-                tile: self,
+            let rectangle = ClippedRectangle {
+                rectangle_setup: self,
                 extent,
-                block: &block_of(clip),
+                clip_rect: &clip_rect_of(clip),
             };
-            tiled.draw(vram, steps);
+            rectangle.draw(vram, steps);
         }
         area
     }

@@ -1,16 +1,16 @@
 // What cells of each row are drawn.
-use span_lanes::{Block, Run};
+use span_lanes::{ClipRect, Run};
 
 /// Rows of a block of cells, from the top: the cells that are drawn of each stand side by side.
 pub(crate) trait Rows: Drop {
     ghost use Rattle.std.specs.Prelude.{ℕ, ◌≡◌, ◌+◌, ◌<◌, IfSome, List};
     ghost use Rattle.px_num.specs.declared.shape.Cell.{Cell};
-    ghost use Rattle.span_lanes.specs.declared.block.Block.{Block};
+    ghost use Rattle.span_lanes.specs.declared.clip_rect.ClipRect.{ClipRect};
     ghost use Rattle.prim_draw.specs.Triangles.{run_cells};
     ghost use Rattle.span_lanes.specs.declared.span.Run.{Run};
 
     // The block.
-    ghost within: { Self → Block };
+    ghost within: { Self → ClipRect };
 
     // The cells of each row that are drawn.
     ghost cells: { Self → ℕ → List Cell };
@@ -22,7 +22,7 @@ pub(crate) trait Rows: Drop {
     ghost stands: { Self → ℕ → Type 0 };
 
     /// The block.
-    fn block(&self) -> Block
+    fn clip_rect(&self) -> ClipRect
         ensures { result ≡ within self.now };
 
     /// The cells that are drawn of the next row, which has this number.
@@ -32,38 +32,38 @@ pub(crate) trait Rows: Drop {
         ensures found { run_cells result y ≡ cells self.old y }
         ensures gives { IfSome result (gives self.old y) }
         ensures next { stands self.new (y + 1) }
-        ensures block { within self.new ≡ within self.old }
+        ensures clip_rect { within self.new ≡ within self.old }
         ensures cells { cells self.new ≡ cells self.old }
         ensures same { (y : ℕ) (run : Run) → gives self.new y run → gives self.old y run };
 }
 
 /// All cells of a block.
 #[derive(Clone, Copy)]
-pub(crate) struct BlockRows {
-    pub(crate) block: Block,
+pub(crate) struct ClipRectRows {
+    pub(crate) clip_rect: ClipRect,
 }
 
-impl Rows for BlockRows {
-    ghost use Rattle.prim_draw.specs.Boxes.{block_row};
-    ghost use Rattle.prim_draw.specs.Tiled.{IsWholeRow};
+impl Rows for ClipRectRows {
+    ghost use Rattle.prim_draw.specs.Boxes.{clip_row};
+    ghost use Rattle.prim_draw.specs.ClippedRectangle.{IsWholeRow};
     ghost use Rattle.std.specs.Prelude.{◌≤◌};
 
-    ghost within = { λ rows. rows.block };
+    ghost within = { λ rows. rows.clip_rect };
 
-    ghost cells = { λ rows. block_row rows.block };
+    ghost cells = { λ rows. clip_row rows.clip_rect };
 
-    ghost gives = { λ rows. IsWholeRow rows.block };
+    ghost gives = { λ rows. IsWholeRow rows.clip_rect };
 
-    ghost stands = { λ rows y. rows.block.y ≤ y };
+    ghost stands = { λ rows y. rows.clip_rect.y ≤ y };
 
     #[inline(always)]
-    fn block(&self) -> Block {
-        self.block
+    fn clip_rect(&self) -> ClipRect {
+        self.clip_rect
     }
 
     #[inline(always)]
     fn run_at(&mut self, _y: u16) -> Option<Run> {
-        let Block { x, w, .. } = self.block;
+        let ClipRect { x, w, .. } = self.clip_rect;
         Some(Run { x, n: w })
     }
 }

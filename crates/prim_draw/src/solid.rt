@@ -3,15 +3,15 @@ ghost use Rattle.std.specs.Prelude.{ℕ, ◌≡◌, ◌≤◌, IfSome};
 ghost use Rattle.edge_walk.specs.Triangle.{Corners};
 ghost use Rattle.vram_store.specs.Vram.{height_of};
 ghost use Rattle.span_lanes.specs.Shade.{IsBrush};
-ghost use Rattle.prim_draw.specs.Blocks.{CanDrawRows};
+ghost use Rattle.prim_draw.specs.ClippedTriangle.{CanDrawRows};
 ghost use Rattle.prim_draw.specs.Walks.{DrawsTriangle};
-ghost use Rattle.prim_draw.specs.Triangles.{IsCoat, triangle_coat};
-ghost use Rattle.prim_draw.specs.Solids.{IsEven, flat_coat, solid_coat};
+ghost use Rattle.prim_draw.specs.Triangles.{IsDrawState, triangle_state};
+ghost use Rattle.prim_draw.specs.Solids.{IsEven, flat_state, solid_state};
 
-use crate::row_pen::{RowPen, draw_rows};
+use crate::row_drawer::{RowDrawer, draw_rows};
 use crate::settings::brush_in;
 use crate::style::Style;
-use crate::tri_rows::rows_of;
+use crate::triangle_rows::rows_of;
 use edge_walk::Tri;
 use gp1_status::Regs;
 use px_num::Box2;
@@ -32,12 +32,12 @@ pub(crate) struct Solid {
 
 /// The colour of a triangle, where each of its cells becomes the same halfword.
 #[inline(always)]
-#[tactic(auto, unfolding(crate::specs::Triangles::triangle_coat, crate::specs::Triangles::triangle_paint))]
-pub(crate) fn solid_in(regs: &Regs, style: &Style) -> Option<Solid>
-    ensures even { IfSome result IsEven }
-    ensures coat { IfSome result (λ solid. IsCoat regs.now.height (solid_coat solid)) }
+#[tactic(auto, unfolding(crate::specs::Triangles::triangle_state, crate::specs::Triangles::triangle_paint))]
+pub(crate) fn solid_color_in(regs: &Regs, style: &Style) -> Option<Solid>
+    ensures uniform { IfSome result IsEven }
+    ensures state { IfSome result (λ solid. IsDrawState regs.now.height (solid_state solid)) }
     ensures value { IfSome result (λ solid. (t : Corners)
-        → solid_coat solid ≡ triangle_coat regs.now style.now t) }
+        → solid_state solid ≡ triangle_state regs.now style.now t) }
 {
     if style.textured || style.shaded {
         None
@@ -50,9 +50,9 @@ pub(crate) fn solid_in(regs: &Regs, style: &Style) -> Option<Solid>
 #[inline(always)]
 fn solid_flat(color: u32, brush: &Brush) -> Option<Solid>
     requires is { IsBrush brush.now }
-    ensures even { IfSome result IsEven }
-    ensures coat { (height : ℕ) → IfSome result (λ solid. IsCoat height (solid_coat solid)) }
-    ensures value { IfSome result (λ solid. solid_coat solid ≡ flat_coat color brush.now) }
+    ensures uniform { IfSome result IsEven }
+    ensures state { (height : ℕ) → IfSome result (λ solid. IsDrawState height (solid_state solid)) }
+    ensures value { IfSome result (λ solid. solid_state solid ≡ flat_state color brush.now) }
 {
     match solid_of(&Paint::Flat { color }, brush) {
         None => None,
@@ -74,9 +74,9 @@ impl Solid {
         clip: &Box2,
         steps: &mut Steps<L>,
     )
-        requires even { IsEven self.now }
-        requires can { CanDrawRows (height_of vram.old) (solid_coat self.now) tri.now clip.now }
-        ensures { DrawsTriangle (solid_coat self.now) tri.now clip.now
+        requires uniform { IsEven self.now }
+        requires can { CanDrawRows (height_of vram.old) (solid_state self.now) tri.now clip.now }
+        ensures { DrawsTriangle (solid_state self.now) tri.now clip.now
             (record { m = vram.old; steps = steps.old }) (record { m = vram.new; steps = steps.new }) }
     {
         let mut solid = *self;
@@ -84,11 +84,11 @@ impl Solid {
     }
 }
 
-impl RowPen for Solid {
-    ghost use Rattle.prim_draw.specs.Pattern.{even};
-    ghost use Rattle.prim_draw.specs.Solids.{IsEven, solid_coat};
+impl RowDrawer for Solid {
+    ghost use Rattle.prim_draw.specs.Pattern.{uniform};
+    ghost use Rattle.prim_draw.specs.Solids.{IsEven, solid_state};
 
-    ghost pattern = { λ solid. even (solid_coat solid) };
+    ghost pattern = { λ solid. uniform (solid_state solid) };
 
     ghost reaches = { λ solid y run. Unit {0} };
 

@@ -1,6 +1,6 @@
 // How pixels are made.
 ghost use Rattle.std.specs.Prelude.{◌≡◌};
-ghost use Rattle.prim_draw.specs.Parts.{plain_style, style_of};
+ghost use Rattle.prim_draw.specs.Parts.{no_style, style_of};
 
 use gp0_packets::Packet;
 
@@ -58,12 +58,12 @@ pub(crate) fn style_of(packet: &Packet) -> Style
             clut,
             color,
         },
-        _ => plain_style(),
+        _ => no_style(),
     }
 }
 
-fn plain_style() -> Style
-    ensures { result ≡ plain_style }
+fn no_style() -> Style
+    ensures { result ≡ no_style }
 {
     Style {
         shaded: false,

@@ -7,33 +7,33 @@ ghost use Rattle.span_lanes.specs.Shade.{texture_of};
 ghost use Rattle.prim_draw.specs.Boxes.{IsOnScreen, LiesIn};
 ghost use Rattle.prim_draw.specs.Costs.{triangle_cost};
 ghost use Rattle.prim_draw.specs.Triangles.{drawn_triangle};
-ghost use Rattle.prim_draw.specs.Triangles.{triangle_box, triangle_coat, triangle_paint, FitsTriangle, IsAlike};
-ghost use Rattle.prim_draw.specs.Triangles.{IsCoat};
+ghost use Rattle.prim_draw.specs.Triangles.{triangle_box, triangle_state, triangle_paint, FitsTriangle, IsAlike};
+ghost use Rattle.prim_draw.specs.Triangles.{IsDrawState};
 ghost use Rattle.prim_draw.specs.Walks.{DrawsTriangle};
 
-use crate::blocks::draw_coated;
 use crate::boxes::clipped;
+use crate::clipped_triangle::draw_with_state;
 use crate::corners::Corners;
-use crate::row_pen::RowPen;
+use crate::row_drawer::RowDrawer;
 use crate::settings::{brush_in, texture_in};
-use crate::solid::solid_in;
+use crate::solid::solid_color_in;
 use crate::style::Style;
 use edge_walk::Tri;
 use gp1_status::Regs;
 use px_num::Box2;
-use span_lanes::{Coat, Paint, Pen, Run};
+use span_lanes::{DrawState, Paint, Run, SpanDrawer};
 use std::sync::ledger::Ledger;
 use vram_store::{Steps, Vram};
 
-impl RowPen for Pen {
-    ghost use Rattle.span_lanes.specs.Pen.{IsFresh};
-    ghost use Rattle.prim_draw.specs.Pattern.{even};
+impl RowDrawer for SpanDrawer {
+    ghost use Rattle.span_lanes.specs.SpanDrawer.{IsClutFresh};
+    ghost use Rattle.prim_draw.specs.Pattern.{uniform};
 
-    ghost pattern = { λ pen. even pen.coat };
+    ghost pattern = { λ drawer. uniform drawer.state };
 
-    ghost reaches = { λ pen y run. Unit {0} };
+    ghost reaches = { λ drawer y run. Unit {0} };
 
-    ghost ready = { IsFresh };
+    ghost ready = { IsClutFresh };
 
     #[inline(always)]
     fn draw_run<L: Ledger>(
@@ -69,13 +69,13 @@ fn paint_of(regs: &Regs, style: &Style, tri: &Tri) -> Paint
     }
 }
 
-#[tactic(auto, unfolding(crate::specs::Triangles::triangle_coat))]
-fn coat_of(regs: &Regs, style: &Style, tri: &Tri) -> Coat
-    ensures value { result ≡ triangle_coat regs.now style.now tri.now }
+#[tactic(auto, unfolding(crate::specs::Triangles::triangle_state))]
+fn state_of(regs: &Regs, style: &Style, tri: &Tri) -> DrawState
+    ensures value { result ≡ triangle_state regs.now style.now tri.now }
     ensures fits { FitsTriangle tri.now result.paint }
-    ensures is { IsCoat regs.now.height result }
+    ensures is { IsDrawState regs.now.height result }
 {
-    Coat {
+    DrawState {
         paint: paint_of(regs, style, tri),
         brush: brush_in(regs, style.semi, style.shaded || style.textured),
     }
@@ -106,12 +106,12 @@ fn draw_inside<L: Ledger>(
     requires small { IsOnScreen 1024 clip.now }
     requires clip { IsOnScreen regs.now.height clip.now }
     requires inside { LiesIn (bounding_box tri.now) clip.now }
-    ensures { DrawsTriangle (triangle_coat regs.now style.now tri.now) tri.now clip.now
+    ensures { DrawsTriangle (triangle_state regs.now style.now tri.now) tri.now clip.now
         (record { m = vram.old; steps = steps.old }) (record { m = vram.new; steps = steps.new }) }
 {
-    match solid_in(regs, style) {
+    match solid_color_in(regs, style) {
         Some(solid) => solid.draw_rows(vram, tri, clip, steps),
-        None => draw_coated(&coat_of(regs, style, tri), vram, tri, clip, steps),
+        None => draw_with_state(&state_of(regs, style, tri), vram, tri, clip, steps),
     }
 }
 

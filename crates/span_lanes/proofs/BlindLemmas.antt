@@ -17,21 +17,21 @@ use Rattle.span_lanes.specs.declared.span.Span.{Span}
 use Rattle.vram_store.specs.Plot.{later}
 use Rattle.vram_store.specs.Chunk.{AgreesApart, IsBlind}
 use Rattle.texel_lanes.specs.Texture.{at_cell, texel}
-use Rattle.span_lanes.specs.Shade.{IsSpan, row_u, paint_pixel, shade, flat_pixel, shift_of, color_in}
+use Rattle.span_lanes.specs.Shade.{IsSpan, row_u, paint_pixel, shade, flat_pixel, dither_of, color_in}
 use Rattle.span_lanes.specs.Shade.{attribute_in}
 use Rattle.span_lanes.specs.Guard.{paint_texel, paint_texels, target, clut_strip, palette_of, PaintHazard, HasHazard}
 
 -- a cell that none of j lanes of a row writes
 pub same_cell : (m now : List ℕ) (x y j cx cy : ℕ) → AgreesApart (1024 * y + x) j m now → cx < 1024 → x + j ≤ 1024
     → ((i : ℕ) → i < j → cx ≡ x + i → cy ≡ y → ⊥) → get_or now (1024 * cy + cx) 0 ≡ get_or m (1024 * cy + cx) 0
-same_cell m now x y j cx cy agree low room apart = elim (cases_lt cy y) [
+same_cell m now x y j cx cy agree low room hazard_free = elim (cases_lt cy y) [
   | inl above ↦ agree.others (1024 * cy + cx) (inl (omega arith))
   | inr not_above ↦ elim (cases_lt y cy) [
     | inl below ↦ agree.others (1024 * cy + cx) (inr (omega arith))
     | inr not_below ↦ elim (cases_lt cx x) [
       | inl left ↦ agree.others (1024 * cy + cx) (inl (omega arith))
       | inr not_left ↦ elim (cases_lt cx (x + j)) [
-        | inl inside ↦ absurd (apart (cx - x) (omega arith) (omega arith) (omega arith))
+        | inl inside ↦ absurd (hazard_free (cx - x) (omega arith) (omega arith) (omega arith))
         | inr right ↦ agree.others (1024 * cy + cx) (inr (omega arith))
       ]
     ]
@@ -68,14 +68,14 @@ texel_same : (t : Texture) (u v : ℕ) (m now : List ℕ) (x y j k : ℕ) → Ag
     → (palette_at t.page.depth t.clut (record { x = x; y = y }) k → ⊥)
     → texel t u v now ≡ texel t u v m
 unfolding texel
-texel_same t u v m now x y j k agree room lt apart none = choose (ltb t.page.depth 2) _ _ _ _ palette direct
+texel_same t u v m now x y j k agree room lt hazard_free none = choose (ltb t.page.depth 2) _ _ _ _ palette direct
   where
     cell : Cell
     cell = texel_place t.page t.window u v
 
     direct : at_cell now (texel_place t.page t.window u v) ≡ at_cell m (texel_place t.page t.window u v)
     direct = same_cell m now x y j (texel_place t.page t.window u v).x (texel_place t.page t.window u v).y agree
-        (omega arith) (omega arith) (λ i less e f. apart i less (e, f))
+        (omega arith) (omega arith) (λ i less e f. hazard_free i less (e, f))
 
     entry : (h : ℕ) → t.page.depth < 2 → at_cell now (clut_place t.clut (index_at t.page t.window u h))
         ≡ at_cell m (clut_place t.clut (index_at t.page t.window u h))
@@ -115,10 +115,10 @@ paint_blind : (paint : Paint) (brush : Brush) (x y first k : ℕ) (m : List ℕ)
     (first + j) m
 unfolding paint_texels
 paint_blind (Flat color) brush x y first k m room none j lt now agree =
-    ap (flat_pixel brush color (shift_of brush.dither (x + (first + j)) y))
+    ap (flat_pixel brush color (dither_of brush.dither (x + (first + j)) y))
     (same_cell m now (x + first) y j (x + (first + j)) y agree (omega arith) (omega arith) (λ i less e f. omega arith))
 paint_blind (Shaded tri) brush x y first k m room none j lt now agree =
-    ap (flat_pixel brush (color_in tri (x + (first + j)) y) (shift_of brush.dither (x + (first + j)) y))
+    ap (flat_pixel brush (color_in tri (x + (first + j)) y) (dither_of brush.dither (x + (first + j)) y))
     (same_cell m now (x + first) y j (x + (first + j)) y agree (omega arith) (omega arith) (λ i less e f. omega arith))
 paint_blind (TexturedTri tri t) brush x y first k m room none j lt now agree =
     let back = back_blind t (paint_texel (TexturedTri tri t) t x y) x y first k room none m now j lt agree in

@@ -11,7 +11,7 @@ use Rattle.span_lanes.specs.declared.span.Paint.{Paint}
 use Rattle.span_lanes.specs.declared.span.Paint.TheVariants.{Flat, Shaded, TexturedTri, TexturedRow}
 use Rattle.edge_walk.specs.Triangle.{Corners}
 use Rattle.edge_walk.specs.Attribute.{HasColor}
-use Rattle.span_lanes.specs.Shade.{HasInside, AreInside, shift_of, color_in}
+use Rattle.span_lanes.specs.Shade.{HasInside, AreInside, dither_of, color_in}
 
 pub red_mixed : (r g b : ℕ) → r ≤ 255 → red_of (r + 256 * g + 65536 * b) ≡ r
 red_mixed r g b low = omega arith
@@ -57,8 +57,8 @@ inside_first (TexturedRow color texture u v flip) x y n some inside = inside
 
 -- ---- dither offsets
 
-pub no_shift : (dither : Bool) (x y : ℕ) → dither ≡ false → shift_of dither x y ≡ pos 0
-unfolding shift_of
+pub no_shift : (dither : Bool) (x y : ℕ) → dither ≡ false → dither_of dither x y ≡ pos 0
+unfolding dither_of
 no_shift dither x y none = rw none refl
 
 abbrev pub dither_row : ℕ → List ℤ
@@ -77,9 +77,9 @@ row_long rows same p lt =
     rw (same, get_or-map-range_with_len dither_row 0 16 p p [] lt (omega arith)) refl
 
 -- they repeat after four cells
-pub shift_again : (dither : Bool) (x next y j : ℕ) → next % 4 ≡ (x + j) % 4 → shift_of dither (x + j) y
-    ≡ shift_of dither next y
-unfolding shift_of
+pub shift_again : (dither : Bool) (x next y j : ℕ) → next % 4 ≡ (x + j) % 4 → dither_of dither (x + j) y
+    ≡ dither_of dither next y
+unfolding dither_of
 shift_again dither x next y j e = rw e refl
 
 pub dither_again : (x y i : ℕ) → dither_offset ((4 * (y % 4) + x % 4) % 4 + i) ((4 * (y % 4) + x % 4) / 4)

@@ -1,4 +1,4 @@
-pub mod ApartLemmas
+pub mod HazardFreeLemmas
 pub mod BackLemmas
 pub mod BlindLemmas
 pub mod CellsLemmas
@@ -6,13 +6,13 @@ pub mod ChunkLemmas
 pub mod ColorLemmas
 pub mod CostLemmas
 pub mod GuardLemmas
-pub mod PartLemmas
-pub mod TonedLemmas
+pub mod ChunkDrawLemmas
+pub mod UntexturedLemmas
 pub mod PlanLemmas
-pub mod RampedLemmas
+pub mod AttributeRampLemmas
 pub mod SolidLemmas
-mod SheetLemmas
-mod StretchLemmas
-mod SwatchLemmas
+mod TriangleSetupLemmas
+mod TexelRunLemmas
+mod ColoredClutLemmas
 pub mod TexelLemmas
-mod TintLemmas
+mod ShadingLemmas

@@ -4,28 +4,28 @@ use Rattle.overlap_guard.proofs.TestLemmas.{texture_iff, false_of}
 use Rattle.overlap_guard.specs.Hazard.{has_texture_hazard}
 use Rattle.texel_lanes.specs.declared.texture.Texture.{Texture}
 use Rattle.span_lanes.specs.declared.span.Paint.{Paint}
-use Rattle.span_lanes.specs.declared.part.Part.{Part}
+use Rattle.span_lanes.specs.declared.chunk.Chunk.{Chunk}
 use Rattle.span_lanes.specs.declared.span.Span.{Span}
-use Rattle.span_lanes.specs.declared.track.Track.{Track}
+use Rattle.span_lanes.specs.declared.tex_coords.TexCoords.{TexCoords}
 use Rattle.texel_lanes.specs.Texture.{texel, texel_steps}
 use Rattle.span_lanes.specs.Shade.{texture_of}
 use Rattle.span_lanes.specs.Cost.{chunk_cost}
-use Rattle.span_lanes.specs.Guard.{has_hazard, paint_texels, palette_of, target, IsApart}
+use Rattle.span_lanes.specs.Guard.{has_hazard, paint_texels, palette_of, target, IsHazardFree}
 use Rattle.texel_lanes.specs.Texels.{AreCoordinates}
 use Rattle.span_lanes.specs.Lanes.{HasCoordinates, columns_from, rows_from}
-use Rattle.span_lanes.specs.Plan.{HasTexels}
-use Rattle.span_lanes.specs.Track.{along_at, IsTrack}
-use Rattle.span_lanes.specs.Paints.{paint_u, paint_v, part_u, part_v}
+use Rattle.span_lanes.specs.RowSetup.{HasTexels}
+use Rattle.span_lanes.specs.TexCoords.{coord_at, AreTexCoords}
+use Rattle.span_lanes.specs.Paints.{paint_u, paint_v, chunk_u, chunk_v}
 use Rattle.span_lanes.proofs.CostLemmas.{free_cost}
 
 -- the coordinates of a chunk by those of its span
-pub coordinates_here : (paint : Paint) (x y n first k : ℕ) (track : Track) (us vs : List ℕ) → IsTrack paint x y n track
+pub coordinates_here : (paint : Paint) (x y n first k : ℕ) (coords : TexCoords) (us vs : List ℕ) → AreTexCoords paint x y n coords
     → first + k ≤ n → k ≤ 16
     → AreCoordinates us → AreCoordinates vs
-    → ((j : ℕ) → j < 16 → get_or us j 0 ≡ along_at track.u first j)
-    → ((j : ℕ) → j < 16 → get_or vs j 0 ≡ along_at track.v first j)
+    → ((j : ℕ) → j < 16 → get_or us j 0 ≡ coord_at coords.u first j)
+    → ((j : ℕ) → j < 16 → get_or vs j 0 ≡ coord_at coords.v first j)
     → HasCoordinates (columns_from paint (x + first) y first) (rows_from paint (x + first) y first) k us vs
-coordinates_here paint x y n first k track us vs is within few across down u v = record {
+coordinates_here paint x y n first k coords us vs is within few across down u v = record {
   across = across;
   down = down;
   u = λ j lt. u j (omega arith) ∙ is.u first j (omega arith) (omega arith)
@@ -35,8 +35,8 @@ coordinates_here paint x y n first k track us vs is within few across down u v =
 }
 
 -- the texels of a chunk by their coordinates
-pub texels_here : (p : Part) (t : Texture) (us vs m lanes : List ℕ)
-    → HasCoordinates (part_u p) (part_v p) p.k us vs → length lanes ≡ 16
+pub texels_here : (p : Chunk) (t : Texture) (us vs m lanes : List ℕ)
+    → HasCoordinates (chunk_u p) (chunk_v p) p.k us vs → length lanes ≡ 16
     → ((j : ℕ) → j < p.k → get_or lanes j 0 ≡ texel t (get_or us j 0) (get_or vs j 0) m)
     → HasTexels t p m lanes
 texels_here p t us vs m lanes at long read = record {
@@ -45,18 +45,18 @@ texels_here p t us vs m lanes at long read = record {
 }
 
 -- a chunk that lies apart reads nothing that it writes
-pub apart_free : (span : Span) (t : Texture) (first k : ℕ) → IsApart span → first + k ≤ span.n
+pub apart_free : (span : Span) (t : Texture) (first k : ℕ) → IsHazardFree span → first + k ≤ span.n
     → texture_of span.paint ≡ Some t → has_hazard span first k ≡ false
 unfolding has_hazard
-apart_free span t first k apart within of_paint =
+apart_free span t first k hazard_free within of_paint =
     rw of_paint (false_of (has_texture_hazard (paint_texels span.paint t span.x span.y first k) (palette_of t)
     (target span.x span.y first) k)
     (texture_iff (paint_texels span.paint t span.x span.y first k) (palette_of t) (target span.x span.y first) k)
-    (λ h. apart.free first k within (rw of_paint h)))
+    (λ h. hazard_free.free first k within (rw of_paint h)))
 
 -- the cost of a chunk that lies apart
-pub apart_cost : (span : Span) (t : Texture) (first k : ℕ) → IsApart span → first + k ≤ span.n → texture_of span.paint
+pub apart_cost : (span : Span) (t : Texture) (first k : ℕ) → IsHazardFree span → first + k ≤ span.n → texture_of span.paint
     ≡ Some t
     → chunk_cost span first k ≡ 2 + texel_steps t.page.depth * k
-apart_cost span t first k apart within of_paint = free_cost span t first k of_paint
-    (apart_free span t first k apart within of_paint)
+apart_cost span t first k hazard_free within of_paint = free_cost span t first k of_paint
+    (apart_free span t first k hazard_free within of_paint)

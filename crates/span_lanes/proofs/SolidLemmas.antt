@@ -13,7 +13,7 @@ use Rattle.span_lanes.specs.declared.span.Span.{Span}
 use Rattle.span_lanes.specs.Shade.{shade, blended_if, flat_pixel}
 use Rattle.span_lanes.specs.Lanes.{IsSolid}
 use Rattle.span_lanes.proofs.ColorLemmas.{no_shift}
-use Rattle.span_lanes.proofs.TonedLemmas.{toned_is}
+use Rattle.span_lanes.proofs.UntexturedLemmas.{toned_is}
 
 even : (semi testing dither : Bool) → (not (semi || testing) && not dither) ≡ true → (semi ≡ false) × (testing ≡ false)
     × (dither ≡ false)

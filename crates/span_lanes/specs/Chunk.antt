@@ -2,7 +2,7 @@
 use Rattle.std.specs.Prelude.{ℕ, ◌+◌, ◌*◌, List}
 use Rattle.vram_store.specs.Plot.{drawn_lanes, later}
 use Rattle.vram_store.specs.Chunk.{HasLanes}
-use Rattle.span_lanes.specs.declared.part.Part.{Part}
+use Rattle.span_lanes.specs.declared.chunk.Chunk.{Chunk}
 use Rattle.span_lanes.specs.declared.span.Span.{Span}
 use Rattle.span_lanes.specs.Shade.{shade}
 
@@ -11,12 +11,12 @@ abbrev pub chunk_place : Span → ℕ → ℕ
 chunk_place span first = 1024 * span.y + (span.x + first)
 
 -- the cells of a part of a span, one after another
-abbrev pub drawn_chunk : Part → List ℕ → List ℕ
+abbrev pub drawn_chunk : Chunk → List ℕ → List ℕ
 drawn_chunk p m =
     drawn_lanes (later (shade p.span.now) p.first) p.span.now.brush.mask (chunk_place p.span.now p.first) p.k m
 
 -- lanes that hold what all these cells become, each by video memory as it is
-abbrev pub HasChunk : Part → (m lanes : List ℕ) → Type 0
+abbrev pub HasChunk : Chunk → (m lanes : List ℕ) → Type 0
 HasChunk p m lanes =
     HasLanes (later (shade p.span.now) p.first) p.span.now.brush.mask (chunk_place p.span.now p.first) m
     (record { n = p.k; lanes = lanes; bits = 65535 })

@@ -1,7 +1,7 @@
 -- What it is to draw a span, or a part of one.
 use Rattle.std.specs.Prelude.{ℕ, ◌≡◌, ◌≤◌, ◌+◌, ◌%◌, List, Some, length}
 use Rattle.vram_store.specs.Vram.{height_of}
-use Rattle.span_lanes.specs.declared.part.Part.{Part}
+use Rattle.span_lanes.specs.declared.chunk.Chunk.{Chunk}
 use Rattle.span_lanes.specs.declared.span.Span.{Span}
 use Rattle.texel_lanes.specs.declared.texture.Texture.{Texture}
 use Rattle.span_lanes.specs.Cells.{Stage}
@@ -24,14 +24,14 @@ pub record CanSample (s : Span) (t : Texture) (m : List ℕ) : Type 0 where
   pub texture : texture_of s.paint ≡ Some t
 
 -- one of the parts that a span is cut into from its left
-pub record IsPart (p : Part) : Type 0 where
+pub record IsChunk (p : Chunk) : Type 0 where
   pub some : 1 ≤ p.k
   pub few : p.k ≤ 16
   pub within : p.first + p.k ≤ p.span.now.n
   pub cut : p.first % 16 ≡ 0
 
 -- the cells of a part were drawn, one after another; so many steps are spared
-pub record DrawsPart (p : Part) (spared : ℕ) (before after : Stage) : Type 0 where
+pub record DrawsChunk (p : Chunk) (spared : ℕ) (before after : Stage) : Type 0 where
   pub cells : after.m ≡ drawn_chunk p before.m
   pub long : length after.m ≡ length before.m
   pub cost : after.steps + spared ≤ before.steps + chunk_cost p.span.now p.first p.k

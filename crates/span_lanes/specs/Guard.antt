@@ -26,8 +26,8 @@ abbrev pub clut_strip : ℕ → ℕ → Strip
 clut_strip clut n = record { x = clut % 64 * 16; y = clut_row clut; n = n }
 
 -- a palette of sixteen entries, if a texture has one, is in another row
-abbrev pub IsInOtherRow : Texture → ℕ → Type 0
-IsInOtherRow t y = t.page.depth ≡ 0 → clut_row t.clut ≢ y
+abbrev pub HasClutInOtherRow : Texture → ℕ → Type 0
+HasClutInOtherRow t y = t.page.depth ≡ 0 → clut_row t.clut ≢ y
 
 -- the palette that a texture reads: sixteen entries at depth 0, 256 at depth 1
 abbrev pub palette_of : Texture → Option Strip
@@ -79,11 +79,11 @@ page_width depth =
 
 -- n cells of a row from (x, y) on are above or below the rows of a texture's page, or beside its columns, which do not
 -- wrap
-abbrev pub LiesBeside : Texture → ℕ → ℕ → ℕ → Type 0
-LiesBeside t x y n =
+abbrev pub LiesOutsidePage : Texture → ℕ → ℕ → ℕ → Type 0
+LiesOutsidePage t x y n =
     ((y < t.page.y) ⊎ (t.page.y + 255 < y))
     ⊎ ((t.page.x + page_width t.page.depth ≤ 1024) × ((x + n ≤ t.page.x) ⊎ (t.page.x + page_width t.page.depth ≤ x)))
 
 -- no cells of a span read what they write
-pub record IsApart (span : Span) : Type 0 where
+pub record IsHazardFree (span : Span) : Type 0 where
   pub free : (first n : ℕ) → first + n ≤ span.n → HasHazard span first n → ⊥

@@ -8,7 +8,7 @@ use Rattle.texel_lanes.specs.Texels.{AreCoordinates}
 use Rattle.span_lanes.specs.declared.span.Brush.{Brush}
 use Rattle.span_lanes.specs.declared.span.Paint.{Paint}
 use Rattle.span_lanes.specs.declared.span.Span.{Span}
-use Rattle.span_lanes.specs.Shade.{shift_of, shade}
+use Rattle.span_lanes.specs.Shade.{dither_of, shade}
 use Rattle.span_lanes.specs.Paints.{paint_color, paint_u, paint_v}
 
 -- sixteen channels of eight bits
@@ -30,14 +30,14 @@ abbrev pub colors_from : Paint → ℕ → ℕ → ℕ → ℕ
 colors_from paint x y j = paint_color paint (x + j) y
 
 -- sixteen dither offsets, or zeros
-pub record AreShifts (shifts : List ℤ) : Type 0 where
-  pub long : length shifts ≡ 16
-  pub small : EachLane (λ i. IsShift (slice_index_or shifts i (pos 0)))
+pub record AreDitherLanes (dither_lanes : List ℤ) : Type 0 where
+  pub long : length dither_lanes ≡ 16
+  pub small : EachLane (λ i. IsShift (slice_index_or dither_lanes i (pos 0)))
 
 -- the dither offsets of sixteen cells from (x, y) on, or zeros
-pub record AreShiftsAt (dither : Bool) (x y : ℕ) (shifts : List ℤ) : Type 0 where
-  pub small : AreShifts shifts
-  pub value : EachLane (λ i. slice_index_or shifts i (pos 0) ≡ shift_of dither (x + i) y)
+pub record AreDitherLanesAt (dither : Bool) (x y : ℕ) (dither_lanes : List ℤ) : Type 0 where
+  pub small : AreDitherLanes dither_lanes
+  pub value : EachLane (λ i. slice_index_or dither_lanes i (pos 0) ≡ dither_of dither (x + i) y)
 
 -- the tone of a colour with a dither offset
 abbrev pub tone_with : ℕ → ℤ → ℕ

@@ -1,7 +1,7 @@
 -- Paints, and their parts at a cell.
 use Rattle.std.specs.Prelude.{ℕ, ◌+◌}
-use Rattle.span_lanes.specs.declared.part.Part.{Part}
-use Rattle.span_lanes.specs.declared.row.TexelRow.{TexelRow}
+use Rattle.span_lanes.specs.declared.chunk.Chunk.{Chunk}
+use Rattle.span_lanes.specs.declared.texel_row.TexelRow.{TexelRow}
 use Rattle.span_lanes.specs.declared.span.Paint.{Paint}
 use Rattle.span_lanes.specs.declared.span.Paint.TheVariants.{Flat, Shaded, TexturedTri, TexturedRow}
 use Rattle.span_lanes.specs.Shade.{row_u, attribute_in, color_in}
@@ -32,8 +32,8 @@ paint_v (TexturedTri tri texture) x y i = attribute_in tri 4 x y
 paint_v (TexturedRow color texture u v flip) x y i = v
 
 -- the column and the row of the texel of cell j of a part
-abbrev pub part_u : Part → ℕ → ℕ
-part_u p j = paint_u p.span.now.paint (p.span.now.x + p.first + j) p.span.now.y (p.first + j)
+abbrev pub chunk_u : Chunk → ℕ → ℕ
+chunk_u p j = paint_u p.span.now.paint (p.span.now.x + p.first + j) p.span.now.y (p.first + j)
 
-abbrev pub part_v : Part → ℕ → ℕ
-part_v p j = paint_v p.span.now.paint (p.span.now.x + p.first + j) p.span.now.y (p.first + j)
+abbrev pub chunk_v : Chunk → ℕ → ℕ
+chunk_v p j = paint_v p.span.now.paint (p.span.now.x + p.first + j) p.span.now.y (p.first + j)

@@ -63,8 +63,8 @@ row_u u flip i = if flip then (u + 1024 - i) % 256 else (u + i) % 256
 -- ---- colours
 
 -- the dither offset that is used at a cell
-unfoldable pub shift_of : Bool → ℕ → ℕ → ℤ
-shift_of dither x y = if dither then dither_offset x y else pos 0
+unfoldable pub dither_of : Bool → ℕ → ℕ → ℤ
+dither_of dither x y = if dither then dither_offset x y else pos 0
 
 -- a colour over a cell, blended where it is semi-transparent
 unfoldable pub blended_if : Bool → ℕ → ℕ → ℕ → ℕ
@@ -81,15 +81,15 @@ abbrev pub is_high : ℕ → Bool
 is_high t = bit t 15 == 1
 
 -- a texel under a colour, or the texel itself
-unfoldable pub front_of : Bool → ℕ → ℤ → ℕ → ℕ
-front_of raw color shift t = if raw then t else modulated_of t (red_of color) (green_of color) (blue_of color) shift
+unfoldable pub modulated_texel : Bool → ℕ → ℤ → ℕ → ℕ
+modulated_texel raw color shift t = if raw then t else modulated_of t (red_of color) (green_of color) (blue_of color) shift
 
 -- the pixel of a texel: none for 0000h; bit 15 says whether it may be semi-transparent, and stays
 unfoldable pub textured_pixel : Brush → Bool → ℕ → ℤ → ℕ → ℕ → Option ℕ
 textured_pixel brush raw color shift back t =
     if t == 0 then None
     else Some (packed_pixel
-    (blended_if (brush.semi && is_high t) brush.mode back (front_of raw color shift t)) (is_high t) false)
+    (blended_if (brush.semi && is_high t) brush.mode back (modulated_texel raw color shift t)) (is_high t) false)
 
 -- red, green, blue, u or v of a triangle at a cell
 abbrev pub attribute_in : Corners → ℕ → ℕ → ℕ → ℕ
@@ -103,13 +103,13 @@ color_in tri x y = attribute_in tri 0 x y + 256 * attribute_in tri 1 x y + 65536
 
 -- the pixel, or none, of cell i of a row, which is (x, y)
 abbrev pub paint_pixel : Paint → Brush → ℕ → ℕ → ℕ → List ℕ → Option ℕ
-paint_pixel (Flat color) brush x y i m = flat_pixel brush color (shift_of brush.dither x y) (at m x y)
-paint_pixel (Shaded tri) brush x y i m = flat_pixel brush (color_in tri x y) (shift_of brush.dither x y) (at m x y)
+paint_pixel (Flat color) brush x y i m = flat_pixel brush color (dither_of brush.dither x y) (at m x y)
+paint_pixel (Shaded tri) brush x y i m = flat_pixel brush (color_in tri x y) (dither_of brush.dither x y) (at m x y)
 paint_pixel (TexturedTri tri texture) brush x y i m =
-    textured_pixel brush texture.raw (color_in tri x y) (shift_of (brush.dither && not texture.raw) x y) (at m x y)
+    textured_pixel brush texture.raw (color_in tri x y) (dither_of (brush.dither && not texture.raw) x y) (at m x y)
     (texel texture (attribute_in tri 3 x y) (attribute_in tri 4 x y) m)
 paint_pixel (TexturedRow color texture u v flip) brush x y i m =
-    textured_pixel brush texture.raw color (shift_of (brush.dither && not texture.raw) x y) (at m x y)
+    textured_pixel brush texture.raw color (dither_of (brush.dither && not texture.raw) x y) (at m x y)
     (texel texture (row_u u flip i) v m)
 
 -- the pixel of cell i of a span

@@ -2,11 +2,11 @@
 ghost use Rattle.std.specs.Prelude.{◌≡◌, ◌≤◌, ◌<◌, ◌+◌, ◌||◌, ℕ, length, slice_index};
 ghost use Rattle.vram_store.specs.Plot.{is_testing};
 ghost use Rattle.span_lanes.specs.Chunk.{chunk_place};
-ghost use Rattle.span_lanes.specs.Draws.{CanDraw, IsPart};
+ghost use Rattle.span_lanes.specs.Draws.{CanDraw, IsChunk};
 ghost use Rattle.span_lanes.specs.Lanes.{DoesFor};
 
 use crate::Brush;
-use crate::part::Part;
+use crate::chunk::Chunk;
 use px_num::lanes::splat;
 use std::simd::prelude::*;
 use std::sync::ledger::Ledger;
@@ -15,7 +15,7 @@ use vram_store::{Steps, Vram};
 
 // Whether it matters what the cells of a span hold.
 #[inline(always)]
-pub(crate) fn looks(brush: &Brush) -> bool
+pub(crate) fn reads_back(brush: &Brush) -> bool
     ensures { result ≡ (brush.now.semi || is_testing brush.now.mask) }
 {
     brush.semi || tests(brush.mask)
@@ -23,17 +23,17 @@ pub(crate) fn looks(brush: &Brush) -> bool
 
 // The cells of a part of a span; zeros where it does not matter what they hold.
 #[inline(always)]
-pub(crate) fn back_of<L: Ledger>(vram: &Vram, part: &Part, steps: &mut Steps<L>) -> u16x16
-    requires can { CanDraw part.now.span.now vram.now }
-    requires part { IsPart part.now }
+pub(crate) fn back_of<L: Ledger>(vram: &Vram, chunk: &Chunk, steps: &mut Steps<L>) -> u16x16
+    requires can { CanDraw chunk.now.span.now vram.now }
+    requires chunk { IsChunk chunk.now }
     ensures long { length result ≡ 16 }
-    ensures value { (j : ℕ) → j < part.now.k
-        → DoesFor part.now.span.now.brush (slice_index vram.now (chunk_place part.now.span.now part.now.first + j))
+    ensures value { (j : ℕ) → j < chunk.now.k
+        → DoesFor chunk.now.span.now.brush (slice_index vram.now (chunk_place chunk.now.span.now chunk.now.first + j))
         (slice_index result j) }
     ensures cost { steps.new ≤ steps.old + 1 }
 {
-    if looks(&part.span.brush) {
-        vram.load16(part.span.x + part.first, part.span.y, part.k, steps)
+    if reads_back(&chunk.span.brush) {
+        vram.load16(chunk.span.x + chunk.first, chunk.span.y, chunk.k, steps)
     } else {
         splat(0)
     }

@@ -9,7 +9,7 @@ ghost use Rattle.span_lanes.specs.Guard.{texel_cells, palette_of, clut_strip};
 use crate::{Paint, Texture};
 use overlap_guard::lanes_hazard;
 use px_num::{Cell, Strip};
-use texel_lanes::{Coordinates, clut_row, places_of};
+use texel_lanes::{Coordinates, clut_row, texel_cells_of};
 
 pub(crate) fn texture_of(paint: &Paint) -> Option<Texture>
     ensures { result ≡ texture_of paint.now }
@@ -55,6 +55,6 @@ pub(crate) fn reads_itself(texture: &Texture, at: &Coordinates, to: Cell, k: u8)
     ensures value { result
         ≡ has_texture_hazard (texel_cells texture.now at.now.us at.now.vs k) (palette_of texture.now) to k }
 {
-    let places = places_of(texture, at);
+    let places = texel_cells_of(texture, at);
     lanes_hazard(places.xs, places.ys, palette(texture), to, k)
 }

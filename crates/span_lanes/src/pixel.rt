@@ -3,11 +3,11 @@ ghost use Rattle.std.specs.Prelude.{◌≡◌, ◌≤◌, ◌<◌, ◌+◌, pos,
 ghost use Rattle.blend_dither.specs.Color.{IsShift};
 ghost use Rattle.edge_walk.specs.Triangle.{is_inside};
 ghost use Rattle.vram_store.specs.Vram.{at, height_of};
-ghost use Rattle.span_lanes.specs.Shade.{IsSpan, LiesIn, row_u, shift_of, blended_if, front_of};
+ghost use Rattle.span_lanes.specs.Shade.{IsSpan, LiesIn, row_u, dither_of, blended_if, modulated_texel};
 ghost use Rattle.span_lanes.specs.Shade.{flat_pixel, textured_pixel, shade, attribute_in, color_in};
 ghost use Rattle.span_lanes.specs.Cost.{paint_steps};
 
-use crate::row::row_u;
+use crate::texel_row::row_u;
 use crate::{Brush, Paint, Span};
 use blend_dither::{blend, modulate, pack, shift_at, tone};
 use edge_walk::Tri;
@@ -15,9 +15,9 @@ use std::sync::ledger::Ledger;
 use texel_lanes::read_texel;
 use vram_store::{Steps, Vram};
 
-#[tactic(auto, unfolding(crate::specs::Shade::shift_of))]
+#[tactic(auto, unfolding(crate::specs::Shade::dither_of))]
 pub(crate) fn shift_for(dither: bool, x: u16, y: u16) -> i8
-    ensures value { result ≡ shift_of dither x y }
+    ensures value { result ≡ dither_of dither x y }
     ensures small { IsShift result }
 {
     if dither { shift_at(x, y) } else { 0 }
@@ -35,16 +35,16 @@ fn blend_if(semi: bool, mode: u8, back: u16, front: u16) -> u16
     }
 }
 
-#[tactic(auto, unfolding(crate::specs::Shade::front_of))]
+#[tactic(auto, unfolding(crate::specs::Shade::modulated_texel))]
 fn front(raw: bool, color: u32, shift: i8, t: u16) -> u16
     requires { IsShift shift }
-    ensures { result ≡ front_of raw color shift t }
+    ensures { result ≡ modulated_texel raw color shift t }
 {
     if raw { t } else { modulate(t, color, shift) }
 }
 
 #[tactic(auto, unfolding(crate::specs::Shade::flat_pixel))]
-fn toned_pixel(brush: &Brush, color: u32, shift: i8, back: u16) -> Option<u16>
+fn untextured_pixel(brush: &Brush, color: u32, shift: i8, back: u16) -> Option<u16>
     requires mode { brush.now.mode ≤ 3 }
     requires shift { IsShift shift }
     ensures { result ≡ flat_pixel brush.now color shift back }
@@ -115,11 +115,11 @@ pub(crate) fn pixel_of<L: Ledger>(
     match &span.paint {
         Paint::Flat { color } => {
             let shift = shift_for(span.brush.dither, span.x + i, span.y);
-            toned_pixel(&span.brush, *color, shift, back)
+            untextured_pixel(&span.brush, *color, shift, back)
         }
         Paint::Shaded { tri } => {
             let shift = shift_for(span.brush.dither, span.x + i, span.y);
-            toned_pixel(&span.brush, color_of(tri, span.x + i, span.y), shift, back)
+            untextured_pixel(&span.brush, color_of(tri, span.x + i, span.y), shift, back)
         }
         Paint::TexturedTri { tri, texture } => {
             let shift = shift_for(span.brush.dither && !texture.raw, span.x + i, span.y);

@@ -1,11 +1,11 @@
 // Where texels are found.
 ghost use Rattle.std.specs.Prelude.{◌≡◌, ◌≤◌, ◌+◌, ◌*◌};
 ghost use Rattle.texel_lanes.specs.Texture.{texel_steps};
-ghost use Rattle.span_lanes.specs.Draws.{CanSample, IsPart};
-ghost use Rattle.span_lanes.specs.Kept.{HasIndexes};
-ghost use Rattle.span_lanes.specs.Plan.{HasTexels};
+ghost use Rattle.span_lanes.specs.Draws.{CanSample, IsChunk};
+ghost use Rattle.span_lanes.specs.CachedClut.{HasIndexes};
+ghost use Rattle.span_lanes.specs.RowSetup.{HasTexels};
 
-use crate::part::Part;
+use crate::chunk::Chunk;
 use crate::{Span, Texture};
 use std::simd::prelude::*;
 use std::sync::ledger::Ledger;
@@ -13,17 +13,17 @@ use vram_store::{Steps, Vram};
 
 // A texture, and what finds texels in it.
 #[derive(Clone, Copy)]
-pub(crate) struct Found<'a, S> {
+pub(crate) struct BoundSampler<'a, S> {
     pub(crate) texture: &'a Texture,
     pub(crate) sampler: S,
 }
 
 #[inline(always)]
-pub(crate) fn found_by<S>(texture: &Texture, sampler: S) -> Found<'_, S>
+pub(crate) fn sampler_of<S>(texture: &Texture, sampler: S) -> BoundSampler<'_, S>
     ensures texture { result.texture.now ≡ texture.now }
     ensures sampler { result.sampler ≡ sampler }
 {
-    Found { texture, sampler }
+    BoundSampler { texture, sampler }
 }
 
 // A texture under one colour, and what finds texels in it.
@@ -46,18 +46,18 @@ pub(crate) trait Sampler {
         &self,
         vram: &Vram,
         texture: &Texture,
-        part: &Part,
+        chunk: &Chunk,
         steps: &mut Steps<L>,
     ) -> u16x16
-        requires sample { CanSample part.now.span.now texture.now vram.now }
-        requires finds { finds self.now part.now.span.now texture.now }
-        requires part { IsPart part.now }
-        ensures texels { HasTexels texture.now part.now vram.now result }
-        ensures cost { steps.new ≤ steps.old + texel_steps texture.now.page.depth * part.now.k };
+        requires sample { CanSample chunk.now.span.now texture.now vram.now }
+        requires finds { finds self.now chunk.now.span.now texture.now }
+        requires chunk { IsChunk chunk.now }
+        ensures texels { HasTexels texture.now chunk.now vram.now result }
+        ensures cost { steps.new ≤ steps.old + texel_steps texture.now.page.depth * chunk.now.k };
 }
 
 // How the indexes of texels of four bits are found.
-pub(crate) trait Indexed {
+pub(crate) trait IndexSampler {
     ghost use Rattle.span_lanes.specs.declared.span.Span.{Span};
     ghost use Rattle.texel_lanes.specs.declared.texture.Texture.{Texture};
 
@@ -67,15 +67,15 @@ pub(crate) trait Indexed {
         &self,
         vram: &Vram,
         texture: &Texture,
-        part: &Part,
+        chunk: &Chunk,
         steps: &mut Steps<L>,
     ) -> u8x16
-        requires sample { CanSample part.now.span.now texture.now vram.now }
-        requires finds { finds self.now part.now.span.now texture.now }
-        requires part { IsPart part.now }
+        requires sample { CanSample chunk.now.span.now texture.now vram.now }
+        requires finds { finds self.now chunk.now.span.now texture.now }
+        requires chunk { IsChunk chunk.now }
         requires depth { texture.now.page.depth ≡ 0 }
-        ensures indexes { HasIndexes texture.now part.now vram.now result }
-        ensures cost { steps.new ≤ steps.old + part.now.k };
+        ensures indexes { HasIndexes texture.now chunk.now vram.now result }
+        ensures cost { steps.new ≤ steps.old + chunk.now.k };
 }
 
 impl<S: Sampler> Sampler for &S {
@@ -86,14 +86,14 @@ impl<S: Sampler> Sampler for &S {
         &self,
         vram: &Vram,
         texture: &Texture,
-        part: &Part,
+        chunk: &Chunk,
         steps: &mut Steps<L>,
     ) -> u16x16 {
-        (**self).read_texels(vram, texture, part, steps)
+        (**self).read_texels(vram, texture, chunk, steps)
     }
 }
 
-impl<S: Indexed> Indexed for &S {
+impl<S: IndexSampler> IndexSampler for &S {
     ghost finds = { λ sampler. S.finds sampler.now };
 
     #[inline(always)]
@@ -101,9 +101,9 @@ impl<S: Indexed> Indexed for &S {
         &self,
         vram: &Vram,
         texture: &Texture,
-        part: &Part,
+        chunk: &Chunk,
         steps: &mut Steps<L>,
     ) -> u8x16 {
-        (**self).read_indexes(vram, texture, part, steps)
+        (**self).read_indexes(vram, texture, chunk, steps)
     }
 }

@@ -1,44 +1,51 @@
-// The colours of a textured span.
-ghost use Rattle.std.specs.Prelude.{◌≡◌, ◌&&◌, not, false, IsTrue};
-ghost use Rattle.span_lanes.specs.Hues.{AreHues};
-ghost use Rattle.span_lanes.specs.Plan.{IsShading};
-ghost use Rattle.span_lanes.specs.Shade.{IsSpan};
+// The colours of a paint.
+ghost use Rattle.std.specs.Prelude.{◌≡◌, IfSome};
+ghost use Rattle.edge_walk.specs.Held.{divisor_for};
+ghost use Rattle.span_lanes.specs.SpanDrawer.{IsShadingOf};
+ghost use Rattle.span_lanes.specs.declared.shading.Shading.TheVariants.{OneColor};
 
-use crate::colors::{Shifts, shifts_of};
-use crate::hues::Hues;
-use crate::{Brush, Span, Texture};
+use edge_walk::{Divisor, Plane, Tri};
 
-// The colours of the cells of a span, and their dither offsets.
+// One colour, or three channels over a triangle.
 #[derive(Clone, Copy)]
-pub(crate) struct Shading {
-    pub(crate) hues: Hues,
-    pub(crate) shifts: Shifts,
+pub(crate) enum Shading {
+    OneColor {
+        color: u32,
+    },
+    Planes {
+        red: Plane,
+        green: Plane,
+        blue: Plane,
+    },
 }
 
-pub(crate) fn is_dithered(dither: bool, raw: bool) -> bool
-    ensures { result ≡ (dither && not raw) }
+#[inline(never)]
+fn gouraud_planes(tri: &Tri, divisor: &Divisor) -> Shading
+    requires divisor { divisor.now ≡ divisor_for tri.now }
+    ensures { IsShadingOf tri.now result }
 {
-    dither && !raw
+    Shading::Planes {
+        red: tri.plane(0, divisor),
+        green: tri.plane(1, divisor),
+        blue: tri.plane(2, divisor),
+    }
 }
 
-// Whether a texture has a palette of sixteen entries of which one colour makes the same in all cells.
+// The colour of all cells of a triangle, where it is seen that they have one.
 #[inline(always)]
-pub(crate) fn has_even_palette(texture: &Texture, brush: &Brush) -> bool
-    ensures depth { IsTrue result → texture.now.page.depth ≡ 0 }
-    ensures even { IsTrue result → (brush.now.dither && not texture.now.raw) ≡ false }
+pub(crate) fn one_color(tri: &Tri) -> Option<u32>
+    ensures { IfSome result (λ color. IsShadingOf tri.now (OneColor color)) }
 {
-    texture.page.depth == 0 && !is_dithered(brush.dither, texture.raw)
+    tri.one_color()
 }
 
 #[inline(always)]
-pub(crate) fn shading_of(span: &Span, texture: &Texture, hues: Hues) -> Shading
-    requires span { IsSpan span.now }
-    requires hues { AreHues span.now.paint span.now.x span.now.y span.now.n hues }
-    ensures { IsShading span.now texture.now result }
+pub(crate) fn triangle_shading(tri: &Tri, divisor: &Divisor) -> Shading
+    requires divisor { divisor.now ≡ divisor_for tri.now }
+    ensures { IsShadingOf tri.now result }
 {
-    let dither = is_dithered(span.brush.dither, texture.raw);
-    Shading {
-        hues,
-        shifts: shifts_of(dither, span.x, span.y),
+    match one_color(tri) {
+        Some(color) => Shading::OneColor { color },
+        None => gouraud_planes(tri, divisor),
     }
 }

@@ -1,8 +1,8 @@
 // Texels that stand side by side in a row of video memory, read by their depth.
 use crate::Texture;
-use crate::part::Part;
-use crate::sampler::{Indexed, Sampler};
-use crate::stretch::Stretch;
+use crate::chunk::Chunk;
+use crate::sampler::{IndexSampler, Sampler};
+use crate::texel_run::TexelRun;
 use std::simd::prelude::*;
 use std::sync::ledger::Ledger;
 use texel_lanes::{
@@ -13,26 +13,26 @@ use vram_store::{Steps, Vram};
 
 // Texels of four bits that stand side by side.
 #[derive(Clone, Copy)]
-pub(crate) struct Fours {
-    pub(crate) stretch: Stretch,
+pub(crate) struct FourBitRun {
+    pub(crate) texel_run: TexelRun,
 }
 
-impl Sampler for Fours {
+impl Sampler for FourBitRun {
     ghost use Rattle.std.specs.Prelude.{◌≡◌};
-    ghost use Rattle.span_lanes.specs.Stretch.{IsStretch};
+    ghost use Rattle.span_lanes.specs.TexelRun.{IsTexelRun};
 
-    ghost finds = { λ c s t. IsStretch s t c.stretch × (t.page.depth ≡ 0) };
+    ghost finds = { λ c s t. IsTexelRun s t c.texel_run × (t.page.depth ≡ 0) };
 
     #[inline(always)]
     fn read_texels<L: Ledger>(
         &self,
         vram: &Vram,
         texture: &Texture,
-        part: &Part,
+        chunk: &Chunk,
         steps: &mut Steps<L>,
     ) -> u16x16 {
-        let Stretch { u, y } = self.stretch;
-        let index = sixteen_indexes(vram, texture.page.x, u + part.first, y, steps);
+        let TexelRun { u, y } = self.texel_run;
+        let index = sixteen_indexes(vram, texture.page.x, u + chunk.first, y, steps);
         let entries = sixteen_entries(vram, texture.clut, steps);
         entries_at(&table_of(entries), index)
     }
@@ -40,69 +40,69 @@ impl Sampler for Fours {
 
 // Texels of eight bits that stand side by side.
 #[derive(Clone, Copy)]
-pub(crate) struct Eights {
-    pub(crate) stretch: Stretch,
+pub(crate) struct EightBitRun {
+    pub(crate) texel_run: TexelRun,
 }
 
-impl Sampler for Eights {
+impl Sampler for EightBitRun {
     ghost use Rattle.std.specs.Prelude.{◌≡◌};
-    ghost use Rattle.span_lanes.specs.Stretch.{IsStretch};
+    ghost use Rattle.span_lanes.specs.TexelRun.{IsTexelRun};
 
-    ghost finds = { λ c s t. IsStretch s t c.stretch × (t.page.depth ≡ 1) };
+    ghost finds = { λ c s t. IsTexelRun s t c.texel_run × (t.page.depth ≡ 1) };
 
     #[inline(always)]
     fn read_texels<L: Ledger>(
         &self,
         vram: &Vram,
         texture: &Texture,
-        part: &Part,
+        chunk: &Chunk,
         steps: &mut Steps<L>,
     ) -> u16x16 {
-        let Stretch { u, y } = self.stretch;
-        let index = sixteen_octets(vram, texture.page.x, u + part.first, y, steps);
-        gather_entries::<OneByOne, L>(vram, texture.clut, index, part.k, steps)
+        let TexelRun { u, y } = self.texel_run;
+        let index = sixteen_octets(vram, texture.page.x, u + chunk.first, y, steps);
+        gather_entries::<OneByOne, L>(vram, texture.clut, index, chunk.k, steps)
     }
 }
 
 // Texels of fifteen bits that stand side by side.
 #[derive(Clone, Copy)]
-pub(crate) struct Wholes {
-    pub(crate) stretch: Stretch,
+pub(crate) struct FifteenBitRun {
+    pub(crate) texel_run: TexelRun,
 }
 
-impl Sampler for Wholes {
+impl Sampler for FifteenBitRun {
     ghost use Rattle.std.specs.Prelude.{◌≤◌};
-    ghost use Rattle.span_lanes.specs.Stretch.{IsStretch};
+    ghost use Rattle.span_lanes.specs.TexelRun.{IsTexelRun};
 
-    ghost finds = { λ c s t. IsStretch s t c.stretch × (2 ≤ t.page.depth) };
+    ghost finds = { λ c s t. IsTexelRun s t c.texel_run × (2 ≤ t.page.depth) };
 
     #[inline(always)]
     fn read_texels<L: Ledger>(
         &self,
         vram: &Vram,
         texture: &Texture,
-        part: &Part,
+        chunk: &Chunk,
         steps: &mut Steps<L>,
     ) -> u16x16 {
-        let Stretch { u, y } = self.stretch;
-        vram.load16(texture.page.x + u + part.first, y, part.k, steps)
+        let TexelRun { u, y } = self.texel_run;
+        vram.load16(texture.page.x + u + chunk.first, y, chunk.k, steps)
     }
 }
 
-impl Indexed for Stretch {
-    ghost use Rattle.span_lanes.specs.Stretch.{IsStretch};
+impl IndexSampler for TexelRun {
+    ghost use Rattle.span_lanes.specs.TexelRun.{IsTexelRun};
 
-    ghost finds = { λ stretch s t. IsStretch s t stretch };
+    ghost finds = { λ texel_run s t. IsTexelRun s t texel_run };
 
     #[inline(always)]
     fn read_indexes<L: Ledger>(
         &self,
         vram: &Vram,
         texture: &Texture,
-        part: &Part,
+        chunk: &Chunk,
         steps: &mut Steps<L>,
     ) -> u8x16 {
-        let u = self.u + part.first;
+        let u = self.u + chunk.first;
         sixteen_indexes(vram, texture.page.x, u, self.y, steps)
     }
 }

@@ -3,13 +3,13 @@ ghost use Rattle.std.specs.Prelude.{ℕ, ◌≡◌, ◌&&◌, ◌||◌, not, IfS
 ghost use Rattle.vram_store.specs.Vram.{height_of};
 ghost use Rattle.vram_store.specs.Plot.{is_testing};
 ghost use Rattle.span_lanes.specs.declared.span.Paint.TheVariants.{Flat};
-ghost use Rattle.span_lanes.specs.Pen.{DrawsCells, HasHalfword};
+ghost use Rattle.span_lanes.specs.SpanDrawer.{DrawsCells, HasHalfword};
 ghost use Rattle.span_lanes.specs.Shade.{IsSpan, LiesIn};
 ghost use Rattle.span_lanes.specs.Lanes.{IsSolid};
 
-use crate::back::looks;
-use crate::loops::{Chunks, draw_parts};
-use crate::part::Part;
+use crate::back::reads_back;
+use crate::chunk::Chunk;
+use crate::chunk_loop::{ChunkDrawer, draw_chunks};
 use crate::{Brush, Paint, Span};
 use blend_dither::tone;
 use px_num::lanes::splat;
@@ -21,7 +21,7 @@ use vram_store::{Steps, Vram};
 fn is_even(brush: &Brush) -> bool
     ensures { result ≡ (not (brush.now.semi || is_testing brush.now.mask) && not brush.now.dither) }
 {
-    !looks(brush) && !brush.dither
+    !reads_back(brush) && !brush.dither
 }
 
 // What each cell becomes under one colour, where it is one halfword whatever the cells hold.
@@ -52,7 +52,7 @@ pub(crate) struct Solid {
     pub(crate) h: u16,
 }
 
-impl Chunks for Solid {
+impl ChunkDrawer for Solid {
     ghost use Rattle.span_lanes.specs.Solid.{CanFill};
 
     ghost serves = { λ c s m. CanFill s c.h m };
@@ -60,9 +60,9 @@ impl Chunks for Solid {
     ghost spared = { λ c. 0 };
 
     #[inline(always)]
-    fn draw_part<L: Ledger>(&self, vram: &mut Vram, part: &Part, steps: &mut Steps<L>) {
-        let x = part.span.x + part.first;
-        vram.store16(x, part.span.y, part.k, splat(self.h), 0xffff, steps);
+    fn draw_chunk<L: Ledger>(&self, vram: &mut Vram, chunk: &Chunk, steps: &mut Steps<L>) {
+        let x = chunk.span.x + chunk.first;
+        vram.store16(x, chunk.span.y, chunk.k, splat(self.h), 0xffff, steps);
     }
 
     ghost can = { λ c s m serves. serves.can };
@@ -77,5 +77,5 @@ pub fn draw_solid<L: Ledger>(vram: &mut Vram, span: &Span, h: u16, steps: &mut S
     ensures drawn { DrawsCells span.now
         (record { m = vram.old; steps = steps.old }) (record { m = vram.new; steps = steps.new }) }
 {
-    draw_parts(vram, span, &Solid { h }, steps);
+    draw_chunks(vram, span, &Solid { h }, steps);
 }

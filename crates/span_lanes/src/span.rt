@@ -1,6 +1,6 @@
 // What a span is.
 ghost use Rattle.std.specs.Prelude.{◌≡◌};
-ghost use Rattle.span_lanes.specs.Pen.{coat_of};
+ghost use Rattle.span_lanes.specs.SpanDrawer.{state_of};
 ghost use Rattle.span_lanes.specs.declared.span.Paint.TheVariants.{TexturedTri};
 
 use edge_walk::Tri;
@@ -56,7 +56,7 @@ pub enum Paint {
 
 /// A paint and a brush: what the cells of a primitive are drawn with.
 #[derive(Clone, Copy)]
-pub struct Coat {
+pub struct DrawState {
     /// The colours or texels.
     pub paint: Paint,
     /// How the pixels come to the cells.
@@ -89,8 +89,8 @@ pub struct Span {
 
 /// A span of a triangle that has no cells yet.
 #[inline(always)]
-pub(crate) fn no_cells(tri: &Tri, texture: &Texture, brush: &Brush) -> Span
-    ensures { coat_of result ≡ record { paint = TexturedTri tri.now texture.now; brush = brush.now } }
+pub(crate) fn empty_span(tri: &Tri, texture: &Texture, brush: &Brush) -> Span
+    ensures { state_of result ≡ record { paint = TexturedTri tri.now texture.now; brush = brush.now } }
 {
     Span {
         x: 0,

@@ -1,17 +1,17 @@
 // Rows of texels, one below another.
 ghost use Rattle.std.specs.Prelude.{ℕ, ◌≡◌, IsTrue, false};
 ghost use Rattle.texel_lanes.specs.Texture.{IsTexture};
-ghost use Rattle.span_lanes.specs.Frame.{IsBlock};
-ghost use Rattle.span_lanes.specs.Stretch.{IsStretch};
-ghost use Rattle.span_lanes.specs.TexelRows.{IsRowOf, KeepsPalette, texel_span};
+ghost use Rattle.span_lanes.specs.ClipRect.{IsClipRect};
+ghost use Rattle.span_lanes.specs.TexelRun.{IsTexelRun};
+ghost use Rattle.span_lanes.specs.TexelRows.{IsRowOf, CanCacheRows, texel_span};
 
-use crate::apart::is_block_apart;
-use crate::plainly::{is_plain, plain_brush};
-use crate::row::TexelRow;
-use crate::shading::has_even_palette;
-use crate::stretch::{Stretch, has_room, is_open, stretch_at};
-use crate::stretched::known;
-use crate::{Block, Brush, Paint, Span, Texture};
+use crate::hazard_free::is_clip_hazard_free;
+use crate::opaque::{is_opaque, opaque_brush};
+use crate::row_shading::has_undithered_clut16;
+use crate::texel_row::TexelRow;
+use crate::texel_run::{TexelRun, does_not_wrap, is_unwindowed, run_at_coords};
+use crate::texel_run_rows::with_raw;
+use crate::{Brush, ClipRect, Paint, Span, Texture};
 
 /// Rows of texels in the rows of a block of cells, all from one column of their page on.
 #[derive(Clone, Copy)]
@@ -27,7 +27,7 @@ pub struct TexelRows {
     /// How the pixels come to the cells.
     pub brush: Brush,
     /// The cells.
-    pub block: Block,
+    pub clip_rect: ClipRect,
 }
 
 impl TexelRows {
@@ -37,9 +37,9 @@ impl TexelRows {
         ensures { result ≡ texel_span self.now y v }
     {
         Span {
-            x: self.block.x,
+            x: self.clip_rect.x,
             y,
-            n: self.block.w,
+            n: self.clip_rect.w,
             paint: Paint::TexturedRow {
                 color: self.color,
                 texture: self.texture,
@@ -68,30 +68,31 @@ impl TexelRows {
 
     // Where the texels of row v of the page stand side by side, for any row of the block.
     #[inline(always)]
-    pub(crate) fn stretch(&self, v: u8) -> Stretch
-        requires keeps { KeepsPalette self.now }
+    pub(crate) fn texel_run(&self, v: u8) -> TexelRun
+        requires keeps { CanCacheRows self.now }
         requires texture { IsTexture self.now.texture }
-        ensures { (y : ℕ) → IsStretch (texel_span self.now y v) self.now.texture result }
+        ensures { (y : ℕ) → IsTexelRun (texel_span self.now y v) self.now.texture result }
     {
-        stretch_at(&self.texture, self.u, v)
+        run_at_coords(&self.texture, self.u, v)
     }
 
     /// Whether a palette of sixteen entries can be coloured once for all rows, whose texels stand side by side and
-    /// apart from the block. [`KeptRowsPen`](crate::KeptRowsPen) draws such rows, and [`EachRowPen`](crate::EachRowPen)
+    /// apart from the block. [`CachedClutRowsDrawer`](crate::CachedClutRowsDrawer) draws such rows, and [`AnyRowsDrawer`](crate::AnyRowsDrawer)
     /// all.
-    pub fn keeps_palette(&self) -> bool
-        requires block { IsBlock 1024 self.now.block }
+    pub fn can_cache_clut(&self) -> bool
+        requires clip_rect { IsClipRect 1024 self.now.clip_rect }
         requires texture { IsTexture self.now.texture }
-        ensures { IsTrue result → KeepsPalette self.now }
+        ensures { IsTrue result → CanCacheRows self.now }
     {
-        let n = self.block.w;
+        let n = self.clip_rect.w;
         if self.flip
-            || !has_even_palette(&self.texture, &self.brush)
-            || !is_open(&self.texture, self.u, n)
+            || !has_undithered_clut16(&self.texture, &self.brush)
+            || !is_unwindowed(&self.texture, self.u, n)
         {
             return false;
         }
-        has_room(&self.texture, self.u as u16, n) && is_block_apart(&self.block, &self.texture)
+        does_not_wrap(&self.texture, self.u as u16, n)
+            && is_clip_hazard_free(&self.clip_rect, &self.texture)
     }
 
     /// These rows, of which it is known whether texels are drawn as they are: such rows have loops of their own.
@@ -101,29 +102,29 @@ impl TexelRows {
         ensures { result ≡ self.now }
     {
         TexelRows {
-            texture: known(&self.texture, raw),
+            texture: with_raw(&self.texture, raw),
             ..*self
         }
     }
 
     /// Whether pixels are stored as they are: neither blended nor tested, and no bit is set.
     #[inline(always)]
-    pub fn is_plain(&self) -> bool
+    pub fn is_opaque(&self) -> bool
         ensures mask { IsTrue result → self.now.brush.mask ≡ 0 }
         ensures semi { IsTrue result → self.now.brush.semi ≡ false }
     {
-        is_plain(&self.brush)
+        is_opaque(&self.brush)
     }
 
     /// These rows, of which it is known that pixels are stored as they are, where the brush does that.
     #[inline(always)]
-    pub fn known_plain(&self) -> TexelRows
+    pub fn known_opaque(&self) -> TexelRows
         requires mask { self.now.brush.mask ≡ 0 }
         requires semi { self.now.brush.semi ≡ false }
         ensures { result ≡ self.now }
     {
         TexelRows {
-            brush: plain_brush(&self.brush),
+            brush: opaque_brush(&self.brush),
             ..*self
         }
     }

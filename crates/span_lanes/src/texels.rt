@@ -1,11 +1,11 @@
 // Spans of texels that read nothing that they write.
 use crate::Texture;
-use crate::loops::Chunks;
-use crate::part::Part;
-use crate::sampler::{Indexed, Sampler};
-use crate::shading::Shading;
-use crate::swatches::{Drawn, Swatches, drawn_at};
-use crate::textured::{draw_fronts, draw_shaded};
+use crate::chunk::Chunk;
+use crate::chunk_loop::ChunkDrawer;
+use crate::colored_clut::{ColoredClut, ModulatedTexels, texels_by_index};
+use crate::row_shading::RowShading;
+use crate::sampler::{IndexSampler, Sampler};
+use crate::textured::{draw_shaded, draw_texels};
 use std::sync::ledger::Ledger;
 use vram_store::{Steps, Vram};
 
@@ -21,69 +21,69 @@ pub(crate) struct Raw<S> {
 pub(crate) struct Shaded<S> {
     pub(crate) texture: Texture,
     pub(crate) sampler: S,
-    pub(crate) shading: Shading,
+    pub(crate) shading: RowShading,
 }
 
 // Texels of four bits, whose palette was read and coloured before.
 #[derive(Clone, Copy)]
-pub(crate) struct Kept<'a, S> {
+pub(crate) struct CachedClut<'a, S> {
     pub(crate) texture: Texture,
     pub(crate) sampler: S,
-    pub(crate) swatches: &'a Swatches,
+    pub(crate) colored_clut: &'a ColoredClut,
 }
 
-impl<S: Sampler> Chunks for Raw<S> {
+impl<S: Sampler> ChunkDrawer for Raw<S> {
     ghost use Rattle.std.specs.Prelude.{◌≡◌, true};
-    ghost use Rattle.span_lanes.specs.Kept.{CanTake};
+    ghost use Rattle.span_lanes.specs.CachedClut.{CanTakeTexels};
 
-    ghost serves = { λ c s m. CanTake s c.texture (S.finds c.sampler s c.texture) m × (c.texture.raw ≡ true) };
+    ghost serves = { λ c s m. CanTakeTexels s c.texture (S.finds c.sampler s c.texture) m × (c.texture.raw ≡ true) };
 
     ghost spared = { λ c. 0 };
 
     #[inline(always)]
-    fn draw_part<L: Ledger>(&self, vram: &mut Vram, part: &Part, steps: &mut Steps<L>) {
-        let texels = self.sampler.read_texels(vram, &self.texture, part, steps);
-        let drawn = Drawn {
+    fn draw_chunk<L: Ledger>(&self, vram: &mut Vram, chunk: &Chunk, steps: &mut Steps<L>) {
+        let texels = self.sampler.read_texels(vram, &self.texture, chunk, steps);
+        let drawn = ModulatedTexels {
             texels,
-            fronts: texels,
+            modulated: texels,
         };
-        draw_fronts(vram, &self.texture, drawn, part, steps);
+        draw_texels(vram, &self.texture, drawn, chunk, steps);
     }
 
     ghost can = { λ c s m serves. serves.0.sample.can };
 }
 
-impl<S: Sampler> Chunks for Shaded<S> {
-    ghost use Rattle.span_lanes.specs.Kept.{CanTake};
-    ghost use Rattle.span_lanes.specs.Plan.{IsShading};
+impl<S: Sampler> ChunkDrawer for Shaded<S> {
+    ghost use Rattle.span_lanes.specs.CachedClut.{CanTakeTexels};
+    ghost use Rattle.span_lanes.specs.RowSetup.{IsRowShading};
 
     ghost serves = { λ c s m.
-        CanTake s c.texture (S.finds c.sampler s c.texture) m × IsShading s c.texture c.shading };
+        CanTakeTexels s c.texture (S.finds c.sampler s c.texture) m × IsRowShading s c.texture c.shading };
 
     ghost spared = { λ c. 0 };
 
     #[inline(always)]
-    fn draw_part<L: Ledger>(&self, vram: &mut Vram, part: &Part, steps: &mut Steps<L>) {
-        let texels = self.sampler.read_texels(vram, &self.texture, part, steps);
-        draw_shaded(vram, &self.texture, &self.shading, texels, part, steps);
+    fn draw_chunk<L: Ledger>(&self, vram: &mut Vram, chunk: &Chunk, steps: &mut Steps<L>) {
+        let texels = self.sampler.read_texels(vram, &self.texture, chunk, steps);
+        draw_shaded(vram, &self.texture, &self.shading, texels, chunk, steps);
     }
 
     ghost can = { λ c s m serves. serves.0.sample.can };
 }
 
-impl<S: Indexed> Chunks for Kept<'_, S> {
-    ghost use Rattle.span_lanes.specs.Kept.{CanKeep};
+impl<S: IndexSampler> ChunkDrawer for CachedClut<'_, S> {
+    ghost use Rattle.span_lanes.specs.CachedClut.{CanUseCached};
 
-    ghost serves = { λ c s m. CanKeep s c.texture (S.finds c.sampler s c.texture) c.swatches.now m };
+    ghost serves = { λ c s m. CanUseCached s c.texture (S.finds c.sampler s c.texture) c.colored_clut.now m };
 
     // The palette's entries are not read again.
     ghost spared = { λ c. 1 };
 
     #[inline(always)]
-    fn draw_part<L: Ledger>(&self, vram: &mut Vram, part: &Part, steps: &mut Steps<L>) {
-        let index = self.sampler.read_indexes(vram, &self.texture, part, steps);
-        let drawn = drawn_at(self.swatches, self.texture.raw, index);
-        draw_fronts(vram, &self.texture, drawn, part, steps);
+    fn draw_chunk<L: Ledger>(&self, vram: &mut Vram, chunk: &Chunk, steps: &mut Steps<L>) {
+        let index = self.sampler.read_indexes(vram, &self.texture, chunk, steps);
+        let drawn = texels_by_index(self.colored_clut, self.texture.raw, index);
+        draw_texels(vram, &self.texture, drawn, chunk, steps);
     }
 
     ghost can = { λ c s m serves. serves.can.sample.can };

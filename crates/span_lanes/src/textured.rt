@@ -4,18 +4,18 @@ ghost use Rattle.std.specs.Prelude.{length, slice_index};
 ghost use Rattle.px_num.specs.Lanes.{EachLane};
 ghost use Rattle.vram_store.specs.Chunk.{AgreesApart};
 ghost use Rattle.span_lanes.specs.Chunk.{chunk_place, drawn_chunk, HasChunk};
-ghost use Rattle.span_lanes.specs.Draws.{CanSample, IsPart};
+ghost use Rattle.span_lanes.specs.Draws.{CanSample, IsChunk};
 ghost use Rattle.span_lanes.specs.Guard.{HasHazard};
-ghost use Rattle.span_lanes.specs.Plan.{AreDrawn, IsShading, HasTexels};
+ghost use Rattle.span_lanes.specs.RowSetup.{AreDrawn, IsRowShading, HasTexels};
 ghost use Rattle.span_lanes.specs.Lanes.{IsDrawnOver};
 
 use crate::Texture;
-use crate::fronts::fronts_of;
-use crate::part::Part;
-use crate::plotted::plotted_of;
-use crate::shading::Shading;
-use crate::store::store_part;
-use crate::swatches::Drawn;
+use crate::blended::blended_of_texels;
+use crate::chunk::Chunk;
+use crate::colored_clut::ModulatedTexels;
+use crate::modulated::modulated_texels;
+use crate::row_shading::RowShading;
+use crate::store::store_chunk;
 use px_num::lanes::{splat, where_equal};
 use std::simd::prelude::*;
 use std::sync::ledger::Ledger;
@@ -36,45 +36,45 @@ fn drawn_over(mask: u8, cells: u16x16, texels: u16x16, plotted: u16x16) -> u16x1
 
 // What the cells of a part become, by its texels and what colours make of these.
 #[inline(always)]
-fn collect_fronts<L: Ledger>(
+fn blended_texels<L: Ledger>(
     vram: &Vram,
     texture: &Texture,
-    drawn: Drawn,
-    part: &Part,
+    drawn: ModulatedTexels,
+    chunk: &Chunk,
     steps: &mut Steps<L>,
 ) -> u16x16
-    requires sample { CanSample part.now.span.now texture.now vram.now }
-    requires part { IsPart part.now }
-    requires drawn { AreDrawn texture.now part.now vram.now drawn }
+    requires sample { CanSample chunk.now.span.now texture.now vram.now }
+    requires chunk { IsChunk chunk.now }
+    requires drawn { AreDrawn texture.now chunk.now vram.now drawn }
     ensures long { length result ≡ 16 }
-    ensures lanes { HasChunk part.now vram.now result }
+    ensures lanes { HasChunk chunk.now vram.now result }
     ensures cost { steps.new ≤ steps.old + 1 }
 {
-    let brush = part.span.brush;
-    let back = vram.load16(part.span.x + part.first, part.span.y, part.k, steps);
-    let plotted = plotted_of(&brush, texture.raw, back, drawn, part.k);
+    let brush = chunk.span.brush;
+    let back = vram.load16(chunk.span.x + chunk.first, chunk.span.y, chunk.k, steps);
+    let plotted = blended_of_texels(&brush, texture.raw, back, drawn, chunk.k);
     drawn_over(brush.mask, back, drawn.texels, plotted)
 }
 
 // Draws a part that reads nothing that it writes, by its texels and what colours make of these.
 #[inline(always)]
-pub(crate) fn draw_fronts<L: Ledger>(
+pub(crate) fn draw_texels<L: Ledger>(
     vram: &mut Vram,
     texture: &Texture,
-    drawn: Drawn,
-    part: &Part,
+    drawn: ModulatedTexels,
+    chunk: &Chunk,
     steps: &mut Steps<L>,
 )
-    requires sample { CanSample part.now.span.now texture.now vram.old }
-    requires part { IsPart part.now }
-    requires free { HasHazard part.now.span.now part.now.first part.now.k → ⊥ }
-    requires drawn { AreDrawn texture.now part.now vram.old drawn }
-    ensures cells { vram.new ≡ drawn_chunk part.now vram.old }
-    ensures others { AgreesApart (chunk_place part.now.span.now part.now.first) part.now.k vram.old vram.new }
+    requires sample { CanSample chunk.now.span.now texture.now vram.old }
+    requires chunk { IsChunk chunk.now }
+    requires free { HasHazard chunk.now.span.now chunk.now.first chunk.now.k → ⊥ }
+    requires drawn { AreDrawn texture.now chunk.now vram.old drawn }
+    ensures cells { vram.new ≡ drawn_chunk chunk.now vram.old }
+    ensures others { AgreesApart (chunk_place chunk.now.span.now chunk.now.first) chunk.now.k vram.old vram.new }
     ensures cost { steps.new ≤ steps.old + 2 }
 {
-    let lanes = collect_fronts(vram, texture, drawn, part, steps);
-    store_part(vram, part, lanes, steps);
+    let lanes = blended_texels(vram, texture, drawn, chunk, steps);
+    store_chunk(vram, chunk, lanes, steps);
 }
 
 // Draws a part by its texels and the colours of the span.
@@ -82,20 +82,32 @@ pub(crate) fn draw_fronts<L: Ledger>(
 pub(crate) fn draw_shaded<L: Ledger>(
     vram: &mut Vram,
     texture: &Texture,
-    shading: &Shading,
+    shading: &RowShading,
     texels: u16x16,
-    part: &Part,
+    chunk: &Chunk,
     steps: &mut Steps<L>,
 )
-    requires sample { CanSample part.now.span.now texture.now vram.old }
-    requires part { IsPart part.now }
-    requires free { HasHazard part.now.span.now part.now.first part.now.k → ⊥ }
-    requires shading { IsShading part.now.span.now texture.now shading.now }
-    requires texels { HasTexels texture.now part.now vram.old texels }
-    ensures cells { vram.new ≡ drawn_chunk part.now vram.old }
-    ensures others { AgreesApart (chunk_place part.now.span.now part.now.first) part.now.k vram.old vram.new }
+    requires sample { CanSample chunk.now.span.now texture.now vram.old }
+    requires chunk { IsChunk chunk.now }
+    requires free { HasHazard chunk.now.span.now chunk.now.first chunk.now.k → ⊥ }
+    requires shading { IsRowShading chunk.now.span.now texture.now shading.now }
+    requires texels { HasTexels texture.now chunk.now vram.old texels }
+    ensures cells { vram.new ≡ drawn_chunk chunk.now vram.old }
+    ensures others { AgreesApart (chunk_place chunk.now.span.now chunk.now.first) chunk.now.k vram.old vram.new }
     ensures cost { steps.new ≤ steps.old + 2 }
 {
-    let fronts = fronts_of(texture, &shading.hues, shading.shifts, texels, part);
-    draw_fronts(vram, texture, Drawn { texels, fronts }, part, steps);
+    let modulated = modulated_texels(
+        texture,
+        &shading.row_colors,
+        shading.dither_lanes,
+        texels,
+        chunk,
+    );
+    draw_texels(
+        vram,
+        texture,
+        ModulatedTexels { texels, modulated },
+        chunk,
+        steps,
+    );
 }

@@ -1,42 +1,42 @@
 // Spans without a texture, part by part.
 ghost use Rattle.std.specs.Prelude.{◌≡◌, None};
 ghost use Rattle.span_lanes.specs.Draws.{CanDraw, DrawsSpan, at_stage};
-ghost use Rattle.span_lanes.specs.Lanes.{AreShiftsAt};
+ghost use Rattle.span_lanes.specs.Lanes.{AreDitherLanesAt};
 ghost use Rattle.span_lanes.specs.Shade.{IsSpan, texture_of};
-ghost use Rattle.span_lanes.specs.declared.hues.Hues.TheVariants.{One, Lines};
-ghost use Rattle.span_lanes.specs.Pen.{IsTint};
-ghost use Rattle.span_lanes.specs.Hues.{AreHues};
+ghost use Rattle.span_lanes.specs.declared.row_colors.RowColors.TheVariants.{One, Lines};
+ghost use Rattle.span_lanes.specs.SpanDrawer.{IsShadingFor};
+ghost use Rattle.span_lanes.specs.RowColors.{AreRowColors};
 
 use crate::Span;
-use crate::colors::{Shifts, shifts_of};
-use crate::hues::{Hues, hues_of};
-use crate::loops::{Chunks, draw_by_brush, draw_parts};
-use crate::part::Part;
-use crate::store::store_part;
-use crate::tint::Tint;
-use crate::toned::collect_toned;
+use crate::chunk::Chunk;
+use crate::chunk_loop::{ChunkDrawer, draw_by_brush, draw_chunks};
+use crate::color_lanes::{DitherLanes, dither_lanes_of};
+use crate::row_colors::{RowColors, row_colors_of};
+use crate::shading::Shading;
+use crate::store::store_chunk;
+use crate::untextured_lanes::untextured_lanes;
 use edge_walk::RowLine;
 use std::sync::ledger::Ledger;
 use vram_store::{Steps, Vram};
 
 // Cells that take their colours alone, and look at nothing but themselves.
 #[derive(Clone, Copy)]
-struct Toned {
-    hues: Hues,
-    shifts: Shifts,
+struct Untextured {
+    row_colors: RowColors,
+    dither_lanes: DitherLanes,
 }
 
-impl Chunks for Toned {
-    ghost use Rattle.span_lanes.specs.Toned.{CanTone};
+impl ChunkDrawer for Untextured {
+    ghost use Rattle.span_lanes.specs.Untextured.{CanDrawUntextured};
 
-    ghost serves = { λ c s m. CanTone s c.hues c.shifts.lanes m };
+    ghost serves = { λ c s m. CanDrawUntextured s c.row_colors c.dither_lanes.lanes m };
 
     ghost spared = { λ c. 0 };
 
     #[inline(always)]
-    fn draw_part<L: Ledger>(&self, vram: &mut Vram, part: &Part, steps: &mut Steps<L>) {
-        let lanes = collect_toned(vram, &self.hues, self.shifts, part, steps);
-        store_part(vram, part, lanes, steps);
+    fn draw_chunk<L: Ledger>(&self, vram: &mut Vram, chunk: &Chunk, steps: &mut Steps<L>) {
+        let lanes = untextured_lanes(vram, &self.row_colors, self.dither_lanes, chunk, steps);
+        store_chunk(vram, chunk, lanes, steps);
     }
 
     ghost can = { λ c s m serves. serves.can };
@@ -44,31 +44,36 @@ impl Chunks for Toned {
 
 // A span without a texture, by its colours.
 #[inline(always)]
-fn toned_by(span: &Span, hues: Hues) -> Toned
+fn untextured_by(span: &Span, row_colors: RowColors) -> Untextured
     requires span { IsSpan span.now }
-    ensures hues { result.hues ≡ hues }
-    ensures shifts { AreShiftsAt span.now.brush.dither span.now.x span.now.y result.shifts.lanes }
+    ensures row_colors { result.row_colors ≡ row_colors }
+    ensures dither_lanes { AreDitherLanesAt span.now.brush.dither span.now.x span.now.y result.dither_lanes.lanes }
 {
-    Toned {
-        hues,
-        shifts: shifts_of(span.brush.dither, span.x, span.y),
+    Untextured {
+        row_colors,
+        dither_lanes: dither_lanes_of(span.brush.dither, span.x, span.y),
     }
 }
 
 // A span of one colour.
 #[inline(never)]
-fn draw_one<L: Ledger>(vram: &mut Vram, span: &Span, color: u32, steps: &mut Steps<L>)
+fn draw_flat<L: Ledger>(vram: &mut Vram, span: &Span, color: u32, steps: &mut Steps<L>)
     requires can { CanDraw span.now vram.old }
     requires untextured { texture_of span.now.paint ≡ None }
-    requires hues { AreHues span.now.paint span.now.x span.now.y span.now.n (One color) }
+    requires row_colors { AreRowColors span.now.paint span.now.x span.now.y span.now.n (One color) }
     ensures drawn { DrawsSpan span.now 0 (at_stage vram.old steps.old) (at_stage vram.new steps.new) }
 {
-    draw_parts(vram, span, &toned_by(span, Hues::One { color }), steps);
+    draw_chunks(
+        vram,
+        span,
+        &untextured_by(span, RowColors::One { color }),
+        steps,
+    );
 }
 
 // A span of colours along the row.
 #[inline(never)]
-fn draw_lines<L: Ledger>(
+fn draw_gouraud<L: Ledger>(
     vram: &mut Vram,
     span: &Span,
     red: RowLine,
@@ -78,11 +83,11 @@ fn draw_lines<L: Ledger>(
 )
     requires can { CanDraw span.now vram.old }
     requires untextured { texture_of span.now.paint ≡ None }
-    requires hues { AreHues span.now.paint span.now.x span.now.y span.now.n (Lines red green blue) }
+    requires row_colors { AreRowColors span.now.paint span.now.x span.now.y span.now.n (Lines red green blue) }
     ensures drawn { DrawsSpan span.now 0 (at_stage vram.old steps.old) (at_stage vram.new steps.new) }
 {
-    let hues = Hues::Lines { red, green, blue };
-    draw_by_brush(vram, span, &toned_by(span, hues), steps);
+    let row_colors = RowColors::Lines { red, green, blue };
+    draw_by_brush(vram, span, &untextured_by(span, row_colors), steps);
 }
 
 // A span without a texture.
@@ -90,16 +95,16 @@ fn draw_lines<L: Ledger>(
 pub(crate) fn draw_untextured<L: Ledger>(
     vram: &mut Vram,
     span: &Span,
-    tint: &Tint,
+    shading: &Shading,
     steps: &mut Steps<L>,
 )
     requires can { CanDraw span.now vram.old }
     requires untextured { texture_of span.now.paint ≡ None }
-    requires tint { IsTint span.now.paint tint.now }
+    requires shading { IsShadingFor span.now.paint shading.now }
     ensures drawn { DrawsSpan span.now 0 (at_stage vram.old steps.old) (at_stage vram.new steps.new) }
 {
-    match hues_of(span, tint) {
-        Hues::One { color } => draw_one(vram, span, color, steps),
-        Hues::Lines { red, green, blue } => draw_lines(vram, span, red, green, blue, steps),
+    match row_colors_of(span, shading) {
+        RowColors::One { color } => draw_flat(vram, span, color, steps),
+        RowColors::Lines { red, green, blue } => draw_gouraud(vram, span, red, green, blue, steps),
     }
 }

@@ -1,3 +1,3 @@
-pub mod BesideLemmas
+pub mod ContiguousLemmas
 pub mod NibbleLemmas
 pub mod TexelLemmas

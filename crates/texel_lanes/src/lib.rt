@@ -6,25 +6,25 @@
 //! a chunk may do so is asked of `overlap_guard`.
 #![tactic(auto)]
 
-mod beside;
 mod clut;
+mod contiguous;
 mod coordinates;
 mod gather;
 mod halfwords;
 mod nibbles;
 mod octets;
-mod places;
 mod read;
 mod table;
 mod texel;
+mod texel_cells;
 mod texture;
 
-pub use beside::{indexes_of, sixteen_indexes, sixteen_octets};
 pub use clut::{clut_row, gather_entries, sixteen_entries};
+pub use contiguous::{indexes_of, sixteen_indexes, sixteen_octets};
 pub use coordinates::Coordinates;
 pub use gather::{AllAtOnce, Gather, HalfAtOnce, OneByOne};
-pub use places::{Places, places_of};
 pub use read::{read_few, read_texels};
 pub use table::{Table, entries_at, table_of};
 pub use texel::read_texel;
+pub use texel_cells::{TexelCells, texel_cells_of};
 pub use texture::Texture;

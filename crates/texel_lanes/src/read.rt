@@ -5,14 +5,14 @@ ghost use Rattle.texel_lanes.specs.Texture.{HasPage, IsTexture, texel_steps};
 ghost use Rattle.texel_lanes.specs.Texels.{AreCoordinates, AreTexels};
 
 use crate::Texture;
-use crate::beside::{are_beside, indexes_of, read_beside};
 use crate::clut::{gather_entries, sixteen_entries};
+use crate::contiguous::{are_contiguous, indexes_of, read_contiguous};
 use crate::coordinates::Coordinates;
 use crate::gather::{Gather, HalfAtOnce};
 use crate::halfwords::halfwords_of;
 use crate::octets::octets;
-use crate::places::places_of;
 use crate::table::{entries_at, table_of};
+use crate::texel_cells::texel_cells_of;
 use px_num::halves::{HALF, first_lanes, wanted_lanes};
 use px_num::lanes::splat;
 use std::simd::prelude::*;
@@ -60,7 +60,7 @@ fn read_eights<G: Gather, L: Ledger>(
     ensures value { AreTexels texture.now at.now k vram.now result }
     ensures cost { steps.new ≤ steps.old + 2 * k }
 {
-    let places = places_of(texture, at);
+    let places = texel_cells_of(texture, at);
     let halfwords = halfwords_of::<G, L>(vram, places.xs, places.ys, k, steps);
     let index = octets(places.across, halfwords);
     gather_entries::<G, L>(vram, texture.clut, index, k, steps)
@@ -84,7 +84,7 @@ fn read_scattered<G: Gather, L: Ledger>(
     ensures value { AreTexels texture.now at.now k vram.now result }
     ensures cost { steps.new ≤ steps.old + k }
 {
-    let places = places_of(texture, at);
+    let places = texel_cells_of(texture, at);
     halfwords_of::<G, L>(vram, places.xs, places.ys, k, steps)
 }
 
@@ -106,8 +106,8 @@ fn read_wholes<G: Gather, L: Ledger>(
     ensures value { AreTexels texture.now at.now k vram.now result }
     ensures cost { steps.new ≤ steps.old + k }
 {
-    if G::looks() && k > HALF && are_beside(texture, at) {
-        read_beside(vram, texture, at, k, steps)
+    if G::looks() && k > HALF && are_contiguous(texture, at) {
+        read_contiguous(vram, texture, at, k, steps)
     } else {
         read_scattered::<G, L>(vram, texture, at, k, steps)
     }

@@ -11,12 +11,12 @@ put_points-requires g c = record {
 
 pub returns-in-Some-clause-cells : goal.returns-in-Some-clause-cells
 returns-in-Some-clause-cells g c =
-    c.put_points.ensures.cells ∙ inked_are c.args.area.now c.args.brush.now c.args.segment.now c.in-Some.ink
+    c.put_points.ensures.cells ∙ inked_are c.args.area.now c.args.brush.now c.args.segment.now c.in-Some.point_color
     (len_of c.args.segment.now) c.args.vram.now c.in-Some.ensures (omega arith)
 
 pub returns-in-Some-clause-cost : goal.returns-in-Some-clause-cost
 returns-in-Some-clause-cost g c =
-    let few = inked_cost c.args.area.now c.args.brush.now c.args.segment.now c.in-Some.ink
+    let few = inked_cost c.args.area.now c.args.brush.now c.args.segment.now c.in-Some.point_color
     (len_of c.args.segment.now) c.in-Some.ensures (omega arith) in
     omega (arith, few, c.put_points.ensures.cost)
 

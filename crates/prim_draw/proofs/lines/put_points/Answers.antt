@@ -2,7 +2,7 @@ use Rattle.std.proofs.Common.{ℕ, ◌≡◌, ◌∙◌, w32, SFits, rules, arit
 use Rattle.std.proofs.lemmas.Int.{to_z-of_z, ints}
 use Rattle.line_walk.specs.Line.{point_of}
 use Rattle.vram_store.specs.Vram.{height_of}
-use Rattle.prim_draw.specs.Ink.{IsInMemory}
+use Rattle.prim_draw.specs.PointColor.{IsInMemory}
 use Rattle.prim_draw.proofs.InkLemmas.{next_point, next_walk, inked_next}
 use Rattle.prim_draw.proofs.lines.put_points.Goals as goal
 use Rattle.prim_draw.proofs.lines.put_points.Goals.{After-next-point}
@@ -49,7 +49,7 @@ loop-k-preserved g c =
     let y : SFits w32 p.y = search rules in
     record {
       here = next_walk c.loop-k.walk c.next-point.new.self s k c.loop-k.invariant.here c.next-point.ensures.on;
-      cells = inked_next s c.args.ink k c.args.vram.now c.loop-k.vram c.put.new.self p c.loop-k.invariant.cells
+      cells = inked_next s c.args.point_color k c.args.vram.now c.loop-k.vram c.put.new.self p c.loop-k.invariant.cells
           (at g (goal.at.loop-k-preserved g c).After-next-point) (simp to_z-of_z at c.put.ensures.cells);
       cost = omega (arith, c.loop-k.invariant.cost, c.put.ensures.cost);
       long = c.put.ensures.long ∙ c.loop-k.invariant.long;

@@ -1,6 +1,6 @@
 use Rattle.std.proofs.Common.{◌≡◌, Some, List, ℕ, Option, ◌*◌, ◌+◌, sym, ap, ◌∙◌, SFits, w8, rules}
 use Rattle.std.proofs.lemmas.Int.{to_z-of_z}
-use Rattle.span_lanes.specs.Shade.{flat_pixel, shift_of}
+use Rattle.span_lanes.specs.Shade.{flat_pixel, dither_of}
 use Rattle.vram_store.specs.Plot.{draw_at, put_at, written_over}
 use Rattle.vram_store.specs.Vram.{at}
 use Rattle.prim_draw.proofs.point.plot_seen.Goals as goal
@@ -20,7 +20,7 @@ returns-in-Some-clause-cells g c =
     let m = c.args.vram.now in
     let fits : SFits w8 c.shift_for-shift.result = search rules in
     let pixel : Some c.pixel_over-pixel.result
-    ≡ flat_pixel brush c.args.color (shift_of brush.dither c.args.to.x c.args.to.y) (at m c.args.to.x c.args.to.y) =
+    ≡ flat_pixel brush c.args.color (dither_of brush.dither c.args.to.x c.args.to.y) (at m c.args.to.x c.args.to.y) =
     rw (← c.shift_for-shift.ensures.value, ← c.get-back.ensures.value) (simp to_z-of_z at c.pixel_over-pixel.ensures) in
     c.put.ensures.cells ∙ put-written m brush.mask c.args.to.x c.args.to.y _ _ _ _ c.get-back.ensures.value pixel
     (sym c.in-Some.is ∙ c.written_over.ensures)
@@ -31,7 +31,7 @@ returns-in_default-clause-cells g c =
     let m = c.args.vram.now in
     let fits : SFits w8 c.shift_for-shift.result = search rules in
     let pixel : Some c.pixel_over-pixel.result
-    ≡ flat_pixel brush c.args.color (shift_of brush.dither c.args.to.x c.args.to.y) (at m c.args.to.x c.args.to.y) =
+    ≡ flat_pixel brush c.args.color (dither_of brush.dither c.args.to.x c.args.to.y) (at m c.args.to.x c.args.to.y) =
     rw (← c.shift_for-shift.ensures.value, ← c.get-back.ensures.value) (simp to_z-of_z at c.pixel_over-pixel.ensures) in
     put-written m brush.mask c.args.to.x c.args.to.y _ _ _ _ c.get-back.ensures.value pixel
     (sym c.in_default.is ∙ c.written_over.ensures)

@@ -5,8 +5,8 @@ use Rattle.span_lanes.proofs.solid.draw_solid.Goals as goal
 pub returns : goal.returns
 returns g c = record {
   drawn = record {
-    cells = c.draw_parts.ensures.drawn.cells ∙ span_law c.args.span.now c.args.span.now.n c.args.vram.now;
-    long = c.draw_parts.ensures.drawn.long;
-    cost = omega (arith, c.draw_parts.ensures.drawn.cost);
+    cells = c.draw_chunks.ensures.drawn.cells ∙ span_law c.args.span.now c.args.span.now.n c.args.vram.now;
+    long = c.draw_chunks.ensures.drawn.long;
+    cost = omega (arith, c.draw_chunks.ensures.drawn.cost);
   };
 }

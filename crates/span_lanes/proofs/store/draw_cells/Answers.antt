@@ -11,14 +11,14 @@ loop-j-init g c = record { cells = sym (drawn_none _ _ _ _); cost = omega arith;
 pub loop-j-preserved : goal.loop-j-preserved
 loop-j-preserved g c = record {
   cells =
-      let span = c.args.part.now.span.now in
+      let span = c.args.chunk.now.span.now in
       let start : ℕ = 1024 * span.y + span.x in
-      let place : ℕ = 1024 * span.y + (span.x + c.args.part.now.first) in
+      let place : ℕ = 1024 * span.y + (span.x + c.args.chunk.now.first) in
       c.draw_cell.ensures.cells
-      ∙ lane_later (shade span) span.brush.mask start c.args.part.now.first place c.loop-j.j c.loop-j.vram (omega arith)
-      ∙ ap (draw_lane (later (shade span) c.args.part.now.first) span.brush.mask place c.loop-j.j)
+      ∙ lane_later (shade span) span.brush.mask start c.args.chunk.now.first place c.loop-j.j c.loop-j.vram (omega arith)
+      ∙ ap (draw_lane (later (shade span) c.args.chunk.now.first) span.brush.mask place c.loop-j.j)
       c.loop-j.invariant.cells
-      ∙ sym (drawn_more (later (shade span) c.args.part.now.first) span.brush.mask place c.loop-j.j c.args.vram.now);
+      ∙ sym (drawn_more (later (shade span) c.args.chunk.now.first) span.brush.mask place c.loop-j.j c.args.vram.now);
   cost = grind (arith, common_steps, c.loop-j.invariant.cost, c.draw_cell.ensures.cost);
   long = c.draw_cell.ensures.long ∙ c.loop-j.invariant.long;
 }

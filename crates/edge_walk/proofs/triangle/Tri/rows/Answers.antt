@@ -9,15 +9,15 @@ use Rattle.edge_walk.proofs.triangle.Tri.rows.Goals as goal
 use Rattle.edge_walk.proofs.triangle.Tri.rows.Goals.{After-bounds-own}
 
 small : (c : After-bounds-own) → IsSmall (oriented c.args.self.now)
-small c = subst (λ w. IsSmall w) c.upright.ensures.same c.upright.result.upright.small
+small c = subst (λ w. IsSmall w) c.oriented_triangle.ensures.same c.oriented_triangle.result.oriented_triangle.small
 
 turn : (c : After-bounds-own) → IsTurn (oriented c.args.self.now)
-    (corners c.around_top-t.result.a c.around_top-t.result.b c.around_top-t.result.c)
-turn c = subst (λ w. IsTurn w (corners c.around_top-t.result.a c.around_top-t.result.b c.around_top-t.result.c))
-    c.upright.ensures.same c.around_top-t.ensures.turn
+    (corners c.rotated_to_top-t.result.a c.rotated_to_top-t.result.b c.rotated_to_top-t.result.c)
+turn c = subst (λ w. IsTurn w (corners c.rotated_to_top-t.result.a c.rotated_to_top-t.result.b c.rotated_to_top-t.result.c))
+    c.oriented_triangle.ensures.same c.rotated_to_top-t.ensures.turn
 
 near : (c : After-bounds-own)
-    → AreReached (corners c.around_top-t.result.a c.around_top-t.result.b c.around_top-t.result.c) c.args.clip.now.y1
+    → AreReached (corners c.rotated_to_top-t.result.a c.rotated_to_top-t.result.b c.rotated_to_top-t.result.c) c.args.clip.now.y1
 near c =
     let clip = c.args.clip.now in
     reached_around _ _ clip.y1 (turn c) (reached c.args.self.now clip clip.y1 (small c) c.requires (omega (arith, ints))
@@ -43,7 +43,7 @@ returns c =
     let clip = c.args.clip.now in
     let t = c.args.self.now in
     let own = c.bounds-own.result in
-    let top = c.around_top-t.result in
+    let top = c.rotated_to_top-t.result in
     let y_fits : SFits w32 clip.y1 = search rules in
     let left_fits : SFits w32 own.x1 = search rules in
     let right_fits : SFits w32 own.x2 = search rules in
@@ -56,7 +56,7 @@ returns c =
       box = c.requires;
       above = omega (arith, ints);
       below = omega (arith, ints, c.requires.some);
-      drawn = c.upright.ensures.drawn;
+      drawn = c.oriented_triangle.ensures.drawn;
       left_fits = rw left_is at left_fits;
       right_fits = rw right_is at right_fits;
       low = c.of.ensures.low ∙ ap (λ x. in_parts (int_max clip.x1 x) -ℤ pos 1) left_is;

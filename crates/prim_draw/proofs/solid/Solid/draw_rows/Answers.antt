@@ -1,14 +1,14 @@
 use Rattle.vram_store.specs.Vram.{height_of}
-use Rattle.prim_draw.specs.Solids.{solid_coat}
+use Rattle.prim_draw.specs.Solids.{solid_state}
 use Rattle.prim_draw.proofs.RunLemmas.{tri_block, tri_can_draw, tri_drawn}
 use Rattle.prim_draw.proofs.solid.Solid.draw_rows.Goals as goal
 
-pub draw_rows-requires-clause-block : goal.draw_rows-requires-clause-block
-draw_rows-requires-clause-block g c = tri_block _ _ _ c.rows_of.ensures c.requires.can.small
+pub draw_rows-requires-clause-clip_rect : goal.draw_rows-requires-clause-clip_rect
+draw_rows-requires-clause-clip_rect g c = tri_block _ _ _ c.rows_of.ensures c.requires.can.small
 
 pub draw_rows-requires-clause-can : goal.draw_rows-requires-clause-can
 draw_rows-requires-clause-can g c y run gives = (
-  tri_can_draw _ _ _ c.rows_of.ensures (height_of c.args.vram.now) (solid_coat c.args.self.now) y run c.requires.can
+  tri_can_draw _ _ _ c.rows_of.ensures (height_of c.args.vram.now) (solid_state c.args.self.now) y run c.requires.can
       gives,
   tt,
 )

@@ -1,6 +1,0 @@
-use Rattle.std.proofs.Common.{refl}
-use Rattle.edge_walk.proofs.SideLemmas.{moved_with}
-use Rattle.edge_walk.proofs.side.Side.step.Goals as goal
-
-pub returns : goal.returns
-returns c p q y near reach h = moved_with p q y c.args.self.now _ near reach h refl

@@ -1,0 +1,61 @@
+// A pen for the rows of texels of a rectangle.
+ghost use Rattle.std.specs.Prelude.{◌≡◌, ◌≤◌, ◌+◌, ◌-◌};
+ghost use Rattle.span_lanes.specs.Shade.{row_u};
+
+use crate::clipped_rectangle::ClippedRectangle;
+use crate::row_drawer::RowDrawer;
+use span_lanes::{Run, TexelRowDrawer, row_u};
+use std::sync::ledger::Ledger;
+use vram_store::{Steps, Vram};
+
+// The row of the page whose texels the first row of a block has, and whether it falls from row to row.
+#[derive(Clone, Copy)]
+pub(crate) struct FirstRow {
+    pub(crate) y: u16,
+    pub(crate) v: u8,
+    pub(crate) falls: bool,
+}
+
+impl FirstRow {
+    // The row of the page whose texels row y of the block has.
+    #[inline(always)]
+    fn texel_row(&self, y: u16) -> u8
+        requires below { self.now.y ≤ y }
+        requires near { y ≤ self.now.y + 1023 }
+        ensures { result ≡ row_u self.now.v self.now.falls (y - self.now.y) }
+    {
+        row_u(self.v, self.falls, y - self.y)
+    }
+}
+
+/// What draws the rows of texels.
+#[derive(Drop)]
+pub(crate) struct RectangleRowDrawer<'a, P> {
+    pub(crate) rectangle: ClippedRectangle<'a>,
+    pub(crate) first: FirstRow,
+    pub(crate) drawer: P,
+}
+
+impl<P: TexelRowDrawer> RowDrawer for RectangleRowDrawer<'_, P> {
+    ghost use Rattle.prim_draw.specs.ClippedRectangle.{IsReadyFor, IsWholeRow, rectangle_pattern};
+
+    ghost pattern = { λ rows. rectangle_pattern rows.rectangle };
+
+    ghost reaches = { λ rows. IsWholeRow rows.rectangle.clip_rect.now };
+
+    ghost ready = { λ rows. IsReadyFor rows.rectangle rows.first (P.rows_held rows.drawer) };
+
+    #[inline(always)]
+    fn draw_run<L: Ledger>(
+        &mut self,
+        vram: &mut Vram,
+        found: Option<Run>,
+        y: u16,
+        steps: &mut Steps<L>,
+    ) {
+        if let Some(_) = found {
+            let v = self.first.texel_row(y);
+            self.drawer.draw_row(vram, y, v, steps);
+        }
+    }
+}

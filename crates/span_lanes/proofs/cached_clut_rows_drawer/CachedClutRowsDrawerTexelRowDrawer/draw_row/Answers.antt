@@ -1,0 +1,29 @@
+use Rattle.std.proofs.Common.{refl}
+use Rattle.span_lanes.proofs.ChunkDrawLemmas.{draws_cells}
+use Rattle.span_lanes.specs.TexelRows.{texel_span}
+use Rattle.span_lanes.proofs.cached_clut_rows_drawer.CachedClutRowsDrawerTexelRowDrawer.draw_row.Goals as goal
+
+pub draw_cached-requires-clause-can : goal.draw_cached-requires-clause-can
+draw_cached-requires-clause-can g c =
+    let rows = c.self.inside.rows in
+    let keeps = c.self.invariant.keeps in
+    let asked = rw (← c.self.view_is) at c.requires.can in
+    rw c.span-span.ensures
+    (record {
+      sample = record { can = asked.can; texture = refl };
+      suits = record {
+        hazard_free = keeps.hazard_free.hazard_free _ refl asked.can.span asked.in_block;
+        depth = keeps.depth;
+        row = keeps.hazard_free.palette (texel_span rows c.args.y c.args.v) asked.in_block keeps.depth;
+        even = keeps.even;
+      };
+      finds = c.texel_run-texel_run.ensures c.args.y;
+      hue = λ at j lane lt. refl;
+    })
+
+pub returns-clause-drawn : goal.returns-clause-drawn
+returns-clause-drawn g c =
+    let rows = c.self.inside.rows in
+    rw (← c.self.view_is)
+    (draws_cells _ _ _
+    (rw c.span-span.ensures at c.draw_cached.ensures.drawn))

@@ -1,9 +1,0 @@
-use Rattle.std.proofs.Common.{◌+◌, ◌*◌}
-use Rattle.span_lanes.proofs.ChunkLemmas.{AreDrawn}
-use Rattle.span_lanes.proofs.loops.draw_parts.Given as goal
-
-abbrev pub invariant-loop-c : goal.invariant-loop-c
-invariant-loop-c g l = record {
-  drawn : AreDrawn l.span l.c l.initial.steps (l.steps + g.C.Chunks.spared l.chunks * l.c) l.initial.vram l.vram;
-  serves : g.C.Chunks.serves l.chunks l.span l.vram;
-}

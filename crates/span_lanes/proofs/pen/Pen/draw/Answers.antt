@@ -1,7 +1,0 @@
-use Rattle.span_lanes.proofs.PartLemmas.{draws_cells}
-use Rattle.span_lanes.proofs.pen.Pen.draw.Goals as goal
-
-pub returns-clause-drawn : goal.returns-clause-drawn
-returns-clause-drawn g c =
-    rw (← c.self.view_is)
-    (draws_cells _ _ _ c.draw_ready.ensures.drawn)

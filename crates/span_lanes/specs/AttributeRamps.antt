@@ -1,0 +1,34 @@
+-- The attributes of a triangle with their ramps (our own rule).
+use Rattle.edge_walk.specs.Plane.{IsPlane}
+use Rattle.edge_walk.specs.Triangle.{Corners}
+use Rattle.span_lanes.specs.declared.attribute_ramps.AttributeRamps.{AttributeRamps}
+use Rattle.span_lanes.specs.declared.attribute_ramps.ColorRamps.{ColorRamps}
+use Rattle.span_lanes.specs.declared.attribute_ramps.CoordRamps.{CoordRamps}
+use Rattle.span_lanes.specs.declared.span.Paint.{Paint}
+use Rattle.span_lanes.specs.declared.span.Paint.TheVariants.{TexturedTri}
+
+-- the texel coordinates of a triangle
+pub record AreCoordRamps (tri : Corners) (coord_planes : CoordRamps) : Type 0 where
+  pub u : IsPlane tri 3 coord_planes.u.plane
+  pub v : IsPlane tri 4 coord_planes.v.plane
+
+-- its channels
+pub record AreColorRamps (tri : Corners) (colors : ColorRamps) : Type 0 where
+  pub red : IsPlane tri 0 colors.red.plane
+  pub green : IsPlane tri 1 colors.green.plane
+  pub blue : IsPlane tri 2 colors.blue.plane
+
+-- the coordinates of a paint that is a triangle with a texture
+abbrev pub AreCoordRampsOf : Paint → CoordRamps → Type 0
+AreCoordRampsOf (TexturedTri tri texture) coord_planes = AreCoordRamps tri coord_planes
+AreCoordRampsOf paint coord_planes = ⊥
+
+-- its channels
+abbrev pub AreColorsOf : Paint → ColorRamps → Type 0
+AreColorsOf (TexturedTri tri texture) colors = AreColorRamps tri colors
+AreColorsOf paint colors = ⊥
+
+-- both
+pub record AreAttributeRampsOf (paint : Paint) (ramps : AttributeRamps) : Type 0 where
+  pub coord_planes : AreCoordRampsOf paint ramps.coord_planes
+  pub colors : AreColorsOf paint ramps.colors

@@ -1,0 +1,74 @@
+-- A paint and a brush for many spans.
+use Rattle.std.specs.Prelude.{ℕ, List, Option, None, IfSome, ◌≡◌, ◌≤◌, ◌+◌, length, pos, IsTrue}
+use Rattle.edge_walk.specs.Plane.{IsPlane}
+use Rattle.edge_walk.specs.Triangle.{Corners, is_inside}
+use Rattle.span_lanes.specs.declared.coord_planes.CoordPlanes.{CoordPlanes}
+use Rattle.span_lanes.specs.declared.span.Brush.{Brush}
+use Rattle.span_lanes.specs.declared.span.DrawState.{DrawState}
+use Rattle.span_lanes.specs.declared.span.Paint.{Paint}
+use Rattle.span_lanes.specs.declared.span.Paint.TheVariants.{Flat, Shaded, TexturedTri, TexturedRow}
+use Rattle.span_lanes.specs.declared.span.Span.{Span}
+use Rattle.span_lanes.specs.declared.colored_clut.ColoredClut.{ColoredClut}
+use Rattle.span_lanes.specs.declared.shading.Shading.{Shading}
+use Rattle.span_lanes.specs.declared.shading.Shading.TheVariants.{OneColor, Planes}
+use Rattle.span_lanes.specs.Cells.{Stage, drawn_cells, row_cells}
+use Rattle.span_lanes.specs.Cost.{span_cost}
+use Rattle.span_lanes.specs.Lanes.{IsSolid}
+use Rattle.span_lanes.specs.Shade.{color_in, shade_at}
+use Rattle.span_lanes.specs.ColoredClut.{AreClutEntriesFresh, entries_of}
+
+-- a span that is drawn with a coat
+abbrev pub state_span : DrawState → (x y n : ℕ) → Span
+state_span state x y n = record { x = x; y = y; n = n; paint = state.paint; brush = state.brush }
+
+abbrev pub state_of : Span → DrawState
+state_of span = record { paint = span.paint; brush = span.brush }
+
+-- what a pen draws with, and the sixteen entries of the palette that it saw, if it keeps them
+pub record SpanDrawerView : Type 0 where
+  pub state : DrawState
+  pub palette : Option (List ℕ)
+
+-- the cells of a span were drawn, one after another
+pub record DrawsCells (s : Span) (before after : Stage) : Type 0 where
+  pub cells : after.m ≡ drawn_cells (shade_at s) s.brush.mask (row_cells s.x s.y s.n) before.m
+  pub long : length after.m ≡ length before.m
+  pub cost : after.steps ≤ before.steps + span_cost s
+
+-- one that has seen no palette
+abbrev pub new_drawer : DrawState → SpanDrawerView
+new_drawer state = record { state = state; palette = None }
+
+-- the palette that a pen keeps, if any, is the one in video memory
+abbrev pub IsClutFresh : SpanDrawerView → List ℕ → Type 0
+IsClutFresh drawer m = AreClutEntriesFresh drawer.state.paint m drawer.palette
+
+-- ---- what is made ready
+
+-- the colours of a triangle
+abbrev pub IsShadingOf : Corners → Shading → Type 0
+IsShadingOf tri (OneColor color) = (x y : ℕ) → IsTrue (is_inside tri (pos x) (pos y)) → color ≡ color_in tri x y
+IsShadingOf tri (Planes red green blue) = IsPlane tri 0 red × IsPlane tri 1 green × IsPlane tri 2 blue
+
+-- the colours of a paint
+abbrev pub IsShadingFor : Paint → Shading → Type 0
+IsShadingFor (Flat color) shading = shading ≡ OneColor color
+IsShadingFor (Shaded tri) shading = IsShadingOf tri shading
+IsShadingFor (TexturedTri tri texture) shading = IsShadingOf tri shading
+IsShadingFor (TexturedRow color texture u v flip) shading = shading ≡ OneColor color
+
+-- the texel coordinates of a triangle
+pub record AreCoordPlanes (tri : Corners) (coord_planes : CoordPlanes) : Type 0 where
+  pub u : IsPlane tri 3 coord_planes.u
+  pub v : IsPlane tri 4 coord_planes.v
+
+-- the halfword that all cells of one colour become, where there is one whatever they hold
+abbrev pub HasHalfword : Paint → Brush → Option ℕ → Type 0
+HasHalfword (Flat color) brush solid =
+    IfSome solid (λ h. (x y n : ℕ) → IsSolid (record { x = x; y = y; n = n; paint = Flat color; brush = brush }) h)
+HasHalfword (Shaded tri) brush solid = solid ≡ None
+HasHalfword (TexturedTri tri texture) brush solid = solid ≡ None
+HasHalfword (TexturedRow color texture u v flip) brush solid = solid ≡ None
+
+abbrev pub view_of : Span → Option ColoredClut → SpanDrawerView
+view_of span last = record { state = state_of span; palette = entries_of last }

@@ -1,0 +1,133 @@
+// The attributes of a triangle with their ramps, for the rows of a pen.
+ghost use Rattle.std.specs.Prelude.{◌≡◌, ◌+◌};
+ghost use Rattle.edge_walk.specs.Held.{divisor_for};
+ghost use Rattle.span_lanes.specs.AttributeRamps.{AreColorsOf, AreColorRamps, AreCoordRamps, AreCoordRampsOf};
+
+use crate::Texture;
+use crate::chunk::Chunk;
+use crate::color_lanes::ColorLanes;
+use crate::color_source::ColorSource;
+use crate::coord_source::{CoordSource, indexes_by_coords, texels_by_coords};
+use crate::sampler::{IndexSampler, Sampler};
+use edge_walk::{Divisor, PlaneRamp, Tri};
+use std::simd::prelude::*;
+use std::sync::ledger::Ledger;
+use texel_lanes::Coordinates;
+use vram_store::{Steps, Vram};
+
+// Both texel coordinates.
+#[derive(Clone, Copy)]
+pub(crate) struct CoordRamps {
+    pub(crate) u: PlaneRamp,
+    pub(crate) v: PlaneRamp,
+}
+
+// Three channels.
+#[derive(Clone, Copy)]
+pub(crate) struct ColorRamps {
+    pub(crate) red: PlaneRamp,
+    pub(crate) green: PlaneRamp,
+    pub(crate) blue: PlaneRamp,
+}
+
+// All that goes along a row.
+#[derive(Clone, Copy)]
+pub(crate) struct AttributeRamps {
+    pub(crate) coord_planes: CoordRamps,
+    pub(crate) colors: ColorRamps,
+}
+
+// The coordinates of a triangle.
+#[inline(always)]
+pub(crate) fn coord_ramps_of(tri: &Tri, divisor: &Divisor) -> CoordRamps
+    requires divisor { divisor.now ≡ divisor_for tri.now }
+    ensures { AreCoordRamps tri.now result }
+{
+    CoordRamps {
+        u: PlaneRamp::of(&tri.plane(3, divisor)),
+        v: PlaneRamp::of(&tri.plane(4, divisor)),
+    }
+}
+
+// Its channels.
+#[inline(always)]
+fn color_ramps_of(tri: &Tri, divisor: &Divisor) -> ColorRamps
+    requires divisor { divisor.now ≡ divisor_for tri.now }
+    ensures { AreColorRamps tri.now result }
+{
+    ColorRamps {
+        red: PlaneRamp::of(&tri.plane(0, divisor)),
+        green: PlaneRamp::of(&tri.plane(1, divisor)),
+        blue: PlaneRamp::of(&tri.plane(2, divisor)),
+    }
+}
+
+// Both.
+#[inline(always)]
+pub(crate) fn attribute_ramps_of(tri: &Tri, divisor: &Divisor) -> AttributeRamps
+    requires divisor { divisor.now ≡ divisor_for tri.now }
+    ensures coord_planes { AreCoordRamps tri.now result.coord_planes }
+    ensures colors { AreColorRamps tri.now result.colors }
+{
+    AttributeRamps {
+        coord_planes: coord_ramps_of(tri, divisor),
+        colors: color_ramps_of(tri, divisor),
+    }
+}
+
+impl CoordSource for CoordRamps {
+    ghost places = { λ coord_planes s. AreCoordRampsOf s.paint coord_planes };
+
+    #[inline(always)]
+    fn coordinates(&self, chunk: &Chunk) -> Coordinates {
+        let x = chunk.span.x + chunk.first;
+        Coordinates {
+            us: self.u.lanes(x, chunk.span.y),
+            vs: self.v.lanes(x, chunk.span.y),
+        }
+    }
+}
+
+impl ColorSource for ColorRamps {
+    ghost suits = { λ colors s. AreColorsOf s.paint colors };
+
+    #[inline(always)]
+    fn colors(&self, chunk: &Chunk) -> ColorLanes {
+        let x = chunk.span.x + chunk.first;
+        ColorLanes {
+            red: self.red.lanes(x, chunk.span.y),
+            green: self.green.lanes(x, chunk.span.y),
+            blue: self.blue.lanes(x, chunk.span.y),
+        }
+    }
+}
+
+impl Sampler for CoordRamps {
+    ghost finds = { λ coord_planes s t. AreCoordRampsOf s.paint coord_planes };
+
+    #[inline(always)]
+    fn read_texels<L: Ledger>(
+        &self,
+        vram: &Vram,
+        texture: &Texture,
+        chunk: &Chunk,
+        steps: &mut Steps<L>,
+    ) -> u16x16 {
+        texels_by_coords(self, vram, texture, chunk, steps)
+    }
+}
+
+impl IndexSampler for CoordRamps {
+    ghost finds = { λ coord_planes s t. AreCoordRampsOf s.paint coord_planes };
+
+    #[inline(always)]
+    fn read_indexes<L: Ledger>(
+        &self,
+        vram: &Vram,
+        texture: &Texture,
+        chunk: &Chunk,
+        steps: &mut Steps<L>,
+    ) -> u8x16 {
+        indexes_by_coords(self, vram, texture, chunk, steps)
+    }
+}

@@ -1,0 +1,119 @@
+// The halfwords of texels over the contents of their cells.
+ghost use Rattle.std.specs.Prelude.{◌≡◌, ◌≤◌, ◌<◌, ◌==◌, ◌&&◌, if◌then◌else◌};
+ghost use Rattle.std.specs.Prelude.{false, IsTrue, ℕ};
+ghost use Rattle.std.specs.Prelude.{length, slice_index};
+ghost use Rattle.blend_dither.specs.Color.{packed_pixel};
+ghost use Rattle.px_num.specs.Lanes.{EachLane};
+ghost use Rattle.vram_store.specs.Vram.{bit};
+ghost use Rattle.span_lanes.specs.Shade.{is_high, blended_if};
+
+use crate::Brush;
+use crate::colored_clut::ModulatedTexels;
+use blend_dither::blend_lanes;
+use px_num::lanes::{add, low_bits, mul, shifted_down, splat, sub_or_zero};
+use std::simd::prelude::*;
+
+// Bit 15 of each lane.
+fn high_bits(texels: u16x16) -> u16x16
+    requires { length texels ≡ 16 }
+    ensures long { length result ≡ 16 }
+    ensures low { EachLane (λ i. slice_index result i ≤ 1) }
+    ensures value { EachLane (λ i. slice_index result i ≡ bit (slice_index texels i) 15) }
+{
+    shifted_down(texels, 15)
+}
+
+// The first lane where the bit is 1, and else the second.
+fn choose(bits: u16x16, first: u16x16, second: u16x16) -> u16x16
+    requires long { (length bits ≡ 16) × (length first ≡ 16) × (length second ≡ 16) }
+    requires low { EachLane (λ i. slice_index bits i ≤ 1) }
+    ensures long { length result ≡ 16 }
+    ensures value { EachLane (λ i. slice_index result i
+        ≡ (if slice_index bits i == 1 then slice_index first i else slice_index second i)) }
+{
+    let firsts = mul(bits, first);
+    let seconds = mul(sub_or_zero(splat(1), bits), second);
+    add(firsts, seconds)
+}
+
+// Each lane below 2^15, with a bit 15.
+fn with_high(lanes: u16x16, bits: u16x16) -> u16x16
+    requires long { (length lanes ≡ 16) × (length bits ≡ 16) }
+    requires low { EachLane (λ i. slice_index bits i ≤ 1) }
+    ensures long { length result ≡ 16 }
+    ensures value { EachLane (λ i. slice_index result i
+        ≡ packed_pixel (slice_index lanes i) (slice_index bits i == 1) false) }
+{
+    add(low_bits(lanes, 15), mul(bits, splat(0x8000)))
+}
+
+// Sixteen fronts over the contents of their cells, blended where they are semi-transparent and the bit is 1.
+#[tactic(auto, unfolding(crate::specs::Shade::blended_if))]
+fn blend_high(semi: bool, mode: u8, back: u16x16, front: u16x16, bits: u16x16) -> u16x16
+    requires mode { mode ≤ 3 }
+    requires long { (length back ≡ 16) × (length front ≡ 16) × (length bits ≡ 16) }
+    requires low { EachLane (λ i. slice_index bits i ≤ 1) }
+    ensures long { length result ≡ 16 }
+    ensures value { EachLane (λ i. slice_index result i
+        ≡ blended_if (semi && (slice_index bits i == 1)) mode (slice_index back i) (slice_index front i)) }
+{
+    if semi {
+        choose(bits, blend_lanes(mode, back, front), front)
+    } else {
+        front
+    }
+}
+
+// The halfwords of sixteen texels over the contents of their cells.
+fn blended_texel_lanes(semi: bool, mode: u8, back: u16x16, texels: u16x16, front: u16x16) -> u16x16
+    requires mode { mode ≤ 3 }
+    requires long { (length back ≡ 16) × (length texels ≡ 16) × (length front ≡ 16) }
+    ensures long { length result ≡ 16 }
+    ensures value { EachLane (λ i. slice_index result i
+        ≡ packed_pixel
+        (blended_if (semi && is_high (slice_index texels i)) mode (slice_index back i) (slice_index front i))
+        (is_high (slice_index texels i)) false) }
+{
+    let bits = high_bits(texels);
+    with_high(blend_high(semi, mode, back, front, bits), bits)
+}
+
+// Sixteen texels as they are.
+#[inline(always)]
+#[tactic(auto, using(crate::proofs::TexelLemmas::as_it_is))]
+fn as_they_are(texels: u16x16) -> u16x16
+    requires { length texels ≡ 16 }
+    ensures long { length result ≡ 16 }
+    ensures value { EachLane (λ i. slice_index result i
+        ≡ packed_pixel (slice_index texels i) (is_high (slice_index texels i)) false) }
+{
+    texels
+}
+
+// The halfwords of k texels over the contents of their cells: the texels themselves where they are drawn as they are.
+#[inline(always)]
+#[tactic(auto, unfolding(crate::specs::Shade::blended_if))]
+pub(crate) fn blended_of_texels(
+    brush: &Brush,
+    raw: bool,
+    back: u16x16,
+    drawn: ModulatedTexels,
+    k: u8,
+) -> u16x16
+    requires mode { brush.now.mode ≤ 3 }
+    requires long { (length back ≡ 16) × (length drawn.texels ≡ 16) × (length drawn.modulated ≡ 16) }
+    requires few { k ≤ 16 }
+    requires raw { IsTrue raw → (j : ℕ) → j < k → slice_index drawn.modulated j ≡ slice_index drawn.texels j }
+    ensures long { length result ≡ 16 }
+    ensures value { (j : ℕ) → j < k → slice_index result j
+        ≡ packed_pixel
+        (blended_if (brush.now.semi && is_high (slice_index drawn.texels j)) brush.now.mode (slice_index back j)
+        (slice_index drawn.modulated j))
+        (is_high (slice_index drawn.texels j)) false }
+{
+    if raw && !brush.semi {
+        as_they_are(drawn.texels)
+    } else {
+        blended_texel_lanes(brush.semi, brush.mode, back, drawn.texels, drawn.modulated)
+    }
+}

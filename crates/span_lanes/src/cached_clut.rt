@@ -1,0 +1,110 @@
+// Rows of texels of four bits whose palette is coloured once.
+ghost use Rattle.std.specs.Prelude.{◌≡◌, IsTrue};
+ghost use Rattle.span_lanes.specs.Draws.{DrawsSpan, at_stage};
+ghost use Rattle.span_lanes.specs.Guard.{IsHazardFree, HasClutInOtherRow};
+ghost use Rattle.span_lanes.specs.CachedClut.{CanColorClut, CanUseCached};
+ghost use Rattle.span_lanes.specs.TexelRun.{IsTexelRun};
+ghost use Rattle.span_lanes.specs.ColoredClut.{IsCached, CanCacheClut};
+
+use crate::chunk_loop::{draw_by_brush, draw_chunks};
+use crate::colored_clut::{ColoredClut, cache_clut};
+use crate::row_shading::has_undithered_clut16;
+use crate::sampler::{FlatTexels, IndexSampler};
+use crate::texel_run::TexelRun;
+use crate::texel_run_rows::with_raw;
+use crate::texels::CachedClut;
+use crate::{Span, Texture};
+use std::sync::ledger::Ledger;
+use vram_store::{Steps, Vram};
+
+// Whether the palette of a row of texels of four bits can be coloured once, where the row has another row's palette.
+#[inline(always)]
+pub(crate) fn can_cache_clut(span: &Span, texture: &Texture) -> bool
+    requires hazard_free { IsHazardFree span.now }
+    requires palette { HasClutInOtherRow texture.now span.now.y }
+    ensures { IsTrue result → CanCacheClut span.now texture.now }
+{
+    has_undithered_clut16(texture, &span.brush)
+}
+
+// Texels by the palette that is kept.
+#[inline(always)]
+fn cached_under<'a, S: Copy>(
+    texels: &FlatTexels<S>,
+    colored_clut: &'a ColoredClut,
+) -> CachedClut<'a, S>
+    ensures texture { result.texture ≡ texels.now.texture.now }
+    ensures sampler { result.sampler ≡ texels.now.sampler }
+    ensures colored_clut { result.colored_clut.now ≡ colored_clut.now }
+{
+    CachedClut {
+        texture: *texels.texture,
+        sampler: texels.sampler,
+        colored_clut,
+    }
+}
+
+// A row of texels, whose palette is kept from then on: by one loop.
+#[inline(always)]
+pub(crate) fn draw_cached<S: IndexSampler + Copy, L: Ledger>(
+    vram: &mut Vram,
+    span: &Span,
+    texels: &FlatTexels<S>,
+    last: &mut Option<ColoredClut>,
+    steps: &mut Steps<L>,
+)
+    requires can { CanColorClut span.now texels.now.texture.now
+        (S.finds texels.now.sampler span.now texels.now.texture.now) texels.now.color vram.old }
+    requires last { IsCached span.now.paint vram.old last.old }
+    ensures drawn { DrawsSpan span.now 0 (at_stage vram.old steps.old) (at_stage vram.new steps.new) }
+    ensures last { IsCached span.now.paint vram.new last.new }
+{
+    cache_clut(vram, texels.texture, texels.color, last, steps);
+    if let Some(colored_clut) = &*last {
+        draw_chunks(vram, span, &cached_under(texels, colored_clut), steps);
+    }
+}
+
+// A row, by whether the texels are drawn as they are, and the pixels stored so.
+#[inline(always)]
+fn draw_by_raw<L: Ledger>(
+    vram: &mut Vram,
+    span: &Span,
+    cached: &CachedClut<TexelRun>,
+    steps: &mut Steps<L>,
+)
+    requires { CanUseCached span.now cached.now.texture (IsTexelRun span.now cached.now.texture cached.now.sampler)
+        cached.now.colored_clut.now vram.old }
+    ensures drawn { DrawsSpan span.now 1 (at_stage vram.old steps.old) (at_stage vram.new steps.new) }
+    ensures cached { CanUseCached span.now cached.now.texture (IsTexelRun span.now cached.now.texture cached.now.sampler)
+        cached.now.colored_clut.now vram.new }
+{
+    if cached.texture.raw {
+        let texture = with_raw(&cached.texture, true);
+        draw_by_brush(vram, span, &CachedClut { texture, ..*cached }, steps);
+    } else {
+        let texture = with_raw(&cached.texture, false);
+        draw_by_brush(vram, span, &CachedClut { texture, ..*cached }, steps);
+    }
+}
+
+// A row of texels side by side, whose palette is kept from then on: by a loop for each way to store the pixels.
+#[inline(always)]
+pub(crate) fn draw_cached_run<L: Ledger>(
+    vram: &mut Vram,
+    span: &Span,
+    texels: &FlatTexels<TexelRun>,
+    last: &mut Option<ColoredClut>,
+    steps: &mut Steps<L>,
+)
+    requires can { CanColorClut span.now texels.now.texture.now
+        (IsTexelRun span.now texels.now.texture.now texels.now.sampler) texels.now.color vram.old }
+    requires last { IsCached span.now.paint vram.old last.old }
+    ensures drawn { DrawsSpan span.now 0 (at_stage vram.old steps.old) (at_stage vram.new steps.new) }
+    ensures last { IsCached span.now.paint vram.new last.new }
+{
+    cache_clut(vram, texels.texture, texels.color, last, steps);
+    if let Some(colored_clut) = &*last {
+        draw_by_raw(vram, span, &cached_under(texels, colored_clut), steps);
+    }
+}

@@ -1,0 +1,88 @@
+// A pen for rows of texels of four bits side by side, whose palette is coloured once.
+ghost use Rattle.span_lanes.specs.BlockDrawer.{SuitsMethod};
+ghost use Rattle.span_lanes.specs.declared.block_drawer.RowMethod.TheVariants.{CachedClut};
+ghost use Rattle.span_lanes.specs.declared.span.Paint.TheVariants.{TexturedTri};
+
+use crate::block_drawer::BlockRowDrawer;
+use crate::cached_clut::draw_cached;
+use crate::colored_clut::ColoredClut;
+use crate::opaque::opaque;
+use crate::sampler::FlatTexels;
+use crate::shading::Shading;
+use crate::span::empty_span;
+use crate::texel_run::triangle_row_run;
+use crate::triangle_setup::{TriangleSetup, triangle_setup_with};
+use crate::{Brush, ClipRect, Run, Span, Texture};
+use edge_walk::Tri;
+use std::marker::Model;
+use std::sync::ledger::Ledger;
+use vram_store::{Steps, Vram};
+
+/// Texels of four bits side by side under one colour: the palette is coloured once, and pixels are stored as they are.
+#[derive(Drop)]
+pub struct CachedClutDrawer {
+    // the last span that was drawn; at first one of no cells
+    span: Span,
+    setup: TriangleSetup,
+    color: u32,
+    clip_rect: ClipRect,
+    // the palette that was seen, and what the colour makes of it
+    last: Option<ColoredClut>,
+}
+
+impl Model for CachedClutDrawer {
+    ghost use Rattle.span_lanes.specs.ClipRect.{BlockDrawerView};
+    ghost use Rattle.span_lanes.specs.BlockDrawer.{IsCachedClutDrawer, view_in_clip};
+
+    ghost Value = { BlockDrawerView };
+
+    ghost view = { λ drawer. view_in_clip drawer.span drawer.clip_rect drawer.last };
+
+    ghost invariant = { λ drawer. IsCachedClutDrawer drawer.span drawer.setup drawer.color drawer.clip_rect drawer.last };
+}
+
+impl CachedClutDrawer {
+    ghost use Rattle.std.specs.Prelude.{◌≡◌};
+    ghost use Rattle.span_lanes.specs.ClipRect.{new_view_in_clip};
+
+    /// A pen for a triangle, a texture and a brush in a block.
+    #[inline(always)]
+    pub fn new(
+        tri: &Tri,
+        texture: &Texture,
+        brush: &Brush,
+        clip_rect: &ClipRect,
+        color: u32,
+    ) -> CachedClutDrawer
+        requires { SuitsMethod tri.now texture.now brush.now clip_rect.now (CachedClut color) }
+        ensures { result ≡ new_view_in_clip (TexturedTri tri.now texture.now) brush.now clip_rect.now }
+    {
+        let divisor = tri.area_divisor();
+        CachedClutDrawer {
+            span: empty_span(tri, texture, brush),
+            setup: triangle_setup_with(tri, texture, brush, Shading::OneColor { color }, &divisor),
+            color,
+            clip_rect: *clip_rect,
+            last: None,
+        }
+    }
+}
+
+impl BlockRowDrawer for CachedClutDrawer {
+    ghost held_in_clip = { λ drawer. drawer };
+
+    #[inline(always)]
+    #[tactic(auto, using(crate::proofs::ColoredClutLemmas::kept_of_fresh, crate::proofs::ColoredClutLemmas::fresh_of_kept))]
+    fn draw<L: Ledger>(&mut self, vram: &mut Vram, run: Run, y: u16, steps: &mut Steps<L>) {
+        self.span.x = run.x;
+        self.span.y = y;
+        self.span.n = run.n;
+        let texel_run = triangle_row_run(&self.span, &self.setup);
+        let texels = FlatTexels {
+            texture: &self.setup.texture,
+            color: self.color,
+            sampler: texel_run,
+        };
+        draw_cached(vram, &opaque(&self.span), &texels, &mut self.last, steps);
+    }
+}

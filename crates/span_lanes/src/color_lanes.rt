@@ -1,0 +1,133 @@
+// The colours and dither offsets of the cells of a chunk.
+ghost use Rattle.std.specs.Prelude.{◌≡◌, ◌≤◌, ◌<◌, ◌+◌, ◌/◌, ◌%◌, ◌*◌, ◌^◌, ℕ, pos};
+ghost use Rattle.std.specs.Prelude.{length, slice_index, slice_index_or};
+ghost use Rattle.blend_dither.specs.Color.{dither_offset, tone_of, modulated_of};
+ghost use Rattle.px_num.specs.Lanes.{EachLane};
+ghost use Rattle.span_lanes.specs.Lanes.{AreChannels, HasColors, AreDitherLanes, AreDitherLanesAt};
+
+use blend_dither::{modulate_lanes, tone_lanes};
+use px_num::lanes::splat;
+use std::simd::prelude::*;
+
+// Sixteen colours by their channels.
+#[derive(Clone, Copy)]
+pub(crate) struct ColorLanes {
+    pub(crate) red: u16x16,
+    pub(crate) green: u16x16,
+    pub(crate) blue: u16x16,
+}
+
+fn channel(color: u32) -> u16x16
+    ensures channels { AreChannels result }
+    ensures value { EachLane (λ i. slice_index result i ≡ color % 256) }
+{
+    splat((color % 256) as u16)
+}
+
+pub(crate) fn one_color(color: u32) -> ColorLanes
+    ensures { (n : ℕ) → n ≤ 16 → HasColors (λ j. color) n result.red result.green result.blue }
+{
+    ColorLanes {
+        red: channel(color),
+        green: channel(color / 256),
+        blue: channel(color / 65536),
+    }
+}
+
+// Sixteen dither offsets.
+#[derive(Clone, Copy)]
+pub(crate) struct DitherLanes {
+    pub(crate) lanes: i16x16,
+}
+
+// No dither.
+pub(crate) fn no_dither() -> DitherLanes
+    ensures small { AreDitherLanes result.lanes }
+    ensures value { EachLane (λ i. slice_index_or result.lanes i (pos 0) ≡ pos 0) }
+{
+    DitherLanes {
+        lanes: i16x16::from_array([0; 16]),
+    }
+}
+
+// The dither offsets of sixteen cells of a row, by the row and then by the column of the first, both modulo 4.
+static DITHER_ROWS: [[i16; 16]; 16] = [
+    [-4, 0, -3, 1, -4, 0, -3, 1, -4, 0, -3, 1, -4, 0, -3, 1],
+    [0, -3, 1, -4, 0, -3, 1, -4, 0, -3, 1, -4, 0, -3, 1, -4],
+    [-3, 1, -4, 0, -3, 1, -4, 0, -3, 1, -4, 0, -3, 1, -4, 0],
+    [1, -4, 0, -3, 1, -4, 0, -3, 1, -4, 0, -3, 1, -4, 0, -3],
+    [2, -2, 3, -1, 2, -2, 3, -1, 2, -2, 3, -1, 2, -2, 3, -1],
+    [-2, 3, -1, 2, -2, 3, -1, 2, -2, 3, -1, 2, -2, 3, -1, 2],
+    [3, -1, 2, -2, 3, -1, 2, -2, 3, -1, 2, -2, 3, -1, 2, -2],
+    [-1, 2, -2, 3, -1, 2, -2, 3, -1, 2, -2, 3, -1, 2, -2, 3],
+    [-3, 1, -4, 0, -3, 1, -4, 0, -3, 1, -4, 0, -3, 1, -4, 0],
+    [1, -4, 0, -3, 1, -4, 0, -3, 1, -4, 0, -3, 1, -4, 0, -3],
+    [-4, 0, -3, 1, -4, 0, -3, 1, -4, 0, -3, 1, -4, 0, -3, 1],
+    [0, -3, 1, -4, 0, -3, 1, -4, 0, -3, 1, -4, 0, -3, 1, -4],
+    [3, -1, 2, -2, 3, -1, 2, -2, 3, -1, 2, -2, 3, -1, 2, -2],
+    [-1, 2, -2, 3, -1, 2, -2, 3, -1, 2, -2, 3, -1, 2, -2, 3],
+    [2, -2, 3, -1, 2, -2, 3, -1, 2, -2, 3, -1, 2, -2, 3, -1],
+    [-2, 3, -1, 2, -2, 3, -1, 2, -2, 3, -1, 2, -2, 3, -1, 2],
+];
+
+// A row of them.
+fn dither_row(place: usize) -> [i16; 16]
+    requires { place < 16 }
+    ensures long { length result ≡ 16 }
+    ensures value { EachLane (λ i. slice_index_or result i (pos 0) ≡ dither_offset (place % 4 + i) (place / 4)) }
+{
+    DITHER_ROWS[place]
+}
+
+// The dither offsets of sixteen cells from (x, y) on.
+fn dithered(x: u16, y: u16) -> DitherLanes
+    ensures small { AreDitherLanes result.lanes }
+    ensures value { EachLane (λ i. slice_index_or result.lanes i (pos 0) ≡ dither_offset (x + i) y) }
+{
+    DitherLanes {
+        lanes: i16x16::from_array(dither_row((4 * (y % 4) + x % 4) as usize)),
+    }
+}
+
+// The dither offsets of sixteen cells from (x, y) on, or zeros. They are also those of cells 4, 8, 12 and so on
+// to the right.
+#[tactic(auto, unfolding(crate::specs::Shade::dither_of))]
+pub(crate) fn dither_lanes_of(dither: bool, x: u16, y: u16) -> DitherLanes
+    requires { x ≤ 1024 }
+    ensures { AreDitherLanesAt dither x y result.lanes }
+{
+    if dither { dithered(x, y) } else { no_dither() }
+}
+
+// The tones of sixteen colours.
+pub(crate) fn tones_of(colors: ColorLanes, dither_lanes: DitherLanes) -> u16x16
+    requires channels { AreChannels colors.red × AreChannels colors.green × AreChannels colors.blue }
+    requires dither_lanes { AreDitherLanes dither_lanes.lanes }
+    ensures long { length result ≡ 16 }
+    ensures low { EachLane (λ i. slice_index result i < 2 ^ 15) }
+    ensures value { EachLane (λ i. slice_index result i
+        ≡ tone_of (slice_index colors.red i) (slice_index colors.green i) (slice_index colors.blue i)
+        (slice_index_or dither_lanes.lanes i (pos 0))) }
+{
+    tone_lanes(colors.red, colors.green, colors.blue, dither_lanes.lanes)
+}
+
+// Sixteen texels under colours.
+pub(crate) fn modulated_by(texels: u16x16, colors: ColorLanes, dither_lanes: DitherLanes) -> u16x16
+    requires texels { length texels ≡ 16 }
+    requires channels { AreChannels colors.red × AreChannels colors.green × AreChannels colors.blue }
+    requires dither_lanes { AreDitherLanes dither_lanes.lanes }
+    ensures long { length result ≡ 16 }
+    ensures value { EachLane (λ i. slice_index result i
+        ≡ modulated_of (slice_index texels i)
+        (slice_index colors.red i) (slice_index colors.green i) (slice_index colors.blue i)
+        (slice_index_or dither_lanes.lanes i (pos 0))) }
+{
+    modulate_lanes(
+        texels,
+        colors.red,
+        colors.green,
+        colors.blue,
+        dither_lanes.lanes,
+    )
+}

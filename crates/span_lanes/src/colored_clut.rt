@@ -1,0 +1,119 @@
+// Textures of four bits under one colour, whose palette is read and coloured once a primitive.
+ghost use Rattle.std.specs.Prelude.{◌≡◌, ◌≤◌, ◌<◌, ◌+◌, IfSome, IsTrue, pos};
+ghost use Rattle.std.specs.Prelude.{length, slice_index};
+ghost use Rattle.px_num.specs.Lanes.{EachLane, AreBytes};
+ghost use Rattle.span_lanes.specs.RowSetup.{IsRowSetup};
+ghost use Rattle.span_lanes.specs.Shade.{modulated_texel};
+ghost use Rattle.span_lanes.specs.ColoredClut.{IsColoredClut, AreClutEntries, HasPalette, IsColoredBy, CanCacheClut};
+ghost use Rattle.texel_lanes.specs.Table.{entry_at};
+
+use crate::modulated::modulated_entries;
+use crate::row_setup::RowSetup;
+use crate::row_shading::has_undithered_clut16;
+use crate::{Span, Texture};
+use std::simd::prelude::*;
+use std::sync::ledger::Ledger;
+use texel_lanes::{Table, clut_row, entries_at, sixteen_entries, table_of};
+use vram_store::{Steps, Vram};
+
+// The sixteen entries of a palette, and what a colour makes of them.
+#[derive(Clone, Copy)]
+pub(crate) struct ColoredClut {
+    pub(crate) raw: bool,
+    pub(crate) color: u32,
+    pub(crate) entries: Table,
+    pub(crate) modulated: Table,
+}
+
+// Texels, and what a colour makes of them.
+#[derive(Clone, Copy)]
+pub(crate) struct ModulatedTexels {
+    pub(crate) texels: u16x16,
+    pub(crate) modulated: u16x16,
+}
+
+// What a colour makes of sixteen entries.
+#[inline(always)]
+fn colored(raw: bool, color: u32, entries: u16x16) -> ColoredClut
+    requires { length entries ≡ 16 }
+    ensures colored { IsColoredClut result }
+    ensures raw { result.raw ≡ raw }
+    ensures color { result.color ≡ color }
+    ensures entries { EachLane (λ i. entry_at result.entries i ≡ slice_index entries i) }
+{
+    ColoredClut {
+        raw,
+        color,
+        entries: table_of(entries),
+        modulated: table_of(modulated_entries(raw, color, entries)),
+    }
+}
+
+// Whether what is kept is a palette under this colour, or as it is.
+#[inline(always)]
+fn is_colored_by(last: &Option<ColoredClut>, raw: bool, color: u32) -> bool
+    ensures { IsTrue result → IsColoredBy last.now raw color }
+{
+    match last {
+        None => false,
+        Some(cached) => cached.raw == raw && cached.color == color,
+    }
+}
+
+// Keeps the palette of a texture under a colour: it is read and coloured, unless it is kept so.
+#[inline(always)]
+#[tactic(auto, using(crate::proofs::ColoredClutLemmas::palette_is, crate::proofs::ColoredClutLemmas::palette_kept))]
+pub(crate) fn cache_clut<L: Ledger>(
+    vram: &Vram,
+    texture: &Texture,
+    color: u32,
+    last: &mut Option<ColoredClut>,
+    steps: &mut Steps<L>,
+)
+    requires colored { IfSome last.old IsColoredClut }
+    requires fresh { IfSome last.old (λ s. AreClutEntries texture.now vram.now s.entries) }
+    ensures palette { HasPalette texture.now vram.now color last.new }
+    ensures cost { steps.new ≤ steps.old + 1 }
+{
+    if !is_colored_by(last, texture.raw, color) {
+        let entries = sixteen_entries(vram, texture.clut, steps);
+        *last = Some(colored(texture.raw, color, entries));
+    }
+}
+
+// Sixteen texels by their indexes, and what the colour makes of them.
+#[inline(always)]
+#[tactic(auto, unfolding(crate::specs::Shade::modulated_texel))]
+pub(crate) fn texels_by_index(
+    colored_clut: &ColoredClut,
+    raw: bool,
+    index: u8x16,
+) -> ModulatedTexels
+    requires colored { IsColoredClut colored_clut.now }
+    requires raw { colored_clut.now.raw ≡ raw }
+    requires bytes { AreBytes index }
+    requires low { EachLane (λ i. slice_index index i < 16) }
+    ensures long { (length result.texels ≡ 16) × (length result.modulated ≡ 16) }
+    ensures texels { EachLane (λ i. slice_index result.texels i
+        ≡ entry_at colored_clut.now.entries (slice_index index i)) }
+    ensures modulated { EachLane (λ i. slice_index result.modulated i
+        ≡ modulated_texel raw colored_clut.now.color (pos 0) (slice_index result.texels i)) }
+{
+    let texels = entries_at(&colored_clut.entries, index);
+    let modulated = if raw {
+        texels
+    } else {
+        entries_at(&colored_clut.modulated, index)
+    };
+    ModulatedTexels { texels, modulated }
+}
+
+// Whether a palette of sixteen entries can be coloured for a whole span.
+pub(crate) fn suits(span: &Span, row_setup: &RowSetup) -> bool
+    requires row_setup { IsRowSetup span.now row_setup.now }
+    ensures { IsTrue result → CanCacheClut span.now row_setup.now.texture }
+{
+    let texture = &row_setup.texture;
+    let even = has_undithered_clut16(texture, &span.brush);
+    row_setup.hazard_free && even && clut_row(texture.clut) != span.y
+}

@@ -1,0 +1,74 @@
+// A pen for rows of texels side by side.
+ghost use Rattle.span_lanes.specs.BlockDrawer.{SuitsMethod};
+ghost use Rattle.span_lanes.specs.declared.block_drawer.RowMethod.TheVariants.{Contiguous};
+ghost use Rattle.span_lanes.specs.declared.span.Paint.TheVariants.{TexturedTri};
+
+use crate::block_drawer::BlockRowDrawer;
+use crate::colored_clut::ColoredClut;
+use crate::draw::draw_contiguous_row;
+use crate::span::empty_span;
+use crate::triangle_setup::{TriangleSetup, triangle_setup_of};
+use crate::{Brush, ClipRect, Run, Span, Texture};
+use edge_walk::Tri;
+use std::marker::Model;
+use std::sync::ledger::Ledger;
+use vram_store::{Steps, Vram};
+
+/// Texels side by side.
+#[derive(Drop)]
+pub struct ContiguousDrawer {
+    // the last span that was drawn; at first one of no cells
+    span: Span,
+    setup: TriangleSetup,
+    clip_rect: ClipRect,
+    // the palette that was seen, and what a colour makes of it
+    last: Option<ColoredClut>,
+}
+
+impl Model for ContiguousDrawer {
+    ghost use Rattle.span_lanes.specs.ClipRect.{BlockDrawerView};
+    ghost use Rattle.span_lanes.specs.BlockDrawer.{IsContiguousDrawer, view_in_clip};
+
+    ghost Value = { BlockDrawerView };
+
+    ghost view = { λ drawer. view_in_clip drawer.span drawer.clip_rect drawer.last };
+
+    ghost invariant = { λ drawer. IsContiguousDrawer drawer.span drawer.setup drawer.clip_rect drawer.last };
+}
+
+impl ContiguousDrawer {
+    ghost use Rattle.std.specs.Prelude.{◌≡◌};
+    ghost use Rattle.span_lanes.specs.ClipRect.{new_view_in_clip};
+
+    /// A pen for a triangle, a texture and a brush in a block.
+    #[inline(always)]
+    pub fn new(
+        tri: &Tri,
+        texture: &Texture,
+        brush: &Brush,
+        clip_rect: &ClipRect,
+    ) -> ContiguousDrawer
+        requires { SuitsMethod tri.now texture.now brush.now clip_rect.now Contiguous }
+        ensures { result ≡ new_view_in_clip (TexturedTri tri.now texture.now) brush.now clip_rect.now }
+    {
+        ContiguousDrawer {
+            span: empty_span(tri, texture, brush),
+            setup: triangle_setup_of(tri, texture, brush),
+            clip_rect: *clip_rect,
+            last: None,
+        }
+    }
+}
+
+impl BlockRowDrawer for ContiguousDrawer {
+    ghost held_in_clip = { λ drawer. drawer };
+
+    #[inline(always)]
+    #[tactic(auto, using(crate::proofs::ColoredClutLemmas::kept_of_fresh, crate::proofs::ColoredClutLemmas::fresh_of_kept))]
+    fn draw<L: Ledger>(&mut self, vram: &mut Vram, run: Run, y: u16, steps: &mut Steps<L>) {
+        self.span.x = run.x;
+        self.span.y = y;
+        self.span.n = run.n;
+        draw_contiguous_row(vram, &self.span, &self.setup, &mut self.last, steps);
+    }
+}

@@ -1,0 +1,106 @@
+// Texels by the coordinates of a part's cells.
+ghost use Rattle.std.specs.Prelude.{◌≡◌, ◌≤◌, ◌+◌, ◌*◌};
+ghost use Rattle.texel_lanes.specs.Texture.{texel_steps};
+ghost use Rattle.span_lanes.specs.Draws.{IsChunk};
+ghost use Rattle.span_lanes.specs.CachedClut.{HasIndexes};
+ghost use Rattle.span_lanes.specs.Lanes.{HasCoordinates};
+ghost use Rattle.span_lanes.specs.Paints.{chunk_u, chunk_v};
+ghost use Rattle.span_lanes.specs.RowSetup.{HasTexels};
+ghost use Rattle.span_lanes.specs.Shade.{IsSpan};
+ghost use Rattle.span_lanes.specs.TexCoords.{CanRead};
+
+use crate::chunk::Chunk;
+use crate::{Span, Texture};
+use px_num::halves::HALF;
+use std::simd::prelude::*;
+use std::sync::ledger::Ledger;
+use texel_lanes::{AllAtOnce, Coordinates, OneByOne, indexes_of, read_few, read_texels};
+use vram_store::{Steps, Vram};
+
+// How the coordinates of the texels of a span are found, part by part.
+pub(crate) trait CoordSource {
+    ghost use Rattle.span_lanes.specs.declared.span.Span.{Span};
+
+    // Holds where it finds those of a span.
+    ghost places: { Self → Span → Type 0 };
+
+    fn coordinates(&self, chunk: &Chunk) -> Coordinates
+        requires span { IsSpan chunk.now.span.now }
+        requires places { places self.now chunk.now.span.now }
+        requires chunk { IsChunk chunk.now }
+        ensures { HasCoordinates (chunk_u chunk.now) (chunk_v chunk.now) chunk.now.k
+            result.us result.vs };
+}
+
+// The texels of a part.
+#[inline(never)]
+fn many_texels<P: CoordSource, L: Ledger>(
+    source: &P,
+    vram: &Vram,
+    texture: &Texture,
+    chunk: &Chunk,
+    steps: &mut Steps<L>,
+) -> u16x16
+    requires { CanRead texture.now chunk.now (P.places source.now chunk.now.span.now) vram.now }
+    ensures texels { HasTexels texture.now chunk.now vram.now result }
+    ensures cost { steps.new ≤ steps.old + texel_steps texture.now.page.depth * chunk.now.k }
+{
+    let at = source.coordinates(chunk);
+    read_texels::<AllAtOnce, L>(vram, texture, &at, chunk.k, steps)
+}
+
+// The texels of a part of at most eight cells: compiled apart, so that the compiler may drop the other lanes.
+#[inline(never)]
+fn few_texels<P: CoordSource, L: Ledger>(
+    source: &P,
+    vram: &Vram,
+    texture: &Texture,
+    chunk: &Chunk,
+    steps: &mut Steps<L>,
+) -> u16x16
+    requires can { CanRead texture.now chunk.now (P.places source.now chunk.now.span.now) vram.now }
+    requires few { chunk.now.k ≤ 8 }
+    ensures texels { HasTexels texture.now chunk.now vram.now result }
+    ensures cost { steps.new ≤ steps.old + texel_steps texture.now.page.depth * chunk.now.k }
+{
+    let at = source.coordinates(chunk);
+    read_few(vram, texture, &at, chunk.k, steps)
+}
+
+// The texels of a part by its coordinates.
+#[inline(always)]
+pub(crate) fn texels_by_coords<P: CoordSource, L: Ledger>(
+    source: &P,
+    vram: &Vram,
+    texture: &Texture,
+    chunk: &Chunk,
+    steps: &mut Steps<L>,
+) -> u16x16
+    requires { CanRead texture.now chunk.now (P.places source.now chunk.now.span.now) vram.now }
+    ensures texels { HasTexels texture.now chunk.now vram.now result }
+    ensures cost { steps.new ≤ steps.old + texel_steps texture.now.page.depth * chunk.now.k }
+{
+    if chunk.k <= HALF {
+        few_texels(source, vram, texture, chunk, steps)
+    } else {
+        many_texels(source, vram, texture, chunk, steps)
+    }
+}
+
+// The indexes of its texels of four bits.
+#[inline(always)]
+pub(crate) fn indexes_by_coords<P: CoordSource, L: Ledger>(
+    source: &P,
+    vram: &Vram,
+    texture: &Texture,
+    chunk: &Chunk,
+    steps: &mut Steps<L>,
+) -> u8x16
+    requires can { CanRead texture.now chunk.now (P.places source.now chunk.now.span.now) vram.now }
+    requires depth { texture.now.page.depth ≡ 0 }
+    ensures indexes { HasIndexes texture.now chunk.now vram.now result }
+    ensures cost { steps.new ≤ steps.old + chunk.now.k }
+{
+    let at = source.coordinates(chunk);
+    indexes_of::<OneByOne, L>(vram, texture, &at, chunk.k, steps)
+}

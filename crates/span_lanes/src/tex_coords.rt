@@ -1,0 +1,153 @@
+// The texel coordinates of a span.
+ghost use Rattle.std.specs.Prelude.{◌≡◌, ◌≤◌, ◌<◌, ◌+◌, ℕ, pos, IsTrue, true, false, slice_index};
+ghost use Rattle.edge_walk.specs.Triangle.{Corners, is_inside};
+ghost use Rattle.span_lanes.specs.Shade.{row_u};
+ghost use Rattle.span_lanes.specs.SpanDrawer.{AreCoordPlanes};
+ghost use Rattle.texel_lanes.specs.Texels.{AreCoordinates};
+ghost use Rattle.span_lanes.specs.TexCoords.{coord_at, IsCoordAlong};
+
+use crate::Texture;
+use crate::chunk::Chunk;
+use crate::coord_planes::CoordPlanes;
+use crate::coord_source::{CoordSource, indexes_by_coords};
+use crate::row_colors::line_of;
+use crate::sampler::IndexSampler;
+use edge_walk::RowLine;
+use px_num::lanes::{add, low_bits, ramp, splat, sub_or_zero};
+use std::simd::prelude::*;
+use std::sync::ledger::Ledger;
+use texel_lanes::Coordinates;
+use vram_store::{Steps, Vram};
+
+// One coordinate of the texels of a span.
+#[derive(Clone, Copy)]
+pub(crate) enum CoordAlongRow {
+    Line { line: RowLine },
+    Row { u: u8, flip: bool },
+    Same { v: u8 },
+}
+
+// The columns and the rows of the texels of a span within their page.
+#[derive(Clone, Copy)]
+pub(crate) struct TexCoords {
+    pub(crate) u: CoordAlongRow,
+    pub(crate) v: CoordAlongRow,
+}
+
+// The texel coordinates of a triangle from a cell inside to the right.
+#[inline(always)]
+pub(crate) fn triangle_tex_coords(coord_planes: &CoordPlanes, x: u16, y: u16) -> TexCoords
+    ensures u { (tri : Corners)
+        → AreCoordPlanes tri coord_planes.now → IsTrue (is_inside tri (pos x) (pos y)) → IsCoordAlong tri 3 x y result.u }
+    ensures v { (tri : Corners)
+        → AreCoordPlanes tri coord_planes.now → IsTrue (is_inside tri (pos x) (pos y)) → IsCoordAlong tri 4 x y result.v }
+{
+    TexCoords {
+        u: CoordAlongRow::Line {
+            line: line_of(&coord_planes.u, x, y),
+        },
+        v: CoordAlongRow::Line {
+            line: line_of(&coord_planes.v, x, y),
+        },
+    }
+}
+
+// The columns of sixteen texels that rise from u on, so many cells further.
+#[inline(always)]
+#[tactic(auto, unfolding(crate::specs::Shade::row_u))]
+fn rising_columns(u: u8, first: u16) -> u16x16
+    requires within { first + 16 ≤ 1024 }
+    ensures columns { AreCoordinates result }
+    ensures value { (j : ℕ) → j < 16 → slice_index result j ≡ row_u u false (first + j) }
+{
+    low_bits(add(splat(u as u16 + first), ramp()), 8)
+}
+
+// The columns of sixteen texels that fall from u on, so many cells further.
+#[inline(always)]
+#[tactic(auto, unfolding(crate::specs::Shade::row_u))]
+fn falling_columns(u: u8, first: u16) -> u16x16
+    requires within { first + 16 ≤ 1024 }
+    ensures columns { AreCoordinates result }
+    ensures value { (j : ℕ) → j < 16 → slice_index result j ≡ row_u u true (first + j) }
+{
+    low_bits(sub_or_zero(splat(u as u16 + 1024 - first), ramp()), 8)
+}
+
+// The columns of sixteen texels of a row, from that of its cell `first` on.
+#[inline(always)]
+fn row_columns(u: u8, flip: bool, first: u16) -> u16x16
+    requires within { first + 16 ≤ 1024 }
+    ensures columns { AreCoordinates result }
+    ensures value { (j : ℕ) → j < 16 → slice_index result j ≡ row_u u flip (first + j) }
+{
+    if flip {
+        falling_columns(u, first)
+    } else {
+        rising_columns(u, first)
+    }
+}
+
+fn same_rows(v: u8) -> u16x16
+    ensures rows { AreCoordinates result }
+    ensures value { (j : ℕ) → j < 16 → slice_index result j ≡ v }
+{
+    splat(v as u16)
+}
+
+// A coordinate of sixteen texels from that of cell `first` on.
+#[inline(always)]
+fn coord_lanes(along: &CoordAlongRow, first: u16) -> u16x16
+    requires within { first + 16 ≤ 1024 }
+    ensures coordinates { AreCoordinates result }
+    ensures value { (j : ℕ) → j < 16 → slice_index result j ≡ coord_at along.now first j }
+{
+    match along {
+        CoordAlongRow::Line { line } => line.lanes(first),
+        CoordAlongRow::Row { u, flip } => row_columns(*u, *flip, first),
+        CoordAlongRow::Same { v } => same_rows(*v),
+    }
+}
+
+// The texel coordinates of sixteen cells from cell `first` on.
+#[inline(always)]
+pub(crate) fn tex_coord_lanes(coords: &TexCoords, first: u16) -> Coordinates
+    requires within { first + 16 ≤ 1024 }
+    ensures across { AreCoordinates result.us }
+    ensures down { AreCoordinates result.vs }
+    ensures u { (j : ℕ) → j < 16 → slice_index result.us j ≡ coord_at coords.now.u first j }
+    ensures v { (j : ℕ) → j < 16 → slice_index result.vs j ≡ coord_at coords.now.v first j }
+{
+    Coordinates {
+        us: coord_lanes(&coords.u, first),
+        vs: coord_lanes(&coords.v, first),
+    }
+}
+
+impl CoordSource for TexCoords {
+    ghost use Rattle.span_lanes.specs.TexCoords.{AreTexCoords};
+
+    ghost places = { λ coords s. AreTexCoords s.paint s.x s.y s.n coords };
+
+    #[inline(always)]
+    fn coordinates(&self, chunk: &Chunk) -> Coordinates {
+        tex_coord_lanes(self, chunk.first)
+    }
+}
+
+impl IndexSampler for TexCoords {
+    ghost use Rattle.span_lanes.specs.TexCoords.{AreTexCoords};
+
+    ghost finds = { λ coords s t. AreTexCoords s.paint s.x s.y s.n coords };
+
+    #[inline(always)]
+    fn read_indexes<L: Ledger>(
+        &self,
+        vram: &Vram,
+        texture: &Texture,
+        chunk: &Chunk,
+        steps: &mut Steps<L>,
+    ) -> u8x16 {
+        indexes_by_coords(self, vram, texture, chunk, steps)
+    }
+}

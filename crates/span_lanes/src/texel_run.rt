@@ -1,0 +1,105 @@
+// Where texels stand side by side in a row of video memory.
+ghost use Rattle.std.specs.Prelude.{◌≡◌, ◌≤◌, ◌<◌, ◌+◌, ◌/◌, IfSome, IsTrue};
+ghost use Rattle.texture_page.specs.Page.{windowed};
+ghost use Rattle.texel_lanes.specs.Texture.{IsTexture};
+ghost use Rattle.span_lanes.specs.Shade.{IsSpan};
+ghost use Rattle.span_lanes.specs.Paints.{row_paint};
+ghost use Rattle.span_lanes.specs.SpanDrawer.{state_of};
+ghost use Rattle.span_lanes.specs.TriangleSetup.{IsSetupOf};
+ghost use Rattle.span_lanes.specs.TexelRun.{IsRising, IsTexelRun};
+ghost use Rattle.span_lanes.specs.BlockDrawer.{AreContiguous};
+
+use crate::coord_planes::value_of;
+use crate::texel_row::TexelRow;
+use crate::triangle_setup::TriangleSetup;
+use crate::{Span, Texture};
+use texture_page::texel_cell;
+
+// The column of the first texel in its page, and the row of video memory that they stand in.
+#[derive(Clone, Copy)]
+pub(crate) struct TexelRun {
+    pub(crate) u: u16,
+    pub(crate) y: u16,
+}
+
+// Whether the cells of n texels from a column of the page on do not wrap.
+#[inline(always)]
+pub(crate) fn does_not_wrap(texture: &Texture, u: u16, n: u16) -> bool
+    requires texture { IsTexture texture.now }
+    requires in_page { u + n ≤ 256 }
+    ensures wholes { IsTrue result → 2 ≤ texture.now.page.depth → texture.now.page.x + (u + n) ≤ 1024 }
+    ensures eights { IsTrue result → texture.now.page.depth ≡ 1 → texture.now.page.x + (u + n) / 2 + 16 ≤ 1024 }
+    ensures fours { IsTrue result → texture.now.page.depth ≡ 0 → texture.now.page.x + (u + n) / 4 + 16 ≤ 1024 }
+{
+    match texture.page.depth {
+        0 => texture.page.x + (u + n) / 4 + 16 <= 1024,
+        1 => texture.page.x + (u + n) / 2 + 16 <= 1024,
+        _ => texture.page.x + u + n <= 1024,
+    }
+}
+
+// Whether a window leaves the columns of n texels as they are, and they do not wrap.
+#[inline(always)]
+pub(crate) fn is_unwindowed(texture: &Texture, u: u8, n: u16) -> bool
+    requires row { n ≤ 1024 }
+    ensures open { IsTrue result → texture.now.window.mask_x ≡ 0 }
+    ensures in_page { IsTrue result → u + n ≤ 256 }
+{
+    texture.window.mask_x == 0 && u as u16 + n <= 256
+}
+
+// The place of a texel by its coordinates, where a window leaves the columns as they are.
+#[inline(always)]
+pub(crate) fn run_at_coords(texture: &Texture, u: u8, v: u8) -> TexelRun
+    requires texture { IsTexture texture.now }
+    ensures column { result.u ≡ u }
+    ensures row { result.y ≡ texture.now.page.y + windowed texture.now.window.mask_y texture.now.window.off_y v }
+    ensures low { result.y ≤ texture.now.page.y + 255 }
+{
+    TexelRun {
+        u: u as u16,
+        y: texel_cell(&texture.page, &texture.window, u, v).y,
+    }
+}
+
+// Where the texels of a span stand side by side, if they do, by the coordinates of the first.
+#[inline(always)]
+fn run_of_span(span: &Span, texture: &Texture, u: u8, v: u8) -> Option<TexelRun>
+    requires texture { IsTexture texture.now }
+    requires row { span.now.n ≤ 1024 }
+    requires rising { IsRising span.now u v }
+    ensures { IfSome result (IsTexelRun span.now texture.now) }
+{
+    if is_unwindowed(texture, u, span.n) && does_not_wrap(texture, u as u16, span.n) {
+        Some(run_at_coords(texture, u, v))
+    } else {
+        None
+    }
+}
+
+// Where the texels of a row stand side by side, if they do.
+#[inline(always)]
+pub(crate) fn rectangle_row_run(span: &Span, row: &TexelRow) -> Option<TexelRun>
+    requires span { IsSpan span.now }
+    requires paint { span.now.paint ≡ row_paint row.now }
+    ensures { IfSome result (IsTexelRun span.now row.now.texture) }
+{
+    if row.flip {
+        None
+    } else {
+        run_of_span(span, &row.texture, row.u, row.v)
+    }
+}
+
+// Where the texels of a row of a triangle stand, whose texels stand side by side in all rows.
+#[inline(always)]
+pub(crate) fn triangle_row_run(span: &Span, setup: &TriangleSetup) -> TexelRun
+    requires span { IsSpan span.now }
+    requires setup { IsSetupOf (state_of span.now) setup.now }
+    requires contiguous { AreContiguous setup.now.tri setup.now.texture }
+    ensures { IsTexelRun span.now setup.now.texture result }
+{
+    let u = value_of(&setup.coord_planes.u, span.x, span.y);
+    let v = value_of(&setup.coord_planes.v, span.x, span.y);
+    run_at_coords(&setup.texture, u, v)
+}

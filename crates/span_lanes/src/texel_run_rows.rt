@@ -1,0 +1,122 @@
+// Rows of texels that stand side by side, and read nothing that they write.
+ghost use Rattle.std.specs.Prelude.{◌≡◌, true, false};
+ghost use Rattle.span_lanes.specs.Draws.{DrawsSpan, at_stage};
+ghost use Rattle.span_lanes.specs.CachedClut.{CanTakeTexels};
+ghost use Rattle.span_lanes.specs.SpanDrawer.{IsShadingFor};
+ghost use Rattle.span_lanes.specs.TexelRun.{IsTexelRun};
+
+use crate::chunk_loop::draw_by_brush;
+use crate::row_colors::row_colors_of;
+use crate::row_shading::row_shading_of;
+use crate::sampler::{BoundSampler, Sampler, sampler_of};
+use crate::shading::Shading;
+use crate::side_by_side::{EightBitRun, FifteenBitRun, FourBitRun};
+use crate::texel_run::TexelRun;
+use crate::texels::{Raw, Shaded};
+use crate::{Span, Texture};
+use std::sync::ledger::Ledger;
+use vram_store::{Steps, Vram};
+
+// A texture of which it is known whether it is drawn as it is.
+#[inline(always)]
+pub(crate) fn with_raw(texture: &Texture, raw: bool) -> Texture
+    requires { texture.now.raw ≡ raw }
+    ensures { result ≡ texture.now }
+{
+    Texture { raw, ..*texture }
+}
+
+// Texels that are drawn as they are.
+#[inline(never)]
+fn draw_raw<S: Sampler + Copy, L: Ledger>(
+    vram: &mut Vram,
+    span: &Span,
+    found: &BoundSampler<S>,
+    steps: &mut Steps<L>,
+)
+    requires take { CanTakeTexels span.now found.now.texture.now
+        (S.finds found.now.sampler span.now found.now.texture.now) vram.old }
+    requires raw { found.now.texture.now.raw ≡ true }
+    ensures { DrawsSpan span.now 0 (at_stage vram.old steps.old) (at_stage vram.new steps.new) }
+{
+    let raw = Raw {
+        texture: with_raw(found.texture, true),
+        sampler: found.sampler,
+    };
+    draw_by_brush(vram, span, &raw, steps);
+}
+
+// Texels under their colours.
+#[inline(never)]
+fn draw_shaded<S: Sampler + Copy, L: Ledger>(
+    vram: &mut Vram,
+    span: &Span,
+    found: &BoundSampler<S>,
+    shading: &Shading,
+    steps: &mut Steps<L>,
+)
+    requires take { CanTakeTexels span.now found.now.texture.now
+        (S.finds found.now.sampler span.now found.now.texture.now) vram.old }
+    requires raw { found.now.texture.now.raw ≡ false }
+    requires shading { IsShadingFor span.now.paint shading.now }
+    ensures { DrawsSpan span.now 0 (at_stage vram.old steps.old) (at_stage vram.new steps.new) }
+{
+    let shaded = Shaded {
+        texture: with_raw(found.texture, false),
+        sampler: found.sampler,
+        shading: row_shading_of(span, found.texture, row_colors_of(span, shading)),
+    };
+    draw_by_brush(vram, span, &shaded, steps);
+}
+
+// A row, by whether its texels are drawn as they are.
+#[inline(always)]
+fn draw_by_raw<S: Sampler + Copy, L: Ledger>(
+    vram: &mut Vram,
+    span: &Span,
+    found: &BoundSampler<S>,
+    shading: &Shading,
+    steps: &mut Steps<L>,
+)
+    requires take { CanTakeTexels span.now found.now.texture.now
+        (S.finds found.now.sampler span.now found.now.texture.now) vram.old }
+    requires shading { IsShadingFor span.now.paint shading.now }
+    ensures { DrawsSpan span.now 0 (at_stage vram.old steps.old) (at_stage vram.new steps.new) }
+{
+    if found.texture.raw {
+        draw_raw(vram, span, found, steps);
+    } else {
+        draw_shaded(vram, span, found, shading, steps);
+    }
+}
+
+// A row, by how many bits a texel has.
+#[inline(always)]
+pub(crate) fn draw_texel_run<L: Ledger>(
+    vram: &mut Vram,
+    span: &Span,
+    found: &BoundSampler<TexelRun>,
+    shading: &Shading,
+    steps: &mut Steps<L>,
+)
+    requires take { CanTakeTexels span.now found.now.texture.now
+        (IsTexelRun span.now found.now.texture.now found.now.sampler) vram.old }
+    requires shading { IsShadingFor span.now.paint shading.now }
+    ensures { DrawsSpan span.now 0 (at_stage vram.old steps.old) (at_stage vram.new steps.new) }
+{
+    let (texture, texel_run) = (found.texture, found.sampler);
+    match texture.page.depth {
+        0 => {
+            let fours = sampler_of(texture, FourBitRun { texel_run });
+            draw_by_raw(vram, span, &fours, shading, steps);
+        }
+        1 => {
+            let eights = sampler_of(texture, EightBitRun { texel_run });
+            draw_by_raw(vram, span, &eights, shading, steps);
+        }
+        _ => {
+            let wholes = sampler_of(texture, FifteenBitRun { texel_run });
+            draw_by_raw(vram, span, &wholes, shading, steps);
+        }
+    }
+}

@@ -1,0 +1,184 @@
+// Texels of a chunk that stand side by side.
+ghost use Rattle.std.specs.Prelude.{◌≡◌, IsTrue, ◌≤◌, ◌<◌, ◌+◌, ◌/◌, length, slice_index};
+ghost use Rattle.px_num.specs.Lanes.{EachLane, AreBytes};
+ghost use Rattle.vram_store.specs.Vram.{at, height_of};
+ghost use Rattle.texture_page.specs.Page.{column, index_in};
+ghost use Rattle.texel_lanes.specs.Texture.{HasPage, IsTexture};
+ghost use Rattle.texel_lanes.specs.Texels.{AreBeside, AreCoordinates, AreIndexes, AreTexels};
+
+use crate::Texture;
+use crate::coordinates::Coordinates;
+use crate::gather::Gather;
+use crate::halfwords::halfwords_of;
+use crate::nibbles::{nibbles, nibbles_from};
+use crate::octets::octets;
+use crate::table::halfwords_at;
+use crate::texel_cells::texel_cells_of;
+use px_num::halves::HALF;
+use px_num::lanes::{add, ramp, same, shifted_down, splat};
+use std::simd::prelude::*;
+use std::sync::ledger::Ledger;
+use vram_store::{Steps, Vram};
+
+// The column of a texel from the page's first cell.
+#[inline(always)]
+fn column_of(depth: u8, u: u16) -> u16
+    ensures value { result ≡ column depth u }
+    ensures low { result ≤ u }
+{
+    match depth {
+        0 => u / 4,
+        1 => u / 2,
+        _ => u,
+    }
+}
+
+// Whether sixteen texels stand side by side, seen without a window, in cells that do not wrap.
+#[inline(always)]
+pub(crate) fn are_contiguous(texture: &Texture, at: &Coordinates) -> bool
+    requires texture { IsTexture texture.now }
+    requires at { AreCoordinates at.now.us × AreCoordinates at.now.vs }
+    ensures { IsTrue result → AreBeside texture.now at.now }
+{
+    let window = texture.window;
+    let u = at.us.to_array()[0];
+    let v = at.vs.to_array()[0];
+    let open = window.mask_x == 0 && window.mask_y == 0;
+    let room = texture.page.x + column_of(texture.page.depth, u) + 16 <= 1024;
+    let columns = same(at.us, add(splat(u), ramp()));
+    let rows = same(at.vs, splat(v));
+    room && open && columns && rows
+}
+
+// k texels of fifteen bits that stand side by side.
+#[inline(always)]
+pub(crate) fn read_contiguous<L: Ledger>(
+    vram: &Vram,
+    texture: &Texture,
+    at: &Coordinates,
+    k: u8,
+    steps: &mut Steps<L>,
+) -> u16x16
+    requires texture { IsTexture texture.now }
+    requires page { HasPage (height_of vram.now) texture.now }
+    requires at { AreCoordinates at.now.us × AreCoordinates at.now.vs }
+    requires depth { 2 ≤ texture.now.page.depth }
+    requires beside { AreBeside texture.now at.now }
+    requires few { (1 ≤ k) × (k ≤ 16) }
+    ensures long { length result ≡ 16 }
+    ensures value { AreTexels texture.now at.now k vram.now result }
+    ensures cost { steps.new ≤ steps.old + k }
+{
+    let x = texture.page.x + at.us.to_array()[0];
+    let y = texture.page.y + at.vs.to_array()[0];
+    vram.load16(x, y, k, steps)
+}
+
+/// The indexes of sixteen texels of four bits from a column of a page on, in a row of video memory.
+#[inline(always)]
+pub fn sixteen_indexes<L: Ledger>(
+    vram: &Vram,
+    page: u16,
+    u: u16,
+    y: u16,
+    steps: &mut Steps<L>,
+) -> u8x16
+    requires in_page { u ≤ 255 }
+    requires in_row { page + u / 4 + 16 ≤ 1024 }
+    requires in_height { y < height_of vram.now }
+    ensures bytes { AreBytes result }
+    ensures low { EachLane (λ i. slice_index result i < 16) }
+    ensures value { EachLane (λ i. slice_index result i ≡ index_in 0 (u + i) (at vram.now (page + (u + i) / 4) y)) }
+    ensures cost { steps.new ≤ steps.old + 1 }
+{
+    let cells = vram.load16(page + u / 4, y, 16, steps);
+    nibbles_from((u % 4) as u8, cells)
+}
+
+/// The indexes of sixteen texels of eight bits from a column of a page on, in a row of video memory.
+#[inline(always)]
+pub fn sixteen_octets<L: Ledger>(
+    vram: &Vram,
+    page: u16,
+    u: u16,
+    y: u16,
+    steps: &mut Steps<L>,
+) -> u16x16
+    requires in_page { u ≤ 255 }
+    requires in_row { page + u / 2 + 16 ≤ 1024 }
+    requires in_height { y < height_of vram.now }
+    ensures long { length result ≡ 16 }
+    ensures low { EachLane (λ i. slice_index result i < 256) }
+    ensures value { EachLane (λ i. slice_index result i ≡ index_in 1 (u + i) (at vram.now (page + (u + i) / 2) y)) }
+    ensures cost { steps.new ≤ steps.old + 1 }
+{
+    let across = add(splat(u % 2), ramp());
+    let cells = vram.load16(page + u / 2, y, 16, steps);
+    octets(across, halfwords_at(cells, shifted_down(across, 1)))
+}
+
+// The indexes of sixteen texels of four bits that stand side by side.
+#[inline(always)]
+fn contiguous_indexes<L: Ledger>(
+    vram: &Vram,
+    texture: &Texture,
+    at: &Coordinates,
+    steps: &mut Steps<L>,
+) -> u8x16
+    requires texture { IsTexture texture.now }
+    requires page { HasPage (height_of vram.now) texture.now }
+    requires at { AreCoordinates at.now.us × AreCoordinates at.now.vs }
+    requires depth { texture.now.page.depth ≡ 0 }
+    requires beside { AreBeside texture.now at.now }
+    ensures indexes { AreIndexes texture.now at.now 16 vram.now result }
+    ensures cost { steps.new ≤ steps.old + 1 }
+{
+    let u = at.us.to_array()[0];
+    let y = texture.page.y + at.vs.to_array()[0];
+    sixteen_indexes(vram, texture.page.x, u, y, steps)
+}
+
+// The indexes of k texels of four bits, by the cells that they stand in.
+#[inline(always)]
+fn scattered_indexes<G: Gather, L: Ledger>(
+    vram: &Vram,
+    texture: &Texture,
+    at: &Coordinates,
+    k: u8,
+    steps: &mut Steps<L>,
+) -> u8x16
+    requires texture { IsTexture texture.now }
+    requires page { HasPage (height_of vram.now) texture.now }
+    requires at { AreCoordinates at.now.us × AreCoordinates at.now.vs }
+    requires few { (1 ≤ k) × (k ≤ 16) }
+    ensures indexes { AreIndexes texture.now at.now k vram.now result }
+    ensures cost { steps.new ≤ steps.old + k }
+{
+    let places = texel_cells_of(texture, at);
+    let halfwords = halfwords_of::<G, L>(vram, places.xs, places.ys, k, steps);
+    nibbles(places.across, halfwords)
+}
+
+/// The indexes of k texels of four bits by their coordinates: at once where there are many and they stand side by side.
+#[inline(always)]
+pub fn indexes_of<G: Gather, L: Ledger>(
+    vram: &Vram,
+    texture: &Texture,
+    at: &Coordinates,
+    k: u8,
+    steps: &mut Steps<L>,
+) -> u8x16
+    requires texture { IsTexture texture.now }
+    requires page { HasPage (height_of vram.now) texture.now }
+    requires at { AreCoordinates at.now.us × AreCoordinates at.now.vs }
+    requires depth { texture.now.page.depth ≡ 0 }
+    requires few { (1 ≤ k) × (k ≤ 16) }
+    ensures indexes { AreIndexes texture.now at.now k vram.now result }
+    ensures cost { steps.new ≤ steps.old + k }
+{
+    if G::looks() && k > HALF && are_contiguous(texture, at) {
+        contiguous_indexes(vram, texture, at, steps)
+    } else {
+        scattered_indexes::<G, L>(vram, texture, at, k, steps)
+    }
+}
