@@ -13,7 +13,7 @@ use Rattle.gpu_capture.specs.declared.progress.Progress.{Progress}
 use Rattle.gpu_capture.proofs.Steps.{split}
 use Rattle.gpu_capture.proofs.Versions.{version_from}
 
--- ---- none too many
+-- ---- needed bytes
 
 pub none_needed : (taken : List ℕ) → taken ≡ [] → AreNeeded capture [] taken
 none_needed taken none [] [] is some = absurd (some refl)

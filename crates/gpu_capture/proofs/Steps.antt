@@ -52,7 +52,7 @@ pub at_word : (p : Progress) (bytes : List ℕ) → 0 < p.version → p.left ≡
     ≡ records p.version p.due p.place bytes
 at_word p bytes started none = rw (on p.version started, none) refl
 
--- ---- none too many
+-- ---- needed bytes
 
 -- a proper prefix is shorter
 part_shorter : (taken part more : List ℕ) → taken ≡ part ++ more → (more ≡ [] → ⊥) → length part < length taken
@@ -83,7 +83,7 @@ head_needed p taken unstarted few part more is some =
     let e : nat_lt (length part) 8 ≡ true = grind (arith, short, few) in
     record { version = 0; byte = length part; is = rw (off p.version unstarted, e) refl }
 
--- one list in two splits: the first split ends inside the second part of the other, or before it
+-- one list split in two ways: `part` reaches at least to the end of `xs`, or ends inside it
 pub split : (xs ys part more : List ℕ) → xs ++ ys ≡ part ++ more
     → ((zs : List ℕ) × (part ≡ xs ++ zs) × (ys ≡ zs ++ more)) ⊎ ((zs : List ℕ) × (xs ≡ part ++ zs) × (zs ≡ [] → ⊥))
 split [] ys part more e = inl (part, refl, e)

@@ -32,7 +32,7 @@ words_to (due.Madr by) = 3
 words_to (due.Bcr by madr) = 2
 words_to (due.Chcr by madr bcr) = 1
 
--- after a step, fewer than `n` words remain up to an event or a stop
+-- a step gives an event or a stop, or fewer than `n` words remain up to one
 abbrev Leads : ℕ → Step → Type 0
 Leads n (Opens next) = words_to next < n
 Leads n (Gives e count next) = 1 ≤ count

@@ -37,8 +37,8 @@ after_step version (Opens next) on bytes = on next
 after_step version (Gives event count next) on bytes = then_events (replicate count event) (on next)
 after_step version (Closes stop) on bytes = ended version stop bytes
 
--- The meaning of the bytes from offset `place` on, if `at` is what the next word is. A word at the limit is too long.
--- If fewer than four bytes are left, the input is truncated at its end.
+-- The meaning of the bytes from offset `place` on, if `at` is what the next word is. At the limit the capture is too
+-- long, even if no bytes are left. Before it, fewer than four bytes are truncated at their end.
 abbrev pub records : ℕ → Due → ℕ → List ℕ → Captured
 records version at place (a ∷ b ∷ c ∷ d ∷ bytes) =
     if nat_lt place limit

@@ -5,14 +5,14 @@ use Rattle.gpu_capture.specs.Reader.{AreNeeded, IsStart, capture_from}
 use Rattle.gpu_capture.specs.declared.event.Event.{Event}
 use Rattle.gpu_capture.specs.declared.progress.Progress.{Progress}
 
--- If all bytes read are needed, their last offset is below 2^30: for a reader at the start, and for one at any word.
+-- If all bytes read are needed, they end at or before offset 2^30: for a reader at the start, and for one at any word.
 pub record TakesFew : Type 0 where
   pub all : (p : Progress) (taken : List ℕ) → IsStart p → AreNeeded p taken → length taken ≤ limit
   pub rest : (p : Progress) (taken : List ℕ) → 1 ≤ p.version → p.place % 4 ≡ 0 → p.place ≤ limit → AreNeeded p taken
       → p.place + length taken ≤ limit
 
 -- After the header, the next event waits for no byte. Either a repeated event is left, which needs none, or the source
--- has at least 16 bytes at hand, the size of the longest record of one event.
+-- has at least 16 bytes at hand. The longest record of one event has 16 bytes.
 abbrev pub IsAtHand : Progress → (at_hand : ℕ) → Type 0
 IsAtHand p at_hand = p.left ≡ 0 → 16 ≤ at_hand
 

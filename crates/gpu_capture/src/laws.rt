@@ -9,8 +9,8 @@ pub fn written_is_read()
     ensures { WrittenIsRead }
 {}
 
-/// A header, records that its version allows, of any count, and an End record are read as the events of the records and
-/// End, whatever bytes follow. Together they must have at most 2^30 bytes.
+/// A header, records of any count that its version allows, and an End record are read as their events and End, whatever
+/// bytes follow. Together they must have at most 2^30 bytes.
 pub fn records_are_read()
     ensures { RecordsAreRead }
 {}

@@ -19,7 +19,7 @@ use crate::write::RECORD_MOST;
 use dev_io::Source;
 use std::marker::Model;
 
-/// The most bytes that may be read before buffered output is written.
+/// After this many bytes, buffered output is written before the next event is read.
 const FEW: u32 = 4096;
 
 /// Reads the events of a capture, one a call.

@@ -33,7 +33,7 @@ pub enum Due {
 /// How a DMA channel is started.
 #[derive(Clone, Copy, Debug, PartialEq, Eq)]
 pub enum Start {
-    /// All that it moves is moved at once.
+    /// The whole transfer is done at its start.
     Dma { channel: u8 },
     /// Nothing is moved before its first turn.
     Begin,
