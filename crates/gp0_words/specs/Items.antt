@@ -1,5 +1,5 @@
 -- A list of words, cut into packets, as items (psx-spx, "GPU Render Line Commands" on polylines, "GPU Memory Transfer
--- Commands" on loads). All words that follow a packet's first word are considered when it is cut.
+-- Commands" on loads). The end of a packet depends on all words from its first one on.
 use Rattle.std.specs.Prelude.{ℕ, zero, suc, ◌+◌, ◌-◌, true, false, Some, None, if◌then◌else◌, nat_lt}
 use Rattle.std.specs.Prelude.{List, [], ◌∷◌, ◌++◌, length, take, drop, map, slice_index}
 use Rattle.gp0_words.specs.Kinds.{kind_of, start_len, is_end}
