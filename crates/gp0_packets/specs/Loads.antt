@@ -29,7 +29,7 @@ pub record IsLoadOf (height : ℕ) (words : List ℕ) (found : Packet) : Type 0 
   pub count : data_words_of (slice_index words 2)
       ≡ (width_of (slice_index words 2) * height_of (slice_index words 2) + 1) / 2
 
--- the packet opens a load exactly if the kind of its first word is Load
+-- the packet opens a load exactly if the kind of its first word is `Load`, and needs as many data words as follow
 abbrev pub OpensLoad : (height : ℕ) → Kind → (words : List ℕ) → Packet → Type 0
 OpensLoad height (Plain len) words found = IsOfNoLoad found
 OpensLoad height Load words found = IsLoadOf height words found

@@ -13,7 +13,7 @@ pub struct Note {
     pub event: u64,
     /// 0 to 7: the top three bits of the command word. 8: the end of a polyline. 9: two cells of a load.
     pub class: u8,
-    /// The command word, the end word or the data word.
+    /// The command word, the end word or the data word; 0 for a `Whole` without words.
     pub head: u32,
     /// The cells that the item may change, or `None` if it has no area.
     pub area: Option<Box2>,
@@ -40,7 +40,7 @@ pub fn class_of_word(word: u32) -> u8
     (word >> 29) as u8
 }
 
-/// Returns the head of an item's note: the command word, the end word or the data word.
+/// Returns the head of an item's note: the command word, the end word or the data word; 0 for a `Whole` without words.
 pub fn head_of(item: &Item) -> u32
     ensures { result ≡ head_of_item item.now }
 {
