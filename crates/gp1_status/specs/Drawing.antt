@@ -42,7 +42,8 @@ pub record IsArea (height : ℕ) (b : Box2) : Type 0 where
   pub bottom : b.y2 <ℤ pos height
   pub reach : height ≤ 1024
 
--- bits 0 to 3 of the draw mode are the page's column over 64, bits 4 and 11 its row over 256, bits 7 and 8 its depth
+-- Draw mode: bits 0 to 3 are the page's column divided by 64, bits 4 and 11 its row divided by 256. Bits 7 and 8 are
+-- its depth.
 abbrev pub page_in : Registers → Page
 page_in r = record { x = r.e1 % 16 * 64; y = bit r.e1 4 * 256 + bit r.e1 11 * 512; depth = r.e1 / 2 ^ 7 % 4 }
 

@@ -11,7 +11,8 @@ cycles_of mode =
     (if mode % 4 == 1 then 8 else
     (if mode % 4 == 2 then 5 else 4)))
 
--- the difference in cycles over those of a pixel, to a multiple of 4; 0 if X2 is not above X1 (our own rule)
+-- the difference in cycles, divided by those of a pixel, rounded to a multiple of 4; 0 if X2 is not above X1 (our own
+-- rule)
 abbrev pub width_of : (hrange mode : ℕ) → ℕ
 width_of hrange mode = ((hrange / 2 ^ 12 - hrange % 2 ^ 12) / cycles_of mode + 2) / 4 * 4
 

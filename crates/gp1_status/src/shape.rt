@@ -6,11 +6,10 @@ use crate::regs::Regs;
 use px_num::{bit, bits};
 
 impl Regs {
-    /// Returns the width and height of the displayed picture in cells (16-bit VRAM halfwords) and rows, or `None` if
-    /// one of them is 0.
+    /// Returns the width in pixels and the height in rows of the displayed picture, or `None` if one of them is 0.
     ///
-    /// The width is the horizontal range divided by the cycles of one pixel in this mode, rounded to a multiple of 4.
-    /// The height is the vertical range, doubled in the interlaced mode of 480 lines.
+    /// The width is the horizontal range in cycles, divided by the cycles of one pixel in this mode, rounded to a
+    /// multiple of 4. The height is the vertical range in lines, doubled in the interlaced mode of 480 lines.
     pub fn shape(&self) -> Option<(u16, u16)>
         ensures { result ≡ shape_of self.now }
     {

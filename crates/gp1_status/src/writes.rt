@@ -7,8 +7,8 @@ use crate::regs::Regs;
 use px_num::{SHORT_HEIGHT, TALL_HEIGHT, bit, bits};
 
 impl Regs {
-    /// Sets the height to 1024 rows. All values stay. From then on, writes set bit 11 of the draw mode and the tenth
-    /// bit of each Y.
+    /// Sets the height to 1024 rows. All values stay. From then on, writes can set bit 11 of the draw mode, and the
+    /// tenth bit of Y in the drawing area and the display start.
     pub fn set_tall(&mut self)
         ensures { self.new ≡ record self.old { height = tall_height } }
     {
