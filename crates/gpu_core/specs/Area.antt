@@ -7,7 +7,7 @@ use Rattle.gp0_words.specs.declared.item.Item.{Item}
 use Rattle.gp1_status.specs.Registers.{Registers}
 use Rattle.prim_draw.specs.Areas.{area_of}
 
--- the note of an item that event `event` completed, by the registers before it
+-- the note of an item that event `event` completed, with the area computed from the registers before it
 abbrev pub note_of : Registers → (event : ℕ) → Item → Note
 note_of r event item = record {
   event = event;

@@ -52,8 +52,8 @@ read_cost s = pixels_of s.parts.store
 
 -- ---- the first table
 
--- Four for each cell of the box of a packet that draws, of the rectangle of a fill or copy, and for each cell that a
--- data word of a load writes or a read returns.
+-- Four a cell. The cells are those of the box of a packet that draws, of the rectangle of a fill or copy, or those that
+-- a data word of a load writes or a read returns.
 unfoldable pub packet_box_cost : Parts → Packet → ℕ
 packet_box_cost p (packet.Fill color x y w h) = 4 * w * h
 packet_box_cost p (packet.Copy from to w h) = 4 * w * h

@@ -11,7 +11,7 @@ pub record Stage : Type 0 where
   pub parts : Parts
   pub steps : ℕ
 
--- the packet took effect, within its cost, and its area is by the registers before it
+-- the packet took effect, within its cost, and its area is computed from the registers before it
 pub record IsDone (what : Packet) (before after : Stage) (found : Option Box2) : Type 0 where
   pub area : found ≡ area_of before.parts.regs what
   pub effect : after.parts ≡ effect_of before.parts what

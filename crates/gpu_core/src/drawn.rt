@@ -42,8 +42,8 @@ fn put_own_page(regs: &mut Regs, packet: &Packet)
 }
 
 impl Parts {
-    /// Executes the packet that `words` are, as many as their first word requires. Returns its area, by the registers
-    /// before it. Packets that draw are decoded here, so that the compiler keeps their fields in registers.
+    /// Executes the packet that `words` are, as many as their first word requires. Returns its area, computed from the
+    /// registers before it. Packets that draw are decoded here, so that the compiler keeps their fields in registers.
     #[inline(always)]
     pub(crate) fn carry_out_words<L: Ledger>(
         &mut self,

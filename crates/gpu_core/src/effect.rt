@@ -18,7 +18,8 @@ use vram_copy::{copy, fill};
 use vram_store::Steps;
 
 impl Parts {
-    /// Executes an item that event `event` completed. Returns its note, by the registers before it.
+    /// Executes an item that event `event` completed. Returns its note, with the area computed from the registers
+    /// before it.
     pub(crate) fn take_item<L: Ledger>(
         &mut self,
         event: u64,
@@ -40,7 +41,7 @@ impl Parts {
         }
     }
 
-    /// Executes a packet. Returns its area, by the registers before it.
+    /// Executes a packet. Returns its area, computed from the registers before it.
     #[tactic(auto, unfolding(crate::specs::Machine::effect_of, crate::specs::Cost::packet_cost))]
     pub(crate) fn carry_out<L: Ledger>(
         &mut self,
