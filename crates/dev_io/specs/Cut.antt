@@ -3,7 +3,7 @@ use Rattle.std.specs.Prelude.{◌+◌, ◌-◌, ◌^◌, ◌==◌, List, ℕ, Op
 use Rattle.std.specs.Prelude.{if◌then◌else◌}
 
 -- The bytes left, the limits of the pieces, how many calls returned a byte, the calls that fail, how many calls there
--- were, and how many failed.
+-- were, how many failed.
 pub record CutState : Type 0 where
   pub left : List ℕ
   pub pieces : List ℕ

@@ -32,8 +32,8 @@ fn give_some<K: Sink>(sink: &mut K, rest: &[u8]) -> Result<usize, Failed>
     sink.write(rest)
 }
 
-/// Writes the pieces, one after another. If they have at most 128 bytes in all, joins them first, so that the sink is
-/// called once for all of them if it accepts all. On failure, only a proper prefix of all bytes was appended.
+/// Writes the pieces, one after another. Pieces of at most 128 bytes in all are joined first: a sink that accepts all
+/// of them is called once. On failure, only a proper prefix of all bytes was appended.
 pub fn write_pieces<K: Sink>(sink: &mut K, pieces: &[&[u8]]) -> Result<(), Failed>
     ensures { Writes (side K.held K.faults) sink.old sink.new (flat_map (λ piece. piece.now) pieces.now) result }
 {
