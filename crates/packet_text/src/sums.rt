@@ -9,8 +9,8 @@ use dev_io::{Failed, Sink, write_pieces};
 use hex::encode_to_slice;
 use itoa::Buffer;
 
-/// Writes the line of a picture's digest: the event after which it is displayed, its width and height in cells, all in
-/// decimal, and the digest in 64 hexadecimal digits.
+/// Writes the line of a picture's digest: the event after which it is displayed, its width in pixels and height in
+/// rows, all in decimal, and the digest in 64 hexadecimal digits.
 #[tactic(auto, unfolding(crate::specs::Sums::frame_sum_line))]
 pub fn write_frame_sum<K: Sink>(
     out: &mut K,
