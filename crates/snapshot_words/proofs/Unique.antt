@@ -40,7 +40,7 @@ rest_or (Whole value place rest) = rest
 rest_or (Short place) = []
 rest_or (Bad place word) = []
 
--- a whole value after another was found after a whole value
+-- `found` is a whole value, and `all` is the meaning of the bytes after it
 record Behind {A B : Type 0} (found : Found A) (next : A → ℕ → List ℕ → Found B) (all : Found B) : Type 0 where
   value : A
   place : ℕ

@@ -45,8 +45,8 @@ pub record BreaksOff (before now : Option (List ℕ)) (place count : ℕ) (why :
 
 -- ---- the meaning of what is read
 
--- A fault as the meaning of the bytes read. A word that is not allowed is a fault whatever follows. Truncated bytes are
--- one without more bytes.
+-- The meaning of the bytes read if reading ends with a fault. A word that is not allowed is one, whatever follows.
+-- Otherwise the bytes read are truncated.
 abbrev pub SaysFault : {A : Type 0} → SnapFault → (List ℕ → Found A) → List ℕ → Option (List ℕ) → Type 0
 SaysFault (fault.Bad byte word) found taken now = (rest : List ℕ) → found (taken ++ rest) ≡ Bad byte word
 SaysFault (fault.Stop (Truncated byte)) found taken now = (found taken ≡ Short byte) × IsAtEnd now
