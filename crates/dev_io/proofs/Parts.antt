@@ -1,4 +1,4 @@
--- Bytes that are taken or written part by part.
+-- Bytes that are read or written part by part.
 use Rattle.std.proofs.Common.{◌≡◌, ◌≤◌, ◌<◌, ◌+◌, ◌++◌, List, [], ◌∷◌, ℕ, zero, suc, Option, None, Some, length}
 use Rattle.std.proofs.Common.{take, drop, get_or, flat_map, refl, ap, append_assoc, sym, subst, ◌∙◌, arith}
 use Rattle.std.proofs.lemmas.List.{take-append-le, length-take-le, length-append}
@@ -7,7 +7,7 @@ use Rattle.std.proofs.Math.Seq.{take-append-add}
 use Rattle.dev_io.specs.Device.{Gives, AppendsPart, appended, prepended}
 use Rattle.dev_io.proofs.Appended.{appended-appended}
 
--- ---- taken
+-- ---- read
 
 pub prepended-nil : (left : Option (List ℕ)) → left ≡ prepended [] left
 prepended-nil None = refl
@@ -18,7 +18,7 @@ pub prepended-prepended : (xs ys : List ℕ) (left : Option (List ℕ)) → prep
 prepended-prepended xs ys None = refl
 prepended-prepended xs ys (Some left) = ap Some (sym (append_assoc xs ys left))
 
--- bytes that were taken, and then more
+-- bytes were read, and then more
 pub taken_on : (before mid now : Option (List ℕ)) (xs ys : List ℕ) → before ≡ prepended xs mid → mid ≡ prepended ys now
     → before ≡ prepended (xs ++ ys) now
 taken_on before mid now xs ys first next = first ∙ ap (prepended xs) next ∙ prepended-prepended xs ys now
@@ -47,7 +47,7 @@ gives_on before now new buf part i n k le first next = record {
 
 -- ---- written
 
--- a sink that took a part of some bytes took a part of more bytes, after those before them
+-- a sink accepted a part of `ys` after `xs`, so a part of all bytes
 pub part_after : (before mid now : Option (List ℕ)) (xs ys zs : List ℕ) → mid ≡ appended before xs
     → AppendsPart mid now ys
     → AppendsPart before now (xs ++ (ys ++ zs))
@@ -60,7 +60,7 @@ part_after before mid now xs ys zs was part = record {
       ∙ ap (λ ws. xs ++ ws) (take-append-le part.count ys zs (omega (arith, part.part)))));
 }
 
--- the pieces before one of them, it, and those after it
+-- the pieces before one of them, that piece, and those after it
 split_at : {X : Type 0} (f : X → List ℕ) (xs : List X) (i : ℕ) (d : X) → i < length xs
     → flat_map f xs ≡ flat_map f (take i xs) ++ (f (get_or xs i d) ++ flat_map f (drop (i + 1) xs))
 split_at f [] i d lt = absurd (omega (arith, lt))

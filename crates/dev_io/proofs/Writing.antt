@@ -6,7 +6,7 @@ use Rattle.dev_io.specs.Device.{SinkSide, Writes, appended}
 use Rattle.dev_io.proofs.Appended.{appended-appended, appended-nil}
 use Rattle.dev_io.proofs.Parts.{part_after}
 
--- these bytes were written since a sink was as it was before
+-- these bytes were written since the sink's state `before`
 pub record Wrote {Sink : Type 0} (told : Sink → SinkSide) (before now : Sink)
     (written : List ℕ) : Type 0 where
   pub bytes : (told now).held ≡ appended (told before).held written
@@ -16,7 +16,7 @@ pub wrote_none : {Sink : Type 0} (told : Sink → SinkSide) (sink : Sink)
     → Wrote told sink sink []
 wrote_none told sink = record { bytes = sym (appended-nil (told sink).held); faults = omega arith }
 
--- a call more that wrote all of its bytes
+-- one more call, which wrote all of its bytes
 pub wrote_on : {Sink Value Error : Type 0} (told : Sink → SinkSide)
     (before mid now : Sink) (xs ys : List ℕ) (v : Value)
     → Wrote told before mid xs → Writes {Value = Value} {Error = Error} told mid now ys (Ok v)
@@ -26,7 +26,7 @@ wrote_on told before mid now xs ys v first next = record {
   faults = omega (arith, first.faults, next.faults);
 }
 
--- a call more that failed, of bytes behind which others were to come
+-- one more call, which failed; more bytes were to follow
 pub fails_on : {Sink Value Error Other : Type 0} (told : Sink → SinkSide)
     (before mid now : Sink) (xs ys zs : List ℕ) (e : Error)
     → Wrote told before mid xs → Writes {Value = Value} {Error = Error} told mid now ys (Err e)
@@ -38,7 +38,7 @@ fails_on told before mid now xs ys zs e first next = record {
   faults = omega (arith, first.faults, next.faults);
 }
 
--- a call more that is the last one
+-- one more call, the last one
 pub writes_on : {Sink Value Error : Type 0} (told : Sink → SinkSide)
     (before mid now : Sink) (xs ys : List ℕ) (result : Result Value Error)
     → Wrote told before mid xs → Writes told mid now ys result
@@ -50,14 +50,14 @@ writes_on told before mid now xs ys (Err e) first next =
     let on = fails_on told before mid now xs ys [] e first next in
     rw (← append-nil ys) on
 
--- all was written
+-- all bytes were written
 pub writes_all : {Sink Value Error : Type 0} (told : Sink → SinkSide) (before now : Sink)
     (xs : List ℕ) (v : Value)
     → Wrote told before now xs → Writes {Value = Value} {Error = Error} told before now xs (Ok v)
 writes_all told before now xs v done =
     record { ok = done.bytes; failed = tt; cause = tt; faults = done.faults }
 
--- ---- bytes of which some were written, and the others are left to write
+-- ---- some of the bytes were written, and the others are left
 
 pub record IsUnderway {Sink : Type 0} (told : Sink → SinkSide) (before now : Sink)
     (left all : List ℕ) : Type 0 where

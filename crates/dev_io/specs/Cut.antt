@@ -1,9 +1,9 @@
--- A source in memory that gives its bytes in pieces and fails where it is told to (our own rule).
+-- A source in memory that returns its bytes in pieces and fails at chosen calls (our own rule).
 use Rattle.std.specs.Prelude.{◌+◌, ◌-◌, ◌^◌, ◌==◌, List, ℕ, Option, Some, None, max, min, drop, length, slice_get}
 use Rattle.std.specs.Prelude.{if◌then◌else◌}
 
--- the bytes left, the greatest sizes of the pieces, the calls that gave a byte, the calls that fail, all calls, and the
--- failed ones
+-- The bytes left, the limits of the pieces, how many calls returned a byte, the calls that fail, how many calls there
+-- were, how many failed.
 pub record CutState : Type 0 where
   pub left : List ℕ
   pub pieces : List ℕ
@@ -12,16 +12,16 @@ pub record CutState : Type 0 where
   pub calls : ℕ
   pub faults : ℕ
 
--- a bound of 0 counts as 1, and where there is none, any number may be given
+-- a limit of 0 counts as 1; without an entry there is no limit
 abbrev pub bound_of : Option ℕ → ℕ
 bound_of None = 2 ^ 64 - 1
 bound_of (Some n) = max n 1
 
--- the most that the next call gives
+-- the most bytes that the next call returns
 abbrev pub most_of : List ℕ → ℕ → ℕ
 most_of pieces given = bound_of (slice_get pieces given)
 
--- how much the next call gives to a buffer of this length
+-- how many bytes the next call returns to a buffer of length `asked`
 abbrev pub gives_now : CutState → ℕ → ℕ
 gives_now s asked = min (min asked (length s.left)) (most_of s.pieces s.given)
 
@@ -29,7 +29,7 @@ gives_now s asked = min (min asked (length s.left)) (most_of s.pieces s.given)
 abbrev pub one_more : ℕ → ℕ
 one_more n = min (n + 1) (2 ^ 64 - 1)
 
--- after a call that gave so many bytes
+-- after a call that returned `n` bytes
 abbrev pub after_giving : CutState → ℕ → CutState
 after_giving s n = record {
   left = drop n s.left;
@@ -40,6 +40,6 @@ after_giving s n = record {
   faults = s.faults;
 }
 
--- after a call that failed
+-- after a failed call
 abbrev pub after_failing : CutState → CutState
 after_failing s = record s { calls = one_more s.calls; faults = one_more s.faults }

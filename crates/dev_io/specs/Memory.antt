@@ -1,4 +1,4 @@
--- Sinks in memory (our own rule): what they hold, how much they may hold, and how often they failed.
+-- Sinks in memory (our own rule): the bytes held, their greatest number, and how many calls failed.
 use Rattle.std.specs.Prelude.{◌-◌, ◌++◌, List, ℕ, max, min, length, take}
 use Rattle.dev_io.specs.Cut.{one_more}
 
@@ -7,18 +7,18 @@ pub record SinkState : Type 0 where
   pub room : ℕ
   pub faults : ℕ
 
--- how much of a piece of this length there is room for
+-- how many bytes of a piece of length `offered` still fit
 abbrev pub takes_now : SinkState → ℕ → ℕ
 takes_now s offered = min offered (s.room - length s.held)
 
--- after a call that took so much of a piece, and after one that failed
+-- after a call that accepted `n` bytes of a piece, and after a failed call
 abbrev pub after_taking : SinkState → List ℕ → ℕ → SinkState
 after_taking s piece n = record s { held = s.held ++ take n piece }
 
 abbrev pub after_refusing : SinkState → SinkState
 after_refusing s = record s { faults = one_more s.faults }
 
--- a sink that takes at most so much of a piece and fails at some of its calls, which are numbered from 0
+-- a sink that accepts at most `piece` bytes a call and fails at the calls in `fails`, counted from 0
 pub record FailState : Type 0 where
   pub held : List ℕ
   pub room : ℕ
@@ -27,7 +27,7 @@ pub record FailState : Type 0 where
   pub calls : ℕ
   pub faults : ℕ
 
--- how much of a piece of this length the next call takes; a bound of 0 counts as 1
+-- how many bytes of a piece of length `offered` the next call accepts; a limit of 0 counts as 1
 abbrev pub takes_next : FailState → ℕ → ℕ
 takes_next s offered = min (min offered (max s.piece 1)) (s.room - length s.held)
 

@@ -1,11 +1,11 @@
-// A buffer that is filled from a source.
+// Fills a buffer from a source.
 ghost use Rattle.std.specs.Prelude.{◌≡◌, ◌≤◌, ◌<◌, length, IfOk, IfErr, OnErr, MatchOption, unwrap_or};
 ghost use Rattle.dev_io.specs.Device.{Rose, Gives, IsAtEnd};
 
 use crate::device::{Failed, Source};
 
-/// Takes bytes until the buffer is full or none is left, and says how many came: as `Err` where the source failed,
-/// and then fewer than the buffer holds.
+/// Reads until `buf` is full or the source is at its end, and returns the number of bytes as `Ok`. If the source fails,
+/// returns the number of bytes read before as `Err`; it is less than the length of `buf`.
 pub fn fill<S: Source>(source: &mut S, buf: &mut [u8]) -> Result<usize, usize>
     ensures ok { IfOk result (λ n. Gives (S.left source.old) (S.left source.new) buf.new n) }
     ensures ended { IfOk result (λ n. n < length buf.new → IsAtEnd (S.left source.new)) }
@@ -27,8 +27,7 @@ pub fn fill<S: Source>(source: &mut S, buf: &mut [u8]) -> Result<usize, usize>
     Ok(n)
 }
 
-/// One turn of a loop over a source: it takes at least one byte, or it is the last, since none is left or the source
-/// failed.
+/// One turn of a loop over a source. Returns the number of bytes read, at least 1, or `None` at the end of the source.
 fn take_some<S: Source>(source: &mut S, rest: &mut [u8]) -> Result<Option<usize>, Failed>
     requires { 0 < length rest.old }
     ensures some { IfOk result (λ taken. MatchOption taken (IsAtEnd (S.left source.new)) (λ n. 0 < n)) }

@@ -1,4 +1,4 @@
-// A source in memory that gives its bytes in pieces, and fails where it is told to.
+// A source in memory that returns its bytes in pieces and fails at chosen calls.
 ghost use Rattle.std.specs.Prelude.{◌≡◌, ◌≤◌, ◌<◌, ◌↔◌, Some, drop, length, Contains, IfOk, IsErr, OnErr};
 ghost use Rattle.std.specs.Prelude.{MatchResult};
 ghost use Rattle.std.specs.Vec.{vec_len};
@@ -8,11 +8,11 @@ ghost use Rattle.dev_io.specs.Device.{Rose, Gives, IsAtEnd};
 use crate::device::{Failed, Source};
 use std::marker::Model;
 
-/// A source in memory that gives its bytes in pieces and fails where it is told to.
+/// A source in memory that returns its bytes in pieces and fails at chosen calls.
 ///
-/// The calls that give a byte are numbered from 0, and call k of these gives at most `pieces[k]` bytes: 0 counts as
-/// 1, and where there is no entry there is no bound. For `fails` all calls are numbered from 0, and those that are
-/// named there fail and take nothing. The count of faults is the number of failed calls.
+/// Calls that return a byte are counted from 0, and call k of them returns at most `pieces[k]` bytes. An entry 0 counts
+/// as 1; without an entry there is no limit. `fails` contains numbers of calls, where all calls are counted from 0.
+/// These calls fail and read nothing. The count of faults is the number of failed calls.
 #[derive(Drop)]
 pub struct CutSource {
     bytes: Vec<u8>,
@@ -40,7 +40,8 @@ impl Model for CutSource {
 }
 
 impl CutSource {
-    /// A source that has these bytes left, the greatest sizes of its pieces, and the numbers of the calls that fail.
+    /// Returns a source of these bytes. `pieces`: the limits of its pieces. `fails`: the numbers of the calls that
+    /// fail.
     pub fn new(bytes: Vec<u8>, pieces: Vec<u32>, fails: Vec<u64>) -> Self
         ensures { result ≡ record {
           left = bytes.items;
@@ -62,7 +63,7 @@ impl CutSource {
         }
     }
 
-    /// The bytes left.
+    /// Returns the bytes left.
     pub fn left(&self) -> &[u8]
         ensures { result.now ≡ self.now.left }
     {
@@ -84,7 +85,7 @@ impl Source for CutSource {
         ensures cause { OnErr result (Rose self.old.faults self.new.faults) }
         ensures faults { self.old.faults ≤ self.new.faults }
 
-        // It fails exactly at the calls that it was told, and gives as much as it may.
+        // It fails exactly at the calls in `fails`, and otherwise returns as many bytes as its limit allows.
         ensures fails { IsErr result ↔ Contains self.old.fails self.old.calls }
         ensures count { IfOk result (λ n. n ≡ gives_now self.old (length buf.old)) }
         ensures state { MatchResult result (λ n. self.new ≡ after_giving self.old n)
@@ -114,7 +115,7 @@ impl Source for CutSource {
     }
 }
 
-/// How many bytes a call may give.
+/// Returns the most bytes that a call returns if `given` calls returned a byte before it.
 fn most(pieces: &[u32], given: usize) -> usize
     ensures { result ≡ most_of pieces.now given }
 {

@@ -1,12 +1,12 @@
-// The trusted edge: std's readers and writers as a source and a sink, which tell no bytes.
+// The trusted adapters: std's readers and writers as a source and a sink. Contracts do not know their bytes.
 ghost use Rattle.std.specs.Prelude.{◌≡◌, ◌≤◌, ◌-◌, None};
 
 use crate::device::{Failed, Sink, Source};
 use crate::retry::{read_again, write_again};
 use std::io::{Read, Write};
 
-/// A reader of std as a source. It keeps 4,096 bytes and asks the reader only when none of them is left. Every error of
-/// the reader is a fault, but for a read that a signal interrupts: that is asked for again.
+/// Adapts a reader of std to a source. It has a buffer of 4,096 bytes and calls the reader only if the buffer is empty.
+/// Every error of the reader is a fault, except an interruption by a signal: the read is repeated.
 #[derive(Drop)]
 pub struct ReadEdge<R: Read> {
     reader: R,
@@ -19,7 +19,7 @@ pub struct ReadEdge<R: Read> {
 }
 
 impl<R: Read> ReadEdge<R> {
-    /// A source over a reader, with no fault so far.
+    /// Returns a source over `reader`, without faults.
     pub fn new(reader: R) -> Self
         ensures { ⟦<ReadEdge<R> as Source>⟧.faults result ≡ 0 }
     {
@@ -38,7 +38,7 @@ impl<R: Read> Source for ReadEdge<R> {
 
     ghost faults = { λ edge. edge.faults };
 
-    // those that it keeps
+    // the bytes in the buffer
     ghost at_hand = { λ edge. edge.end - edge.start };
 
     fn read(&mut self, buf: &mut [u8]) -> Result<usize, Failed> {
@@ -65,8 +65,8 @@ impl<R: Read> Source for ReadEdge<R> {
     }
 }
 
-/// A writer of std as a sink. Every error of the writer is a fault, and so is a write that takes nothing of a piece
-/// that is not empty. A write that a signal interrupts is none: it is made again.
+/// Adapts a writer of std to a sink. Every error of the writer is a fault, and so is a write of 0 bytes of a nonempty
+/// piece. A write that a signal interrupts is no fault: it is repeated.
 #[derive(Drop)]
 pub struct WriteEdge<W: Write> {
     writer: W,
@@ -74,7 +74,7 @@ pub struct WriteEdge<W: Write> {
 }
 
 impl<W: Write> WriteEdge<W> {
-    /// A sink over a writer, with no fault so far.
+    /// Returns a sink over `writer`, without faults.
     pub fn new(writer: W) -> Self
         ensures { ⟦<WriteEdge<W> as Sink>⟧.faults result ≡ 0 }
     {

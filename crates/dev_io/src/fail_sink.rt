@@ -1,4 +1,4 @@
-// A sink in memory that fails where it is told to.
+// A sink in memory that fails at chosen calls.
 ghost use Rattle.std.specs.Prelude.{◌≡◌, ◌≤◌, ◌<◌, ◌↔◌, ◌⊎◌, [], Some, length, Contains, IfOk, IsErr, OnErr};
 ghost use Rattle.std.specs.Prelude.{MatchResult};
 ghost use Rattle.dev_io.specs.Device.{Rose, Accepts};
@@ -10,8 +10,8 @@ use px_num::OutOfMemory;
 use std::alloc::Global;
 use std::marker::Model;
 
-/// A sink in memory that holds at most `room` bytes, takes at most `piece` bytes a call (0 counts as 1), and fails at
-/// the calls named in `fails`, which are numbered from 0. A call for which there is no room fails too.
+/// A sink in memory that holds at most `room` bytes and accepts at most `piece` bytes a call (0 counts as 1). It fails
+/// at the calls in `fails`, counted from 0, and at each write of a nonempty piece while it is full.
 #[derive(Drop)]
 pub struct FailSink {
     sink: MemSink,
@@ -34,7 +34,7 @@ impl Model for FailSink {
 }
 
 impl FailSink {
-    /// An empty sink. Refused where memory runs out.
+    /// Returns an empty sink. Fails if memory runs out.
     pub fn new(alloc: Global, room: usize, piece: u32, fails: Vec<u64>) -> Result<Self, OutOfMemory>
         ensures { IfOk result (λ sink. sink ≡ record {
           held = [];
@@ -53,7 +53,7 @@ impl FailSink {
         })
     }
 
-    /// The bytes held.
+    /// Returns the bytes held.
     pub fn bytes(&self) -> &[u8]
         ensures { result.now ≡ self.now.held }
     {
@@ -72,7 +72,8 @@ impl Sink for FailSink {
         ensures cause { OnErr result (Rose self.old.faults self.new.faults) }
         ensures faults { self.old.faults ≤ self.new.faults }
 
-        // It fails exactly at the calls that it was told and for want of room, and takes as much as it may.
+        // It fails exactly at the calls in `fails`, and if it is full and the piece is not empty. Otherwise it accepts
+        // as many bytes as its limits allow.
         ensures fails { IsErr result ↔ (Contains self.old.fails self.old.calls
             ⊎ ((0 < length piece.now) × (self.old.room ≤ length self.old.held))) }
         ensures count { IfOk result (λ n. n ≡ takes_next self.old (length piece.now)) }

@@ -1,8 +1,8 @@
-//! Where bytes come from and where they go.
+//! Sources and sinks of bytes.
 //!
-//! A source tells, or does not tell, the list of bytes left, and a sink that of the bytes held. Each has a
-//! count of faults, which never falls and stays at 2^64 - 1 once there. The ends in memory tell their bytes;
-//! the edges over std's readers and writers tell none, and are what the proofs trust.
+//! A source has a list of bytes left, a sink a list of bytes held. Each has a count of faults, which never falls and
+//! stops at 2^64 - 1. Contracts know the bytes of the sources and sinks in memory. They do not know those of the
+//! adapters over std's readers and writers, which the proofs trust.
 #![tactic(auto)]
 
 mod buffer;

@@ -1,4 +1,4 @@
-// A sink in memory, which tells its bytes.
+// A sink in memory, whose bytes contracts know.
 ghost use Rattle.std.specs.Prelude.{◌≡◌, ◌≤◌, ◌<◌, ◌↔◌, [], Some, length, IfOk, IsErr, OnErr, MatchResult};
 ghost use Rattle.std.specs.Vec.{vec_len, vec_capacity};
 ghost use Rattle.dev_io.specs.Device.{Rose, Accepts};
@@ -9,8 +9,8 @@ use px_num::OutOfMemory;
 use std::alloc::Global;
 use std::marker::Model;
 
-/// A sink in memory that holds at most `room` bytes. A write takes as many bytes as there is room, and where there is
-/// none, a piece that is not empty is refused and counted as a fault.
+/// A sink in memory that holds at most `room` bytes. A write accepts as many bytes as still fit. If it is full, a write
+/// of a nonempty piece fails and is counted as a fault.
 #[derive(Drop)]
 pub struct MemSink {
     bytes: Vec<u8>,
@@ -27,7 +27,7 @@ impl Model for MemSink {
 }
 
 impl MemSink {
-    /// An empty sink with room for so many bytes. Refused where memory runs out.
+    /// Returns an empty sink for at most `room` bytes. Fails if memory runs out.
     pub fn new(alloc: Global, room: usize) -> Result<Self, OutOfMemory>
         ensures { IfOk result (λ sink. sink ≡ record { held = []; room = room; faults = 0 }) }
     {
@@ -38,14 +38,14 @@ impl MemSink {
         })
     }
 
-    /// The bytes held.
+    /// Returns the bytes held.
     pub fn bytes(&self) -> &[u8]
         ensures { result.now ≡ self.now.held }
     {
         &self.bytes
     }
 
-    // A call that fails: nothing is taken, and it is counted.
+    // Counts a fault and returns it. Accepts nothing.
     pub(crate) fn refuse(&mut self) -> Result<usize, Failed>
         ensures refused { IsErr result }
         ensures state { self.new ≡ after_refusing self.old }
@@ -67,7 +67,7 @@ impl Sink for MemSink {
         ensures cause { OnErr result (Rose self.old.faults self.new.faults) }
         ensures faults { self.old.faults ≤ self.new.faults }
 
-        // It fails exactly where there is something to take and no room, and takes as much as there is room for.
+        // It fails exactly if it is full and the piece is not empty. Otherwise it accepts as many bytes as fit.
         ensures full { IsErr result ↔ ((0 < length piece.now) × (self.old.room ≤ length self.old.held)) }
         ensures count { IfOk result (λ n. n ≡ takes_now self.old (length piece.now)) }
         ensures state { MatchResult result (λ n. self.new ≡ after_taking self.old piece.now n)

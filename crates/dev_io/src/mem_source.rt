@@ -1,4 +1,4 @@
-// A source in memory, which tells its bytes.
+// A source in memory, whose bytes contracts know.
 ghost use Rattle.std.specs.Prelude.{◌≡◌, ◌≤◌, ◌<◌, List, ℕ, Some, drop, min, length, IfOk, IsOk, OnErr};
 ghost use Rattle.std.specs.Vec.{vec_len};
 ghost use Rattle.dev_io.specs.Device.{Rose, Gives, IsAtEnd};
@@ -6,7 +6,7 @@ ghost use Rattle.dev_io.specs.Device.{Rose, Gives, IsAtEnd};
 use crate::device::{Failed, Source};
 use std::marker::Model;
 
-/// A source in memory. It gives all that is asked for, as long as there are bytes, and never fails.
+/// A source in memory. A read returns as many bytes as `buf` can hold and the source has. It never fails.
 #[derive(Drop)]
 pub struct MemSource {
     bytes: Vec<u8>,
@@ -22,14 +22,14 @@ impl Model for MemSource {
 }
 
 impl MemSource {
-    /// A source that has these bytes left.
+    /// Returns a source of these bytes.
     pub fn new(bytes: Vec<u8>) -> Self
         ensures { result ≡ bytes.items }
     {
         MemSource { bytes, at: 0 }
     }
 
-    /// The bytes left.
+    /// Returns the bytes left.
     pub fn left(&self) -> &[u8]
         ensures { result.now ≡ self.now }
     {

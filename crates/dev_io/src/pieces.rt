@@ -1,14 +1,14 @@
-// Pieces that are written whole, one after another.
+// Pieces that are written completely, one after another.
 ghost use Rattle.std.specs.Prelude.{◌≡◌, ◌≤◌, ◌<◌, flat_map, length, IfOk, IfSome, OnErr};
 ghost use Rattle.dev_io.specs.Device.{Accepts, Rose, Writes, side};
 
 use crate::device::{Failed, Sink};
 use arrayvec::ArrayVec;
 
-/// The bytes that are gathered before they are written: more than the longest line has.
+/// The most bytes that [`write_pieces`] joins into one piece.
 const GATHERED: usize = 128;
 
-/// Writes the whole piece. After a failure a proper prefix of it was appended, so an empty piece never fails.
+/// Writes the whole piece. On failure, only a proper prefix of it was appended, so an empty piece never fails.
 #[tactic(auto, using(crate::proofs::Appended::write_steps))]
 pub fn write_all<K: Sink>(sink: &mut K, piece: &[u8]) -> Result<(), Failed>
     ensures { Writes (side K.held K.faults) sink.old sink.new piece.now result }
@@ -20,7 +20,7 @@ pub fn write_all<K: Sink>(sink: &mut K, piece: &[u8]) -> Result<(), Failed>
     Ok(())
 }
 
-/// One turn of a loop over a sink: it gives at least one byte, or it is the last, since the sink failed.
+/// One turn of a loop over a sink. Returns the number of bytes accepted, at least 1.
 fn give_some<K: Sink>(sink: &mut K, rest: &[u8]) -> Result<usize, Failed>
     requires { 0 < length rest.now }
     ensures some { IfOk result (λ n. 0 < n) }
@@ -32,7 +32,8 @@ fn give_some<K: Sink>(sink: &mut K, rest: &[u8]) -> Result<usize, Failed>
     sink.write(rest)
 }
 
-/// Writes the pieces, one after another. Where they are few bytes together, the sink is called for all of them at once.
+/// Writes the pieces, one after another. Pieces of at most 128 bytes in all are joined first: a sink that accepts all
+/// of them is called once. On failure, only a proper prefix of all bytes was appended.
 pub fn write_pieces<K: Sink>(sink: &mut K, pieces: &[&[u8]]) -> Result<(), Failed>
     ensures { Writes (side K.held K.faults) sink.old sink.new (flat_map (λ piece. piece.now) pieces.now) result }
 {
@@ -42,7 +43,7 @@ pub fn write_pieces<K: Sink>(sink: &mut K, pieces: &[&[u8]]) -> Result<(), Faile
     }
 }
 
-/// The bytes of the pieces, where they are few together.
+/// Returns the bytes of all pieces, or `None` if they are more than 128.
 fn gather(pieces: &[&[u8]]) -> Option<ArrayVec<u8, GATHERED>>
     ensures { IfSome result (λ gathered. gathered.items ≡ flat_map (λ piece. piece.now) pieces.now) }
 {
@@ -53,7 +54,7 @@ fn gather(pieces: &[&[u8]]) -> Option<ArrayVec<u8, GATHERED>>
     Some(gathered)
 }
 
-/// Writes the pieces, one after another, each by itself.
+/// Writes the pieces, one after another, without joining them.
 fn write_each<K: Sink>(sink: &mut K, pieces: &[&[u8]]) -> Result<(), Failed>
     ensures { Writes (side K.held K.faults) sink.old sink.new (flat_map (λ piece. piece.now) pieces.now) result }
 {

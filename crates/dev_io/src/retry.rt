@@ -1,4 +1,4 @@
-// Calls of std's readers and writers that are made again where a signal interrupts them.
+// Calls of std's readers and writers, repeated if a signal interrupts them.
 ghost use Rattle.std.specs.Prelude.{◌≡◌, ◌≢◌, ◌<◌, take, length, IfOk, IfErr, OnErr};
 ghost use Rattle.std.specs.Io.{ReadsAtMost, WritesAtMost};
 ghost use Rattle.std.specs.Io.KnownBytes.{Keeps, Appends, Consumes, IsAtEnd};
@@ -6,11 +6,11 @@ ghost use Rattle.std.specs.IoError.{error_kind};
 
 use std::io::{Error, ErrorKind, Read, Result, Write};
 
-/// So many interruptions in a row are an error, since each call must end.
+/// The most attempts of one call. After as many interruptions in a row it returns an error, since each call must end.
 const MOST: u64 = u64::MAX;
 
-/// One read, made again where a signal interrupts it, as std's `read_exact` does. So no error is an interruption, and
-/// after an error nothing was taken.
+/// Reads once, and again after each interruption by a signal, as std's `read_exact` does. No error that it returns is
+/// an interruption. On an error, nothing was read.
 pub(crate) fn read_again<R: Read>(reader: &mut R, buf: &mut [u8]) -> Result<usize>
     ensures bound { ReadsAtMost result buf.new }
     ensures bytes { IfOk result (λ n. Consumes (R.remaining reader.old) (R.remaining reader.new) (take n buf.new)) }
@@ -27,8 +27,8 @@ pub(crate) fn read_again<R: Read>(reader: &mut R, buf: &mut [u8]) -> Result<usiz
     Err(Error::from(ErrorKind::TimedOut))
 }
 
-/// One write, made again where a signal interrupts it, as std's `write_all` does. So no error is an interruption, and
-/// after an error nothing was appended.
+/// Writes once, and again after each interruption by a signal, as std's `write_all` does. No error that it returns is
+/// an interruption. On an error, nothing was appended.
 pub(crate) fn write_again<W: Write>(writer: &mut W, piece: &[u8]) -> Result<usize>
     ensures bound { WritesAtMost result piece.now }
     ensures bytes { IfOk result (λ n. Appends (W.contents writer.old) (W.contents writer.new) (take n piece.now)) }

@@ -1,4 +1,4 @@
--- Polygons, lines and rectangles are the packets of their words, and are drawn.
+-- Polygons, lines and rectangles are the packets of their words, and draw.
 use Rattle.std.proofs.Common.{◌≡◌, ℕ, ◌==◌, true, false, List, length, slice_index, refl, sym, subst, ◌∙◌}
 use Rattle.std.proofs.Common.{arith}
 use Rattle.std.proofs.lemmas.Bool.{cond_both}
@@ -18,7 +18,7 @@ whole_words class height words of =
     let same = of.len in grind (arith, nat_tests, same) in
     rw (some, len) refl
 
--- a packet that is drawn, and is what the words are at every height
+-- a packet that draws, and is that of the words at every height
 drawn_by : (class : ℕ) (words : List ℕ) (own found : Packet) → IsOfClass class words
     → ((height : ℕ) → own ≡ whole_of height words) → IsDrawn own → found ≡ own
     → ((height : ℕ) → IsInRange height found) → IsDrawnBy words found

@@ -23,10 +23,10 @@ vertex_of place color texcoord = record {
   v = texcoord / 2 ^ 8 % 2 ^ 8;
 }
 
--- a corner of a copy, load or store, whose Y wraps at the height of video memory
+-- a corner of a copy, load or store; Y wraps at the height of video memory
 abbrev pub cell_of : (height corner : ℕ) → Cell
 cell_of height corner = record { x = corner % 1024; y = high_half corner % height }
 
--- a fill's colour, each channel divided by 8
+-- a fill's colour: red, green and blue, each divided by 8
 abbrev pub fill_color_of : ℕ → ℕ
 fill_color_of word = word / 2 ^ 3 % 32 + word / 2 ^ 11 % 32 * 2 ^ 5 + word / 2 ^ 19 % 32 * 2 ^ 10

@@ -1,4 +1,4 @@
--- Which packets open a load or go on with one (psx-spx, "GPU Memory Transfer Commands").
+-- Which packets open a load or contain data of one (psx-spx, "GPU Memory Transfer Commands").
 use Rattle.std.specs.Prelude.{◌≡◌, ℕ, ◌+◌, ◌*◌, ◌/◌, List, slice_index}
 use Rattle.gp0_words.specs.Kinds.{kind_of}
 use Rattle.gp0_words.specs.Sizes.{width_of, height_of, data_words_of}
@@ -23,13 +23,13 @@ IsOfNoLoad (packet.Store x y w h) = Unit {0}
 IsOfNoLoad packet.Finish = Unit {0}
 IsOfNoLoad (packet.Env index value) = Unit {0}
 
--- a load, for as many data words as follow these words
+-- a load that needs as many data words as follow these words
 pub record IsLoadOf (height : ℕ) (words : List ℕ) (found : Packet) : Type 0 where
   pub is : found ≡ load_of height words
   pub count : data_words_of (slice_index words 2)
       ≡ (width_of (slice_index words 2) * height_of (slice_index words 2) + 1) / 2
 
--- a packet fits the kind of its first word
+-- the packet opens a load exactly if the kind of its first word is `Load`, and needs as many data words as follow
 abbrev pub OpensLoad : (height : ℕ) → Kind → (words : List ℕ) → Packet → Type 0
 OpensLoad height (Plain len) words found = IsOfNoLoad found
 OpensLoad height Load words found = IsLoadOf height words found

@@ -1,5 +1,5 @@
--- The packet that an item is (psx-spx, "GPU Render Polygon Commands", "GPU Render Line Commands", "GPU Render
--- Rectangle Commands", "GPU Rendering Attributes", "GPU Memory Transfer Commands").
+-- The packet of an item (psx-spx, "GPU Render Polygon Commands", "GPU Render Line Commands", "GPU Render Rectangle
+-- Commands", "GPU Rendering Attributes", "GPU Memory Transfer Commands").
 use Rattle.std.specs.Prelude.{ℕ, ◌+◌, ◌-◌, ◌*◌, ◌/◌, ◌%◌, ◌^◌, nat_le, ◌==◌, ◌&&◌}
 use Rattle.std.specs.Prelude.{List, if◌then◌else◌, length, slice_index}
 use Rattle.std.specs.Int.{bit_at}
@@ -12,16 +12,16 @@ use Rattle.gp0_packets.specs.Fields.{low_24, high_half, vertex_of, cell_of, fill
 use Rattle.gp0_packets.specs.declared.packet.Packet.{Packet}
 use Rattle.gp0_packets.specs.declared.packet.Packet.TheVariants as packet
 
--- The packets are `unfoldable`, so that a proof that says nothing of their fields does not open them.
+-- The packets are `unfoldable`, so that proofs that state nothing of their fields do not expand them.
 
 -- ---- polygons: bits 28 shaded, 27 four vertices, 26 textured, 25 semi-transparent, 24 raw texture
 
--- the words of a vertex: a colour where shaded, the vertex, and a texcoord where textured
+-- the number of words of a vertex: a colour if shaded, the vertex, and a texcoord if textured
 abbrev pub stride_of : ℕ → ℕ
 stride_of command = bit_at command 28 + 1 + bit_at command 26
 
--- Vertex i. Counted so that the command stands in the first colour's place also where it isn't shaded, its
--- vertex word follows i strides, and its texcoord word the vertex word.
+-- Vertex i. Its vertex word is at i strides + 1, and its texcoord word follows. If shaded, its colour word is at i
+-- strides; the command word contains the first colour.
 abbrev pub corner_of : List ℕ → ℕ → Vertex
 corner_of words i =
     let command = slice_index words 0 in
@@ -30,7 +30,7 @@ corner_of words i =
     (if is_set command 28 then slice_index words first else command)
     (if is_set command 26 then slice_index words (first + 2) else 0)
 
--- the attribute of vertex i's texcoord, and 0 where there is none
+-- the attribute of vertex i's texcoord, and 0 if there is none
 abbrev pub attribute_of : List ℕ → ℕ → ℕ
 attribute_of words i =
     let command = slice_index words 0 in
@@ -53,7 +53,7 @@ abbrev pub segment_of : (command from_color from_vertex to_color to_vertex : ℕ
 segment_of command from_color from_vertex to_color to_vertex =
     packet.Segment (vertex_of from_vertex from_color 0) (vertex_of to_vertex to_color 0) (is_set command 25)
 
--- a line, or the first segment of a polyline: colour, vertex, colour where shaded, vertex
+-- a line, or the first segment of a polyline: colour, vertex, colour if shaded, vertex
 unfoldable pub line_of : List ℕ → Packet
 line_of words =
     let command = slice_index words 0 in
@@ -66,15 +66,15 @@ line_of words =
 abbrev pub size_code_of : List ℕ → ℕ
 size_code_of words = slice_index words 0 / 2 ^ 27 % 4
 
--- the size word, behind the texcoord word if there is one, where the size code is 0
+-- the size word if the size code is 0, after the texcoord word if there is one
 abbrev pub size_word_of : List ℕ → ℕ
 size_word_of words = if size_code_of words == 0 then slice_index words (2 + bit_at (slice_index words 0) 26) else 0
 
--- a side by the size code; those of code 0 stand in the size word
+-- a side in cells, by the size code; for code 0 it is in the size word
 abbrev pub side_of : (code own : ℕ) → ℕ
 side_of code own = if code == 0 then own else (if code == 1 then 1 else (if code == 2 then 8 else 16))
 
--- the command has the colour; then the first cell, and a texcoord with the palette where textured
+-- the command word has the colour; the first cell follows, then a texcoord with the palette if textured
 unfoldable pub rectangle_of : List ℕ → Packet
 rectangle_of words =
     let command = slice_index words 0 in
@@ -113,14 +113,14 @@ store_of height words =
 
 -- ---- all others
 
--- E1h to E6h set a register; the others of class 7 do nothing (our own rule)
+-- E1h to E6h set a register; the others of class 7 have no effect (our own rule)
 unfoldable pub environment_of : ℕ → Packet
 environment_of word =
     if nat_le 0xe1 (opcode_of word) && nat_le (opcode_of word) 0xe6
     then packet.Env (opcode_of word - 0xe0) (low_24 word)
     else packet.Nop
 
--- 02h is a fill and 1Fh an interrupt; the others of class 0 do nothing
+-- 02h is a fill and 1Fh an interrupt; the others of class 0 have no effect
 unfoldable pub other_of : (height : ℕ) → List ℕ → Packet
 other_of height words =
     if opcode_of (slice_index words 0) == 0x02 then fill_of height words else
@@ -138,8 +138,8 @@ whole_of height words =
     (if class == 6 then store_of height words else
     (if class == 7 then environment_of (slice_index words 0) else other_of height words))))))
 
--- The packet of an item at a height of video memory. A whole item without words, or whose number of words isn't the
--- one that its first word asks for, is none.
+-- The packet of an item at a height of video memory. A whole item without words, or whose number of words does not
+-- match its first word, has no effect.
 abbrev pub packet_of : (height : ℕ) → Item → Packet
 packet_of height (item.Whole words) =
     if length words == 0 then packet.Nop else

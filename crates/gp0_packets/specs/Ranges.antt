@@ -1,11 +1,11 @@
--- The ranges of what a packet holds, beyond those of its types (our own rule: what drawing and moving rely on).
+-- The ranges of a packet's fields, beyond those of their types (our own rule: drawing and transfers rely on them).
 use Rattle.std.specs.Prelude.{◌≡◌, ℕ, ◌%◌, ◌^◌, ◌<◌, ◌≤◌, ℤ, pos, negsuc, ◌≤ℤ◌}
 use Rattle.px_num.specs.declared.shape.Cell.{Cell}
 use Rattle.px_num.specs.declared.shape.Vertex.{Vertex}
 use Rattle.gp0_packets.specs.declared.packet.Packet.{Packet}
 use Rattle.gp0_packets.specs.declared.packet.Packet.TheVariants as packet
 
--- -1024 to 1023
+-- both coordinates are -1024 to 1023
 pub record IsPlace (x y : ℤ) : Type 0 where
   pub left : negsuc 1023 ≤ℤ x
   pub right : x ≤ℤ pos 1023
@@ -59,7 +59,7 @@ pub record IsEnvInRange (index value : ℕ) : Type 0 where
   pub index_fits : index ≤ 6
   pub value_fits : value < 2 ^ 24
 
--- with the Y of every cell below the height
+-- the Y of every cell is below `height`
 abbrev pub IsInRange : (height : ℕ) → Packet → Type 0
 IsInRange height packet.Nop = Unit {0}
 IsInRange height packet.Irq = Unit {0}

@@ -1,4 +1,4 @@
-// The packet that an item is.
+// Decodes items into packets.
 ghost use Rattle.std.specs.Prelude.{◌≡◌, ◌<◌, ◌≤◌, ℕ, length, slice_index};
 ghost use Rattle.gp0_words.specs.Kinds.{opcode_of, first_len_of};
 ghost use Rattle.gp0_words.specs.declared.item.Item.TheVariants.{Whole};
@@ -18,7 +18,7 @@ use crate::transfer::{copy, fill, load, store};
 use gp0_words::{Item, first_len};
 use px_num::height_of_profile;
 
-/// A word of class 7: a register is set, or nothing happens.
+/// Returns the packet of a word of class 7: it sets a register or has no effect.
 #[inline(never)]
 #[tactic(auto, unfolding(crate::specs::Packets::environment_of))]
 fn environment(word: u32) -> Packet
@@ -36,7 +36,7 @@ fn environment(word: u32) -> Packet
     }
 }
 
-/// A packet of class 0: a fill, an interrupt, or nothing.
+/// Returns the packet of words of class 0: a fill, an interrupt, or no effect.
 #[inline(never)]
 #[tactic(auto, unfolding(crate::specs::Packets::other_of))]
 fn other(words: &[u32], height: u16) -> Packet
@@ -53,8 +53,9 @@ fn other(words: &[u32], height: u16) -> Packet
     }
 }
 
-/// A polygon by its words, whose vertices carry this. What they carry is passed beside the words, so that a caller can
-/// have the polygon read by a constant of it.
+/// Returns the polygon that `words` are. They must be a whole packet of opcode 20h to 3Fh, and `carried` what its
+/// vertices carry. `carried` is an argument of its own so that a caller can pass a constant and the compiler
+/// specializes the call.
 #[inline(always)]
 pub fn decode_polygon(words: &[u32], carried: Carried) -> Packet
     requires words { IsOfClass 1 words.now }
@@ -64,7 +65,8 @@ pub fn decode_polygon(words: &[u32], carried: Carried) -> Packet
     polygon(words, carried)
 }
 
-/// A line by its words, or the first segment of a polyline by those that make it.
+/// Returns the line that `words` are, or the first segment of a polyline. They must be a whole line packet (opcode 40h
+/// to 5Fh) or the first item of a polyline.
 #[inline(always)]
 pub fn decode_line(words: &[u32]) -> Packet
     requires { IsOfClass 2 words.now }
@@ -73,7 +75,7 @@ pub fn decode_line(words: &[u32]) -> Packet
     line(words)
 }
 
-/// A rectangle by its words.
+/// Returns the rectangle that `words` are. They must be a whole packet of opcode 60h to 7Fh.
 #[inline(always)]
 pub fn decode_rectangle(words: &[u32]) -> Packet
     requires { IsOfClass 3 words.now }
@@ -82,7 +84,7 @@ pub fn decode_rectangle(words: &[u32]) -> Packet
     rectangle(words)
 }
 
-/// The packet of these words, as many as their first asks for, at a height of video memory.
+/// Returns the packet of `words`, as many as their first word requires. `height` is the height of video memory in rows.
 #[inline(never)]
 #[tactic(auto, unfolding(crate::specs::Packets::whole_of))]
 pub fn decode_whole(words: &[u32], height: u16) -> Packet
@@ -105,9 +107,8 @@ pub fn decode_whole(words: &[u32], height: u16) -> Packet
     }
 }
 
-/// The packet that an item is, where video memory has 1024 rows if it is tall and else 512: by them the Y of a fill,
-/// copy, load and store wraps. It is total: a `Whole` whose number of words is not the one that its first word asks
-/// for, which no splitter gives, is `Nop`.
+/// Returns the packet of an item. The Y of a fill, copy, load and store wraps at 1024 rows if `tall`, else at 512. A
+/// `Whole` whose number of words does not match its first word is `Nop`; no splitter returns one.
 pub fn decode(item: &Item, tall: bool) -> Packet
     ensures value { result ≡ packet_of (height_of_profile tall) item.now }
     ensures ranges { IsInRange (height_of_profile tall) result }

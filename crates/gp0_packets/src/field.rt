@@ -5,7 +5,7 @@ ghost use Rattle.gp0_packets.specs.Ranges.{IsVertexInRange};
 
 use px_num::{Vertex, bits, sign11};
 
-/// The low 24 bits of a word, which are a colour or a register's value.
+/// Returns the low 24 bits of a word: a colour or a register's value.
 pub fn low24(word: u32) -> u32
     ensures value { result ≡ low_24 word }
     ensures fits { result < 2 ^ 24 }
@@ -13,14 +13,14 @@ pub fn low24(word: u32) -> u32
     bits(word, 0, 24)
 }
 
-/// The attribute of a texcoord word.
+/// Returns the attribute of a texcoord word, bits 16 to 31.
 pub fn attribute(texcoord: u32) -> u16
     ensures { result ≡ high_half texcoord }
 {
     (texcoord >> 16) as u16
 }
 
-/// A vertex by its vertex word, its colour word and its texcoord word.
+/// Returns a vertex from its vertex word `place`, its colour word and its texcoord word.
 pub fn vertex_at(place: u32, color: u32, texcoord: u32) -> Vertex
     ensures value { result ≡ vertex_of place color texcoord }
     ensures ranges { IsVertexInRange result }
@@ -34,7 +34,7 @@ pub fn vertex_at(place: u32, color: u32, texcoord: u32) -> Vertex
     }
 }
 
-/// The word at a place, where there is one, else another word.
+/// Returns `words[at]` if `set`, else `otherwise`. If `set`, `at` must be an index of `words`.
 pub fn word_where(words: &[u32], set: bool, at: usize, otherwise: u32) -> u32
     requires { IsTrue set → at < length words.now }
     ensures { result ≡ (if set then slice_index words.now at else otherwise) }

@@ -1,9 +1,8 @@
-//! The fields of GP0 packets (psx-spx, "GPU Render Polygon Commands", "GPU Render Line Commands", "GPU Render
-//! Rectangle Commands", "GPU Rendering Attributes" and "GPU Memory Transfer Commands"), and the note that an
-//! item gives.
+//! The fields of GP0 packets (psx-spx, "GPU Render Polygon Commands", "GPU Render Line Commands", "GPU Render Rectangle
+//! Commands", "GPU Rendering Attributes" and "GPU Memory Transfer Commands"), and the note of an item.
 //!
-//! `decode` reads an item's fields and changes nothing: coordinates are without the drawing offset, and masks
-//! and wraps that do not hang on a register are done.
+//! `decode` reads an item's fields and changes nothing. Coordinates are without the drawing offset. Masks and wraps
+//! that depend on no register are applied.
 #![tactic(auto)]
 
 mod decoder;

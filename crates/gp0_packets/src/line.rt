@@ -8,7 +8,7 @@ use crate::field::vertex_at;
 use crate::packet::Packet;
 use px_num::bit;
 
-/// The segment from a vertex to another, each with its colour word.
+/// Returns the segment between two vertices, each with its colour word.
 #[inline(always)]
 pub fn segment(
     command: u32,
@@ -27,7 +27,7 @@ pub fn segment(
     }
 }
 
-/// A line, or the first segment of a polyline, by its words.
+/// Returns the line, or the first segment of a polyline, that `words` are.
 #[inline(always)]
 #[tactic(auto, unfolding(crate::specs::Packets::line_of))]
 pub fn line(words: &[u32]) -> Packet

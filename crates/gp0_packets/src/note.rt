@@ -1,4 +1,4 @@
-// What is told of an item.
+// The note of an item.
 ghost use Rattle.std.specs.Prelude.{◌≡◌, ◌≤◌};
 ghost use Rattle.gp0_words.specs.Kinds.{class_of};
 ghost use Rattle.gp0_packets.specs.Notes.{class_of_item, head_of_item};
@@ -6,20 +6,20 @@ ghost use Rattle.gp0_packets.specs.Notes.{class_of_item, head_of_item};
 use gp0_words::Item;
 use px_num::Box2;
 
-/// What is told of an item when it has taken effect (this project's own).
+/// The note of an item: a message that observers receive when the item has taken effect (this project's own).
 #[derive(Clone, Copy, Debug, PartialEq, Eq)]
 pub struct Note {
     /// The number of the event that completed the item.
     pub event: u64,
-    /// 0 to 7 by the top three bits of the command, 8 for the end of a polyline, 9 for two pixels of a load.
+    /// 0 to 7: the top three bits of the command word. 8: the end of a polyline. 9: two cells of a load.
     pub class: u8,
-    /// The command, the end word or the data word.
+    /// The command word, the end word or the data word; 0 for a `Whole` without words.
     pub head: u32,
-    /// The cells that the item may change, or None where it has no area.
+    /// The cells that the item may change, or `None` if it has no area.
     pub area: Option<Box2>,
 }
 
-/// The class of an item's note, 0 to 9.
+/// Returns the class of an item's note, 0 to 9.
 pub fn class_of(item: &Item) -> u8
     ensures value { result ≡ class_of_item item.now }
     ensures at_most_nine { result ≤ 9 }
@@ -32,7 +32,7 @@ pub fn class_of(item: &Item) -> u8
     }
 }
 
-/// The class of a packet that begins with this word, 0 to 7.
+/// Returns the class of a packet that begins with `word`, 0 to 7.
 pub fn class_of_word(word: u32) -> u8
     ensures value { result ≡ class_of word }
     ensures at_most_seven { result ≤ 7 }
@@ -40,7 +40,7 @@ pub fn class_of_word(word: u32) -> u8
     (word >> 29) as u8
 }
 
-/// The head of an item's note.
+/// Returns the head of an item's note: the command word, the end word or the data word; 0 for a `Whole` without words.
 pub fn head_of(item: &Item) -> u32
     ensures { result ≡ head_of_item item.now }
 {

@@ -1,24 +1,25 @@
-// What an item says, field by field.
+// Items, field by field.
 use px_num::{Cell, Vertex};
 
-/// What an item says, field by field. Fields that its words do not carry are 0.
+/// An item, field by field. Fields that its words do not have are 0.
 #[derive(Clone, Copy, Debug, PartialEq, Eq)]
 pub enum Packet {
-    /// No effect: a command that is not named, a cache clear, or an item of a wrong length.
+    /// No effect: a command without effect, a cache clear, or an item of a wrong length.
     Nop,
-    /// Raises the interrupt bit.
+    /// Sets the interrupt bit of the status word.
     Irq,
-    /// Fills a rectangle with a colour, whatever the mask settings, the drawing area and the offset are.
+    /// Fills a rectangle with a colour. The mask settings, the drawing area and the drawing offset have no effect on
+    /// it.
     Fill {
-        /// The halfword that is written, below 2^15.
+        /// The cell (16-bit VRAM halfword) that is written, below 2^15.
         color: u16,
         /// The first column, a multiple of 16 below 1024.
         x: u16,
         /// The first row, below the height of video memory.
         y: u16,
-        /// How many columns, a multiple of 16 from 0 to 1024.
+        /// The width in cells, a multiple of 16 from 0 to 1024.
         w: u16,
-        /// How many rows, 0 to 511.
+        /// The height in rows, 0 to 511.
         h: u16,
     },
     /// A triangle, or a quad as the triangles a-b-c and b-c-d.
@@ -31,19 +32,19 @@ pub enum Packet {
         b: Vertex,
         /// The third vertex.
         c: Vertex,
-        /// The fourth vertex; the third where there is no fourth.
+        /// The fourth vertex; the third if there is no fourth.
         d: Vertex,
-        /// Whether each vertex has a colour of its own; else each has the command's.
+        /// Whether each vertex has its own colour; otherwise all have that of the command word.
         shaded: bool,
         /// Whether it is textured.
         textured: bool,
         /// Whether it is semi-transparent.
         semi: bool,
-        /// Whether its texels are drawn as they are; false where it is not textured.
+        /// Whether texels are drawn without the colour; false if it is not textured.
         raw: bool,
-        /// The palette attribute, of the first texcoord.
+        /// The palette attribute, from the first texcoord.
         clut: u16,
-        /// The texture page attribute, of the second texcoord.
+        /// The texture page attribute, from the second texcoord.
         page: u16,
     },
     /// A line, or one segment of a polyline.
@@ -57,21 +58,21 @@ pub enum Packet {
     },
     /// A rectangle.
     Rect {
-        /// Its first column.
+        /// Its first column, before the drawing offset is added.
         x: i32,
-        /// Its first row.
+        /// Its first row, before the drawing offset is added.
         y: i32,
-        /// How many columns, 0 to 1023.
+        /// The width in cells, 0 to 1023.
         w: u16,
-        /// How many rows, 0 to 511.
+        /// The height in rows, 0 to 511.
         h: u16,
-        /// Its colour, as that of a vertex.
+        /// Its colour: red in bits 0 to 7, green in 8 to 15, blue in 16 to 23.
         color: u32,
         /// Whether it is textured.
         textured: bool,
         /// Whether it is semi-transparent.
         semi: bool,
-        /// Whether its texels are drawn as they are; false where it is not textured.
+        /// Whether texels are drawn without the colour; false if it is not textured.
         raw: bool,
         /// The column of the first texel within the texture page.
         u: u8,
@@ -80,40 +81,40 @@ pub enum Packet {
         /// The palette attribute.
         clut: u16,
     },
-    /// Copies a rectangle of video memory to another place.
+    /// Copies a rectangle of video memory to another position.
     Copy {
         /// The first cell that is read.
         from: Cell,
         /// The first cell that is written.
         to: Cell,
-        /// How many columns, 1 to 1024.
+        /// The width in cells, 1 to 1024.
         w: u16,
-        /// How many rows, 1 to 512.
+        /// The height in rows, 1 to 512.
         h: u16,
     },
-    /// Opens a load: the data words that follow go into a rectangle of video memory.
+    /// Opens a load: the data words that follow are written to a rectangle of video memory.
     Load {
         /// The first column.
         x: u16,
         /// The first row.
         y: u16,
-        /// How many columns, 1 to 1024.
+        /// The width in cells, 1 to 1024.
         w: u16,
-        /// How many rows, 1 to 512.
+        /// The height in rows, 1 to 512.
         h: u16,
     },
-    /// Opens a store: reads give the cells of a rectangle of video memory.
+    /// Opens a store: reads return the cells of a rectangle of video memory.
     Store {
         /// The first column.
         x: u16,
         /// The first row.
         y: u16,
-        /// How many columns, 1 to 1024.
+        /// The width in cells, 1 to 1024.
         w: u16,
-        /// How many rows, 1 to 512.
+        /// The height in rows, 1 to 512.
         h: u16,
     },
-    /// Two pixels of the open load.
+    /// Two cells of the open load.
     Pixels {
         /// The first in the low half, the second in the high half.
         word: u32,
@@ -122,9 +123,9 @@ pub enum Packet {
     Finish,
     /// Sets one of the registers that commands E1h to E6h write.
     Env {
-        /// Which, 1 to 6.
+        /// The register: 1 to 6 for E1h to E6h.
         index: u8,
-        /// The low 24 bits of the command.
+        /// The low 24 bits of the command word.
         value: u32,
     },
 }

@@ -9,16 +9,16 @@ use crate::field::{attribute, vertex_at, word_where};
 use crate::packet::Packet;
 use px_num::{Vertex, bit};
 
-/// What a polygon's vertices carry.
+/// What each vertex of a polygon carries besides its position.
 #[derive(Clone, Copy)]
 pub struct Carried {
-    /// A colour each.
+    /// Its own colour.
     pub shaded: bool,
-    /// A texcoord each.
+    /// A texcoord.
     pub textured: bool,
 }
 
-/// What the vertices of a polygon with this command carry.
+/// Returns what the vertices of a polygon with this command word carry.
 pub fn carried_by(command: u32) -> Carried
     ensures { Carries result command }
 {
@@ -28,7 +28,7 @@ pub fn carried_by(command: u32) -> Carried
     }
 }
 
-/// How many words a vertex has: a colour where shaded, the vertex, and a texcoord where textured.
+/// Returns the number of words of a vertex: a colour if shaded, the vertex, and a texcoord if textured.
 #[inline(always)]
 fn stride(carried: Carried) -> usize
     ensures value { (command : ℕ) → Carries carried command → result ≡ stride_of command }
@@ -38,7 +38,7 @@ fn stride(carried: Carried) -> usize
     1 + usize::from(carried.shaded) + usize::from(carried.textured)
 }
 
-/// Vertex `i`, from 0 on.
+/// Returns vertex `i`, counted from 0.
 #[inline(always)]
 fn corner(words: &[u32], carried: Carried, i: usize) -> Vertex
     requires some { 0 < length words.now }
@@ -55,7 +55,7 @@ fn corner(words: &[u32], carried: Carried, i: usize) -> Vertex
     vertex_at(words[first + 1], color, texcoord)
 }
 
-/// The last vertex, which is the third where there are no four.
+/// Returns the last vertex: the fourth if `four`, otherwise `third`.
 #[inline(always)]
 fn last_corner(words: &[u32], carried: Carried, four: bool, third: Vertex) -> Vertex
     requires words { length words.now ≡ polygon_len_of (slice_index words.now 0) }
@@ -73,7 +73,7 @@ fn last_corner(words: &[u32], carried: Carried, four: bool, third: Vertex) -> Ve
     }
 }
 
-/// The attribute of the texcoord of vertex `i`, and 0 where there is none.
+/// Returns the attribute of the texcoord of vertex `i`, counted from 0, and 0 if there is no texcoord.
 #[inline(always)]
 fn attribute_at(words: &[u32], carried: Carried, i: usize) -> u16
     requires some { 0 < length words.now }
@@ -89,7 +89,7 @@ fn attribute_at(words: &[u32], carried: Carried, i: usize) -> u16
     }
 }
 
-/// A polygon by its words, whose vertices carry this.
+/// Returns the polygon that `words` are. `carried` must be what its vertices carry.
 #[inline(always)]
 #[tactic(auto, unfolding(crate::specs::Packets::polygon_of))]
 pub fn polygon(words: &[u32], carried: Carried) -> Packet

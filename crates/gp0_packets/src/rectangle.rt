@@ -8,7 +8,8 @@ use crate::field::{attribute, vertex_at, word_where};
 use crate::packet::Packet;
 use px_num::{bit, bits};
 
-/// The width and height by the size code; those of code 0 stand in the size word.
+/// Returns the width and height in cells, by the size code: those of the size word for 0, otherwise 1, 8 or 16 for
+/// both.
 fn sides(code: u32, size: u32) -> (u16, u16)
     ensures width { result.0 ≡ side_of code (size % 2 ^ 10) }
     ensures height { result.1 ≡ side_of code (size / 2 ^ 16 % 2 ^ 9) }
@@ -23,7 +24,7 @@ fn sides(code: u32, size: u32) -> (u16, u16)
     }
 }
 
-/// The width and height of a rectangle by its words.
+/// Returns the width and height in cells of the rectangle that `words` are.
 fn rectangle_sides(words: &[u32]) -> (u16, u16)
     requires { length words.now ≡ rectangle_len_of (slice_index words.now 0) }
     ensures width { result.0 ≡ side_of (size_code_of words.now) (size_word_of words.now % 2 ^ 10) }
@@ -38,7 +39,7 @@ fn rectangle_sides(words: &[u32]) -> (u16, u16)
     sides(code, size)
 }
 
-/// A rectangle by its words.
+/// Returns the rectangle that `words` are.
 #[inline(always)]
 #[tactic(auto, unfolding(crate::specs::Packets::rectangle_of))]
 pub fn rectangle(words: &[u32]) -> Packet

@@ -8,7 +8,7 @@ use crate::packet::Packet;
 use gp0_words::{height_of, width_of};
 use px_num::{Cell, bits, wrap_at, wrap_x};
 
-/// The cell that a corner word names, with its Y wrapped at a height.
+/// Returns the cell that a corner word specifies: X modulo 1024, Y modulo `height`.
 fn cell_at(corner: u32, height: u16) -> Cell
     requires { 1 ≤ height }
     ensures value { result ≡ cell_of height corner }
@@ -21,7 +21,7 @@ fn cell_at(corner: u32, height: u16) -> Cell
     }
 }
 
-/// A fill by its words.
+/// Returns the fill that `words` are. `height` is the height of video memory in rows.
 #[inline(never)]
 #[tactic(auto, unfolding(crate::specs::Packets::fill_of))]
 pub fn fill(words: &[u32], height: u16) -> Packet
@@ -44,7 +44,7 @@ pub fn fill(words: &[u32], height: u16) -> Packet
     }
 }
 
-/// A copy by its words.
+/// Returns the copy that `words` are. `height` is the height of video memory in rows.
 #[inline(never)]
 #[tactic(auto, unfolding(crate::specs::Packets::copy_of))]
 pub fn copy(words: &[u32], height: u16) -> Packet
@@ -62,7 +62,7 @@ pub fn copy(words: &[u32], height: u16) -> Packet
     }
 }
 
-/// A load by its words, without its data.
+/// Returns the load that `words` are, without its data. `height` is the height of video memory in rows.
 #[inline(never)]
 #[tactic(auto, unfolding(crate::specs::Packets::load_of))]
 pub fn load(words: &[u32], height: u16) -> Packet
@@ -81,7 +81,7 @@ pub fn load(words: &[u32], height: u16) -> Packet
     }
 }
 
-/// A store by its words.
+/// Returns the store that `words` are. `height` is the height of video memory in rows.
 #[inline(never)]
 #[tactic(auto, unfolding(crate::specs::Packets::store_of))]
 pub fn store(words: &[u32], height: u16) -> Packet

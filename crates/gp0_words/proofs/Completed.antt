@@ -1,4 +1,4 @@
--- Every list of words is packets and the beginning of one.
+-- Every list of words is packets and a proper prefix of one.
 use Rattle.std.proofs.Common.{◌≡◌, inl, inr, ℕ, zero, suc, ◌-◌, ◌<◌, ◌≤◌, Bool, true, false, cond, List, [], ◌∷◌, ◌++◌}
 use Rattle.std.proofs.Common.{length, take, drop, flat_map, replicate, slice_index, refl, sym, ap, ◌∙◌, arith}
 use Rattle.std.proofs.Common.{append_assoc, get_or-take}
@@ -25,9 +25,9 @@ below_cond : (b : Bool) (n m : ℕ) → 1 ≤ n → n < cond b 1 m → (b ≡ fa
 below_cond true n m some h = absurd (omega arith)
 below_cond false n m some h = (refl, h)
 
--- ---- a tail that is a part
+-- ---- a proper prefix of a tail
 
--- words that complete a part of a tail
+-- words that complete a prefix of a tail
 record Completes (k : Kind) (start more : List ℕ) : Type 0 where
   pub last : List ℕ
   pub some : 0 < length last
@@ -80,7 +80,7 @@ shortest_tail-is Load start = length-replicate _ _
 shortest_tail-is (Polyline true) start = end_is
 shortest_tail-is (Polyline false) start = end_is
 
--- ---- a part of a packet
+-- ---- a proper prefix of a packet
 
 packet_by : (k : Kind) (packet start more : List ℕ) → kind_of (slice_index packet 0) ≡ k → packet ≡ start ++ more
     → length start ≡ start_len k → IsTail k start more → IsPacket packet
@@ -92,7 +92,7 @@ packet_by k packet start more kind parts len tail = record {
   tail = rw kind tail;
 }
 
--- words in front decide the kind
+-- the words in front decide the kind
 kind_front : (words more : List ℕ) → 0 < length words → kind_of (slice_index (words ++ more) 0)
     ≡ kind_of (slice_index words 0)
 kind_front words more some = ap kind_of (get_or_append_left words more 0 0 some)
@@ -164,7 +164,7 @@ tail_cut Load start more h = length-take-le _ more h
 tail_cut (Polyline true) start more h = shaded_cut more h
 tail_cut (Polyline false) start more h = flat_cut more h
 
--- the words of the packet at the front, and those behind it
+-- the words of the packet at the front, and those after it
 record HasFront (words : List ℕ) : Type 0 where
   pub packet : List ℕ
   pub rest : List ℕ

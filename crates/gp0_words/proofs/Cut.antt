@@ -1,4 +1,4 @@
--- One word more at the end of a list of words.
+-- One more word at the end of a list of words.
 use Rattle.std.proofs.Common.{◌≡◌, ℕ, zero, suc, ◌+◌, ◌-◌, ◌*◌, ◌/◌, ◌%◌, ◌^◌, ◌<◌, ◌≤◌, Bool, true, false, cond, List}
 use Rattle.std.proofs.Common.{[], ◌∷◌, ◌++◌, length, take, drop, map, slice_index, nat_lt, ◌==◌, refl, sym, ap, ◌∙◌}
 use Rattle.std.proofs.Common.{arith, Some, None, option_to_list, inl, inr, append-nil, append_assoc, get_or-take}
@@ -82,9 +82,9 @@ shaded_rest-part m c v [] x f h = grind (arith, nat_tests, common_steps)
 shaded_rest-part m c v (d ∷ []) x f h = grind (arith, nat_tests, common_steps)
 shaded_rest-part m c v (d ∷ w ∷ ws) x f h = grind (arith, nat_tests, common_steps, shaded_rest-part m d w ws x)
 
--- ---- the words behind the first item
+-- ---- the words after the first item
 
--- a polyline is shaded where its command says so
+-- a polyline is shaded if its command word says so
 abbrev pub IsKindOf : Kind → ℕ → Type 0
 IsKindOf (Plain n) command = 0 < n
 IsKindOf Load command = Unit {0}
@@ -156,7 +156,7 @@ tail_rest-none Load start = grind (arith, nat_tests, data_words_of-positive (sli
 tail_rest-none (Polyline true) start = refl
 tail_rest-none (Polyline false) start = refl
 
--- the first item, whole or not
+-- the first item, complete or not
 packet_items-start : (k : Kind) (all : List ℕ) → length all ≤ start_len k → packet_items k all
     ≡ option_to_list (collected_item k all)
 packet_items-start k all h =

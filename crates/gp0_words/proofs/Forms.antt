@@ -1,4 +1,4 @@
--- The items of a packet, by its form.
+-- The items of a packet, by its kind.
 use Rattle.std.proofs.Common.{◌≡◌, ℕ, ◌-◌, true, false, List, [], ◌∷◌, ◌++◌, length, take, drop, map, slice_index}
 use Rattle.std.proofs.Common.{nat_lt, refl, ap, ◌∙◌, arith, append-nil}
 use Rattle.std.proofs.lemmas.Bool.{le-ltb}
@@ -46,7 +46,7 @@ packet_items-is k start more len tail =
     ≡ false = le-ltb _ _ (omega (arith, length-append start more)) in
     rw (test, front, back) (ap (λ (items : List Item). Whole start ∷ items) (tail_items-tail k start more tail))
 
--- the items of a packet alone are those at the front
+-- the items of a packet alone are those of a packet at the front
 front_alone : (p : List ℕ) → IsPacket p → items_from 0 p ≡ packet_items (kind_of (slice_index p 0)) p
 front_alone [] h = absurd
     (let e = packet_need-is [] h in omega (arith, e, ap length h.parts, length-append h.start h.more, h.len))

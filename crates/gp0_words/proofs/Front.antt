@@ -26,7 +26,7 @@ tail_need-tail Load start more h = sym h
 tail_need-tail (Polyline true) start more h = shaded_need-tail more h
 tail_need-tail (Polyline false) start more h = flat_need-tail more h
 
--- a packet needs as many words as it has
+-- the packet's least length is its length
 need_of : (k : Kind) (start more : List ℕ) → length start ≡ start_len k → IsTail k start more
     → packet_need k (start ++ more) ≡ length (start ++ more)
 need_of k start more len tail =
@@ -41,7 +41,7 @@ packet_need-is p h =
     let k = kind_of (slice_index p 0) in
     subst (λ (l : List ℕ). packet_need k l ≡ length l) (sym h.parts) (need_of k h.start h.more h.len h.tail)
 
--- words behind a whole packet change nothing of it
+-- words after a complete packet change nothing of it
 need-more : (k : Kind) (words more : List ℕ) → packet_need k words ≤ length words → packet_need k (words ++ more)
     ≡ packet_need k words
 need-more k words [] h = rw append-nil refl

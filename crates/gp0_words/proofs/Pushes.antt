@@ -1,4 +1,4 @@
--- A splitter takes a word.
+-- A splitter is fed a word.
 use Rattle.std.proofs.Common.{◌≡◌, ℕ, ◌<◌, ◌/◌, ◌^◌, ◌==◌, false, [], ◌∷◌, Some, Option, refl, arith}
 use Rattle.std.proofs.lemmas.Bool.Decides.{nat_tests}
 use Rattle.gp0_words.specs.Items.{IsIdle}
@@ -27,7 +27,7 @@ pub pushed : (old new : Pending) (word : ℕ) (answer : Option Item) → IsPendi
     → IsPushed old new word answer
 pushed old new word answer kept p a = rw (p, a) (pushed_next old word kept)
 
--- ---- two pixels of a load
+-- ---- two cells of a load
 
 pub wanted_is : (h : Pending) → 0 < wanted h → h ≡ pending.Pixels (wanted h)
 wanted_is pending.Idle some = absurd (omega arith)

@@ -1,4 +1,4 @@
--- What is pending behind the list that spells it.
+-- What is pending after the list that `list_of` returns.
 use Rattle.std.proofs.Common.{◌≡◌, ℕ, ◌+◌, ◌-◌, ◌<◌, Bool, true, false, cond, List, [], ◌∷◌, ◌++◌, length, slice_index}
 use Rattle.std.proofs.Common.{nat_lt, replicate, refl, sym, ap, ◌∙◌, arith, Option, Some, None, option_to_list, subst}
 use Rattle.std.proofs.Common.{append-nil, append_assoc}
@@ -14,7 +14,7 @@ use Rattle.gp0_words.specs.declared.pending.Pending.{Pending}
 use Rattle.gp0_words.specs.declared.pending.Pending.TheVariants as pending
 use Rattle.gp0_words.proofs.Cut.{next_pending-kept, pending_behind-push}
 
--- a packet that is not whole, by its kind
+-- an incomplete packet, by its kind
 front : (k : Kind) (w : ℕ) (ws : List ℕ) → kind_of w ≡ k → length (w ∷ ws) < packet_need k (w ∷ ws)
     → rest_from 0 (w ∷ ws) ≡ packet_rest k (w ∷ ws)
 front k w ws is short =
@@ -68,7 +68,7 @@ is_polyline : (command color vertex : ℕ) (half : Option ℕ) → IsPending (pe
 is_polyline command color vertex None kept = kept.0
 is_polyline command color vertex (Some half) kept = kept.0
 
--- the list leaves what it spells
+-- the list leads to the value that it was made for
 pub list_of-leaves : (p : Pending) → IsPending p → pending_behind (list_of p) ≡ p
 unfolding pending_behind list_of
 list_of-leaves pending.Idle kept = refl
@@ -91,6 +91,6 @@ nothing-kept : IsPending (pending_behind [])
 unfolding pending_behind
 nothing-kept = tt
 
--- every list leaves what may be pending
+-- every list leads to a value within the bounds
 pub leaves-kept : (words : List ℕ) → IsPending (pending_behind words)
 leaves-kept words = rest-kept [] words nothing-kept

@@ -1,4 +1,4 @@
--- One word more, on what is pending.
+-- One more word, added to what is pending.
 use Rattle.std.specs.Prelude.{◌≡◌, ℕ, ◌-◌, ◌<◌, ◌≤◌, true, false, Option, Some, None, if◌then◌else◌, nat_lt}
 use Rattle.std.specs.Prelude.{List, [], ◌∷◌, ◌++◌, length, slice_index}
 use Rattle.gp0_words.specs.Kinds.{kind_of, start_len, first_len_of, is_end, is_set}
@@ -10,7 +10,7 @@ use Rattle.gp0_words.specs.declared.item.Item.TheVariants.{Whole, Joint, Finish,
 use Rattle.gp0_words.specs.declared.pending.Pending.{Pending}
 use Rattle.gp0_words.specs.declared.pending.Pending.TheVariants as pending
 
--- what is pending behind the whole first item of a packet
+-- what is pending after the first item of a packet
 abbrev pub pending_after : Kind → List ℕ → Pending
 pending_after (Plain n) words = pending.Idle
 pending_after Load words = pending.Pixels (data_words_of (slice_index words 2))
@@ -19,7 +19,7 @@ pending_after (Polyline true) words =
 pending_after (Polyline false) words =
     pending.Poly (slice_index words 0) (slice_index words 0) (slice_index words 2) None
 
--- the first words of a packet, which may be its whole first item
+-- what is pending after the first words of a packet, which may be all of its first item
 abbrev pub collected_pending : Kind → List ℕ → Pending
 collected_pending kind words =
     if nat_lt (length words) (start_len kind) then pending.Packet words else pending_after kind words
@@ -38,7 +38,7 @@ next_pending (pending.Poly command color vertex None) word =
     else pending.Poly command command word None)
 next_pending (pending.Poly command color vertex (Some half)) word = pending.Poly command half word None
 
--- the item that the word completes
+-- the item that the word completes, if any
 abbrev pub next_item : Pending → ℕ → Option Item
 next_item pending.Idle word = collected_item (kind_of word) (word ∷ [])
 next_item (pending.Packet words) word = collected_item (kind_of (slice_index words 0)) (words ++ word ∷ [])
@@ -52,9 +52,9 @@ next_item (pending.Poly command color vertex (Some half)) word = Some (Joint com
 abbrev pub IsPolyline : ℕ → Type 0
 IsPolyline command = kind_of command ≡ Polyline (is_set command 28)
 
--- The bounds that every splitter keeps: an item that isn't whole; a load that wants data, which is at most
--- 1024 * 512 pixels; a polyline whose colour is the command where it isn't shaded, and of which a joint with a
--- colour word of its own has begun only where it is shaded, with a colour word that is no end word.
+-- The bounds that every splitter keeps. Words of an item are not all of it. A load needs at most 1024 * 512 / 2 data
+-- words. The colour of an unshaded polyline is its command word. A joint is begun only if the polyline is shaded, by a
+-- colour word that is not an end word.
 abbrev pub IsPending : Pending → Type 0
 IsPending pending.Idle = Unit {0}
 IsPending (pending.Packet words) = (0 < length words) × (length words < first_len_of (slice_index words 0))
@@ -64,7 +64,7 @@ IsPending (pending.Poly command color vertex None) =
 IsPending (pending.Poly command color vertex (Some half)) =
     IsPolyline command × (is_set command 28 ≡ true) × (is_end half ≡ false)
 
--- how many data words are wanted
+-- how many data words a load still needs
 abbrev pub wanted : Pending → ℕ
 wanted pending.Idle = 0
 wanted (pending.Packet words) = 0

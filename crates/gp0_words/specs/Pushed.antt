@@ -1,13 +1,13 @@
--- What a splitter answers to a word.
+-- The effect of feeding a word to a splitter.
 use Rattle.std.specs.Prelude.{◌≡◌, ℕ, List, [], ◌∷◌, ◌++◌, Option, option_to_list}
 use Rattle.gp0_words.specs.Items.{items_of, pending_behind}
 use Rattle.gp0_words.specs.Next.{next_pending, next_item, IsPending}
 use Rattle.gp0_words.specs.declared.item.Item.{Item}
 use Rattle.gp0_words.specs.declared.pending.Pending.{Pending}
 
--- a splitter with this pending takes a word, and answers what it completes
+-- a splitter with `old` pending is fed a word, and returns the item that it completes
 pub record IsPushed (old new : Pending) (word : ℕ) (answer : Option Item) : Type 0 where
-  -- for every list for which it stands
+  -- for every list of words that leads to it
   pub item : (words : List ℕ) → pending_behind words ≡ old
       → items_of (words ++ word ∷ []) ≡ items_of words ++ option_to_list answer
   pub stands : (words : List ℕ) → pending_behind words ≡ old → pending_behind (words ++ word ∷ []) ≡ new

@@ -1,18 +1,18 @@
-// How a packet goes on, by its first word.
+// The form of a packet, by its first word.
 ghost use Rattle.std.specs.Prelude.{◌≡◌};
 ghost use Rattle.gp0_words.specs.Kinds.{kind_of, start_len, first_len_of};
 ghost use Rattle.gp0_words.specs.Kinds.{polygon_len_of, rectangle_len_of, line_kind_of, is_end};
 
 use px_num::{bit, bits};
 
-/// How a packet goes on, by its first word.
+/// The form of a packet, by its first word.
 #[derive(Clone, Copy)]
 pub enum Kind {
-    /// So many words, and no more.
+    /// One item of `len` words.
     Plain { len: usize },
-    /// Three words, and then the data words.
+    /// Three words, then data words.
     Load,
-    /// The first two vertices of a polyline, and then joints up to an end word.
+    /// The first two vertices of a polyline, then joints, then an end word.
     Polyline { shaded: bool },
 }
 
@@ -49,7 +49,7 @@ fn line_kind(word: u32) -> Kind
     }
 }
 
-/// How the packet goes on whose first word this is.
+/// Returns the form of the packet that begins with `word`.
 pub fn read_kind(word: u32) -> Kind
     ensures { result ≡ kind_of word }
 {
@@ -70,7 +70,7 @@ pub fn read_kind(word: u32) -> Kind
     }
 }
 
-/// How many words the first item of a packet of this kind has.
+/// Returns the number of words of the first item of a packet of this kind.
 pub fn start_count(kind: Kind) -> usize
     ensures { result ≡ start_len kind }
 {
@@ -81,15 +81,15 @@ pub fn start_count(kind: Kind) -> usize
     }
 }
 
-/// How many words the item has whose first word this is: the whole of a plain packet, the three words of a
-/// load before its data, and the first two vertices of a polyline. It is 1 to 12.
+/// Returns the number of words of the item that begins a packet, by the packet's first word: a whole plain packet, the
+/// three words of a load before its data, or the first two vertices of a polyline. It is 1 to 12.
 pub fn first_len(word: u32) -> usize
     ensures { result ≡ first_len_of word }
 {
     start_count(read_kind(word))
 }
 
-/// Whether a word ends a polyline, where it stands in place of a vertex's first word.
+/// Returns whether `word` ends a polyline if it comes instead of the first word of a vertex: 5xxx5xxxh.
 pub fn ends_polyline(word: u32) -> bool
     ensures { result ≡ is_end word }
 {

@@ -1,10 +1,9 @@
-//! Cuts the stream of command words (psx-spx, "GPU I/O Ports, DMA Channels, Commands, VRAM", port GP0)
-//! into items.
+//! Cuts the stream of GP0 words (psx-spx, "GPU I/O Ports, DMA Channels, Commands, VRAM", port GP0) into items.
 //!
-//! A packet is the words of one command. A plain packet has a length that its first word gives, at most
-//! twelve words, and is one item. A load is three words, which are one item, and then its data words, each
-//! an item. A polyline is its first two vertices, which are one item, then joints, each an item, and an end
-//! word, which is an item. The stream has no other mark: where a packet ends, the next one begins.
+//! A packet is the words of one command. A plain packet is one item; its first word decides its length, at most twelve
+//! words. A load is three words, which are one item, then its data words, each an item. A polyline is its first two
+//! vertices, which are one item, then joints, each an item, then an end word, which is an item. Nothing separates
+//! packets in the stream: after the last word of a packet the next one begins.
 #![tactic(auto)]
 
 mod item;

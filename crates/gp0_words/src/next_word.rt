@@ -1,4 +1,4 @@
-// One word more, on what is pending.
+// One more word, added to what is pending.
 ghost use Rattle.std.specs.Prelude.{◌≡◌, ◌<◌, ◌≤◌, ◌+◌, IsTrue, false, nat_lt, None, Some, length, slice_index};
 ghost use Rattle.gp0_words.specs.Kinds.{kind_of, start_len, first_len_of};
 ghost use Rattle.gp0_words.specs.Next.{next_pending, next_item, IsPending};
@@ -12,7 +12,7 @@ use crate::words::Words;
 use px_num::bit;
 use std::mem;
 
-/// What is pending behind the whole first item of a packet.
+/// Returns what is pending after the first item of a packet. `words` are the words of that item.
 fn pending_after(kind: Kind, words: &[u32]) -> Pending
     requires { start_len kind ≤ length words.now }
     ensures { result ≡ pending_after kind words.now }
@@ -42,7 +42,7 @@ fn pending_after(kind: Kind, words: &[u32]) -> Pending
     }
 }
 
-/// The first words of a packet, which may be its whole first item.
+/// Returns what is pending after the first words of a packet, and the packet's first item if they are all of it.
 fn collect(words: Words) -> (Pending, Option<Item>)
     requires { 0 < length words }
     ensures pending { result.0 ≡ collected_pending (kind_of (slice_index words 0)) words }
@@ -58,7 +58,7 @@ fn collect(words: Words) -> (Pending, Option<Item>)
     }
 }
 
-/// A segment from the last vertex to a new one, which is then the last.
+/// Returns a segment from the last vertex to a new one, which is now the last.
 fn joint(
     command: u32,
     from_color: u32,
@@ -85,7 +85,7 @@ fn joint(
     (pending, Some(item))
 }
 
-/// A word in place of the first word of a polyline's next vertex.
+/// Adds a word that is the first word of a polyline's next vertex, or ends the polyline.
 fn next_vertex(command: u32, color: u32, vertex: u32, word: u32) -> (Pending, Option<Item>)
     ensures pending { result.0 ≡ next_pending (Pending.Poly command color vertex None) word }
     ensures item { result.1 ≡ next_item (Pending.Poly command color vertex None) word }
@@ -105,7 +105,7 @@ fn next_vertex(command: u32, color: u32, vertex: u32, word: u32) -> (Pending, Op
     }
 }
 
-/// Whether these words, which begin a packet, want more than one word more.
+/// Returns whether `words`, which begin a packet, are at least two words short of its first item.
 fn want_more(words: &Words) -> bool
     requires { 0 < length words.now }
     ensures { result ≡ nat_lt (length words.now + 1) (first_len_of (slice_index words.now 0)) }
@@ -114,8 +114,8 @@ fn want_more(words: &Words) -> bool
     slice.len() + 1 < first_len(slice[0])
 }
 
-/// Takes a word in place where it is one more of a begun packet and not its last, and says whether it is; else
-/// nothing changes.
+/// If a packet is pending and `word` does not complete its first item, appends `word` and returns true. Otherwise
+/// changes nothing and returns false.
 pub fn extend(pending: &mut Pending, word: u32) -> bool
     requires { IsPending pending.old }
     ensures taken { IsTrue result → (pending.new ≡ next_pending pending.old word)
@@ -135,7 +135,7 @@ pub fn extend(pending: &mut Pending, word: u32) -> bool
     }
 }
 
-/// One word more: what is pending after it, and the item that it completes.
+/// Adds one word. Returns what is pending after it, and the item that it completes.
 pub fn after_word(pending: Pending, word: u32) -> (Pending, Option<Item>)
     requires { IsPending pending }
     ensures pending { result.0 ≡ next_pending pending word }
@@ -164,7 +164,7 @@ pub fn after_word(pending: Pending, word: u32) -> (Pending, Option<Item>)
     }
 }
 
-/// The same in place: the item that one word more completes. The words of an item are moved only where it is whole.
+/// Adds one word to `pending`. Returns the item that it completes.
 pub fn take(pending: &mut Pending, word: u32) -> Option<Item>
     requires { IsPending pending.old }
     ensures pending { pending.new ≡ next_pending pending.old word }

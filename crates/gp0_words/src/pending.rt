@@ -1,41 +1,41 @@
-// What is pending, and the data words that a load still wants.
+// What is pending, and the data words that a load still needs.
 ghost use Rattle.std.specs.Prelude.{◌≡◌, ◌<◌, ◌≤◌, ℕ};
 ghost use Rattle.gp0_words.specs.Skipped.{behind_pixels};
 ghost use Rattle.gp0_words.specs.Next.{wanted, next_pending};
 
 use crate::words::Words;
 
-/// What a stream of words leaves behind its last whole packet.
+/// The incomplete rest of a stream of words after its last complete packet.
 ///
-/// It is all that a splitter holds of the words that came.
+/// It is all that a splitter stores of the words received.
 #[derive(Drop)]
 pub enum Pending {
-    /// Nothing: every packet is whole.
+    /// Nothing: every packet is complete.
     Idle,
-    /// The words so far of an item that is not whole, which is the first of its packet.
+    /// The words so far of an incomplete first item of a packet.
     Packet {
-        /// The words, the command first.
+        /// The words, the command word first.
         words: Words,
     },
-    /// A load that still wants data words.
+    /// A load that still needs data words.
     Pixels {
-        /// How many, 1 to 262,144.
+        /// Their number, 1 to 262,144.
         left: u32,
     },
-    /// A polyline that has not ended.
+    /// A polyline without its end word.
     Poly {
         /// Its command word.
         command: u32,
-        /// The colour word of its last vertex; the command where it is not shaded.
+        /// The colour word of its last vertex; the command word if it is not shaded.
         color: u32,
         /// The vertex word of its last vertex.
         vertex: u32,
-        /// The colour word of a joint that has begun.
+        /// The colour word of the next vertex, if it was received.
         half: Option<u32>,
     },
 }
 
-/// How many data words a load still wants, 0 where none is open.
+/// Returns how many data words a load still needs, and 0 if none is open.
 pub fn wanted(pending: &Pending) -> u32
     ensures { result ≡ wanted pending.now }
 {
@@ -45,7 +45,7 @@ pub fn wanted(pending: &Pending) -> u32
     }
 }
 
-/// What is pending behind a data word of a load that wanted so many.
+/// Returns what is pending after one of the `left` outstanding data words of a load. `left` must not be 0.
 pub fn pixels_after(left: u32) -> Pending
     requires { 0 < left }
     ensures { (word : ℕ) → result ≡ next_pending (Pending.Pixels left) word }
@@ -57,7 +57,8 @@ pub fn pixels_after(left: u32) -> Pending
     }
 }
 
-/// What is pending behind so many data words of a load that wanted so many.
+/// Returns what is pending after `count` of the `left` outstanding data words of a load. `count` must be at most
+/// `left`.
 pub fn pixels_behind(left: u32, count: u32) -> Pending
     requires { count ≤ left }
     ensures { result ≡ behind_pixels (Pending.Pixels left) count }

@@ -1,4 +1,4 @@
-// What may be pending.
+// Which values may be pending.
 ghost use Rattle.std.specs.Prelude.{◌≡◌, ◌↔◌, ◌<◌, IsTrue, length, slice_index};
 ghost use Rattle.gp0_words.specs.Kinds.{first_len_of};
 ghost use Rattle.gp0_words.specs.Next.{IsPending, IsPolyline};
@@ -9,7 +9,7 @@ use crate::size::MOST_DATA_WORDS;
 use px_num::bit;
 
 impl Pending {
-    /// The same once more.
+    /// Returns a copy.
     pub fn copied(&self) -> Pending
         ensures { result ≡ self.now }
     {
@@ -34,14 +34,14 @@ impl Pending {
     }
 }
 
-/// Whether a polyline begins with this word.
+/// Returns whether `command` begins a polyline.
 pub fn is_polyline(command: u32) -> bool
     ensures { IsTrue result ↔ IsPolyline command }
 {
     command >> 29 == 2 && bit(command, 27)
 }
 
-// Whether these are words of an item that is not whole, the first of its packet.
+// Returns whether `words` begin the first item of a packet and are not all of it.
 fn is_begun(words: &[u32]) -> bool
     ensures { IsTrue result ↔ (0 < length words.now) × (length words.now < first_len_of (slice_index words.now 0)) }
 {
@@ -52,7 +52,7 @@ fn is_begun(words: &[u32]) -> bool
     }
 }
 
-// Whether this may be pending of a polyline.
+// Returns whether some polyline without its end word leads to these values.
 fn is_open_polyline(command: u32, color: u32, vertex: u32, half: Option<u32>) -> bool
     ensures { IsTrue result ↔ IsPending (Pending.Poly command color vertex half) }
 {
@@ -66,7 +66,7 @@ fn is_open_polyline(command: u32, color: u32, vertex: u32, half: Option<u32>) ->
     }
 }
 
-/// Whether some list of words leaves this pending.
+/// Returns whether some list of words leads to this value.
 pub(crate) fn may_be_pending(pending: &Pending) -> bool
     ensures { IsTrue result ↔ IsPending pending.now }
 {

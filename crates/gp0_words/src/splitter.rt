@@ -1,4 +1,4 @@
-// The stream, cut word by word.
+// Cuts the stream, one word a call.
 ghost use Rattle.std.specs.Prelude.{◌≡◌, ◌↔◌, ◌≤◌, ◌<◌, ℕ, None, Some, List, [], ◌∷◌, ◌++◌, IsTrue, false};
 ghost use Rattle.std.specs.Prelude.{option_to_list, MatchOption, IfSome};
 ghost use Rattle.gp0_words.specs.Items.{items_of, pending_behind, IsIdle};
@@ -15,10 +15,10 @@ use crate::pending::{Pending, pixels_after, pixels_behind, wanted};
 use crate::resuming::may_be_pending;
 use std::marker::Model;
 
-/// Cuts a stream of words into items, word by word.
+/// Cuts a stream of words into items, one word a call.
 ///
-/// It keeps no list of what came, only what is pending. So it stands for each list of words whose `pending_behind` is
-/// what it holds, and contracts see it as that.
+/// It stores only what is pending, and no list of the words received. In contracts, a splitter is what is pending: the
+/// `pending_behind` of each list of words that leads to it.
 #[derive(Drop)]
 pub struct Splitter {
     pending: Pending,
@@ -36,7 +36,7 @@ impl Model for Splitter {
 }
 
 impl Splitter {
-    /// Nothing is pending: it stands for the empty list.
+    /// Returns a splitter with nothing pending, as after the empty list.
     #[tactic(auto, unfolding(crate::specs::Items::pending_behind))]
     pub fn new() -> Splitter
         ensures { result ≡ pending_behind [] }
@@ -46,12 +46,12 @@ impl Splitter {
         }
     }
 
-    /// Takes the next word, and answers the item that it completes.
+    /// Feeds the next word and returns the item that it completes.
     ///
-    /// None is answered exactly where the words since the last item are a proper prefix of an item.
+    /// Returns `None` exactly if the words since the last item are a proper prefix of an item.
     pub fn push(&mut self, word: u32) -> Option<Item>
-        // For every list for which the splitter stands: the items with this word are those without it and
-        // the answer, and the splitter then stands for the list with this word.
+        // For every list of words that leads to the splitter: the items with `word` are those without it and the
+        // result, and the splitter is now what the list with `word` leads to.
         ensures item { (words : List ℕ) → pending_behind words ≡ self.old →
             items_of (words ++ word ∷ []) ≡ items_of words ++ option_to_list result }
         ensures stands { (words : List ℕ) → pending_behind words ≡ self.old
@@ -67,8 +67,8 @@ impl Splitter {
         take(&mut self.pending, word)
     }
 
-    /// Takes the next word where it is two pixels of a load, and says whether it is; else nothing changes. It does
-    /// what `push` does then, and sooner.
+    /// If a load is open, feeds its data word `word` and returns true. Otherwise changes nothing and returns false.
+    /// Does the same as [`push`](Splitter::push) for a data word, and is faster.
     pub fn push_pixels(&mut self, word: u32) -> bool
         ensures pixels { IsTrue result → IsPushed self.old self.new word (Some (Pixels word)) }
         ensures others { result ≡ false → self.new ≡ self.old }
@@ -81,7 +81,7 @@ impl Splitter {
         true
     }
 
-    /// How many data words the open load still wants, 0 where none is open.
+    /// Returns how many data words the open load still needs, and 0 if none is open.
     pub fn wanted(&self) -> u32
         ensures value { result ≡ wanted self.now }
         ensures bounds { IsPending self.now }
@@ -89,7 +89,8 @@ impl Splitter {
         wanted(&self.pending)
     }
 
-    /// Takes so many data words of the open load: each of them would be answered as two pixels.
+    /// Feeds the next `count` data words of the open load without their values. A load must be open and need at least
+    /// `count` words.
     pub fn skip_pixels(&mut self, count: usize)
         requires some { 0 < wanted self.old }
         requires wanted { count ≤ wanted self.old }
@@ -100,8 +101,8 @@ impl Splitter {
         self.pending = pixels_behind(left, count as u32);
     }
 
-    /// Whether the next word is a register's, at an idle splitter: `push` answers it as a packet of one word, and the
-    /// splitter stays as it is.
+    /// Returns whether nothing is pending and `word` has opcode E0h to FFh. Then [`push`](Splitter::push) would return
+    /// it as a packet of one word and leave the splitter unchanged.
     pub fn passes(&self, word: u32) -> bool
         ensures packet { IsTrue result → IsPushed self.now self.now word (Some (Whole (word ∷ []))) }
         ensures class { IsTrue result → class_of word ≡ 7 }
@@ -109,8 +110,9 @@ impl Splitter {
         word >> 29 == 7 && self.is_idle()
     }
 
-    /// Takes the next word where it is one more of a begun packet and not its last, and says whether it is; else
-    /// nothing changes. It does what `push` does then, and sooner.
+    /// If the first item of a packet is pending and `word` does not complete it, appends `word` and returns true.
+    /// Otherwise changes nothing and returns false. Does the same as [`push`](Splitter::push) for such a word, and is
+    /// faster.
     pub fn push_inside(&mut self, word: u32) -> bool
         ensures inside { IsTrue result → IsPushed self.old self.new word None }
         ensures others { result ≡ false → self.new ≡ self.old }
@@ -118,7 +120,7 @@ impl Splitter {
         extend(&mut self.pending, word)
     }
 
-    /// Drops all that is pending: it stands for the empty list.
+    /// Drops everything pending, so the splitter is as after the empty list.
     #[tactic(auto, unfolding(crate::specs::Items::pending_behind))]
     pub fn clear(&mut self)
         ensures { self.new ≡ pending_behind [] }
@@ -126,14 +128,14 @@ impl Splitter {
         self.pending = Pending::Idle;
     }
 
-    /// Whether no packet, load or polyline is unfinished.
+    /// Returns whether no packet, load or polyline is unfinished.
     pub fn is_idle(&self) -> bool
         ensures { IsTrue result ↔ IsIdle self.now }
     {
         matches!(&self.pending, Pending::Idle)
     }
 
-    /// What is pending.
+    /// Returns a copy of what is pending.
     pub fn pending(&self) -> Pending
         ensures value { result ≡ self.now }
         ensures bounds { IsPending result }
@@ -141,8 +143,7 @@ impl Splitter {
         self.pending.copied()
     }
 
-    /// A splitter of which this is pending; it stands for each list of words that leaves it. None exactly where no list
-    /// of words does.
+    /// Returns a splitter with this pending, or `None` if no list of words leads to it.
     pub fn resume(pending: Pending) -> Option<Splitter>
         ensures exact { MatchOption result (IsPending pending → ⊥)
             (λ splitter. (splitter ≡ pending) × IsPending pending) }

@@ -4,9 +4,9 @@ ghost use Rattle.std.specs.Prelude.{◌≡◌, ◌<◌, [], ◌∷◌, ◌++◌,
 use arrayvec::ArrayVec;
 use std::marker::Model;
 
-/// The words of one item, at most twelve. They stand in an array, so that no call takes memory.
+/// The words of one item, at most twelve. They are in an array, so no call allocates memory.
 ///
-/// Contracts see the list of the words.
+/// In contracts, a value is the list of the words.
 #[derive(Drop)]
 pub struct Words {
     words: ArrayVec<u32, 12>,
@@ -21,7 +21,7 @@ impl Model for Words {
 }
 
 impl Words {
-    /// No words.
+    /// Returns no words.
     pub fn new() -> Words
         ensures { result ≡ [] }
     {
@@ -30,7 +30,7 @@ impl Words {
         }
     }
 
-    /// Appends a word.
+    /// Appends a word. There must be fewer than twelve.
     pub fn push(&mut self, word: u32)
         requires { length self.old < 12 }
         ensures { self.new ≡ self.old ++ word ∷ [] }
@@ -38,7 +38,7 @@ impl Words {
         self.words.push(word);
     }
 
-    /// The same words once more.
+    /// Returns a copy.
     pub fn copied(&self) -> Words
         ensures { result ≡ self.now }
     {
@@ -50,7 +50,7 @@ impl Words {
         words
     }
 
-    /// The words, in order.
+    /// Returns the words, in order.
     pub fn as_slice(&self) -> &[u32]
         ensures { result.now ≡ self.now }
     {

@@ -37,7 +37,7 @@ thirteen xs long =
     (step 11 (omega arith) ∙ ap (λ t. slice_index xs 11 ∷ t)
     (step 12 (omega arith) ∙ ap (λ t. slice_index xs 12 ∷ t) over))))))))))))
 
--- the words are those of the registers that they are
+-- the words of the registers read from these words are the words again
 pub words_again : (height : ℕ) (xs : List ℕ) → length xs ≡ 13 → AreAllowed height xs
     → words_of (registers_in height xs) ≡ xs
 words_again height xs long allowed =

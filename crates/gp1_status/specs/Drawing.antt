@@ -1,4 +1,4 @@
--- What the registers say of drawing (psx-spx, "GPU Rendering Attributes").
+-- The drawing settings in the registers (psx-spx, "GPU Rendering Attributes").
 use Rattle.std.specs.Prelude.{ℕ, ◌≤◌, ℤ, pos, negsuc, ◌+◌, ◌*◌, ◌/◌, ◌%◌, ◌^◌, ◌==◌, Bool, ◌≤ℤ◌, ◌<ℤ◌}
 use Rattle.px_num.specs.Number.{signed_11}
 use Rattle.px_num.specs.declared.shape.Box2.{Box2}
@@ -18,14 +18,14 @@ offset_y r = signed_11 (r.offset / 2 ^ 11)
 abbrev pub offset_in : Registers → Offset
 offset_in r = record { x = offset_x r; y = offset_y r }
 
--- an offset of eleven bits each way
+-- both coordinates are -1024 to 1023
 pub record IsOffset (offset : Offset) : Type 0 where
   pub left : negsuc 1023 ≤ℤ offset.x
   pub right : offset.x ≤ℤ pos 1023
   pub top : negsuc 1023 ≤ℤ offset.y
   pub bottom : offset.y ≤ℤ pos 1023
 
--- from the top left corner to the bottom right one, both of them in it
+-- from the top left corner to the bottom right one, with both corners
 unfoldable pub drawing_area : Registers → Box2
 drawing_area r = record {
   x1 = pos (r.top_left % 1024);
@@ -34,7 +34,7 @@ drawing_area r = record {
   y2 = pos (r.bottom_right / 1024);
 }
 
--- a box that lies in video memory, if it has a cell
+-- a box inside video memory, unless it has no cell
 pub record IsArea (height : ℕ) (b : Box2) : Type 0 where
   pub left : pos 0 ≤ℤ b.x1
   pub right : b.x2 ≤ℤ pos 1023
@@ -42,11 +42,12 @@ pub record IsArea (height : ℕ) (b : Box2) : Type 0 where
   pub bottom : b.y2 <ℤ pos height
   pub reach : height ≤ 1024
 
--- bits 0 to 3 of the draw mode are the page's column over 64, bits 4 and 11 its row over 256, bits 7 and 8 its depth
+-- Draw mode: bits 0 to 3 are the page's column divided by 64, bits 4 and 11 its row divided by 256. Bits 7 and 8 are
+-- its depth.
 abbrev pub page_in : Registers → Page
 page_in r = record { x = r.e1 % 16 * 64; y = bit r.e1 4 * 256 + bit r.e1 11 * 512; depth = r.e1 / 2 ^ 7 % 4 }
 
--- five bits each of the texture window
+-- five bits for each field of the texture window
 abbrev pub window_in : Registers → Window
 window_in r = record {
   mask_x = r.window % 32;

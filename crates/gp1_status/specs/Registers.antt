@@ -5,7 +5,7 @@ use Rattle.std.specs.Prelude.{Bool, true, false, Option, Some, None, if◌then�
 use Rattle.std.specs.Int.{bit_at}
 use Rattle.px_num.specs.Height.{IsHeight}
 
--- the values of the registers, and how many rows video memory has
+-- the values of the registers, and the height of video memory in rows
 pub record Registers : Type 0 where
   pub e1 : ℕ
   pub window : ℕ
@@ -23,7 +23,7 @@ pub record Registers : Type 0 where
   pub held : ℕ
   pub height : ℕ
 
--- bit j of a number
+-- bit j of a number, counted from 0
 abbrev pub bit : ℕ → ℕ → ℕ
 bit number j = bit_at number j
 
@@ -31,15 +31,15 @@ bit number j = bit_at number j
 abbrev pub bit_of : Bool → ℕ
 bit_of b = if b then 1 else 0
 
--- bit 11 of a word where video memory has 1024 rows, and 0 where it has 512 (our own rule: psx-spx, "2 MB VRAM")
+-- bit 11 of a word if video memory has 1024 rows, 0 if it has 512 (our own rule: psx-spx, "2 MB VRAM")
 abbrev pub high_page_bit : (height word : ℕ) → ℕ
 high_page_bit height word = word / 2 ^ 11 % (height / 512)
 
--- a place with X in bits 0 to 9 and above it a Y below the height
+-- X in bits 0 to 9, and from bit 10 on a Y below the height
 abbrev pub place_of : (height word : ℕ) → ℕ
 place_of height word = word % (1024 * height)
 
--- the widths that the values keep
+-- the bounds of the values
 pub record KeepsWidths (r : Registers) : Type 0 where
   pub height : IsHeight r.height
   pub e1 : r.e1 < 2 ^ 14
@@ -57,7 +57,7 @@ pub record KeepsWidths (r : Registers) : Type 0 where
 
 -- ---- the environment, GP0(E1h) to GP0(E6h)
 
--- the state after a reset, which keeps the latch and the height (our own rule)
+-- the state after a reset; the latch and the height stay (our own rule)
 abbrev pub reset : (latch height : ℕ) → Registers
 reset latch height =
     record {
@@ -82,7 +82,7 @@ reset latch height =
 abbrev pub draw_mode_of : (height value : ℕ) → ℕ
 draw_mode_of height value = value % 2 ^ 11 + high_page_bit height value * 2 ^ 11 + value / 2 ^ 12 % 4 * 2 ^ 12
 
--- a value is written to register 1 to 6 of the environment
+-- `value` is written to register 1 to 6 of the environment
 abbrev pub env_of : Registers → (index value : ℕ) → Registers
 env_of r index value =
     if index == 1 then record r { e1 = draw_mode_of r.height value } else
@@ -99,7 +99,7 @@ page_of height attribute e1 =
 
 -- ---- GP1
 
--- what information answers, by the low four bits of the index
+-- what GP1(10h) puts into the latch, by the low four bits of the index
 abbrev pub info_of : Registers → (index : ℕ) → Option ℕ
 info_of r index =
     if index % 16 == 2 then Some r.window else
@@ -117,7 +117,7 @@ opcode_of word = word / 2 ^ 24 % 64
 abbrev pub is_clearing : ℕ → Bool
 is_clearing word = nat_le (opcode_of word) 1
 
--- a word of GP1
+-- the effect of a word of GP1
 abbrev pub gp1_of : Registers → (word : ℕ) → Registers
 gp1_of r word =
     let opcode = opcode_of word in
@@ -134,14 +134,14 @@ gp1_of r word =
 
 -- ---- the status word
 
--- bit 25, by the direction: none, never full (our own rule), bit 28, bit 27
+-- bit 25, by the DMA direction: 0; 1, since the FIFO is never full (our own rule); bit 28; bit 27
 abbrev pub request_of : Registers → (sending : Bool) → ℕ
 request_of r sending =
     if r.direction == 0 then 0 else
     (if r.direction == 1 then 1 else
     (if r.direction == 2 then 1 - bit_of sending else bit_of sending))
 
--- the status word, field by field; idle is the splitter's, and sending is whether a store is open (our own rules)
+-- the status word, field by field; `idle`: nothing of GP0 is unfinished; `sending`: a store is open (our own rules)
 abbrev pub status_of : Registers → (idle sending : Bool) → ℕ
 status_of r idle sending =
     r.e1 % 2 ^ 11

@@ -1,9 +1,9 @@
--- The shape of the shown picture (psx-spx, "GPU Display Control Commands (GP1)": horizontal and vertical display
+-- The size of the displayed picture (psx-spx, "GPU Display Control Commands (GP1)": horizontal and vertical display
 -- range, display mode).
 use Rattle.std.specs.Prelude.{ℕ, ◌+◌, ◌-◌, ◌*◌, ◌/◌, ◌%◌, ◌^◌, ◌==◌, ◌&&◌, ◌||◌, Option, Some, None, if◌then◌else◌}
 use Rattle.gp1_status.specs.Registers.{Registers, bit}
 
--- the cycles that a pixel lasts
+-- the cycles of one pixel
 abbrev pub cycles_of : (mode : ℕ) → ℕ
 cycles_of mode =
     if bit mode 6 == 1 then 7 else
@@ -11,11 +11,12 @@ cycles_of mode =
     (if mode % 4 == 1 then 8 else
     (if mode % 4 == 2 then 5 else 4)))
 
--- the difference in cycles, rounded to a multiple of 4; nothing where the right end isn't above the left (our own rule)
+-- the difference in cycles, divided by those of a pixel, rounded to a multiple of 4; 0 if X2 is not above X1 (our own
+-- rule)
 abbrev pub width_of : (hrange mode : ℕ) → ℕ
 width_of hrange mode = ((hrange / 2 ^ 12 - hrange % 2 ^ 12) / cycles_of mode + 2) / 4 * 4
 
--- the difference in lines, twice that where the picture is interlaced with 480 lines
+-- the difference in lines, doubled if the picture is interlaced with 480 lines
 abbrev pub lines_of : (vrange mode : ℕ) → ℕ
 lines_of vrange mode =
     let lines = vrange / 2 ^ 10 - vrange % 2 ^ 10 in

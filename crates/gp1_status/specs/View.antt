@@ -1,4 +1,4 @@
--- The values that contracts see of a `Regs`.
+-- A `Regs` in contracts.
 use Rattle.gp1_status.specs.Registers.{Registers}
 use Rattle.gp1_status.specs.declared.regs.Regs.TheInside.{Inside}
 

@@ -10,7 +10,7 @@ words_of r =
     r.e1 ∷ r.window ∷ r.top_left ∷ r.bottom_right ∷ r.offset ∷ r.mask ∷ (bit_of r.irq + bit_of r.display_off * 2)
     ∷ r.direction ∷ r.start ∷ r.hrange ∷ r.vrange ∷ r.mode ∷ r.held ∷ []
 
--- the registers of which these are the words, with video memory of so many rows
+-- the registers with these words; video memory has `height` rows
 abbrev pub registers_in : (height : ℕ) → List ℕ → Registers
 registers_in height words =
     record {
@@ -31,7 +31,7 @@ registers_in height words =
       height = height;
     }
 
--- what the word at each place is below
+-- the limit that word number `place`, from 0, is below
 abbrev pub word_limit : (height place : ℕ) → ℕ
 word_limit height place =
     if place == 0 then 2 ^ 14 else
@@ -47,7 +47,7 @@ word_limit height place =
     (if place == 10 then 2 ^ 20 else
     (if place == 11 then 2 ^ 8 else 2 ^ 32)))))))))))
 
--- A word has no bit that it may not have at its place. The word of E1h has bit 11 only where there are 1024 rows.
+-- The word has only bits that word number `place` may have. The word of E1h has bit 11 only if there are 1024 rows.
 abbrev pub is_allowed : (height place word : ℕ) → Bool
 is_allowed height place word =
     if place == 0 then nat_lt word (2 ^ 14) && nat_le (512 * bit word 11 + 512) height
@@ -56,7 +56,7 @@ is_allowed height place word =
 pub record AreAllowed (height : ℕ) (words : List ℕ) : Type 0 where
   pub each : (place : ℕ) → place < 13 → is_allowed height place (slice_index words place) ≡ true
 
--- registers are those of which their words are the words, and these have no bit that they may not have
+-- registers read from the words of registers are the same registers, and these words have no bit that they may not have
 abbrev pub WordsSayAll : Type 0
 WordsSayAll = (r : Registers) → KeepsWidths r → r.held < 2 ^ 32
     → (registers_in r.height (words_of r) ≡ r) × AreAllowed r.height (words_of r)

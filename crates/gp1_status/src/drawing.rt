@@ -1,4 +1,4 @@
-// What the registers say of drawing (psx-spx, "GPU Rendering Attributes").
+// The drawing settings in the registers (psx-spx, "GPU Rendering Attributes").
 ghost use Rattle.std.specs.Prelude.{◌≡◌, ◌≤◌, ◌<◌, ◌+◌};
 ghost use Rattle.gp1_status.specs.Drawing.{IsArea, IsOffset, blend_mode, dithers, drawing_area, flips_in, offset_in};
 ghost use Rattle.gp1_status.specs.Drawing.{page_in, window_in};
@@ -7,7 +7,7 @@ use crate::regs::Regs;
 use px_num::{Box2, bit, bits, sign11};
 use texture_page::{Page, Window};
 
-/// The drawing offset, which is added to each vertex.
+/// The drawing offset in cells. It is added to each vertex.
 #[derive(Clone, Copy, Debug, PartialEq, Eq)]
 pub struct Offset {
     /// Columns, -1024 to 1023.
@@ -16,17 +16,17 @@ pub struct Offset {
     pub y: i32,
 }
 
-/// Which way the texture of a rectangle is turned.
+/// In which directions the texture of a rectangle is flipped.
 #[derive(Clone, Copy, Debug, PartialEq, Eq)]
 pub struct Flips {
-    /// From right to left.
+    /// Columns run from right to left.
     pub x: bool,
-    /// From bottom to top.
+    /// Rows run from bottom to top.
     pub y: bool,
 }
 
 impl Regs {
-    /// The drawing offset of GP0(E5h).
+    /// Returns the drawing offset of GP0(E5h).
     pub fn drawing_offset(&self) -> Offset
         ensures value { result ≡ offset_in self.now }
         ensures is { IsOffset result }
@@ -38,7 +38,8 @@ impl Regs {
         }
     }
 
-    /// The drawing area of GP0(E3h) and GP0(E4h), to which both corners belong.
+    /// Returns the drawing area of GP0(E3h) and GP0(E4h). Both corners belong to it. It has no cell if the second
+    /// corner is left of the first or above it.
     #[tactic(auto, unfolding(crate::specs::Drawing::drawing_area))]
     pub fn drawing_area(&self) -> Box2
         ensures value { result ≡ drawing_area self.now }
@@ -54,7 +55,7 @@ impl Regs {
         }
     }
 
-    /// The texture page of GP0(E1h).
+    /// Returns the texture page of GP0(E1h).
     pub fn page_fields(&self) -> Page
         ensures value { result ≡ page_in self.now }
         ensures left { result.x ≤ 960 }
@@ -70,7 +71,7 @@ impl Regs {
         }
     }
 
-    /// The texture window of GP0(E2h).
+    /// Returns the texture window of GP0(E2h).
     pub fn window_fields(&self) -> Window
         ensures { result ≡ window_in self.now }
     {
@@ -83,7 +84,7 @@ impl Regs {
         }
     }
 
-    /// The blending mode of GP0(E1h): 0 for B/2+F/2, 1 for B+F, 2 for B-F, 3 for B+F/4.
+    /// Returns the blending mode of GP0(E1h): 0 for B/2+F/2, 1 for B+F, 2 for B-F, 3 for B+F/4.
     pub fn blend_mode(&self) -> u8
         ensures value { result ≡ blend_mode self.now }
         ensures few { result ≤ 3 }
@@ -91,14 +92,14 @@ impl Regs {
         bits(self.e1(), 5, 2) as u8
     }
 
-    /// Whether GP0(E1h) says that what may be dithered is.
+    /// Returns whether GP0(E1h) enables dithering.
     pub fn dithers(&self) -> bool
         ensures { result ≡ dithers self.now }
     {
         bit(self.e1(), 9)
     }
 
-    /// Which way the textures of rectangles are turned, by GP0(E1h).
+    /// Returns how the textures of rectangles are flipped, by GP0(E1h).
     pub fn flips(&self) -> Flips
         ensures { result ≡ flips_in self.now }
     {

@@ -1,7 +1,7 @@
-// Words that are put together field by field.
+// Builds words from fields.
 ghost use Rattle.std.specs.Prelude.{◌≡◌, ◌<◌, ◌+◌, ◌*◌, ◌^◌};
 
-// A word with a value above its bits.
+// Returns `word` with `value` from bit `at` on. `word` must have only bits below `at`.
 pub(crate) fn join(word: u32, value: u32, at: u32) -> u32
     requires at { at < 32 }
     requires below { word < 2 ^ at }

@@ -1,4 +1,4 @@
-//! What holds of all registers. No code runs here: each law is the contract of an empty function.
+//! Facts about all registers. Each is the contract of an empty function.
 ghost use Rattle.gp1_status.specs.Words.{WordsSayAll};
 
 /// The words of registers, read again, are these registers.

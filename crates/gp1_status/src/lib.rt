@@ -1,7 +1,7 @@
 //! The registers of the GPU: the drawing environment, the display, the latch, and the status word.
 //!
-//! Contracts see a `Regs` as the record of its values. Widths that have a Y in them go by the height of
-//! video memory, which is 512 or 1024 rows.
+//! In contracts, a `Regs` is the record of its values. A register with a Y coordinate is as wide as the height of video
+//! memory requires, 512 or 1024 rows.
 #![tactic(auto)]
 
 mod drawing;

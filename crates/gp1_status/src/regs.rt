@@ -6,8 +6,8 @@ ghost use Rattle.gp1_status.specs.Registers.{reset};
 use px_num::SHORT_HEIGHT;
 use std::marker::Model;
 
-/// The registers that GP0(E1h) to GP0(E6h) and GP1 write, the interrupt, the latch of the read port, and
-/// the height of video memory, by which the registers that hold a Y are as wide as they are.
+/// The registers that GP0(E1h) to GP0(E6h) and GP1 write, the interrupt bit, the latch of the read port, and the height
+/// of video memory. The height decides the width of the registers with a Y coordinate.
 #[derive(Drop)]
 pub struct Regs {
     pub(crate) e1: u32,
@@ -39,7 +39,7 @@ impl Model for Regs {
 }
 
 impl Regs {
-    /// The state after a reset, with the latch 0 and a height of 512 rows.
+    /// Returns the state after a reset, with latch 0 and a height of 512 rows.
     pub fn new() -> Self
         ensures { result ≡ reset 0 short_height }
     {

@@ -1,4 +1,4 @@
-// The shape of the shown picture.
+// The size of the displayed picture.
 ghost use Rattle.std.specs.Prelude.{◌≡◌, ◌<◌, ◌≤◌, ◌^◌};
 ghost use Rattle.gp1_status.specs.Shape.{cycles_of, width_of, lines_of, shape_of};
 
@@ -6,10 +6,10 @@ use crate::regs::Regs;
 use px_num::{bit, bits};
 
 impl Regs {
-    /// The width and height of the shown picture; none where it has no cell.
+    /// Returns the width in pixels and the height in rows of the displayed picture, or `None` if one of them is 0.
     ///
-    /// The width is that of the horizontal range, by the cycles of one pixel in this mode, and a multiple of 4. The
-    /// height is that of the vertical range, twice that in the interlaced mode of 480 lines.
+    /// The width is the horizontal range in cycles, divided by the cycles of one pixel in this mode, rounded to a
+    /// multiple of 4. The height is the vertical range in lines, doubled in the interlaced mode of 480 lines.
     pub fn shape(&self) -> Option<(u16, u16)>
         ensures { result ≡ shape_of self.now }
     {

@@ -7,7 +7,7 @@ use crate::regs::Regs;
 use px_num::bits;
 
 impl Regs {
-    /// The status word. `idle` says whether the splitter of GP0's words is idle, and `sending` whether
+    /// Returns the status word. `idle`: no GP0 packet, load or polyline is unfinished. `sending`: a store is open, so
     /// video memory is being sent to the CPU.
     pub fn status(&self, idle: bool, sending: bool) -> u32
         ensures { result ≡ status_of self.now idle sending }
@@ -26,7 +26,7 @@ impl Regs {
         join(word, u32::from(self.direction()), 29)
     }
 
-    // Bits 0 to 15.
+    // Returns bits 0 to 15.
     fn low_half(&self) -> u32
         ensures value { result ≡
             self.now.e1 % 2 ^ 11 + self.now.mask * 2 ^ 11 + 1 * 2 ^ 13
@@ -40,7 +40,7 @@ impl Regs {
         join(word, bits(self.e1(), 11, 1), 15)
     }
 
-    // Bit 25.
+    // Returns bit 25, the DMA request.
     fn request(&self, sending: bool) -> u32
         ensures { result ≡ request_of self.now sending }
     {

@@ -1,4 +1,4 @@
-// What each register holds.
+// The value of each register.
 ghost use Rattle.std.specs.Prelude.{◌≡◌, ◌+◌, ◌*◌, ◌^◌, ◌<◌, ◌≤◌};
 ghost use Rattle.px_num.specs.Height.{IsHeight, height_of_profile};
 ghost use Rattle.gp1_status.specs.Registers.{bit, info_of};
@@ -7,8 +7,8 @@ use crate::regs::Regs;
 use px_num::{TALL_HEIGHT, bits};
 
 impl Regs {
-    /// GP0(E1h), the draw mode: texture page, blending, dither and texture flips. Bit 11 is the page's
-    /// second Y bit where video memory has 1024 rows, and else 0.
+    /// Returns GP0(E1h), the draw mode: texture page, blending, dither and texture flips. Bit 11 is the page's second Y
+    /// bit if video memory has 1024 rows, otherwise 0.
     pub fn e1(&self) -> u32
         ensures value { result ≡ self.now.e1 }
         ensures width { result < 2 ^ 14 }
@@ -17,7 +17,7 @@ impl Regs {
         self.e1
     }
 
-    /// GP0(E2h), the texture window, of 20 bits.
+    /// Returns GP0(E2h), the texture window, 20 bits.
     pub fn window(&self) -> u32
         ensures value { result ≡ self.now.window }
         ensures width { result < 2 ^ 20 }
@@ -25,7 +25,7 @@ impl Regs {
         self.window
     }
 
-    /// GP0(E3h), the top left corner of the drawing area: X in bits 0 to 9, and Y above.
+    /// Returns GP0(E3h), the top left corner of the drawing area: X in bits 0 to 9, Y from bit 10 on.
     pub fn top_left(&self) -> u32
         ensures value { result ≡ self.now.top_left }
         ensures width { result < 1024 * self.now.height }
@@ -33,7 +33,7 @@ impl Regs {
         self.top_left
     }
 
-    /// GP0(E4h), the bottom right corner of the drawing area: X in bits 0 to 9, and Y above.
+    /// Returns GP0(E4h), the bottom right corner of the drawing area: X in bits 0 to 9, Y from bit 10 on.
     pub fn bottom_right(&self) -> u32
         ensures value { result ≡ self.now.bottom_right }
         ensures width { result < 1024 * self.now.height }
@@ -41,7 +41,7 @@ impl Regs {
         self.bottom_right
     }
 
-    /// GP0(E5h), the drawing offset: eleven signed bits for X from bit 0 on, and for Y from bit 11 on.
+    /// Returns GP0(E5h), the drawing offset: X in bits 0 to 10, Y in bits 11 to 21, both signed.
     pub fn offset(&self) -> u32
         ensures value { result ≡ self.now.offset }
         ensures width { result < 2 ^ 22 }
@@ -49,7 +49,8 @@ impl Regs {
         self.offset
     }
 
-    /// GP0(E6h), the mask setting: bit 0 sets bit 15 of what is written, bit 1 keeps cells that have it.
+    /// Returns GP0(E6h), the mask setting. Bit 0: written cells get bit 15. Bit 1: cells with bit 15 are not
+    /// overwritten.
     pub fn mask(&self) -> u8
         ensures value { result ≡ self.now.mask }
         ensures width { result < 4 }
@@ -57,21 +58,21 @@ impl Regs {
         self.mask
     }
 
-    /// The interrupt bit.
+    /// Returns the interrupt bit.
     pub fn irq(&self) -> bool
         ensures { result ≡ self.now.irq }
     {
         self.irq
     }
 
-    /// Whether the display is off.
+    /// Returns whether the display is off.
     pub fn display_off(&self) -> bool
         ensures { result ≡ self.now.display_off }
     {
         self.display_off
     }
 
-    /// The DMA direction: 0 off, 1 FIFO, 2 CPU to GP0, 3 GPUREAD to CPU.
+    /// Returns the DMA direction: 0 off, 1 FIFO, 2 CPU to GP0, 3 GPUREAD to CPU.
     pub fn direction(&self) -> u8
         ensures value { result ≡ self.now.direction }
         ensures width { result < 4 }
@@ -79,7 +80,7 @@ impl Regs {
         self.direction
     }
 
-    /// GP1(05h), the top left corner of the display: X in bits 0 to 9, and Y above.
+    /// Returns GP1(05h), the top left corner of the display: X in bits 0 to 9, Y from bit 10 on.
     pub fn start(&self) -> u32
         ensures value { result ≡ self.now.start }
         ensures width { result < 1024 * self.now.height }
@@ -87,7 +88,7 @@ impl Regs {
         self.start
     }
 
-    /// GP1(06h), the horizontal range: X1 in bits 0 to 11, and X2 in bits 12 to 23.
+    /// Returns GP1(06h), the horizontal range in cycles: X1 in bits 0 to 11, X2 in bits 12 to 23.
     pub fn hrange(&self) -> u32
         ensures value { result ≡ self.now.hrange }
         ensures width { result < 2 ^ 24 }
@@ -95,7 +96,7 @@ impl Regs {
         self.hrange
     }
 
-    /// GP1(07h), the vertical range: Y1 in bits 0 to 9, and Y2 in bits 10 to 19.
+    /// Returns GP1(07h), the vertical range in lines: Y1 in bits 0 to 9, Y2 in bits 10 to 19.
     pub fn vrange(&self) -> u32
         ensures value { result ≡ self.now.vrange }
         ensures width { result < 2 ^ 20 }
@@ -103,21 +104,21 @@ impl Regs {
         self.vrange
     }
 
-    /// GP1(08h), the display mode.
+    /// Returns GP1(08h), the display mode, 8 bits.
     pub fn mode(&self) -> u8
         ensures { result ≡ self.now.mode }
     {
         self.mode
     }
 
-    /// What the read port holds, the latch: the word that a read gives where no store is open.
+    /// Returns the latch: the word that a read of GPUREAD returns if no store is open.
     pub fn held(&self) -> u32
         ensures { result ≡ self.now.held }
     {
         self.held
     }
 
-    /// How many rows video memory has: 512 or 1024.
+    /// Returns the height of video memory in rows: 512 or 1024.
     pub fn height(&self) -> u16
         ensures value { result ≡ self.now.height }
         ensures known { IsHeight result }
@@ -125,15 +126,15 @@ impl Regs {
         self.height
     }
 
-    /// Whether video memory has 1024 rows.
+    /// Returns whether video memory has 1024 rows.
     pub fn is_tall(&self) -> bool
         ensures { self.now.height ≡ height_of_profile result }
     {
         self.height == TALL_HEIGHT
     }
 
-    /// What GP1(10h) answers at this index, by its low four bits: the values of E2 to E5 at 2 to 5, the
-    /// version of the GPU, which is 2, at 7, and 0 at 8. At all others there is no answer.
+    /// Returns what GP1(10h) puts into the latch for the low four bits of `index`: the values of E2h to E5h for 2 to 5,
+    /// the GPU version 2 for 7, and 0 for 8. Returns `None` for all others: the latch stays.
     pub fn info(&self, index: u32) -> Option<u32>
         ensures { result ≡ info_of self.now index }
     {

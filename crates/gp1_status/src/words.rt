@@ -1,4 +1,4 @@
-// The registers as words, and the bits that these may have.
+// The registers as words, and the bits that each word may have.
 ghost use Rattle.std.specs.Prelude.{◌≡◌, MatchOption, IfSome, true, false};
 ghost use Rattle.px_num.specs.Height.{IsHeight, height_of_profile};
 ghost use Rattle.gp1_status.specs.Words.{is_allowed, AreAllowed, registers_in, words_of};
@@ -7,8 +7,9 @@ use crate::regs::Regs;
 use px_num::{bit, bits, height_of_profile};
 
 impl Regs {
-    /// The registers as thirteen words: the values of E1h to E6h, the flags (bit 0 the interrupt bit, bit 1 whether the
-    /// display is off), the DMA direction, the start of the display, its two ranges, its mode, and the latch.
+    /// Returns the registers as thirteen words: the values of E1h to E6h, the flags (bit 0 the interrupt bit, bit 1
+    /// whether the display is off), the DMA direction, the start of the display, its two ranges, its mode, and the
+    /// latch.
     pub fn to_words(&self) -> [u32; 13]
         ensures { result ≡ words_of self.now }
     {
@@ -29,8 +30,8 @@ impl Regs {
         ]
     }
 
-    /// The registers of which these are the words, for video memory of 1024 rows where it is tall, else of 512. None
-    /// exactly where a word has a bit that it may not have.
+    /// Returns the registers with these words, as [`to_words`](Regs::to_words) returns them. Video memory has 1024 rows
+    /// if `tall`, else 512. Returns `None` exactly if a word has a bit that it may not have.
     pub fn from_words(words: &[u32; 13], tall: bool) -> Option<Regs>
         ensures exact { MatchOption result (AreAllowed (height_of_profile tall) words.now → ⊥)
             (λ regs. (regs ≡ registers_in (height_of_profile tall) words.now)
@@ -61,8 +62,8 @@ impl Regs {
     }
 }
 
-/// Whether a word has only bits that it may have at this place of the thirteen words of registers, with video memory of
-/// so many rows.
+/// Returns whether `word` has only bits that word number `place` of the thirteen, counted from 0, may have. `height` is
+/// the height of video memory, 512 or 1024 rows.
 pub fn allows(height: u16, place: usize, word: u32) -> bool
     requires { IsHeight height }
     ensures { result ≡ is_allowed height place word }
@@ -85,7 +86,7 @@ pub fn allows(height: u16, place: usize, word: u32) -> bool
     }
 }
 
-/// Whether every word has only bits that it may have at its place.
+/// Returns whether every word has only bits that it may have.
 pub(crate) fn allows_all(height: u16, words: &[u32; 13]) -> bool
     requires { IsHeight height }
     ensures yes { result ≡ true → AreAllowed height words.now }

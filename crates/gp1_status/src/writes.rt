@@ -1,4 +1,4 @@
-// What writes the registers.
+// Writes to the registers.
 ghost use Rattle.std.specs.Prelude.{◌≡◌, ◌*◌, ◌/◌, ◌%◌, ◌^◌, ◌≤◌, true};
 ghost use Rattle.px_num.specs.Height.{tall_height};
 ghost use Rattle.gp1_status.specs.Registers.{opcode_of, reset, env_of, page_of, gp1_of, is_clearing};
@@ -7,7 +7,8 @@ use crate::regs::Regs;
 use px_num::{SHORT_HEIGHT, TALL_HEIGHT, bit, bits};
 
 impl Regs {
-    /// Makes the height 1024 rows. All values stay; from now on bit 11 of the draw mode and every Y can be had in full.
+    /// Sets the height to 1024 rows. All values stay. From then on, writes can set bit 11 of the draw mode, and the
+    /// tenth bit of Y in the drawing area and the display start.
     pub fn set_tall(&mut self)
         ensures { self.new ≡ record self.old { height = tall_height } }
     {
@@ -28,8 +29,8 @@ impl Regs {
         self.held = word;
     }
 
-    /// Writes register 1 to 6 of the drawing environment, as GP0(E1h) to GP0(E6h) do. The bits of the
-    /// value that the register does not have are ignored.
+    /// Writes register 1 to 6 of the drawing environment, as GP0(E1h) to GP0(E6h) do. Ignores bits that the register
+    /// does not have.
     pub fn env(&mut self, index: u8, value: u32)
         requires low { 1 ≤ index }
         requires high { index ≤ 6 }
@@ -49,8 +50,8 @@ impl Regs {
         }
     }
 
-    /// Puts the texture page attribute of a polygon into the draw mode: bits 0 to 8, and bit 11 where
-    /// video memory has 1024 rows. All other bits stay.
+    /// Writes the texture page attribute of a polygon into the draw mode: bits 0 to 8, and bit 11 if video memory has
+    /// 1024 rows, otherwise 0 there. All other bits stay.
     pub fn page(&mut self, attribute: u16)
         ensures { self.new ≡ record self.old { e1 = page_of self.old.height attribute self.old.e1 } }
     {
@@ -61,8 +62,8 @@ impl Regs {
             | (self.e1 >> 12) << 12;
     }
 
-    /// A word of GP1. Its opcode is bits 24 to 29; opcodes that are not known have no effect. What
-    /// opcodes 00h and 01h do to packets and transfers is not the registers' (`clears`).
+    /// Executes a word of GP1. Its opcode is bits 24 to 29; unknown opcodes have no effect. What opcodes 00h and 01h do
+    /// to packets and transfers is outside the registers: see [`clears`].
     pub fn gp1(&mut self, word: u32)
         ensures { self.new ≡ gp1_of self.old word }
     {
@@ -84,7 +85,7 @@ impl Regs {
         }
     }
 
-    // The first state, but for the latch and the height.
+    // Resets everything except the latch and the height.
     fn reset(&mut self)
         ensures { self.new ≡ reset self.old.held self.old.height }
     {
@@ -95,7 +96,7 @@ impl Regs {
         };
     }
 
-    // Bit 11 of a word where there are 1024 rows, and 0 where there are 512.
+    // Returns bit 11 of `word` if video memory has 1024 rows, otherwise 0.
     fn high_page_bit(&self, word: u32) -> u32
         ensures { result ≡ word / 2 ^ 11 % (self.now.height / 512) }
     {
@@ -108,7 +109,7 @@ impl Regs {
         }
     }
 
-    // X and Y of a word, with Y below the height.
+    // Returns the X and Y of `word`, the Y modulo the height.
     fn place(&self, word: u32) -> u32
         ensures { result ≡ word % (1024 * self.now.height) }
     {
@@ -120,14 +121,14 @@ impl Regs {
     }
 }
 
-/// Whether a word of GP1 ends an unfinished packet, load, polyline and store: opcodes 00h and 01h.
+/// Returns whether a word of GP1 ends an unfinished packet, load, polyline and store: opcodes 00h and 01h.
 pub fn clears(word: u32) -> bool
     ensures { result ≡ is_clearing word }
 {
     opcode(word) <= 1
 }
 
-// Bits 24 to 29 of a word of GP1.
+// Returns bits 24 to 29 of a word of GP1.
 fn opcode(word: u32) -> u32
     ensures { result ≡ opcode_of word }
 {

@@ -1,4 +1,4 @@
--- No byte of a capture is taken past the limit.
+-- No byte of a capture is read at or after the limit.
 use Rattle.std.proofs.Common.{◌≡◌, ◌≤◌, ◌<◌, ◌+◌, ◌-◌, ◌%◌, ℕ, List, [], ◌∷◌, Bool, true, false, cond, nat_lt}
 use Rattle.std.proofs.Common.{length, take, drop, Result, Ok, Err, sym, subst, ap, inl, inr, arith}
 use Rattle.std.proofs.lemmas.Bool.{cases_Bool, cases_lt}
@@ -18,7 +18,7 @@ use Rattle.gpu_capture.specs.declared.record.Start.TheVariants as start
 use Rattle.gpu_capture.specs.declared.record.Step.{Step}
 use Rattle.gpu_capture.specs.declared.record.Step.TheVariants.{Opens, Gives, Closes}
 
--- a stop that bytes behind it would not have put off
+-- a stop that does not depend on the bytes after it
 abbrev IsFinal : Stop → Type 0
 IsFinal (Truncated byte) = ⊥
 IsFinal other = Unit {0}
@@ -74,7 +74,7 @@ short_word : (place n : ℕ) → place % 4 ≡ 0 → n < 4 → limit ≤ place +
 short_word place n whole few le is =
     let lt : place < limit = grind (arith, nat_tests, is) in omega (arith, whole, few, le, lt)
 
--- where the bytes reach to the limit, they end there
+-- bytes that reach the limit end with such a stop
 records_final : (bytes : List ℕ) (version : ℕ) (at : Due) (place : ℕ) → place % 4 ≡ 0 → limit ≤ place + length bytes
     → IsFinal (records version at place bytes).ending
 records_final [] version at place whole le = elim (cases_Bool (nat_lt place limit)) [
@@ -100,7 +100,7 @@ records_final (a ∷ b ∷ c ∷ d ∷ bytes) version at place whole le = elim (
   | inr is ↦ rw is tt
 ]
 
--- ---- the head
+-- ---- the header
 
 by_head : (version : Result ℕ ℕ) (bytes : List ℕ) → limit ≤ 8 + length bytes → IsFinal (opened version bytes).ending
 by_head (Ok version) bytes le = records_final bytes version due.Tag 8 (omega arith) le
@@ -112,9 +112,9 @@ capture_final bytes le =
     rw long (by_head (head_version (take 8 bytes)) (drop 8 bytes)
     (let e = length-drop 8 bytes in omega (arith, e, le)))
 
--- ---- the bytes taken
+-- ---- the bytes read
 
--- bytes of which the first so many end a capture are no more than so many
+-- if every prefix of `n` bytes ends a capture, at most `n` bytes are needed
 no_more : (p : Progress) (taken : List ℕ) (n : ℕ) → AreNeeded p taken
     → ((part : List ℕ) → length part ≡ n → IsFinal (capture_from p part).ending) → length taken ≤ n
 no_more p taken n needed final =

@@ -1,4 +1,4 @@
--- A capture gives reads that are not shown only in the versions that know them.
+-- Skip events occur only in captures of version 2 or later.
 use Rattle.std.proofs.Common.{◌≡◌, ◌≤◌, ◌+◌, ◌&&◌, ◌==◌, ◌++◌, ℕ, zero, suc, List, [], ◌∷◌, Bool, true, false, cond}
 use Rattle.std.proofs.Common.{nat_lt, nat_le, length, take, drop, replicate, Result, Ok, Err, refl, sym, subst, arith}
 use Rattle.std.proofs.Common.{inl, inr}
@@ -35,7 +35,7 @@ GivesKnown version other = Unit {0}
 skip_known : (version kind count : ℕ) → (kind == 9 && (nat_le 2 version && is_repeats count)) ≡ true → 2 ≤ version
 skip_known version kind count is = grind (arith, nat_tests, is)
 
--- by its tests, one after another
+-- by the tests of a tag, in order
 by_tests : (version place tag count : ℕ) (a b c d e f g h i j : Bool) → (j ≡ true → 2 ≤ version)
     → GivesKnown version (cond a (Closes End) (cond b (Opens (due.Address count)) (cond c (Opens (due.Gp0 count))
     (cond d (Opens due.Gp1) (cond e (Gives event.Read count due.Tag) (cond f (Gives event.Stat 1 due.Tag)
@@ -58,7 +58,7 @@ tag_known : (version place tag : ℕ) → GivesKnown version (tag_step version p
 tag_known version place tag =
     by_tests version place tag (count_of tag) _ _ _ _ _ _ _ _ _ _ (skip_known version (kind_of tag) (count_of tag))
 
--- an address leads to no event
+-- an address gives no event
 opened_known : (version : ℕ) (b : Bool) (next : Due) (stop : Stop)
     → GivesKnown version (cond b (Opens next) (Closes stop))
 opened_known version true next stop = tt
@@ -119,7 +119,7 @@ by_head (Ok version) bytes =
     subst P (sym (records_version bytes version due.Tag 8)) (records_known bytes version due.Tag 8)
 by_head (Err place) bytes = tt
 
--- the events of any bytes
+-- the same for all events of any bytes
 pub capture_known : (bytes : List ℕ) → AreKnown (capture bytes).version (capture bytes).events
 capture_known bytes =
     elim (cases_Bool (nat_lt (length bytes) 8)) [

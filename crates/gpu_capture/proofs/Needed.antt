@@ -1,4 +1,4 @@
--- What the bytes taken say, and that none of them is one too many.
+-- The meaning of the bytes read, and that all of them are needed.
 use Rattle.std.proofs.Common.{◌≡◌, ◌≤◌, inl, inr, ◌++◌, ℕ, List, [], ◌∷◌, Option, Result, Ok, Err, OnOk, IfOk, IfErr}
 use Rattle.std.proofs.Common.{refl, ap, sym, ◌∙◌, append_assoc, append-nil}
 use Rattle.gpu_capture.specs.Capture.{Captured, capture, ended, then_events}
@@ -13,14 +13,14 @@ use Rattle.gpu_capture.specs.declared.progress.Progress.{Progress}
 use Rattle.gpu_capture.proofs.Steps.{split}
 use Rattle.gpu_capture.proofs.Versions.{version_from}
 
--- ---- none too many
+-- ---- needed bytes
 
 pub none_needed : (taken : List ℕ) → taken ≡ [] → AreNeeded capture [] taken
 none_needed taken none [] [] is some = absurd (some refl)
 none_needed taken none [] (x ∷ xs) is some = absurd cc
 none_needed taken none (x ∷ xs) more is some = absurd cc
 
--- the bytes so far, and those of one event more
+-- the bytes so far and those of one more event are needed
 pub needed_on : (old : Progress) (events : List Event) (given : Event) (xs ys : List ℕ)
     → ((more : List ℕ) → capture (xs ++ more) ≡ then_events events (capture_from old more))
     → AreNeeded capture events xs → ReaderNeeds old ys → AreNeeded capture (events ++ given ∷ []) (xs ++ ys)
@@ -60,7 +60,7 @@ needed_on old events given xs ys reached was next part more is some =
           )
     ]
 
--- the bytes so far, and those of a stop
+-- the bytes so far and those of a stop are needed
 pub needed_end : (old : Progress) (events : List Event) (xs ys : List ℕ)
     → ((more : List ℕ) → capture (xs ++ more) ≡ then_events events (capture_from old more))
     → AreNeeded capture events xs → ReaderNeeds old ys → AreNeededToEnd capture events (xs ++ ys)
@@ -88,7 +88,7 @@ needed_end old events xs ys reached was next part more is some =
           let short = was part inside.0 inside.1 inside.2 in (short.0 ∷ short.1, short.2)
     ]
 
--- the bytes so far and those of one event more
+-- the bytes so far and those of one more event mean the events with it
 pub says_on : (old new : Progress) (events : List Event) (given : Event) (xs ys rest : List ℕ)
     → ((more : List ℕ) → capture (xs ++ more) ≡ then_events events (capture_from old more))
     → ((more : List ℕ) → capture_from old (ys ++ more) ≡ then_events (given ∷ []) (capture_from new more))
@@ -103,7 +103,7 @@ says_on old new events given xs ys rest reached says =
         ap (λ (all : List Event). record { version = c.version; events = all; ending = c.ending; rest = c.rest })
         (sym (append_assoc events (given ∷ []) c.events))
 
--- what a capture of the bytes so far says, where the reader stopped
+-- the meaning of the bytes so far and those of a stop
 pub stop_whole : (old : Progress) (version : ℕ) (events : List Event) (xs ys rest : List ℕ) (stop : Stop)
     → ((more : List ℕ) → capture (xs ++ more) ≡ then_events events (capture_from old more))
     → ((more : List ℕ) → capture_from old (ys ++ more) ≡ ended version stop more)
@@ -122,7 +122,7 @@ stop_part old version events xs ys byte reached says =
     ∙ ap (λ (all : List Event). record { version = version; events = all; ending = Truncated byte; rest = [] })
     (append-nil events)
 
--- what they say, however the reader stopped
+-- the same for each kind of stop
 pub stop_says : (old : Progress) (said : Said) (taken xs ys : List ℕ) (left : Option (List ℕ)) (stop : Stop)
     → taken ≡ xs ++ ys
     → ((more : List ℕ) → capture (xs ++ more) ≡ then_events said.events (capture_from old more))
@@ -165,9 +165,9 @@ stops_version old version (Truncated byte) taken now says was = sym (version_fro
 stops_version old version (ReadFault byte) taken now says was = sym (version_from old taken was)
     ∙ ap (λ (c : Captured). c.version) says
 
--- ---- answers
+-- ---- one call
 
--- the reader went from one place to the next, and answered this
+-- what one call of `advance` ensures, from one reader state to the next
 abbrev pub Answers : (old new : Progress) (before now : Option (List ℕ)) → Result Event Stop → Type 0
 Answers old new before now (Ok event) = Takes (standing old before) (standing new now) (event ∷ []) × (1 ≤ new.version)
 Answers old new before now (Err stop) = StopsAt (standing old before) (standing new now) stop

@@ -1,4 +1,4 @@
--- One step of a reader after another.
+-- The steps of a reader, one after another.
 use Rattle.std.proofs.Common.{◌≡◌, ◌≤◌, ◌<◌, ◌+◌, ◌-◌, ◌^◌, ◌++◌, ◌⊎◌, inl, inr, List, [], ◌∷◌, ℕ, zero, suc, Option}
 use Rattle.std.proofs.Common.{Ok, Err, true, false, length, nat_lt, replicate, refl, ap, append_assoc, length-append}
 use Rattle.std.proofs.Common.{length-take-le, take, take_all, sym, ◌∙◌, arith}
@@ -23,7 +23,7 @@ past place le = grind arith
 within : (place : ℕ) → place < limit → nat_lt place limit ≡ true
 within place lt = grind arith
 
--- ---- where no word can be had
+-- ---- no word can be read
 
 records_past : (version : ℕ) (at : Due) (place : ℕ) (bytes : List ℕ) → limit ≤ place
     → records version at place bytes ≡ ended version (TooLong limit) bytes
@@ -47,14 +47,14 @@ on version lt = grind arith
 off : (version : ℕ) → version ≡ 0 → nat_lt 0 version ≡ false
 off version none = rw none refl
 
--- what the format says at a place behind the head where no event is still to be given
+-- the meaning of bytes after the header, if no repeated event is left
 pub at_word : (p : Progress) (bytes : List ℕ) → 0 < p.version → p.left ≡ 0 → capture_from p bytes
     ≡ records p.version p.due p.place bytes
 at_word p bytes started none = rw (on p.version started, none) refl
 
--- ---- none too many
+-- ---- needed bytes
 
--- a proper part is shorter
+-- a proper prefix is shorter
 part_shorter : (taken part more : List ℕ) → taken ≡ part ++ more → (more ≡ [] → ⊥) → length part < length taken
 part_shorter taken part [] is some = absurd (some refl)
 part_shorter taken part (x ∷ xs) is some = let e : length taken ≡ length part + suc (length xs) = ap length is
@@ -65,7 +65,7 @@ none_needed p [] [] is some = absurd (some refl)
 none_needed p [] (x ∷ xs) is some = absurd cc
 none_needed p (x ∷ xs) more is some = absurd cc
 
--- at most four bytes of a word
+-- up to four bytes of a word are needed
 pub word_needed : (p : Progress) (taken : List ℕ) → 0 < p.version → p.left ≡ 0 → p.place < limit → length taken ≤ 4
     → AreNeeded p taken
 word_needed p taken started none lt few part more is some =
@@ -76,14 +76,14 @@ word_needed p taken started none lt few part more is some =
       is = at_word p part started none ∙ records_short p.version p.due p.place part lt (omega (arith, short, few));
     }
 
--- at most eight bytes of the head
+-- up to eight bytes of the header are needed
 pub head_needed : (p : Progress) (taken : List ℕ) → p.version ≡ 0 → length taken ≤ 8 → AreNeeded p taken
 head_needed p taken unstarted few part more is some =
     let short = part_shorter taken part more is some in
     let e : nat_lt (length part) 8 ≡ true = grind (arith, short, few) in
     record { version = 0; byte = length part; is = rw (off p.version unstarted, e) refl }
 
--- a list in two ways in two parts: the first part of the one ends inside the first part of the other, or not
+-- one list split in two ways: `part` reaches at least to the end of `xs`, or ends inside it
 pub split : (xs ys part more : List ℕ) → xs ++ ys ≡ part ++ more
     → ((zs : List ℕ) × (part ≡ xs ++ zs) × (ys ≡ zs ++ more)) ⊎ ((zs : List ℕ) × (xs ≡ part ++ zs) × (zs ≡ [] → ⊥))
 split [] ys part more e = inl (part, refl, e)
@@ -131,7 +131,7 @@ no_word_needed p End taken now started none says = absurd says
 no_word_needed p (NotCapture byte) taken now started none says = absurd says
 no_word_needed p (BadRecord byte word) taken now started none says = absurd says
 
--- where no word can be had, a reader stops
+-- if no word can be read, a reader stops
 pub no_word_stops : (p : Progress) (before now : Option (List ℕ)) (stop : Stop) → 0 < p.version → p.left ≡ 0
     → EndsWord before now p.place stop → StopsAt (standing p before) (standing p now) stop
 no_word_stops p before now stop started none lack = record {
@@ -143,14 +143,14 @@ no_word_stops p before now stop started none lack = record {
 
 -- ---- one word
 
--- what a word says, and those behind it
+-- the meaning of a word and the bytes after it
 word_says : (p : Progress) (a b c d : ℕ) (bytes : List ℕ) → 0 < p.version → p.left ≡ 0 → p.place < limit
     → capture_from p (a ∷ b ∷ c ∷ d ∷ bytes)
     ≡ after_step p.version (word_step p.version p.due p.place (little_number 4 (a ∷ b ∷ c ∷ d ∷ [])))
     (λ next. records p.version next (p.place + 4) bytes) bytes
 word_says p a b c d bytes started none lt = at_word p (a ∷ b ∷ c ∷ d ∷ bytes) started none ∙ rw (within p.place lt) refl
 
--- the same for the word that was taken
+-- the same for a word that was read
 pub took_says : (p : Progress) (before now : Option (List ℕ)) (word : ℕ) (step : Step) (rest : List ℕ) → 0 < p.version
     → p.left ≡ 0
     → (took : IsWord before now p.place word) → step ≡ word_step p.version p.due p.place word
@@ -161,7 +161,7 @@ took_says p before now word step rest started none took is =
     ∙ ap (λ s. after_step p.version s (λ next. records p.version next (p.place + 4) rest) rest)
     (ap (word_step p.version p.due p.place) (sym took.word_is) ∙ sym is)
 
--- where a reader stands behind a word, the format says what it says of the bytes there
+-- the meaning of bytes for the reader state after a word
 behind_says : (p : Progress) (next : Due) (repeated : Event) (left : ℕ) (rest : List ℕ) → 0 < p.version
     → capture_from (behind_word p next repeated left) rest ≡ then_events (replicate left repeated)
     (records p.version next (p.place + 4) rest)
@@ -178,7 +178,7 @@ opens_word p before now word next started none took is = record {
       ∙ sym (behind_says p next p.repeated 0 rest started);
 }
 
--- the first of so many, and the others
+-- the first of `count` equal events, and the others
 first_of_them : (event : Event) (count : ℕ) (more : Captured) → 1 ≤ count
     → then_events (replicate count event) more
     ≡ then_events (event ∷ []) (then_events (replicate (count - 1) event) more)
@@ -198,7 +198,7 @@ gives_word p before now word event count next started none some took is = record
       ∙ ap (then_events (event ∷ [])) (sym (behind_says p next event (count - 1) rest started));
 }
 
--- an event that is still to be given takes no byte
+-- a repeated event reads no byte
 pub gives_repeated : (p : Progress) (left : Option (List ℕ)) → 0 < p.version → 1 ≤ p.left
     → Takes (standing p left) (standing (record p { left = p.left - 1 }) left) (p.repeated ∷ [])
 gives_repeated p left started some = record {
@@ -209,7 +209,7 @@ gives_repeated p left started some = record {
       (first_of_them p.repeated p.left (records p.version p.due p.place rest) some);
 }
 
--- a stop that a word decides
+-- the meaning of a word that decides a stop
 word_stop_says : (p : Progress) (before now : Option (List ℕ)) (word : ℕ) (stop : Stop) → 0 < p.version → p.left ≡ 0
     → (took : IsWord before now p.place word) → Closes stop ≡ word_step p.version p.due p.place word → IsWordStop stop
     → SaysStop stop p p.version (took.a ∷ took.b ∷ took.c ∷ took.d ∷ []) now
@@ -274,18 +274,18 @@ stops_on before mid now stop first next = record {
       next.says;
 }
 
--- behind a word there is less to come
+-- after a word, less remains
 pub behind_less : (p : Progress) (due : Due) (event : Event) (left : ℕ) → p.place < limit → left < 2 ^ 19
     → work_left (behind_word p due event left) < work_left p
 unfolding work_left
 behind_less p due event left lt few = omega arith
 
--- ---- the head
+-- ---- the header
 
 no_version : (version : ℕ) (stop : Stop) (rest : List ℕ) → version ≡ 0 → ended 0 stop rest ≡ ended version stop rest
 no_version version stop rest none = rw none refl
 
--- what the head and the bytes behind it say
+-- the meaning of the header and the bytes after it
 opened_says : (p : Progress) (bytes rest : List ℕ) → p.version ≡ 0 → length bytes ≡ 8 → capture_from p (bytes ++ rest)
     ≡ opened (head_version bytes) rest
 opened_says p (a ∷ b ∷ c ∷ d ∷ e ∷ f ∷ g ∷ h ∷ []) rest unstarted eight =

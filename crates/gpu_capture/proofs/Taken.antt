@@ -1,4 +1,4 @@
--- How many bytes are taken: as many as the place of a reader says, and behind the head at most 16 for one answer.
+-- How many bytes are read: as many as a reader's offset, and after the header at most 16 a call.
 use Rattle.std.proofs.Common.{◌≡◌, ◌≤◌, ◌<◌, ◌+◌, ◌*◌, ◌%◌, ◌&&◌, ◌==◌, ◌++◌, ℕ, zero, suc, List, [], ◌∷◌, Bool}
 use Rattle.std.proofs.Common.{true, false, cond, nat_lt, nat_le, min, length, take, drop, Result, Ok, Err, refl, ap}
 use Rattle.std.proofs.Common.{sym, subst, inl, inr, append-nil, ◌∙◌, arith, replicate}
@@ -21,7 +21,7 @@ use Rattle.gpu_capture.specs.declared.record.Step.TheVariants.{Opens, Gives, Clo
 
 -- ---- one word
 
--- so many words at most lead from what is due to an event or a stop
+-- the most words up to an event or a stop, from this one on
 abbrev words_to : Due → ℕ
 words_to due.Tag = 4
 words_to (due.Address count) = 2
@@ -32,7 +32,7 @@ words_to (due.Madr by) = 3
 words_to (due.Bcr by madr) = 2
 words_to (due.Chcr by madr bcr) = 1
 
--- a step leads on where so many words at most do
+-- a step gives an event or a stop, or fewer than `n` words remain up to one
 abbrev Leads : ℕ → Step → Type 0
 Leads n (Opens next) = words_to next < n
 Leads n (Gives e count next) = 1 ≤ count
@@ -82,9 +82,9 @@ step_leads version (due.Madr by) place word = omega arith
 step_leads version (due.Bcr by madr) place word = omega arith
 step_leads version (due.Chcr by madr bcr) place word = omega arith
 
--- ---- how many bytes there are, by the ending of a capture of them
+-- ---- how many bytes there are, by how a capture of them ends
 
--- where they are cut short, and where they are too long, with those behind the limit
+-- `n` bytes: if they are truncated, the stop names `n`; if they are too long, `n` is the limit plus the bytes after it
 abbrev Counts : ℕ → Stop → List ℕ → Type 0
 Counts n (Truncated byte) rest = byte ≡ n
 Counts n (TooLong byte) rest = n ≡ limit + length rest
@@ -167,7 +167,7 @@ from_place n version place at = elim (cases_Bool (nat_lt place limit)) [
       rw is (λ (count : n ≡ limit + 0). omega (arith, ge, count))
 ]
 
--- Behind the head as many bytes were taken as the reader's place says, and no more than the limit.
+-- After the header, the bytes read are as many as the reader's offset, at most the limit.
 pub taken_count : (p : Progress) (events : List Event) (taken : List ℕ) → 1 ≤ p.version
     → ((rest : List ℕ) → capture (taken ++ rest) ≡ then_events events (capture_from p rest))
     → length taken ≡ min p.place limit
@@ -178,13 +178,13 @@ taken_count p events taken started says =
     subst P is (capture_count taken) in
     from_place (length taken) p.version p.place p.due (rw (known p.version started) at there)
 
--- ---- how many bytes one answer takes
+-- ---- how many bytes one call reads
 
 abbrev IsCut : Stop → Type 0
 IsCut (Truncated byte) = Unit {0}
 IsCut other = ⊥
 
--- there is an event, or a stop that no byte behind it changes
+-- there is an event, or a stop that does not depend on the bytes after it
 abbrev IsTold : Captured → Type 0
 IsTold c = c.events ≡ [] → IsCut c.ending → ⊥
 
@@ -245,7 +245,7 @@ told_from p bytes started many = rw (known p.version started) (λ none cut.
     most_words (due.Bcr by madr) = omega arith
     most_words (due.Chcr by madr bcr) = omega arith
 
--- Behind the head no answer of a reader takes more than 16 bytes.
+-- After the header, a call reads at most 16 bytes.
 pub few_at_once : (p : Progress) (taken : List ℕ) → 1 ≤ p.version → AreNeeded p taken → length taken ≤ 16
 few_at_once p taken started needed = elim (cases_lt 16 (length taken)) [
   | inl more ↦
@@ -268,7 +268,7 @@ told_whole bytes many =
     let e = length-drop 8 bytes in
     rw long (head_told (head_version (take 8 bytes)) (drop 8 bytes) (omega (arith, many, e)))
 
--- With the head it takes at most 24 bytes.
+-- With the header it reads at most 24 bytes.
 pub few_at_first : (p : Progress) (taken : List ℕ) → IsStart p → AreNeeded p taken → length taken ≤ 24
 few_at_first p taken start needed = elim (cases_lt 24 (length taken)) [
   | inl more ↦
@@ -282,10 +282,10 @@ few_at_first p taken start needed = elim (cases_lt 24 (length taken)) [
   | inr le ↦ le
 ]
 
--- ---- between two places
+-- ---- between two offsets
 
--- of bytes up to this place: where they are cut short, that is the place, and where they are too long, it is no more
--- than so far before those that are left
+-- bytes up to offset `n`: if they are truncated, the stop names `n`; if they are too long, `n` is at most `most` plus
+-- the bytes that are left
 abbrev Reach : (n most : ℕ) → Stop → List ℕ → Type 0
 Reach n most (Truncated byte) rest = byte ≡ n
 Reach n most (TooLong byte) rest = n ≤ most + length rest
@@ -352,7 +352,7 @@ none_at_limit p (x ∷ more) started is needed =
     let no : ⊥ = rw (known p.version started, is) at cut in
     absurd no
 
--- Between two places of a reader that are less than 4,096 apart, and for one answer more, few bytes are taken.
+-- Between two reader states less than 4,096 bytes apart, and in one more call, at most 4,112 bytes are read.
 pub few_between : (p q : Progress) (events : List Event) (taken more : List ℕ) → 1 ≤ p.version → 1 ≤ q.version
     → ((rest : List ℕ) → capture_from p (taken ++ rest) ≡ then_events events (capture_from q rest))
     → q.place < p.place + 4096 → AreNeeded q more → length taken + length more ≤ 4112

@@ -1,4 +1,4 @@
--- A capture has one version, from its head on.
+-- The version of a capture is that of its header.
 use Rattle.std.proofs.Common.{◌≡◌, ◌≤◌, ℕ, ◌+◌, List, [], ◌∷◌, true, nat_lt, refl, arith, inl, inr}
 use Rattle.std.proofs.lemmas.Bool.{cases_Bool}
 use Rattle.gpu_capture.specs.Capture.{Captured, after_step, records, limit}
@@ -35,6 +35,6 @@ records_version version at place (a ∷ b ∷ c ∷ d ∷ bytes) =
 known : (version : ℕ) → 1 ≤ version → nat_lt 0 version ≡ true
 known version le = grind arith
 
--- behind its head a reader knows the version
+-- after its header a reader knows the version
 pub version_from : (p : Progress) (rest : List ℕ) → 1 ≤ p.version → (capture_from p rest).version ≡ p.version
 version_from p rest le = rw (known p.version le) (records_version p.version p.due p.place rest)

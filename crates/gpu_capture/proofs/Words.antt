@@ -1,4 +1,4 @@
--- Words that are taken one after another, out of bytes that were taken at once.
+-- Words read one by one, from bytes that were read at once.
 use Rattle.std.proofs.Common.{◌≡◌, ◌≤◌, ◌<◌, ◌+◌, ◌-◌, ◌*◌, ◌/◌, ◌%◌, ◌++◌, inl, inr, List, [], ◌∷◌, ℕ, Option}
 use Rattle.std.proofs.Common.{true, false, length, nat_lt, take, drop, refl, ap, sym, subst, ◌∙◌, arith}
 use Rattle.std.proofs.Common.{append_assoc, length-append, length-drop}
@@ -25,7 +25,7 @@ use Rattle.gpu_capture.proofs.Steps.{split, word_needed, took_says, on, at_word,
 
 -- ---- no word, and one more
 
--- where two readers stand at the same place and say the same of every rest, no word lies between them
+-- two reader states at the same offset with the same meaning of every rest have no word between them
 pub words_none : (p q : Progress) (left : Option (List ℕ)) → q.place ≡ p.place
     → ((rest : List ℕ) → capture_from p rest ≡ capture_from q rest)
     → TakesWords (standing p left) (standing q left) []
@@ -122,14 +122,14 @@ due_next left count lt =
           rw (is, none) refl
     ]
 
--- what is said where a reader stands behind so many words
+-- the meaning of bytes after the next `count` words
 behind_say : (p : Progress) (count : ℕ) (rest : List ℕ) → 1 ≤ p.version
     → capture_from (behind_words p count) rest ≡ records p.version (words_due (gp0_left p.due) count)
     (p.place + 4 * count) rest
 behind_say p count rest started = rw (on p.version started) refl
 
 module _ (p : Progress) (most : ℕ) (may : MayTake p most) where
-  -- behind no word it is what is said of the reader itself
+  -- after no word it is the meaning for the reader itself
   same_none : (rest : List ℕ) → capture_from p rest ≡ capture_from (behind_words p 0) rest
   same_none rest =
       let none = due_before (gp0_left p.due) 0 may.open_record in
@@ -176,7 +176,7 @@ module _ (p : Progress) (most : ℕ) (may : MayTake p most) where
 
 -- ---- words in bytes
 
--- the first word of bytes
+-- the first word in the bytes
 first_word : (xs : List ℕ) (place : ℕ) (now : Option (List ℕ)) → place < limit → 4 ≤ length xs
     → IsWord (prepended xs now) (prepended (drop 4 xs) now) place (little_number 4 xs)
 first_word (a ∷ b ∷ c ∷ d ∷ xs) place now below four = record {
@@ -208,12 +208,12 @@ word_in bytes i place word now below four is =
     (let Q : ℕ → Type 0 = λ w. IsWord (prepended xs now) (prepended (drop 4 xs) now) place w in
     subst Q (sym same) (first_word xs place now below (omega (arith, long, four))))
 
--- ---- bytes that were taken at once
+-- ---- bytes that were read at once
 
 module _ (p q : Progress) (before now : Option (List ℕ)) (words bytes : List ℕ) (got : before ≡ prepended bytes now)
     (takes : (now : Option (List ℕ)) → TakesWords (standing p (prepended bytes now))
     (standing q (prepended (drop (4 * (length bytes / 4)) bytes) now)) words) where
-  -- the bytes behind the last whole word
+  -- the bytes after the last complete word
   abbrev begun : List ℕ
   begun = drop (4 * (length bytes / 4)) bytes
 

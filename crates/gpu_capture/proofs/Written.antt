@@ -34,7 +34,7 @@ word_read version at place word rest lt fits =
     (λ w. after_step version (word_step version at place w) (λ next. records version next (place + 4) rest) rest)
     back)
 
--- the same where words follow
+-- the same if words follow
 pub words_read : (version : ℕ) (at : Due) (place word : ℕ) (words rest : List ℕ) → place < limit → word < 2 ^ 32
     → records version at place (flat_map word_bytes (word ∷ words) ++ rest)
     ≡ after_step version (word_step version at place word)
@@ -56,7 +56,7 @@ Reads version given place rest =
     records version due.Tag place (spelled given ++ rest)
     ≡ then_events (given ∷ []) (records version due.Tag (place + 4 * length (record_words given)) rest)
 
--- a start by two channels or turn by turn, behind its tag
+-- the words after the tag of a start: of either channel, or in turns
 pub start_read : (version place madr bcr chcr : ℕ) (by : start.the_data) (rest : List ℕ) → place + 16 ≤ limit
     → madr < 2 ^ 32 → bcr < 2 ^ 32 → chcr < 2 ^ 32
     → records version (due.Madr by) (place + 4) (flat_map word_bytes (madr ∷ bcr ∷ chcr ∷ []) ++ rest)
@@ -154,7 +154,7 @@ three_versions version is = grind (arith, is.0, is.1)
 eight_bytes : (version : ℕ) (bytes : List ℕ) → nat_lt (length (head_of version ++ bytes)) 8 ≡ false
 eight_bytes version bytes = grind arith
 
--- the head that was written is read again
+-- the header that was written is read again
 pub head_read : (version : ℕ) (bytes : List ℕ) → IsVersion version → capture (head_of version ++ bytes)
     ≡ records version due.Tag 8 bytes
 head_read version bytes is =
@@ -177,7 +177,7 @@ written_read version events rest is allows le =
 
 -- ---- the version
 
--- what a step says is of the version of what comes behind it
+-- the version of a step's meaning is that of the bytes after it
 step_version : (version : ℕ) (step : Step) (on : Due → Captured) (bytes : List ℕ)
     → ((next : Due) → (on next).version ≡ version)
     → (after_step version step on bytes).version ≡ version

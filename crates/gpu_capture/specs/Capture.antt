@@ -1,4 +1,4 @@
--- What a list of bytes says as a capture (our own rule): 8 bytes of head, and then little-endian words in records.
+-- The meaning of a list of bytes as a capture (our own rule): 8 bytes of header, then little-endian words in records.
 use Rattle.std.specs.Prelude.{take, ◌≤◌, ℕ, List, [], ◌∷◌, ◌++◌, ◌+◌, ◌^◌, nat_lt, length}
 use Rattle.std.specs.Prelude.{drop, Result, Ok, Err, replicate}
 use Rattle.std.specs.Prelude.{if◌then◌else◌, codes}
@@ -13,7 +13,7 @@ use Rattle.gpu_capture.specs.declared.record.Step.TheVariants.{Opens, Gives, Clo
 use Rattle.gpu_capture.specs.Head.{head_among}
 use Rattle.gpu_capture.specs.Record.{word_step}
 
--- what a capture says: its version, 0 where that is not known, its events, how it ends, and the bytes after that
+-- The meaning of a capture: its version (0 if unknown), its events, how it ends, and the bytes after the end.
 pub record Captured : Type 0 where
   pub version : ℕ
   pub events : List Event
@@ -23,22 +23,22 @@ pub record Captured : Type 0 where
 abbrev pub ended : ℕ → Stop → List ℕ → Captured
 ended version stop rest = record { version = version; events = []; ending = stop; rest = rest }
 
--- events, and then what the bytes behind them say
+-- these events, then the meaning of the bytes after them
 abbrev pub then_events : List Event → Captured → Captured
 then_events events more = record more { events = events ++ more.events }
 
--- no word begins at this place or after it
+-- no word begins at this byte offset or after it
 abbrev pub limit : ℕ
 limit = 2 ^ 30
 
--- what a step and the bytes behind its word say
+-- the meaning of a step and of the bytes after its word
 abbrev pub after_step : ℕ → Step → (Due → Captured) → List ℕ → Captured
 after_step version (Opens next) on bytes = on next
 after_step version (Gives event count next) on bytes = then_events (replicate count event) (on next)
 after_step version (Closes stop) on bytes = ended version stop bytes
 
--- what the bytes from a place on say, where a record is open: a word that is due at the limit is too long, and where
--- fewer than four bytes are left, the input is truncated at its length
+-- The meaning of the bytes from offset `place` on, if `at` is what the next word is. At the limit the capture is too
+-- long, even if no bytes are left. Before it, fewer than four bytes are truncated at their end.
 abbrev pub records : ℕ → Due → ℕ → List ℕ → Captured
 records version at place (a ∷ b ∷ c ∷ d ∷ bytes) =
     if nat_lt place limit
@@ -49,30 +49,30 @@ records version at place bytes =
     if nat_lt place limit then ended version (Truncated (place + length bytes)) []
     else ended version (TooLong limit) bytes
 
--- ---- the head
+-- ---- the header
 
--- the versions that are known
+-- the known versions
 abbrev pub IsVersion : ℕ → Type 0
 IsVersion version = (1 ≤ version) × (version ≤ 3)
 
--- a digit as a character
+-- the character of a digit
 abbrev pub digit_of : ℕ → ℕ
 digit_of n = 48 + n
 
--- the head of a version
+-- the file header of a version
 abbrev pub head_of : ℕ → List ℕ
 head_of version = codes "PSXGPUC" ++ digit_of version ∷ []
 
--- the known heads, in the order of their versions
+-- the known file headers, in the order of their versions
 abbrev pub heads : List (List ℕ)
 heads = head_of 1 ∷ head_of 2 ∷ head_of 3 ∷ []
 
--- versions are numbered from 1 on
+-- versions are numbered from 1, heads from 0
 abbrev pub numbered_version : Result ℕ ℕ → Result ℕ ℕ
 numbered_version (Ok number) = Ok (number + 1)
 numbered_version (Err place) = Err place
 
--- the version of a head, or the first place where no head goes on
+-- the version of a file header, or the first offset at which the bytes differ from every header
 abbrev pub head_version : List ℕ → Result ℕ ℕ
 head_version bytes = numbered_version (head_among heads bytes)
 
@@ -80,7 +80,7 @@ abbrev pub opened : Result ℕ ℕ → List ℕ → Captured
 opened (Ok version) bytes = records version Tag 8 bytes
 opened (Err place) bytes = ended 0 (NotCapture place) bytes
 
--- a whole capture; fewer than 8 bytes are truncated, also where they differ from every head
+-- The meaning of a whole capture. Fewer than 8 bytes are truncated, even if they differ from every header.
 abbrev pub capture : List ℕ → Captured
 capture bytes =
     if nat_lt (length bytes) 8 then ended 0 (Truncated (length bytes)) []

@@ -1,23 +1,23 @@
--- What the first 8 bytes of a file say (our own rule). A command knows some heads, and takes a file that begins with
--- one of them.
+-- Recognizes a file by its first 8 bytes (our own rule). A command knows some heads, and accepts a file that begins
+-- with one of them.
 use Rattle.std.specs.Prelude.{ℕ, List, [], ◌∷◌, Option, Some, None, Result, Ok, Err, not, ◌==◌, max, position}
 use Rattle.std.specs.Prelude.{unwrap_or, zip}
 use Rattle.std.specs.List.{position_from}
 
--- the first place at which some bytes differ from a head
+-- the first offset at which the bytes differ from a head
 abbrev pub first_difference : (head bytes : List ℕ) → Option ℕ
 first_difference head bytes = position (λ pair. not (pair.0 == pair.1)) (zip head bytes)
 
--- how far they go on as it does
+-- the length of their common prefix
 abbrev pub place_of_difference : (head bytes : List ℕ) → ℕ
 place_of_difference head bytes = unwrap_or (first_difference head bytes) 8
 
--- the first place at which none of these heads goes on
+-- the first offset at which the bytes differ from every head
 abbrev pub furthest_place : List (List ℕ) → (bytes : List ℕ) → ℕ
 furthest_place [] bytes = 0
 furthest_place (head ∷ heads) bytes = max (place_of_difference head bytes) (furthest_place heads bytes)
 
--- which of these heads 8 bytes are, by its number from 0 on
+-- the index, from 0, of the first head that equals these 8 bytes
 abbrev pub number_of_head : List (List ℕ) → (bytes : List ℕ) → Option ℕ
 number_of_head heads bytes = position_from (λ head. place_of_difference head bytes == 8) 0 heads
 
@@ -25,6 +25,6 @@ abbrev pub number_or_place : Option ℕ → ℕ → Result ℕ ℕ
 number_or_place None place = Err place
 number_or_place (Some number) place = Ok number
 
--- the number of a head, and for other bytes the first place at which no head goes on
+-- the index of that head, or else the first offset at which the bytes differ from every head
 abbrev pub head_among : List (List ℕ) → (bytes : List ℕ) → Result ℕ ℕ
 head_among heads bytes = number_or_place (number_of_head heads bytes) (furthest_place heads bytes)

@@ -1,4 +1,4 @@
--- What the steps of a reader take from its source, and what the format says of that.
+-- What the steps of a reader read from its source, and the meaning of those bytes by the format.
 use Rattle.std.specs.Prelude.{◌≡◌, ◌<◌, ◌≤◌, ℕ, List, [], ◌∷◌, ◌++◌, ◌+◌, ◌-◌, ◌*◌, ◌^◌, nat_lt, Option, length}
 use Rattle.std.specs.Prelude.{replicate, if◌then◌else◌, Result, IfErr}
 use Rattle.byteorder.specs.Endian.{little_number}
@@ -13,7 +13,7 @@ use Rattle.gpu_capture.specs.declared.record.Due.{Due}
 use Rattle.gpu_capture.specs.declared.record.Due.TheVariants.{Tag}
 use Rattle.gpu_capture.specs.declared.progress.Progress.{Progress}
 
--- where a reader stands, and the bytes that are left of its source
+-- the state of a reader, and the bytes left in its source
 pub record Standing : Type 0 where
   pub progress : Progress
   pub left : Option (List ℕ)
@@ -21,7 +21,7 @@ pub record Standing : Type 0 where
 abbrev pub standing : Progress → Option (List ℕ) → Standing
 standing progress left = record { progress = progress; left = left }
 
--- a word was taken
+-- the four bytes of a word were read, at an offset below the limit
 pub record IsWord (before now : Option (List ℕ)) (place word : ℕ) : Type 0 where
   pub below_limit : place < limit
   pub a : ℕ
@@ -35,13 +35,13 @@ abbrev pub IsReadFault : Stop → Type 0
 IsReadFault (ReadFault byte) = Unit {0}
 IsReadFault stop = ⊥
 
--- the source's count of faults does not fall, and it rose where a read failed, by this test of a fault
+-- The source's count of faults does not fall. It rose if `result` is a failure for which `IsRead` holds.
 pub record CountsFaults {Value Fault : Type 0} (IsRead : Fault → Type 0) (before now : ℕ) (result : Result Value Fault)
     : Type 0 where
   pub kept : before ≤ now
   pub cause : IfErr result (λ fault. IsRead fault → Rose before now)
 
--- the stop where a word that is due can't be had, after these bytes of it
+-- why no word could be read at offset `place`, after `taken`, fewer than 4 bytes of it
 abbrev pub SaysNoWord : Stop → ℕ → List ℕ → Option (List ℕ) → Type 0
 SaysNoWord (TooLong byte) place taken now = (byte ≡ limit) × (limit ≤ place) × (taken ≡ [])
 SaysNoWord (Truncated byte) place taken now =
@@ -49,13 +49,13 @@ SaysNoWord (Truncated byte) place taken now =
 SaysNoWord (ReadFault byte) place taken now = (place < limit) × (length taken < 4) × (byte ≡ place + length taken)
 SaysNoWord stop place taken now = ⊥
 
--- no word was had
+-- reading a word ended with this stop
 pub record EndsWord (before now : Option (List ℕ)) (place : ℕ) (stop : Stop) : Type 0 where
   pub taken : List ℕ
   pub bytes : before ≡ prepended taken now
   pub says : SaysNoWord stop place taken now
 
--- the bounds that a reader keeps
+-- the bounds of a reader's state
 pub record IsProgress (p : Progress) : Type 0 where
   pub due : IsDue p.due
   pub place : p.place < 2 ^ 31
@@ -64,33 +64,33 @@ pub record IsProgress (p : Progress) : Type 0 where
   pub version : p.version ≤ 3
   pub start : p.version ≡ 0 → p.place ≡ 0
 
--- the same behind the head
+-- the same after the header
 pub record IsBehindHead (p : Progress) : Type 0 where
   pub bounds : IsProgress p
   pub started : 1 ≤ p.version
 
--- what the bytes from a reader's place on say
+-- the meaning of the bytes that follow a reader's state
 abbrev pub capture_from : Progress → List ℕ → Captured
 capture_from p bytes =
     if nat_lt 0 p.version then then_events (replicate p.left p.repeated) (records p.version p.due p.place bytes)
     else capture bytes
 
--- a bound on the events and words that are still to come; each of them lowers it
+-- bounds the events and words that remain; each of them lowers it
 unfoldable pub work_left : Progress → ℕ
 work_left p = (2 ^ 31 - p.place) * 2 ^ 19 + p.left
 
--- the bytes are too few for a word or an event that is due
+-- after `old`, these bytes give no event and are truncated
 pub record IsCutShort (old : Progress) (bytes : List ℕ) : Type 0 where
   pub version : ℕ
   pub byte : ℕ
   pub is : capture_from old bytes ≡ ended version (Truncated byte) []
 
--- none of these bytes is one too many: a proper part of them is cut short before anything more is known
+-- All of these bytes are needed: any proper prefix of them gives no event and is truncated.
 abbrev pub AreNeeded : Progress → List ℕ → Type 0
 AreNeeded p taken = (part more : List ℕ) → taken ≡ part ++ more → (more ≡ [] → ⊥) → IsCutShort p part
 
--- bytes were taken, none too many, and events were given: what the format says of those bytes and any rest is these
--- events, and then what it says of the rest from the new place on
+-- Needed bytes were read and `events` were returned. By the format, those bytes and any rest mean these events and then
+-- the meaning of the rest after the new state.
 pub record Takes (before now : Standing) (events : List Event) : Type 0 where
   pub taken : List ℕ
   pub bytes : before.left ≡ prepended taken now.left
@@ -98,32 +98,32 @@ pub record Takes (before now : Standing) (events : List Event) : Type 0 where
   pub says : (rest : List ℕ)
       → capture_from before.progress (taken ++ rest) ≡ then_events events (capture_from now.progress rest)
 
--- What the format says of the bytes taken where a reader stops, in a capture of this version. No byte is taken past
--- those that decide it. Where the source failed, the bytes taken were not enough.
+-- The meaning of the bytes read if a reader stops, in a capture of this version. If the source failed or ended, the
+-- bytes read are truncated. Otherwise they decide the stop, whatever bytes follow.
 abbrev pub SaysStop : Stop → Progress → ℕ → List ℕ → Option (List ℕ) → Type 0
 SaysStop (ReadFault byte) old version taken now = capture_from old taken ≡ ended version (Truncated byte) []
 SaysStop (Truncated byte) old version taken now =
     (capture_from old taken ≡ ended version (Truncated byte) []) × IsAtEnd now
 SaysStop stop old version taken now = (rest : List ℕ) → capture_from old (taken ++ rest) ≡ ended version stop rest
 
--- bytes were taken, none too many, and no event was given: they say where the reader stops
+-- needed bytes were read, no event was returned, and they mean this stop
 pub record StopsAt (before now : Standing) (stop : Stop) : Type 0 where
   pub taken : List ℕ
   pub bytes : before.left ≡ prepended taken now.left
   pub needed : AreNeeded before.progress taken
   pub says : SaysStop stop before.progress now.progress.version taken now.left
 
--- where a new reader stands
+-- the state of a new reader
 pub record IsStart (p : Progress) : Type 0 where
   pub version : p.version ≡ 0
   pub place : p.place ≡ 0
   pub left : p.left ≡ 0
 
--- where a reader stands that is to take a tag
+-- the state of a reader that reads a tag next
 abbrev pub tag_due : ℕ → ℕ → Progress
 tag_due version place = record { version = version; place = place; due = Tag; repeated = Stat; left = 0 }
 
--- where a reader stands behind a word
+-- the state of a reader after a word
 abbrev pub behind_word : Progress → Due → Event → ℕ → Progress
 behind_word p due repeated left =
     record { version = p.version; place = p.place + 4; due = due; repeated = repeated; left = left }

@@ -1,16 +1,16 @@
--- The records of a capture, word by word (our own rule). A record begins with a tag: its kind in bits 24 to 31 and a
--- count in bits 0 to 23.
+-- The records of a capture, word by word (our own rule). A record begins with a tag: kind in bits 24 to 31, count in
+-- bits 0 to 23.
 --   0 End       count 0, no payload
---   1 Ram       count 1 to 524288: an address, and count words for it and the addresses behind it
+--   1 Ram       count 1 to 524288: an address, then count words for that address and the following ones
 --   2 Gp0       count 1 to 16777215: count words
 --   3 Gp1       count 1: one word
---   4 Read      count 1 to 262144: that many reads, no payload
+--   4 Read      count 1 to 262144: count reads, no payload
 --   5 Stat      count 1, no payload
 --   6 Dma       count 2 or 6, the channel: the values of MADR, BCR and CHCR
 -- and from version 2 on
 --   7 Begin     count 2, the channel: the values of MADR, BCR and CHCR
---   8 Turn      count 1 to 262144: that many turns, no payload
---   9 Skip      count 1 to 262144: that many reads that are not shown, no payload
+--   8 Turn      count 1 to 262144: count turns, no payload
+--   9 Skip      count 1 to 262144: count reads that are not printed, no payload
 use Rattle.std.specs.Prelude.{Bool, ◌≡◌, ◌≤◌, ◌<◌, ◌⊎◌, ℕ, ◌+◌, ◌-◌, ◌*◌, ◌/◌, ◌%◌, ◌^◌, ◌==◌, ◌&&◌, ◌||◌, nat_lt}
 use Rattle.std.specs.Prelude.{nat_le}
 use Rattle.std.specs.Prelude.{if◌then◌else◌}
@@ -25,14 +25,14 @@ use Rattle.gpu_capture.specs.declared.record.Start.TheVariants as start
 use Rattle.gpu_capture.specs.declared.record.Step.{Step}
 use Rattle.gpu_capture.specs.declared.record.Step.TheVariants.{Opens, Gives, Closes}
 
--- how many bytes and how many words main memory has
+-- the size of main memory in bytes and in words
 abbrev pub memory_bytes : ℕ
 memory_bytes = 0x200000
 
 abbrev pub memory_words : ℕ
 memory_words = 524288
 
--- the most events that a record without payload gives
+-- the largest count of a record without payload
 abbrev pub most_repeats : ℕ
 most_repeats = 262144
 
@@ -45,7 +45,7 @@ kind_of tag = tag / 2 ^ 24
 abbrev pub count_of : ℕ → ℕ
 count_of tag = tag % 2 ^ 24
 
--- a tag at a place
+-- what a tag at byte offset `place` does
 abbrev pub tag_step : ℕ → ℕ → ℕ → Step
 tag_step version place tag =
     let kind = kind_of tag in
@@ -62,25 +62,25 @@ tag_step version place tag =
     (if kind == 9 && (nat_le 2 version && is_repeats count) then Gives event.Skip count due.Tag else
     Closes (BadRecord place tag))))))))))
 
--- the address of a Ram record: a multiple of 4, with room for all its words below 200000h
+-- the address of a Ram record: a multiple of 4, and all words of the record are below 200000h
 abbrev pub address_step : ℕ → ℕ → ℕ → Step
 address_step place count address =
     if (address % 4 == 0) && nat_le (address + 4 * count) memory_bytes then Opens (due.Ram address count)
     else Closes (BadRecord place address)
 
--- what is open behind one of so many words
+-- what follows the first of `left` words
 abbrev pub ram_due : ℕ → ℕ → Due
 ram_due address left = if nat_lt 1 left then due.Ram (address + 4) (left - 1) else due.Tag
 
 abbrev pub gp0_due : ℕ → Due
 gp0_due left = if nat_lt 1 left then due.Gp0 (left - 1) else due.Tag
 
--- the start of a DMA channel with the values of its registers
+-- the event of a start with these register values
 abbrev pub started_by : Start → (madr bcr chcr : ℕ) → Event
 started_by (start.Dma channel) madr bcr chcr = event.Dma channel madr bcr chcr
 started_by start.Begin madr bcr chcr = event.Begin madr bcr chcr
 
--- what a word does at a place, where a record is open
+-- what a word at byte offset `place` does, by what it is
 abbrev pub word_step : ℕ → Due → ℕ → ℕ → Step
 word_step version due.Tag place word = tag_step version place word
 word_step version (due.Address count) place word = address_step place count word
@@ -93,7 +93,7 @@ word_step version (due.Chcr by madr bcr) place word = Gives (started_by by madr 
 
 -- ---- bounds
 
--- a channel that is played
+-- a channel that a capture can start
 abbrev pub IsChannel : ℕ → Type 0
 IsChannel channel = (channel ≡ 2) ⊎ (channel ≡ 6)
 
@@ -101,7 +101,7 @@ abbrev pub IsBy : Start → Type 0
 IsBy (start.Dma channel) = IsChannel channel
 IsBy start.Begin = Unit {0}
 
--- the bounds of what a reader keeps of an open record
+-- the bounds of what the next word is
 abbrev pub IsDue : Due → Type 0
 IsDue due.Tag = Unit {0}
 IsDue (due.Address count) = (1 ≤ count) × (count ≤ memory_words)
@@ -112,13 +112,13 @@ IsDue (due.Madr by) = IsBy by
 IsDue (due.Bcr by madr) = IsBy by
 IsDue (due.Chcr by madr bcr) = IsBy by
 
--- a step to a stop that a word decides
+-- a stop that a word decides
 abbrev pub IsWordStop : Stop → Type 0
 IsWordStop End = Unit {0}
 IsWordStop (BadRecord byte word) = Unit {0}
 IsWordStop stop = ⊥
 
--- what a recorded event holds: an address of main memory, a channel that is played
+-- the bounds of an event: an address of main memory, a channel that can be started
 abbrev pub IsEvent : Event → Type 0
 IsEvent (event.Ram address word) = (address < memory_bytes) × (address % 4 ≡ 0)
 IsEvent (event.Gp0 word) = Unit {0}
@@ -130,7 +130,7 @@ IsEvent (event.Begin madr bcr chcr) = Unit {0}
 IsEvent event.Turn = Unit {0}
 IsEvent event.Skip = Unit {0}
 
--- what a step gives and leads to keeps the bounds
+-- the bounds of a step
 abbrev pub IsStep : Step → Type 0
 IsStep (Opens next) = IsDue next
 IsStep (Gives given count next) = IsEvent given × (1 ≤ count) × (count ≤ most_repeats) × IsDue next

@@ -1,4 +1,4 @@
--- What contracts see of a reader: how far it has come, and the stop that it has answered.
+-- A reader in contracts: its state, and the stop that it has returned.
 use Rattle.std.specs.Prelude.{◌≡◌, ℕ, List, Option, None, Some, Result, Err, OnOk, IfErr, IfSome}
 use Rattle.gpu_capture.specs.declared.event.Stop.{Stop}
 use Rattle.gpu_capture.specs.declared.progress.Progress.{Progress}
@@ -7,8 +7,8 @@ pub record ReaderState : Type 0 where
   pub progress : Progress
   pub stop : Option Stop
 
--- A reader keeps the stop that it answers, and has kept none where it answers anything else. A stop that it has kept is
--- answered again: it stands where it stood then, and takes nothing.
+-- A reader keeps the stop that it returns, and has none after any other result. With a stop kept, a call returns it,
+-- changes nothing and reads nothing.
 pub record KeepsStop {Value : Type 0} (before now : ReaderState) (left left_now : Option (List ℕ))
     (result : Result Value Stop) : Type 0 where
   pub running : OnOk result (before.stop ≡ None)

@@ -1,4 +1,4 @@
--- Whole records, and what each of them says (our own rule).
+-- Whole records, and their meaning (our own rule).
 use Rattle.std.specs.Prelude.{◌≡◌, ◌≤◌, ◌<◌, ℕ, List, [], ◌∷◌, ◌++◌, ◌+◌, ◌*◌, ◌%◌, ◌^◌, flat_map, length, map}
 use Rattle.std.specs.Prelude.{replicate}
 use Rattle.gpu_capture.specs.Capture.{capture, head_of, IsVersion, limit}
@@ -8,7 +8,7 @@ use Rattle.gpu_capture.specs.declared.event.Event.{Event}
 use Rattle.gpu_capture.specs.declared.event.Event.TheVariants as event
 use Rattle.gpu_capture.specs.declared.event.Stop.TheVariants.{End}
 
--- a record, by its kind, its count or its words, and its payload
+-- a record: its kind, its count or words, and its payload
 pub data Record : Type 0 where
   Ram : (address : ℕ) → (words : List ℕ) → Record
   Gp0 : (words : List ℕ) → Record
@@ -20,7 +20,7 @@ pub data Record : Type 0 where
   Turns : (count : ℕ) → Record
   Skips : (count : ℕ) → Record
 
--- its words
+-- the words of a record
 abbrev pub words_in : Record → List ℕ
 words_in (Ram address words) = tag_of 1 (length words) ∷ address ∷ words
 words_in (Gp0 words) = tag_of 2 (length words) ∷ words
@@ -32,12 +32,12 @@ words_in (Begin madr bcr chcr) = tag_of 7 2 ∷ madr ∷ bcr ∷ chcr ∷ []
 words_in (Turns count) = tag_of 8 count ∷ []
 words_in (Skips count) = tag_of 9 count ∷ []
 
--- words for an address and those behind it
+-- words for an address and the following ones
 abbrev pub words_from : (address : ℕ) → List ℕ → List Event
 words_from address [] = []
 words_from address (word ∷ words) = event.Ram address word ∷ words_from (address + 4) words
 
--- its events
+-- the events of a record
 abbrev pub events_in : Record → List Event
 events_in (Ram address words) = words_from address words
 events_in (Gp0 words) = map event.Gp0 words
@@ -77,7 +77,7 @@ AreRecords version (given ∷ others) = IsRecord version given × AreRecords ver
 abbrev pub record_bytes : Record → List ℕ
 record_bytes given = flat_map word_bytes (words_in given)
 
--- A head, records that its version allows, and an End record are read as the events of the records with End, whatever
+-- A header, records that its version allows, and an End record are read as the events of the records and End, whatever
 -- follows.
 abbrev pub RecordsAreRead : Type 0
 RecordsAreRead = (version : ℕ) (given : List Record) (rest : List ℕ) → IsVersion version → AreRecords version given

@@ -1,5 +1,5 @@
--- Events as they are written (our own rule): a head, a record for each event, with count 1 where a count can be chosen,
--- and an End record.
+-- Events as they are written (our own rule): a header, a record for each event, with count 1 if the count is not the
+-- channel, and an End record.
 use Rattle.std.specs.Prelude.{◌≡◌, ◌≤◌, ◌<◌, ℕ, List, [], ◌∷◌, ◌++◌, ◌+◌, ◌*◌, ◌^◌, flat_map, length}
 use Rattle.byteorder.specs.Endian.{little_bytes}
 use Rattle.gpu_capture.specs.Capture.{capture, head_of, IsVersion, limit}
@@ -45,7 +45,7 @@ written version events = head_of version ++ flat_map spelled events ++ spelled_e
 
 -- ---- what can be written
 
--- the values of an event are words
+-- the values of an event are 32-bit words
 abbrev pub HoldsWords : Event → Type 0
 HoldsWords (event.Ram address word) = word < 2 ^ 32
 HoldsWords (event.Gp0 word) = word < 2 ^ 32
@@ -57,7 +57,7 @@ HoldsWords event.Stat = Unit {0}
 HoldsWords event.Turn = Unit {0}
 HoldsWords event.Skip = Unit {0}
 
--- an event's record is known from this version on
+-- the first version that has the record of an event
 abbrev pub first_version : Event → ℕ
 first_version (event.Ram address word) = 1
 first_version (event.Gp0 word) = 1
@@ -81,7 +81,7 @@ AllowsAll version (event ∷ events) = Allows version event × AllowsAll version
 
 -- ---- the law
 
--- What is written is read again as these events with End, whatever follows it.
+-- What is written is read as these events and End, whatever follows it.
 abbrev pub WrittenIsRead : Type 0
 WrittenIsRead = (version : ℕ) (events : List Event) (rest : List ℕ) → IsVersion version → AllowsAll version events
     → length (written version events) ≤ limit

@@ -1,4 +1,4 @@
-// Words of a Gp0 record that are taken at once.
+// Bulk reads of words of a Gp0 record.
 ghost use Rattle.std.specs.Prelude.{◌≡◌, ◌≤◌, ◌+◌, ◌*◌, ◌/◌, ◌%◌, List, ℕ, Option, []};
 ghost use Rattle.std.specs.Prelude.{length, drop, min, IfErr, OnOk};
 ghost use Rattle.dev_io.specs.Device.{prepended};
@@ -13,9 +13,9 @@ use byteorder::{ByteOrder, LittleEndian};
 use dev_io::{Source, fill};
 use std::marker::Model;
 
-/// Words of a Gp0 record that were taken at once, and the room for them.
+/// The words of one bulk read of a Gp0 record, at most 512, with a byte buffer for them.
 ///
-/// Contracts see the list of the words.
+/// In contracts, a block is the list of its words.
 #[derive(Drop)]
 pub struct WordBlock {
     bytes: [u8; 2048],
@@ -31,7 +31,7 @@ impl Model for WordBlock {
 }
 
 impl WordBlock {
-    /// No words.
+    /// Returns an empty block.
     pub fn new() -> WordBlock
         ensures { result ≡ [] }
     {
@@ -48,15 +48,16 @@ impl WordBlock {
         self.words.as_slice()
     }
 
-    /// Forgets the words.
+    /// Removes all words.
     pub fn clear(&mut self)
         ensures { self.new ≡ [] }
     {
         self.words.clear();
     }
 
-    /// Takes the next words of an open Gp0 record, as many as are left and find room, but at most so many. None where
-    /// no such record is open.
+    /// Replaces the words by the next words of an open Gp0 record. Their number is the least of `most`, 512, the words
+    /// left in the record, and the words that fit below byte offset 2^30. It is 0 if no Gp0 record is open. If the
+    /// source ends or fails first, keeps the complete words read so far and returns the stop.
     pub(crate) fn take<S: Source>(
         &mut self,
         progress: &mut Progress,
@@ -82,7 +83,7 @@ impl WordBlock {
     }
 }
 
-/// Takes so many words.
+/// Reads the next `count` words of the open record into `words`, with `bytes` as buffer.
 fn take_words<S: Source>(
     progress: &mut Progress,
     source: &mut S,
@@ -103,7 +104,8 @@ fn take_words<S: Source>(
     fill_words(progress, source, &mut bytes[..4 * count], words)
 }
 
-/// Takes as many words as the bytes have room for.
+/// Fills `bytes` from the source and appends its complete words to `words`. If the source ends or fails first, does so
+/// with the bytes read and returns the stop.
 fn fill_words<S: Source>(
     progress: &mut Progress,
     source: &mut S,
@@ -142,7 +144,8 @@ fn fill_words<S: Source>(
     }
 }
 
-/// The whole words of bytes that were taken.
+/// Appends the complete words of `bytes` to `words` and advances `progress` past them. Ignores up to 3 bytes at the
+/// end.
 fn read_words(progress: &mut Progress, bytes: &[u8], words: &mut ArrayVec<u32, 512>)
     requires can { CanTake progress.old (length bytes.now / 4) }
     requires empty { words.old.items ≡ [] }

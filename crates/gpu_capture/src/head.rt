@@ -1,9 +1,9 @@
-// What the first 8 bytes of a file say.
+// Recognizes a file by its first 8 bytes.
 ghost use Rattle.std.specs.Prelude.{◌≡◌, ◌<◌, ◌≤◌, length, IfOk, IfErr, IfSome};
 ghost use Rattle.gpu_capture.specs.Head.{first_difference, place_of_difference, head_among};
 
-/// Which of these heads the bytes are, by its number from 0 on. For other bytes it answers the first place at which
-/// none of the heads goes on.
+/// Returns the index of the first element of `heads` that equals `bytes`. If there is none, returns the length of the
+/// longest prefix of `bytes` that some element begins with, 0 to 7.
 pub fn head_among(heads: &[[u8; 8]], bytes: &[u8; 8]) -> Result<usize, usize>
     ensures value { result ≡ head_among heads.now bytes.now }
     ensures number { IfOk result (λ number. number < length heads.now) }
@@ -20,7 +20,7 @@ pub fn head_among(heads: &[[u8; 8]], bytes: &[u8; 8]) -> Result<usize, usize>
     Err(furthest)
 }
 
-// How far the bytes go on as a head does: to the first place at which they differ, or to its end.
+// Returns the length of the common prefix of both, 0 to 8.
 fn place_of_difference(head: &[u8; 8], bytes: &[u8; 8]) -> usize
     ensures value { result ≡ place_of_difference head.now bytes.now }
     ensures within { result ≤ 8 }
@@ -28,7 +28,7 @@ fn place_of_difference(head: &[u8; 8], bytes: &[u8; 8]) -> usize
     difference(head, bytes).unwrap_or(8)
 }
 
-// The first place at which the bytes differ from a head.
+// Returns the first offset at which both differ, or `None` if they are equal.
 fn difference(head: &[u8; 8], bytes: &[u8; 8]) -> Option<usize>
     ensures place { result ≡ first_difference head.now bytes.now }
     ensures within { IfSome result (λ place. place < 8) }

@@ -1,8 +1,9 @@
-//! Captures: the events of a recorded list, read from any source, however its bytes arrive.
+//! Captures: reads the events of a recording from any source, whatever number of bytes each read returns, and writes
+//! them.
 //!
-//! A capture begins with the 8 bytes `PSXGPUC1`, `PSXGPUC2` or `PSXGPUC3`, for versions 1 to 3. Then little-endian
-//! words follow, in records. A record begins with a tag, its kind in bits 24 to 31 and a count in bits 0 to 23.
-//! `docs/CAPTURE.md` has the whole format.
+//! A capture begins with the 8 bytes `PSXGPUC1`, `PSXGPUC2` or `PSXGPUC3`, for versions 1 to 3. Little-endian words
+//! follow, in records. A record begins with a tag: kind in bits 24 to 31, count in bits 0 to 23. `docs/CAPTURE.md`
+//! describes the whole format.
 #![tactic(auto)]
 
 mod block;

@@ -1,4 +1,4 @@
-// The words of an open Gp0 record: how many may be taken at once, and where a reader stands behind them.
+// The words of an open Gp0 record: how many one bulk read may take, and the reader state after them.
 ghost use Rattle.std.specs.Prelude.{◌≡◌, ◌≤◌, ◌<◌, ◌^◌};
 ghost use Rattle.gpu_capture.specs.Reader.{IsProgress};
 ghost use Rattle.gpu_capture.specs.Record.{IsDue};
@@ -7,7 +7,8 @@ ghost use Rattle.gpu_capture.specs.Words.{MayTake, StaysWithin, gp0_left, words_
 use crate::progress::{LIMIT, Progress};
 use crate::record::Due;
 
-/// How many words of an open Gp0 record are taken at once.
+/// Returns how many words one bulk read may take: at most the words left in the record and 512, all below byte offset
+/// 2^30. 0 if no Gp0 record is open, the header is unread, or a repeated event is left.
 pub(crate) fn words_at_once(progress: &Progress) -> usize
     ensures may { 0 < result → MayTake progress.now result }
     ensures room { result ≤ 512 }
@@ -19,7 +20,7 @@ pub(crate) fn words_at_once(progress: &Progress) -> usize
     gp0_left(progress.due).min(below_limit).min(512) as usize
 }
 
-/// How many words are left of an open Gp0 record.
+/// Returns how many words are left in an open Gp0 record, and 0 if none is open.
 pub(crate) fn gp0_left(due: Due) -> u32
     ensures { result ≡ gp0_left due }
 {
@@ -29,7 +30,7 @@ pub(crate) fn gp0_left(due: Due) -> u32
     }
 }
 
-/// Where a reader stands behind so many words of the open record.
+/// Returns the reader state after the next `count` words of the open record.
 #[tactic(auto, unfolding(crate::specs::Reader::work_left))]
 pub(crate) fn behind_words(progress: &Progress, count: u32) -> Progress
     requires bounds { IsProgress progress.now }
@@ -47,7 +48,7 @@ pub(crate) fn behind_words(progress: &Progress, count: u32) -> Progress
     }
 }
 
-/// What is open behind so many of the words that are left.
+/// Returns what follows the next `count` of the `left` words of a Gp0 record.
 fn words_due(left: u32, count: u32) -> Due
     requires { left < 2 ^ 24 }
     ensures value { result ≡ words_due left count }

@@ -1,4 +1,4 @@
-// How far a reader has come, and the steps by which it goes on.
+// The state of a capture reader, and the steps that advance it.
 ghost use Rattle.std.specs.Prelude.{◌≡◌, ◌<◌, ◌≤◌, ◌+◌, ◌^◌, None, [], ◌∷◌, IfSome, IfOk, IfErr, OnOk};
 ghost use Rattle.std.specs.Prelude.{option_to_list};
 ghost use Rattle.gpu_capture.specs.Record.{IsEvent};
@@ -14,11 +14,11 @@ use dev_io::{Source, fill};
 
 pub(crate) const LIMIT: u32 = 1 << 30;
 
-/// The known heads, in the order of their versions.
+/// The file headers of versions 1 to 3, in this order.
 const HEADS: [[u8; 8]; 3] = [*b"PSXGPUC1", *b"PSXGPUC2", *b"PSXGPUC3"];
 
-/// Where a reader stands: the version of the capture, 0 where its first 8 bytes are still due, the place of the next
-/// word, the record that is open there, and an event that is still to be given so many times before that word.
+/// The state of a reader. `version`: 0 until the 8-byte header is read. `place`: byte offset of the next word. `due`:
+/// what that word is. `repeated`, `left`: the reader returns `repeated` `left` more times before it reads the word.
 #[derive(Clone, Copy, Debug, PartialEq, Eq)]
 pub struct Progress {
     pub version: u8,
@@ -28,7 +28,7 @@ pub struct Progress {
     pub left: u32,
 }
 
-/// The word at a place. It is not asked for where it would begin at the limit.
+/// Reads the word at byte offset `place`. At offset 2^30 or later, reads nothing and returns `TooLong`.
 fn read_word<S: Source>(source: &mut S, place: u32) -> Result<u32, Stop>
     requires { place < 2 ^ 31 }
     ensures word { IfOk result (λ word. IsWord (S.left source.old) (S.left source.new) place word) }
@@ -50,7 +50,7 @@ fn read_word<S: Source>(source: &mut S, place: u32) -> Result<u32, Stop>
     }
 }
 
-/// The version of a head, or the first place where no head goes on.
+/// Returns the version that a file header names, or the first offset at which `bytes` differs from every known header.
 fn version_of(bytes: &[u8; 8]) -> Result<u8, usize>
     ensures version { result ≡ head_version bytes.now }
     ensures within { IfErr result (λ place. place < 8) }
@@ -60,7 +60,7 @@ fn version_of(bytes: &[u8; 8]) -> Result<u8, usize>
     Ok(number as u8 + 1)
 }
 
-/// Takes the head, if it is still due.
+/// Reads the 8-byte header and sets the version. Does nothing if the header was read before.
 fn take_head<S: Source>(progress: &mut Progress, source: &mut S) -> Result<(), Stop>
     requires { IsProgress progress.old }
     ensures takes { OnOk result
@@ -89,7 +89,7 @@ fn take_head<S: Source>(progress: &mut Progress, source: &mut S) -> Result<(), S
     }
 }
 
-/// Where a reader of this version stands that is to take a tag at a place.
+/// Returns the state of a reader of `version` that reads a tag next, at byte offset `place`.
 pub(crate) fn at_tag(version: u8, place: u32) -> Progress
     requires version { IsVersion version }
     requires place { place < 2 ^ 31 }
@@ -105,7 +105,8 @@ pub(crate) fn at_tag(version: u8, place: u32) -> Progress
     }
 }
 
-/// Takes one word, or gives an event that is still to be given.
+/// If `left` is not 0, lowers it, returns `repeated` and reads nothing. Otherwise reads one word. Returns `None` if the
+/// word completes no event.
 fn take_word<S: Source>(progress: &mut Progress, source: &mut S) -> Result<Option<Event>, Stop>
     requires { IsBehindHead progress.old }
     ensures takes { IfOk result (λ event. Takes (standing progress.old (S.left source.old))
@@ -136,7 +137,7 @@ fn take_word<S: Source>(progress: &mut Progress, source: &mut S) -> Result<Optio
     }
 }
 
-/// Where a reader stands behind a word.
+/// Returns the reader state after one word: the offset 4 larger, the other values as given.
 fn behind_word(progress: Progress, due: Due, repeated: Event, left: u32) -> Progress
     requires { progress.place < 2 ^ 30 }
     ensures { result ≡ behind_word progress due repeated left }
@@ -150,7 +151,7 @@ fn behind_word(progress: Progress, due: Due, repeated: Event, left: u32) -> Prog
     }
 }
 
-/// The next event.
+/// Returns the next event. Reads the header first if it is unread.
 pub(crate) fn advance<S: Source>(progress: &mut Progress, source: &mut S) -> Result<Event, Stop>
     requires { IsProgress progress.old }
     ensures takes { IfOk result (λ event. Takes (standing progress.old (S.left source.old))

@@ -1,4 +1,4 @@
-// The events of a capture, one after another, and the stop that a reader has answered.
+// A reader of captures, which returns one event a call and keeps its stop.
 ghost use Rattle.std.specs.Prelude.{◌≡◌, ◌≤◌, ◌<◌, ◌+◌, ◌*◌, ◌%◌, ◌^◌, [], ◌∷◌, false, None, min};
 ghost use Rattle.std.specs.Prelude.{IfOk, IfErr, OnOk};
 ghost use Rattle.dev_io.specs.Device.{Rose};
@@ -19,13 +19,13 @@ use crate::write::RECORD_MOST;
 use dev_io::Source;
 use std::marker::Model;
 
-/// So many bytes are taken at most while a sink waits for what is gathered for it.
+/// After this many bytes, buffered output is written before the next event is read.
 const FEW: u32 = 4096;
 
-/// The events of a capture, one after another.
+/// Reads the events of a capture, one a call.
 ///
-/// Contracts see how far it has come and the stop that it has answered. What the format says of the bytes that were
-/// taken and of any rest is the events given, and then what it says of the rest from the reader's place on.
+/// In contracts, a reader is its state and the stop that it has returned. The bytes read and any rest mean the events
+/// returned, and then what the rest means from the reader's position on.
 #[derive(Drop)]
 pub struct EventReader {
     progress: Progress,
@@ -44,7 +44,7 @@ impl Model for EventReader {
 }
 
 impl EventReader {
-    /// A reader at the beginning of a capture. It takes no memory.
+    /// Returns a reader at the start of a capture. Allocates no memory.
     #[tactic(auto, unfolding(crate::specs::Reader::work_left))]
     pub fn new() -> Self
         ensures start { IsStart result.progress }
@@ -63,7 +63,8 @@ impl EventReader {
         }
     }
 
-    /// A reader of this version that is to take a tag at a place behind the head.
+    /// Returns a reader of `version` that reads a tag next. `byte` is its offset in the capture: a multiple of 4, at
+    /// least 8, at most 2^30.
     #[tactic(auto, unfolding(crate::specs::Reader::work_left))]
     pub fn at(version: u8, byte: u32) -> Self
         requires version { IsVersion version }
@@ -79,7 +80,7 @@ impl EventReader {
         }
     }
 
-    /// The version of the capture, 0 until its head was read.
+    /// Returns the version of the capture, 0 until the header is read.
     pub fn version(&self) -> u8
         ensures value { result ≡ self.now.progress.version }
         ensures known { result ≤ 3 }
@@ -87,22 +88,22 @@ impl EventReader {
         self.progress.version
     }
 
-    /// The place of the next byte.
+    /// Returns the byte offset of the next word: 0 until the header is read.
     pub fn place(&self) -> u32
         ensures { result ≡ self.now.progress.place }
     {
         self.progress.place
     }
 
-    /// How many words are left of an open Gp0 record. None are left where no such record is open.
+    /// Returns how many words are left in an open Gp0 record, and 0 if none is open.
     pub fn words_left(&self) -> u32
         ensures { result ≡ gp0_left self.now.progress.due }
     {
         gp0_left(self.progress.due)
     }
 
-    /// Whether what is gathered for a sink should be written before the next event is asked for: since the source may
-    /// have to wait for that event, or since 4,096 bytes or more were taken behind this place.
+    /// Returns whether buffered output should be written before the next event is read: if the source may have to wait
+    /// for that event, or if 4,096 bytes or more were read after offset `since`.
     pub fn pauses<S: Source>(&self, source: &S, since: u32) -> bool
         ensures waits { result ≡ false → IsAtHand self.now.progress (S.at_hand source.now) }
         ensures few { result ≡ false → self.now.progress.place < since + 4096 }
@@ -111,8 +112,8 @@ impl EventReader {
         waits || self.progress.place >= since.saturating_add(FEW)
     }
 
-    /// The next event. It takes no byte past those that the event or the stop needs. After a stop it answers the same
-    /// stop, and takes nothing.
+    /// Returns the next event. Reads no byte after those that decide the event or the stop. After a stop, every call
+    /// returns the same stop and reads nothing.
     pub fn next<S: Source>(&mut self, source: &mut S) -> Result<Event, Stop>
         ensures takes { IfOk result (λ event. Takes (standing self.old.progress (S.left source.old))
             (standing self.new.progress (S.left source.new)) (event ∷ [])) }
@@ -138,10 +139,12 @@ impl EventReader {
         }
     }
 
-    /// Takes the next words of an open Gp0 record at once, as many as are left of it and find room in the block, but no
-    /// more than `most`; none where no such record is open. They are the next events, of 2,048 bytes at most. Whatever
-    /// follows, no event of the record can be refused, so no byte is taken too many. Where the reader stops behind
-    /// them, that is the answer, and the words stand.
+    /// Replaces the words of `block` by the next words of an open Gp0 record. Each is one event. Their number is the
+    /// least of `most`, 512, the words left in the record, and the words that fit below byte offset 2^30. It is 0 if no
+    /// Gp0 record is open.
+    ///
+    /// If the source ends or fails first, `block` has the complete words read before, and the stop is returned. No
+    /// event of such a record can be refused, so no byte is read too early. The reader must not have stopped.
     pub fn words<S: Source>(
         &mut self,
         source: &mut S,

@@ -1,4 +1,4 @@
-// What a word does, by the record that is open where it stands.
+// What a word does, by the record that is open at it.
 ghost use Rattle.std.specs.Prelude.{◌≡◌, ◌<◌, ◌/◌};
 ghost use Rattle.gpu_capture.specs.Record.{IsDue, IsStep, word_step, address_step, gp0_due};
 ghost use Rattle.gpu_capture.specs.Record.{started_by, IsBy, IsEvent};
@@ -6,34 +6,34 @@ ghost use Rattle.gpu_capture.specs.Record.{started_by, IsBy, IsEvent};
 use crate::event::{Event, Stop};
 use crate::tags::tag;
 
-/// How many bytes main memory has.
+/// The size of main memory in bytes.
 pub(crate) const MEMORY_BYTES: u32 = 0x20_0000;
 
-/// The record that is open, by what its next word is.
+/// What the next word of a capture is.
 #[derive(Clone, Copy, Debug, PartialEq, Eq)]
 pub enum Due {
-    /// None: a tag is due.
+    /// No record is open; the next word is a tag.
     Tag,
-    /// The address of a Ram record of so many words.
+    /// The address of a Ram record of `count` words.
     Address { count: u32 },
-    /// A word of a Ram record for this address, the first of so many.
+    /// The first of `left` words of a Ram record, for this address.
     Ram { address: u32, left: u32 },
-    /// A word of a Gp0 record, the first of so many.
+    /// The first of `left` words of a Gp0 record.
     Gp0 { left: u32 },
     /// The word of a Gp1 record.
     Gp1,
-    /// The address register of a DMA channel.
+    /// The value of MADR, the base address register of a DMA channel.
     Madr { by: Start },
-    /// The block register, behind the address register.
+    /// The value of BCR, the block control register, after MADR.
     Bcr { by: Start, madr: u32 },
-    /// The control register, behind the two others.
+    /// The value of CHCR, the channel control register, after MADR and BCR.
     Chcr { by: Start, madr: u32, bcr: u32 },
 }
 
 /// How a DMA channel is started.
 #[derive(Clone, Copy, Debug, PartialEq, Eq)]
 pub enum Start {
-    /// All that it moves is moved at once.
+    /// The whole transfer is done at its start.
     Dma { channel: u8 },
     /// Nothing is moved before its first turn.
     Begin,
@@ -42,15 +42,15 @@ pub enum Start {
 /// What a word does.
 #[derive(Clone, Copy, Debug, PartialEq, Eq)]
 pub(crate) enum Step {
-    /// It leads to another word of its record.
+    /// It is followed by another word of its record.
     Opens { next: Due },
-    /// It completes an event, or is so many of it.
+    /// It gives `event` `count` times. `next` is what the following word is.
     Gives { event: Event, count: u32, next: Due },
     /// It ends the capture.
     Closes { stop: Stop },
 }
 
-/// What a word does at a place, where a record is open in a capture of this version.
+/// Returns what `word` at byte offset `place` does, if `due` is what the word is, in a capture of this version.
 pub(crate) fn read_step(version: u8, due: Due, place: u32, word: u32) -> Step
     requires { IsDue due }
     ensures value { result ≡ word_step version due place word }
@@ -88,7 +88,7 @@ pub(crate) fn read_step(version: u8, due: Due, place: u32, word: u32) -> Step
     }
 }
 
-// The event of a start with the values of its registers.
+// Returns the event of a start with these register values.
 fn started(by: Start, madr: u32, bcr: u32, chcr: u32) -> Event
     requires { IsBy by }
     ensures value { result ≡ started_by by madr bcr chcr }
@@ -144,7 +144,7 @@ fn ram(address: u32, left: u32, word: u32) -> Step
     }
 }
 
-/// What is open behind a word of a Gp0 record.
+/// Returns what follows the first of `left` words of a Gp0 record.
 fn gp0(left: u32) -> Due
     requires { IsDue (Due.Gp0 left) }
     ensures value { result ≡ gp0_due left }

@@ -1,4 +1,4 @@
-// What a tag does: it opens a record, is one that has no payload, or ends the capture.
+// What a tag does: opens a record, is a record without payload, or ends the capture.
 ghost use Rattle.std.specs.Prelude.{◌≡◌};
 ghost use Rattle.gpu_capture.specs.Record.{IsStep, tag_step};
 
@@ -6,13 +6,13 @@ use crate::event::{Event, Stop};
 use crate::record::{Due, MEMORY_BYTES, Start, Step};
 use px_num::bits;
 
-/// How many words main memory has.
+/// The size of main memory in words.
 const MEMORY_WORDS: u32 = MEMORY_BYTES / 4;
 
-/// The most events that a record without payload gives.
+/// The largest count of a record without payload.
 const MOST_REPEATS: u32 = 262_144;
 
-/// What a tag does at a place, in a capture of this version.
+/// Returns what the tag `word` at byte offset `place` does, in a capture of this version.
 pub(crate) fn tag(version: u8, place: u32, word: u32) -> Step
     ensures value { result ≡ tag_step version place word }
     ensures bounds { IsStep result }
@@ -47,7 +47,7 @@ pub(crate) fn tag(version: u8, place: u32, word: u32) -> Step
     }
 }
 
-// A record without payload, which is so many of an event.
+// A record without payload gives `event` `count` times.
 fn repeats(event: Event, count: u32) -> Step
     ensures { result ≡ Step.Gives event count Due.Tag }
 {

@@ -1,4 +1,4 @@
-// Captures are written: a head, a record for each event, and an End record.
+// Writes captures: a file header, a record for each event, and an End record.
 ghost use Rattle.std.specs.Prelude.{◌≡◌, ◌≤◌, ◌<◌, ◌^◌, length, flat_map};
 ghost use Rattle.dev_io.specs.Device.{Writes, side};
 ghost use Rattle.gpu_capture.specs.Capture.{IsVersion, head_of};
@@ -9,10 +9,10 @@ use crate::event::Event;
 use arrayvec::ArrayVec;
 use dev_io::{Failed, Sink, write_all};
 
-/// The most bytes that the record of one event has.
+/// The largest size of the record of one event, in bytes.
 pub const RECORD_MOST: usize = 16;
 
-/// The head of a capture of this version.
+/// Returns the file header of a capture of this version, 1 to 3.
 pub fn head_bytes(version: u8) -> [u8; 8]
     requires { IsVersion version }
     ensures { result ≡ head_of version }
@@ -20,7 +20,8 @@ pub fn head_bytes(version: u8) -> [u8; 8]
     [b'P', b'S', b'X', b'G', b'P', b'U', b'C', b'0' + version]
 }
 
-/// The record of one event, with count 1 where a count can be chosen.
+/// Returns the record of one event, with count 1 if the count is not the channel. Requires an event that a reader can
+/// return: the address of Ram is a multiple of 4 below 200000h, the channel of Dma is 2 or 6.
 pub fn record_bytes(event: &Event) -> ArrayVec<u8, RECORD_MOST>
     requires { IsEvent event.now }
     ensures { result.items ≡ spelled event.now }
@@ -43,7 +44,7 @@ pub fn record_bytes(event: &Event) -> ArrayVec<u8, RECORD_MOST>
     }
 }
 
-/// The record of a word that is written to GP0.
+/// Returns the record of a word that is written to GP0.
 #[tactic(auto, unfolding(crate::specs::Written::word_bytes))]
 pub fn word_record(word: u32) -> [u8; 8]
     ensures { result ≡ spelled (Event.Gp0 word) }
@@ -53,7 +54,7 @@ pub fn word_record(word: u32) -> [u8; 8]
     [a, b, c, d, e, f, g, h]
 }
 
-/// Writes the head of a capture of this version. After a failure a proper part of it was written.
+/// Writes the file header of a capture of this version, 1 to 3. On failure, only a proper prefix of it was written.
 pub fn write_start<K: Sink>(sink: &mut K, version: u8) -> Result<(), Failed>
     requires { IsVersion version }
     ensures { Writes (side K.held K.faults) sink.old sink.new (head_of version) result }
@@ -61,8 +62,7 @@ pub fn write_start<K: Sink>(sink: &mut K, version: u8) -> Result<(), Failed>
     write_all(sink, &head_bytes(version))
 }
 
-/// Writes the record of one event, with count 1 where a count can be chosen. After a failure a proper part of it was
-/// written.
+/// Writes the record of one event, as [`record_bytes`] returns it. On failure, only a proper prefix of it was written.
 pub fn write_event<K: Sink>(sink: &mut K, event: &Event) -> Result<(), Failed>
     requires { IsEvent event.now }
     ensures { Writes (side K.held K.faults) sink.old sink.new (spelled event.now) result }
@@ -70,14 +70,14 @@ pub fn write_event<K: Sink>(sink: &mut K, event: &Event) -> Result<(), Failed>
     write_all(sink, record_bytes(event).as_slice())
 }
 
-/// Writes an End record. After a failure a proper part of it was written.
+/// Writes an End record. On failure, only a proper prefix of it was written.
 pub fn write_end<K: Sink>(sink: &mut K) -> Result<(), Failed>
     ensures { Writes (side K.held K.faults) sink.old sink.new spelled_end result }
 {
     write_all(sink, &bytes(tag(0, 0)))
 }
 
-// A word, the low byte first.
+// Returns the bytes of a word, the low byte first.
 #[tactic(auto, unfolding(crate::specs::Written::word_bytes))]
 fn bytes(word: u32) -> [u8; 4]
     ensures { result ≡ word_bytes word }
@@ -85,7 +85,7 @@ fn bytes(word: u32) -> [u8; 4]
     word.to_le_bytes()
 }
 
-// Words, one after another.
+// Returns the bytes of at most 4 words, in order.
 fn words_bytes(words: &[u32]) -> ArrayVec<u8, RECORD_MOST>
     requires { length words.now ≤ 4 }
     ensures { result.items ≡ flat_map word_bytes words.now }
@@ -99,7 +99,7 @@ fn words_bytes(words: &[u32]) -> ArrayVec<u8, RECORD_MOST>
     gathered
 }
 
-// The tag of a record.
+// Returns the tag of a record.
 fn tag(kind: u32, count: u32) -> u32
     requires kind { kind < 2 ^ 8 }
     requires count { count < 2 ^ 24 }

@@ -1,4 +1,4 @@
--- States of which the same is kept go on alike.
+-- States with equal essential parts behave alike.
 use Rattle.std.proofs.Common.{◌≡◌, ℕ, ◌*◌, Bool, true, false, cond, List, [], is_some, refl, sym, ap, ◌∙◌}
 use Rattle.gp0_words.specs.Items.{pending_behind}
 use Rattle.gp0_words.specs.Next.{next_item, next_pending}
@@ -16,7 +16,7 @@ use Rattle.gpu_core.proofs.States.{new_item-is}
 pub new_item-next : (words : List ℕ) (word : ℕ) → new_item words word ≡ next_item (pending_behind words) word
 new_item-next words word = new_item-is words word (next_item (pending_behind words) word) (items_of-push words word)
 
--- ---- each step, by what is kept
+-- ---- each step, by the essential part
 
 fed_kept : (s : State) (word : ℕ) → kept_of (after_gp0 s word)
     ≡ record {
@@ -30,7 +30,7 @@ cond-keeps : (b : Bool) (s t : State) → kept_of (cond b s t) ≡ cond b (kept_
 cond-keeps true s t = refl
 cond-keeps false s t = refl
 
--- what is kept after a word of GP1
+-- the essential part after a word of GP1
 abbrev controlled : Kept → ℕ → Kept
 controlled k word =
     let parts : Parts = record k.parts { regs = gp1_of k.parts.regs word } in

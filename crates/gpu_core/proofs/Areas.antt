@@ -1,4 +1,4 @@
--- The area of a polygon doesn't hang on the draw mode.
+-- The area of a polygon does not depend on the draw mode.
 use Rattle.std.proofs.Common.{◌≡◌, ℕ, Bool, true, false, refl}
 use Rattle.px_num.specs.declared.shape.Vertex.{Vertex}
 use Rattle.gp0_packets.specs.declared.packet.Packet.TheVariants.{Poly}

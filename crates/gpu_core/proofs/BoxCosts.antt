@@ -1,4 +1,4 @@
--- The second table of costs is nowhere above the first.
+-- No cost in the second table is above that in the first.
 use Rattle.std.proofs.Common.{◌≡◌, ◌≤◌, ℕ, ◌*◌, List, Option, None, Some, refl, arith}
 use Rattle.gp0_words.specs.declared.item.Item.{Item}
 use Rattle.gp0_packets.specs.Packets.{packet_of}
@@ -54,7 +54,7 @@ read_cost-small s = once (pixels_of s.parts.store)
 pub cost_law-is : CostLaw
 cost_law-is = record { words = gp0_cost-small; reads = read_cost-small }
 
--- ---- no cell decides the first table's cost
+-- ---- no cell decides a cost in the first table
 
 packet-cells : (p : Parts) (m : List ℕ) (q : Packet) → packet_box_cost (record p { m = m }) q ≡ packet_box_cost p q
 unfolding packet_box_cost

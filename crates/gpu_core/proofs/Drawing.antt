@@ -1,4 +1,4 @@
--- Drawing a polygon, a line or a rectangle is all that such a packet does.
+-- The effect of a polygon, a line or a rectangle is that it is drawn.
 use Rattle.std.proofs.Common.{◌≡◌, ◌≤◌, ℕ, ◌+◌, List, Option, refl, ap, subst, ◌∙◌}
 use Rattle.px_num.specs.declared.shape.Box2.{Box2}
 use Rattle.gp0_packets.specs.Drawn.{IsDrawn}

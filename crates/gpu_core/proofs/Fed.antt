@@ -1,4 +1,4 @@
--- A word that the splitter takes, on every state for which a machine stands.
+-- One word for the splitter, on every state with the essential part of a GPU.
 use Rattle.std.proofs.Common.{◌≡◌, ℕ, ◌*◌, ◌/◌, Bool, true, false, cond, ◌^◌, [], ◌∷◌, Option, None, refl, ap}
 use Rattle.gp0_words.specs.Pushed.{IsPushed}
 use Rattle.gp0_words.specs.declared.item.Item.{Item}
@@ -15,7 +15,7 @@ use Rattle.gpu_core.specs.Kept.{Kept, kept_of}
 use Rattle.gpu_core.specs.Machine.{Parts, State, after_gp0, gp0_note, effect_of, after_item, noted, with_pixels}
 use Rattle.gpu_core.proofs.States.{new_item-is}
 
--- what the word does, tells and costs
+-- the effect, note and cost of the word
 pub record IsFed (s : State) (k : Kept) (new : Pending) (event word : ℕ) (r : Option Item) : Type 0 where
   pub feed : kept_of (after_gp0 s word) ≡ record { parts = after_item k.parts r; pending = new }
   pub note : gp0_note s event word ≡ noted k.parts.regs event r

@@ -24,7 +24,7 @@ use Rattle.gpu_core.specs.Machine.{Parts, State, after_gp0, gp0_note, with_pixel
 use Rattle.gpu_core.proofs.Fed.{fed, data_effect, data_cost, data_note}
 use Rattle.gpu_core.proofs.Link.{fewer, one_more}
 
--- what the machine keeps while a load is open
+-- the essential part while a load is open
 abbrev loading : Parts → (left : ℕ) → Kept
 loading p left = record { parts = p; pending = pending.Pixels left }
 
@@ -51,7 +51,7 @@ one s p job left word e open_load kept =
       cost = (is 0).cost ∙ data_cost p word ∙ ap (λ load. 2 * pixels_of load) open_load;
     }
 
--- ---- more of them
+-- ---- more words
 
 behind_more : (left n : ℕ) → behind_pixels (pending.Pixels (left - 1)) n ≡ behind_pixels (pending.Pixels left) (suc n)
 behind_more left n =
@@ -106,14 +106,14 @@ loaded (word ∷ next ∷ words) s p job left some e open_load kept link few =
       cost = let a = first.cost in let b = rest.cost in let more = pixels_more job n in omega (arith, a, b, more);
     }
 
--- their notes are of pixels
+-- their notes are those of data words
 pub pixels_unseen : (first : ℕ) (words : List ℕ) → but_pixels (bare_notes 9 first words) ≡ []
 pixels_unseen first [] = refl
 pixels_unseen first (word ∷ words) = pixels_unseen (first + 1) words
 
 -- ---- a load that is open
 
--- its words were taken at once, and each gives the note of pixels
+-- its words were fed at once, and each has the note of a data word
 pub loads : (s : State) (p : Parts) (load : Option Transfer) (h : Pending) (played : ℕ) (words : List ℕ)
     (before : Hearing) (now : Behind)
     → kept_of s ≡ record { parts = p; pending = h } → p.load ≡ load → IsPending h → IsLinked h load → 0 < length words

@@ -25,7 +25,7 @@ use Rattle.gpu_core.proofs.Link.{collected-linked}
 
 -- ---- its words, one after another
 
--- what is pending of its first words
+-- what is pending after its first words
 abbrev begun : List ℕ → Pending
 begun [] = pending.Idle
 begun (word ∷ words) = pending.Packet (word ∷ words)
@@ -55,7 +55,7 @@ begun_bounds : (held : List ℕ) (word : ℕ) (words : List ℕ) (n : ℕ) → k
 begun_bounds [] word words n kind lt = tt
 begun_bounds (first ∷ held) word words n kind lt = (omega arith, rw kind lt)
 
--- these are the words of a packet that were still to come
+-- `words` are the last words of a packet
 record IsTaken (s : State) (p : Parts) (first : ℕ) (words all : List ℕ) : Type 0 where
   pub feed : kept_of (fold after_gp0 s words)
       ≡ record { parts = after_item p (Some (item.Whole all)); pending = pending.Idle }
@@ -110,7 +110,7 @@ taken (word ∷ next ∷ words) s p first held n some e kind len =
 
 -- ---- all its words at once
 
--- they were taken at once, and give this note
+-- they were fed at once, and have this note
 pub plain_taken : (s : State) (p : Parts) (h : Pending) (note : Note) (event played : ℕ) (words : List ℕ)
     (before : Hearing) (now : Behind)
     → kept_of s ≡ record { parts = p; pending = h } → h ≡ pending.Idle → 0 < length words

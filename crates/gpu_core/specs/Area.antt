@@ -1,4 +1,4 @@
--- What is told of an item (our own rule).
+-- The note of an item (our own rule).
 use Rattle.std.specs.Prelude.{ℕ}
 use Rattle.gp0_packets.specs.declared.note.Note.{Note}
 use Rattle.gp0_packets.specs.Notes.{class_of_item, head_of_item}
@@ -7,7 +7,7 @@ use Rattle.gp0_words.specs.declared.item.Item.{Item}
 use Rattle.gp1_status.specs.Registers.{Registers}
 use Rattle.prim_draw.specs.Areas.{area_of}
 
--- of an item that the event of this number completed, with the registers as they are then
+-- the note of an item that event `event` completed, with the area computed from the registers before it
 abbrev pub note_of : Registers → (event : ℕ) → Item → Note
 note_of r event item = record {
   event = event;

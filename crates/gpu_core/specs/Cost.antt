@@ -1,5 +1,5 @@
--- The most store steps of an item and of a read (our own rule), by two tables. The second is the finer one; nothing
--- costs more by it than by the first.
+-- The most store steps of an item and of a read (our own rule), by two tables. The second is finer: no cost in it is
+-- above that in the first.
 use Rattle.std.specs.Prelude.{ℕ, ◌*◌, Option, None, Some}
 use Rattle.gp0_words.specs.declared.item.Item.{Item}
 use Rattle.gp0_packets.specs.Packets.{packet_of}
@@ -12,16 +12,16 @@ use Rattle.vram_copy.specs.Words.{pixels_next}
 use Rattle.vram_copy.specs.declared.transfer.Transfer.{Transfer}
 use Rattle.gpu_core.specs.Machine.{Parts, State, new_item, with_page}
 
--- the pixels of the next word of an open transfer
+-- the cells of the next word of an open transfer
 abbrev pub pixels_of : Option Transfer → ℕ
 pixels_of None = 0
 pixels_of (Some job) = pixels_next job
 
 -- ---- the second table
 
--- A row of a fill of width w costs w / 16; a chunk of a copy 3, and 3 a cell where it reads what it writes; what is
--- drawn its spans and points; a data word of a load 2 for each pixel that it plots; a read 1 for each pixel that it
--- gives.
+-- A row of a fill of width w costs w / 16. A chunk of a copy costs 3, or 3 a cell if it writes cells that it reads. A
+-- packet that draws costs what its spans and points cost. A data word of a load costs 2 for each cell that it writes, a
+-- read 1 for each cell that it returns.
 unfoldable pub packet_cost : Parts → Packet → ℕ
 packet_cost p (packet.Fill color x y w h) = fill_cost w h
 packet_cost p (packet.Copy from to w h) = copy_cost (height_of p.m) from to w h
@@ -52,8 +52,8 @@ read_cost s = pixels_of s.parts.store
 
 -- ---- the first table
 
--- Four for each cell of a box that is drawn and of the rectangle of a fill or copy, for each pixel that a data word of
--- a load plots and for each that a read gives.
+-- Four a cell. The cells are those of the box of a packet that draws, of the rectangle of a fill or copy, or those that
+-- a data word of a load writes or a read returns.
 unfoldable pub packet_box_cost : Parts → Packet → ℕ
 packet_box_cost p (packet.Fill color x y w h) = 4 * w * h
 packet_box_cost p (packet.Copy from to w h) = 4 * w * h

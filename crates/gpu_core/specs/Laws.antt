@@ -1,24 +1,25 @@
--- What words and reads cost, and what decides how a state goes on.
+-- The costs of words and reads, and what decides the later behaviour of a state.
 use Rattle.std.specs.Prelude.{◌≡◌, ◌≤◌, ℕ, List}
 use Rattle.gpu_core.specs.Cost.{gp0_cost, gp0_box_cost, read_cost, read_box_cost}
 use Rattle.gpu_core.specs.Kept.{kept_of}
 use Rattle.gpu_core.specs.Machine.{State, after_gp0, gp0_note, after_gp1, after_read, read_word, status_word}
 
--- no word of GP0 and no read costs more by the second table than by the first
+-- no word of GP0 and no read costs more in the second table than in the first
 pub record CostLaw : Type 0 where
   pub words : (s : State) (word : ℕ) → gp0_cost s word ≤ gp0_box_cost s word
   pub reads : (s : State) → read_cost s ≤ read_box_cost s
 
--- the same state with these cells
+-- the same state with these cells of video memory
 abbrev pub over_cells : List ℕ → State → State
 over_cells m s = record s { parts = record s.parts { m = m } }
 
--- no cell decides what a word of GP0 and a read cost by the first table
+-- the cost of a word of GP0 and of a read in the first table depends on no cell
 pub record NoCellDecides : Type 0 where
   pub words : (s : State) (m : List ℕ) (word : ℕ) → gp0_box_cost (over_cells m s) word ≡ gp0_box_cost s word
   pub reads : (s : State) (m : List ℕ) → read_box_cost (over_cells m s) ≡ read_box_cost s
 
--- two states do, tell, give and cost the same with the next word or read, and the same of them is kept then
+-- both states have the same effect, note, result and cost for the next word, read and status word, and then equal
+-- essential parts
 pub record GoOnAlike (a b : State) : Type 0 where
   pub feed : (word : ℕ) → kept_of (after_gp0 a word) ≡ kept_of (after_gp0 b word)
   pub note : (event word : ℕ) → gp0_note a event word ≡ gp0_note b event word
@@ -31,6 +32,6 @@ pub record GoOnAlike (a b : State) : Type 0 where
   pub take_box_cost : read_box_cost a ≡ read_box_cost b
   pub status : status_word a ≡ status_word b
 
--- what is kept of a state decides how it goes on
+-- the essential part of a state decides its later behaviour
 abbrev pub KeptDecides : Type 0
 KeptDecides = (a b : State) → kept_of a ≡ kept_of b → GoOnAlike a b

@@ -1,5 +1,5 @@
--- The drawing processor, as a machine over all the words that came since the last clearing
--- (psx-spx, "GPU I/O Ports, DMA Channels, Commands, VRAM", "GPU Memory Transfer Commands").
+-- The GPU as a state machine. Its state contains all GP0 words since the last clearing (psx-spx, "GPU I/O Ports, DMA
+-- Channels, Commands, VRAM", "GPU Memory Transfer Commands").
 use Rattle.std.specs.Prelude.{ℕ, Bool, true, false, List, [], ◌∷◌, ◌++◌, Option, Some, None, is_some, if◌then◌else◌}
 use Rattle.std.specs.Prelude.{length, slice_get, map}
 use Rattle.px_num.specs.Height.{tall_height}
@@ -37,7 +37,7 @@ pub record State : Type 0 where
 unfoldable pub first_state : State
 first_state = record { parts = record { m = blank; regs = reset 0 512; load = None; store = None }; words = [] }
 
--- the tall profile (our own rule): video memory and the registers have 1024 rows, and all else stays
+-- the tall profile (our own rule): video memory and the registers have 1024 rows, and everything else stays
 abbrev pub tall_parts : Parts → Parts
 tall_parts p = record p { m = tall p.m; regs = record p.regs { height = tall_height } }
 
@@ -46,29 +46,29 @@ tall_state s = record s { parts = tall_parts s.parts }
 
 -- ---- one item
 
--- a load or store at its first pixel
+-- a load or store at its first cell
 abbrev pub opened : (x y w h : ℕ) → Option Transfer
 opened x y w h = Some (record { x = x; y = y; w = w; h = h; at = 0 })
 
--- a data word of a load; where none is open nothing happens
+-- the effect of a data word of a load; none if no load is open
 abbrev pub with_pixels : Parts → Option Transfer → ℕ → Parts
 with_pixels p None word = p
 with_pixels p (Some job) word = record p { m = loaded_word p.m p.regs.mask job word; load = after_word job }
 
--- a textured polygon puts its own page attribute into the draw mode, also where nothing of it is drawn
+-- a textured polygon writes its page attribute into the draw mode, even if nothing of it is drawn
 abbrev pub with_page : Registers → Bool → ℕ → Registers
 with_page r textured page = if textured then record r { e1 = page_of r.height page r.e1 } else r
 
--- the registers with which a packet is drawn
+-- the registers that a packet is drawn with
 abbrev pub drawing_registers : Registers → Packet → Registers
 drawing_registers r (packet.Poly four a b c d shaded textured semi raw clut page) = with_page r textured page
 drawing_registers r other = r
 
--- a packet is drawn with these registers, which stay
+-- a packet is drawn with these registers, and they stay
 abbrev pub drawn : Parts → Registers → Packet → Parts
 drawn p r what = record p { m = drawn_packet r what p.m; regs = r }
 
--- what a packet does
+-- the effect of a packet
 unfoldable pub effect_of : Parts → Packet → Parts
 effect_of p (packet.Fill color x y w h) =
     record p { m = filled_rectangle p.m (record { x = x; y = y }) (record { w = w; h = h }) color }
@@ -89,7 +89,7 @@ effect_of p packet.Finish = p
 
 -- ---- one word of GP0
 
--- the item that the words have more, with one word more
+-- the item that one more word completes, if any
 unfoldable pub new_item : List ℕ → ℕ → Option Item
 new_item words word = slice_get (items_of (words ++ word ∷ [])) (length (items_of words))
 
@@ -101,14 +101,14 @@ abbrev pub noted : Registers → (event : ℕ) → Option Item → Option Note
 noted r event None = None
 noted r event (Some item) = Some (note_of r event item)
 
--- The word is appended. Where the words then have one item more, that item takes effect, and gives a note.
+-- The word is appended. If the words then have one more item, it takes effect and has a note.
 unfoldable pub after_gp0 : State → ℕ → State
 after_gp0 s word = record { parts = after_item s.parts (new_item s.words word); words = s.words ++ word ∷ [] }
 
 unfoldable pub gp0_note : State → (event word : ℕ) → Option Note
 gp0_note s event word = noted s.parts.regs event (new_item s.words word)
 
--- what the taps read after a note, if there is one
+-- the readings of the taps after a note, if there is one
 abbrev pub told_option : Option Note → List Reading → List Reading
 told_option None readings = readings
 told_option (Some note) readings = map (reading_after note) readings
@@ -129,8 +129,8 @@ pub record Taken : Type 0 where
   pub word : ℕ
   pub parts : Parts
 
--- A read while a store is open gives its next two pixels, which become the latch, and closes it after its last word. A
--- read while none is open gives the latch.
+-- A read while a store is open returns its next two cells, which become the latch; the last word closes the store. A
+-- read while none is open returns the latch.
 abbrev pub taken_from : Parts → Option Transfer → Taken
 taken_from p None = record { word = p.regs.held; parts = p }
 taken_from p (Some job) =
@@ -143,7 +143,7 @@ read_word s = (taken_from s.parts s.parts.store).word
 unfoldable pub after_read : State → State
 after_read s = record { parts = (taken_from s.parts s.parts.store).parts; words = s.words }
 
--- nothing is pending: every packet is whole
+-- nothing is pending: every packet is complete
 abbrev pub is_idle : Pending → Bool
 is_idle pending.Idle = true
 is_idle (pending.Packet words) = false

@@ -1,4 +1,4 @@
--- What contracts see of a machine's parts.
+-- A GPU without its splitter, in contracts.
 use Rattle.gpu_core.specs.Machine.{Parts}
 use Rattle.gpu_core.specs.declared.parts.Parts.TheInside.{Inside}
 

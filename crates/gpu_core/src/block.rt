@@ -1,4 +1,4 @@
-// Words that are taken at once.
+// Words that are fed at once.
 ghost use Rattle.std.specs.Prelude.{◌≡◌, ◌≤◌, ◌<◌, ◌+◌, [], ◌∷◌, length, map, slice_index, take, ℕ};
 ghost use Rattle.gp0_words.specs.Kinds.{class_of, kind_of};
 ghost use Rattle.gp0_words.specs.Next.{wanted};
@@ -18,9 +18,12 @@ use std::sync::ledger::Ledger;
 use vram_store::Steps;
 
 impl Gpu {
-    /// Takes the first of these words, an event each, behind so many events, and says how many: the data words of the
-    /// open load, words of registers, the words of a packet that is there whole, or else one. It does what `gp0` does
-    /// with one after another, but that each listener is told all their notes before the next one is.
+    /// Consumes a prefix of `words`, one event per word, numbered from `played + 1`. Returns its length, at least 1.
+    /// `words` must not be empty. The prefix is data words of the open load, a run of words E0h to FFh, one complete
+    /// packet of fixed length, or one word.
+    ///
+    /// The effect equals calling [`gp0`](Gpu::gp0) for each word. Only the order of notes differs: each listener
+    /// receives all of them before the next listener. Event numbers stop at 2^64 - 1.
     #[inline(always)]
     pub fn take_first<T: Listener, L: Ledger>(
         &mut self,
@@ -55,7 +58,7 @@ impl Gpu {
         1
     }
 
-    /// Takes data words of the open load.
+    /// Feeds `words`, data words of the open load: at least one, at most as many as it still needs.
     #[inline(always)]
     pub(crate) fn load<T: Listener, L: Ledger>(
         &mut self,
@@ -76,7 +79,8 @@ impl Gpu {
         tell_all_bare(taps, 9, played, words);
     }
 
-    // Sets the registers of the first words, as many as are registers' where nothing is pending, and says how many.
+    // If nothing is pending, executes the words E0h to FFh at the front of `words`. Returns how many. No listener
+    // receives their notes yet.
     fn set_registers(&mut self, words: &[u32]) -> usize
         requires { 0 < length words.now }
         ensures within { result ≤ length words.now }
@@ -90,7 +94,8 @@ impl Gpu {
         }
     }
 
-    /// How many of the words that come next are a packet that is plain and all there, where nothing is pending; else 0.
+    /// If nothing is pending and `words` begin with a complete packet of fixed length, returns its number of words.
+    /// Otherwise returns 0.
     pub(crate) fn plain_len(&self, words: &[u32]) -> usize
         requires { 0 < length words.now }
         ensures within { result ≤ length words.now }
@@ -105,7 +110,7 @@ impl Gpu {
         if len <= words.len() { len } else { 0 }
     }
 
-    /// Takes the words of a plain packet, and hands on its note.
+    /// Feeds `words`, one complete packet of fixed length, and returns its note. Nothing may be pending.
     #[inline(always)]
     pub(crate) fn take_packet<T: Listener, L: Ledger>(
         &mut self,
@@ -138,7 +143,8 @@ impl Gpu {
     }
 }
 
-// Sets the registers of the first words, as many as the splitter passes, and says how many.
+// Executes the words E0h to FFh at the front of `words` and returns how many. Returns 0 if something is pending in
+// `splitter`.
 fn set_all(parts: &mut Parts, splitter: &Splitter, words: &[u32]) -> usize
     ensures within { result ≤ length words.now }
     ensures load { parts.new.load ≡ parts.old.load }
@@ -155,7 +161,7 @@ fn set_all(parts: &mut Parts, splitter: &Splitter, words: &[u32]) -> usize
     words.len()
 }
 
-// How many words a packet has that begins with this word, and 0 where it may be a load or a polyline.
+// Returns how many words a packet that begins with `word` has, and 0 if it is a load or a polyline.
 fn plain_count(word: u32) -> usize
     ensures kind { 0 < result → kind_of word ≡ Plain result }
     ensures most { result ≤ 12 }
@@ -167,7 +173,7 @@ fn plain_count(word: u32) -> usize
     }
 }
 
-// The same of a line or polyline.
+// The same for a line or polyline.
 fn line_count(word: u32) -> usize
     requires { class_of word ≡ 2 }
     ensures kind { 0 < result → kind_of word ≡ Plain result }

@@ -1,4 +1,4 @@
-// Packets that are there whole, and what of them is drawn.
+// Complete packets, and those that draw.
 ghost use Rattle.std.specs.Prelude.{◌≡◌, ◌<◌, length, slice_index};
 ghost use Rattle.gp0_packets.specs.Corners.{Carries};
 ghost use Rattle.gp0_packets.specs.Drawn.{IsDrawn, IsOfClass};
@@ -20,7 +20,7 @@ use px_num::Box2;
 use std::sync::ledger::Ledger;
 use vram_store::Steps;
 
-/// Puts a textured polygon's own page attribute into the draw mode.
+/// If `textured`, writes the page attribute of a polygon into the draw mode.
 fn put_page(regs: &mut Regs, textured: bool, page: u16)
     ensures value { regs.new ≡ with_page regs.old textured page }
     ensures height { regs.new.height ≡ regs.old.height }
@@ -30,7 +30,7 @@ fn put_page(regs: &mut Regs, textured: bool, page: u16)
     }
 }
 
-/// Puts the page attribute of a textured polygon into the draw mode.
+/// If the packet is a textured polygon, writes its page attribute into the draw mode.
 fn put_own_page(regs: &mut Regs, packet: &Packet)
     ensures value { regs.new ≡ drawing_registers regs.old packet.now }
     ensures height { regs.new.height ≡ regs.old.height }
@@ -42,8 +42,8 @@ fn put_own_page(regs: &mut Regs, packet: &Packet)
 }
 
 impl Parts {
-    /// Carries out the packet of these words, as many as their first asks for, and answers its area. What is drawn is
-    /// read where it is drawn, so that it stays in registers.
+    /// Executes the packet that `words` are, as many as their first word requires. Returns its area, computed from the
+    /// registers before it. Packets that draw are decoded here, so that the compiler keeps their fields in registers.
     #[inline(always)]
     pub(crate) fn carry_out_words<L: Ledger>(
         &mut self,
@@ -63,7 +63,7 @@ impl Parts {
         }
     }
 
-    // The same, whatever the packet is.
+    // The same for any packet.
     #[inline(never)]
     fn carry_out_whole<L: Ledger>(&mut self, words: &[u32], steps: &mut Steps<L>) -> Option<Box2>
         requires some { 0 < length words.now }
@@ -75,7 +75,7 @@ impl Parts {
         self.carry_out(&packet, steps)
     }
 
-    // Draws the line of these words.
+    // Draws the line that `words` are, or the first segment of a polyline. Returns its area.
     #[inline(always)]
     fn draw_line<L: Ledger>(&mut self, words: &[u32], steps: &mut Steps<L>) -> Option<Box2>
         requires { IsOfClass 2 words.now }
@@ -86,7 +86,7 @@ impl Parts {
         self.draw(&packet, steps)
     }
 
-    // Draws the rectangle of these words.
+    // Draws the rectangle that `words` are, and returns its area.
     #[inline(always)]
     fn draw_rectangle<L: Ledger>(&mut self, words: &[u32], steps: &mut Steps<L>) -> Option<Box2>
         requires { IsOfClass 3 words.now }
@@ -97,7 +97,8 @@ impl Parts {
         self.draw(&packet, steps)
     }
 
-    // Draws the polygon of these words. It is compiled for each of what the vertices may carry.
+    // Draws the polygon that `words` are, and returns its area. There is a specialization for each combination of
+    // shading and texture.
     #[inline(always)]
     fn draw_polygon<L: Ledger>(&mut self, words: &[u32], steps: &mut Steps<L>) -> Option<Box2>
         requires { IsOfClass 1 words.now }
@@ -113,7 +114,7 @@ impl Parts {
         }
     }
 
-    // The same, where this is what they carry.
+    // The same for one of the combinations.
     #[inline(always)]
     fn draw_carried<L: Ledger>(
         &mut self,
@@ -131,7 +132,7 @@ impl Parts {
         self.draw(&packet, steps)
     }
 
-    /// Draws a polygon, a line or a rectangle.
+    /// Draws a polygon, a line or a rectangle, and returns its area.
     #[inline(always)]
     pub(crate) fn draw<L: Ledger>(&mut self, packet: &Packet, steps: &mut Steps<L>) -> Option<Box2>
         requires range { IsInRange self.old.regs.height packet.now }

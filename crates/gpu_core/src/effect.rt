@@ -1,4 +1,4 @@
-// What a packet does.
+// The effects of packets.
 ghost use Rattle.std.specs.Prelude.{◌≡◌, ◌≤◌, ◌+◌, Some};
 ghost use Rattle.gp0_packets.specs.Packets.{environment_of};
 ghost use Rattle.gp0_packets.specs.Ranges.{IsInRange};
@@ -18,8 +18,8 @@ use vram_copy::{copy, fill};
 use vram_store::Steps;
 
 impl Parts {
-    /// Carries out an item that the event of this number completed, and answers its note, which is by the registers as
-    /// they were before.
+    /// Executes an item that event `event` completed. Returns its note, with the area computed from the registers
+    /// before it.
     pub(crate) fn take_item<L: Ledger>(
         &mut self,
         event: u64,
@@ -41,7 +41,7 @@ impl Parts {
         }
     }
 
-    /// Carries out a packet, and answers its area, which is by the registers as they were before.
+    /// Executes a packet. Returns its area, computed from the registers before it.
     #[tactic(auto, unfolding(crate::specs::Machine::effect_of, crate::specs::Cost::packet_cost))]
     pub(crate) fn carry_out<L: Ledger>(
         &mut self,
@@ -89,7 +89,7 @@ impl Parts {
         }
     }
 
-    /// Carries out a word of class 7.
+    /// Executes a word of class 7 (E0h to FFh).
     #[inline(always)]
     #[tactic(auto, unfolding(crate::specs::Machine::effect_of, gp0_packets::specs::Packets::environment_of))]
     pub(crate) fn set_register(&mut self, word: u32)

@@ -1,4 +1,4 @@
-// The machine.
+// The GPU.
 ghost use Rattle.std.specs.Prelude.{◌≡◌, ◌≤◌, ◌+◌, ◌*◌, length, map, Some, None, IfOk, IfSome};
 ghost use Rattle.vram_store.specs.Vram.{blank};
 ghost use Rattle.gpu_core.specs.Cost.{gp0_cost, read_cost};
@@ -17,7 +17,7 @@ use std::marker::Model;
 use std::sync::ledger::Ledger;
 use vram_store::{Steps, Vram};
 
-/// The drawing processor.
+/// The GPU: video memory, the registers, the open transfers, and what is pending of the GP0 words.
 #[derive(Drop)]
 pub struct Gpu {
     pub(crate) parts: Parts,
@@ -37,8 +37,8 @@ impl Model for Gpu {
 }
 
 impl Gpu {
-    /// The first state: video memory of zeros, the registers after a reset, and nothing unfinished. Refused where
-    /// memory runs out.
+    /// Returns a GPU in the first state: video memory of zeros and 512 rows, the registers after a reset, and nothing
+    /// pending. Fails if memory runs out.
     pub fn new(alloc: Global) -> Result<Gpu, OutOfMemory>
         ensures { IfOk result (λ gpu. gpu ≡ kept_of first_state) }
     {
@@ -48,7 +48,7 @@ impl Gpu {
         }
     }
 
-    // The first state over video memory of zeros.
+    // Returns the first state over video memory of zeros.
     #[tactic(auto, unfolding(crate::specs::Machine::first_state))]
     fn over(vram: Vram) -> Gpu
         requires cells { vram ≡ blank }
@@ -61,17 +61,16 @@ impl Gpu {
         }
     }
 
-    /// Makes the height of video memory 1024 rows: rows 512 to 1023 are zeros, and all cells, registers and pending
-    /// work stay. Where it is 1024 already nothing changes. No step is taken.
+    /// Extends video memory to 1024 rows. Rows 512 to 1023 are 0; all other cells, the registers, what is pending and
+    /// the open transfers stay. Changes nothing if the height is already 1024. Costs no store step.
     pub fn set_tall(&mut self)
         ensures { (s : State) → kept_of s ≡ self.old → kept_of (tall_state s) ≡ self.new }
     {
         self.parts.set_tall();
     }
 
-    /// Takes a word of GP0 in the event of this number. Where it completes an item, the item takes effect, every
-    /// listener of the list is told its note, in order, and the note is answered. None comes exactly where no item was
-    /// completed.
+    /// Feeds `word` to GP0 as event `event`. If it completes an item, executes the item, sends its note to every
+    /// listener in order, and returns the note. Otherwise returns `None`.
     #[inline(always)]
     pub fn gp0<T: Listener, L: Ledger>(
         &mut self,
@@ -124,7 +123,7 @@ impl Gpu {
         }
     }
 
-    /// Takes a word of GP1. Opcodes 00h and 01h also end an unfinished packet, load, polyline and store.
+    /// Feeds a word to GP1. Opcodes 00h and 01h also end an unfinished packet, load, polyline and store.
     pub fn gp1(&mut self, word: u32)
         ensures { (s : State) → kept_of s ≡ self.old → kept_of (after_gp1 s word) ≡ self.new }
     {
@@ -135,7 +134,8 @@ impl Gpu {
         }
     }
 
-    /// Reads a word: the next two pixels of the open store, the first in the low half, or the latch where none is open.
+    /// Reads GPUREAD. Returns the next two cells (16-bit VRAM halfwords) of the open store, the first in the low half,
+    /// and puts them into the latch. Returns the latch if no store is open.
     pub fn read<L: Ledger>(&mut self, steps: &mut Steps<L>) -> u32
         ensures word { (s : State) → kept_of s ≡ self.old → result ≡ read_word s }
         ensures state { (s : State) → kept_of s ≡ self.old → kept_of (after_read s) ≡ self.new }
@@ -144,7 +144,7 @@ impl Gpu {
         self.parts.take_word(steps)
     }
 
-    /// The status word.
+    /// Returns the status word.
     pub fn status(&self) -> u32
         ensures { (s : State) → kept_of s ≡ self.now → result ≡ status_word s }
     {
@@ -153,7 +153,7 @@ impl Gpu {
             .status(self.splitter.is_idle(), self.parts.is_sending())
     }
 
-    /// Whether no packet, load or polyline is unfinished.
+    /// Returns whether no packet, load or polyline is unfinished.
     pub fn is_idle(&self) -> bool
         ensures { (s : State) → kept_of s ≡ self.now → result ≡ is_idle_state s }
     {
@@ -161,7 +161,7 @@ impl Gpu {
     }
 }
 
-// Tells every listener of the list a note, in order, and hands it on.
+// Sends a note to every listener, in order, and returns it.
 fn tell<T: Listener>(taps: &mut Vec<T>, note: Note) -> Option<Note>
     ensures note { result ≡ Some note }
     ensures taps { map T.heard taps.new.items ≡ told_option (Some note) (map T.heard taps.old.items) }

@@ -1,8 +1,8 @@
-//! The drawing processor: words of GP0 and GP1, reads, and the status word.
+//! The GPU: words of GP0 and GP1, reads, and the status word.
 //!
-//! Contracts see a `Gpu` as what it keeps of a state: video memory, the registers, the open load and store, and what
-//! its splitter holds of the words. It stands for each state of which this is what it keeps, and each call leads from
-//! every such state to one for which it then stands.
+//! In contracts, a `Gpu` is the essential part of a state, which decides all later behaviour: video memory, the
+//! registers, the open load and store, and what is pending of the GP0 words. A contract of a call is about every state
+//! with this essential part, and about the state that the call leads to.
 #![tactic(auto)]
 
 mod block;

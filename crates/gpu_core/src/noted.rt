@@ -1,4 +1,4 @@
-// Words that are taken at once up to a note.
+// Words that are fed at once, up to a note.
 ghost use Rattle.std.specs.Prelude.{◌≡◌, ◌≤◌, ◌<◌, ◌+◌, length, map, slice_index, take, ℕ, IfSome};
 ghost use Rattle.gp0_words.specs.Kinds.{kind_of};
 ghost use Rattle.gp0_words.specs.declared.kind.Kind.TheVariants.{Plain};
@@ -13,7 +13,8 @@ use gpu_taps::Listener;
 use std::sync::ledger::Ledger;
 use vram_store::Steps;
 
-/// Words that were taken at once: how many, and the note that they gave besides those of pixels, if they did.
+/// Words that were fed at once: how many, and their note. `None` if they have no note or only notes of data words of a
+/// load.
 #[derive(Clone, Copy, Debug, PartialEq, Eq)]
 pub struct NotedWords {
     pub count: usize,
@@ -21,8 +22,9 @@ pub struct NotedWords {
 }
 
 impl Gpu {
-    /// Takes the first of these words as `take_first` does, but no further than to a note that is not of pixels, and
-    /// hands that on: the data words of the open load, the words of a packet that is there whole, or else one.
+    /// Feeds a prefix of `words` as [`take_first`](Gpu::take_first) does, but ends it after the first note that is not
+    /// of a data word. The prefix is data words of the open load, one complete packet of fixed length, or one word.
+    /// `words` must not be empty.
     pub fn take_noted<T: Listener, L: Ledger>(
         &mut self,
         played: u64,
@@ -55,7 +57,7 @@ impl Gpu {
         NotedWords { count: 1, note }
     }
 
-    // As `plain_len`, but 0 where the first word is that of a register: `gp0` is faster for it.
+    // As `plain_len`, but 0 if the first word is E0h to FFh: `gp0` is faster for it.
     fn packet_len(&self, words: &[u32]) -> usize
         requires { 0 < length words.now }
         ensures within { result ≤ length words.now }

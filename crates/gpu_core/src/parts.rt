@@ -1,4 +1,4 @@
-// What a machine has besides its splitter.
+// The GPU without its splitter.
 ghost use Rattle.std.specs.Prelude.{◌≡◌, ◌<◌, ◌+◌, ◌*◌, ◌%◌, length, is_some, None};
 ghost use Rattle.px_num.specs.Height.{short_height};
 ghost use Rattle.vram_store.specs.Vram.{blank};
@@ -14,7 +14,7 @@ use std::sync::ledger::Ledger;
 use vram_copy::{Cursor, Transfer};
 use vram_store::{Steps, Vram};
 
-/// What a machine has besides its splitter: video memory, the registers, and the open load and store.
+/// The GPU without its splitter: video memory, the registers, and the open load and store.
 #[derive(Drop)]
 pub(crate) struct Parts {
     pub(crate) vram: Vram,
@@ -36,7 +36,7 @@ impl Model for Parts {
 }
 
 impl Parts {
-    /// Video memory of zeros, the registers after a reset, and no transfer.
+    /// Returns `vram`, which must be 512 rows of zeros, with the registers after a reset and no transfer.
     pub(crate) fn over(vram: Vram) -> Parts
         requires cells { vram ≡ blank }
         requires rows { length vram ≡ 1024 * short_height }
@@ -50,7 +50,7 @@ impl Parts {
         }
     }
 
-    /// Makes the height 1024 rows.
+    /// Extends video memory to 1024 rows.
     pub(crate) fn set_tall(&mut self)
         ensures { self.new ≡ tall_parts self.old }
     {
@@ -58,7 +58,7 @@ impl Parts {
         self.regs.set_tall();
     }
 
-    /// Takes a word of GP1.
+    /// Feeds a word to GP1, except that no transfer ends.
     pub(crate) fn gp1(&mut self, word: u32)
         ensures { self.new ≡ record self.old { regs = gp1_of self.old.regs word } }
     {
@@ -73,7 +73,7 @@ impl Parts {
         self.store = None;
     }
 
-    /// Puts registers and open transfers in place of its own. Video memory stays.
+    /// Replaces the registers and the open transfers. Video memory stays; it must have the height of `regs`.
     pub(crate) fn set_state(&mut self, regs: Regs, load: Option<Transfer>, store: Option<Transfer>)
         requires rows { length self.old.m ≡ 1024 * regs.height }
         requires load { IsOpen regs.height load }
@@ -85,7 +85,7 @@ impl Parts {
         self.store = resumed(store);
     }
 
-    /// Sets sixteen cells of video memory, whatever the mask setting is. One store step.
+    /// Writes sixteen cells of a row, whatever the mask setting is. `x` is a multiple of 16. Costs one store step.
     pub(crate) fn set_cells<L: Ledger>(
         &mut self,
         x: u16,
@@ -104,7 +104,7 @@ impl Parts {
         self.vram.store16(x, y, 16, lanes, 0xffff, steps);
     }
 
-    /// The open load.
+    /// Returns the open load.
     pub(crate) fn load_job(&self) -> Option<Transfer>
         ensures value { result ≡ self.now.load }
         ensures bounds { IsOpen self.now.regs.height result }
@@ -112,7 +112,7 @@ impl Parts {
         job_of(&self.load)
     }
 
-    /// The open store.
+    /// Returns the open store.
     pub(crate) fn store_job(&self) -> Option<Transfer>
         ensures value { result ≡ self.now.store }
         ensures bounds { IsOpen self.now.regs.height result }
@@ -120,21 +120,21 @@ impl Parts {
         job_of(&self.store)
     }
 
-    /// Whether a store is open.
+    /// Returns whether a store is open.
     pub(crate) fn is_sending(&self) -> bool
         ensures { result ≡ is_some self.now.store }
     {
         self.store.is_some()
     }
 
-    /// Video memory.
+    /// Returns video memory.
     pub(crate) fn vram(&self) -> &Vram
         ensures { result.now ≡ self.now.m }
     {
         &self.vram
     }
 
-    /// How many rows video memory has.
+    /// Returns the height of video memory in rows.
     pub(crate) fn height(&self) -> u16
         ensures value { result ≡ self.now.regs.height }
         ensures rows { length self.now.m ≡ 1024 * result }
@@ -142,7 +142,7 @@ impl Parts {
         self.regs.height()
     }
 
-    /// The registers.
+    /// Returns the registers.
     pub(crate) fn regs(&self) -> &Regs
         ensures { result.now ≡ self.now.regs }
     {

@@ -1,4 +1,4 @@
-// What the machine keeps, told and put in place.
+// Reads and replaces the essential state of a GPU.
 ghost use Rattle.std.specs.Prelude.{◌≡◌, ◌<◌, ◌+◌, ◌*◌, ◌%◌, length};
 ghost use Rattle.gp0_words.specs.Next.{IsPending};
 ghost use Rattle.gpu_core.specs.Kept.{kept_of, kept_with, state_with, IsLinked, IsOpen, IsSet};
@@ -12,14 +12,14 @@ use vram_copy::Transfer;
 use vram_store::{Steps, Vram};
 
 impl Gpu {
-    /// Video memory.
+    /// Returns video memory.
     pub fn vram(&self) -> &Vram
         ensures { result.now ≡ self.now.parts.m }
     {
         self.parts.vram()
     }
 
-    /// How many rows video memory has.
+    /// Returns the height of video memory in rows, 512 or 1024.
     pub fn height(&self) -> u16
         ensures value { result ≡ self.now.parts.regs.height }
         ensures rows { length self.now.parts.m ≡ 1024 * result }
@@ -27,14 +27,14 @@ impl Gpu {
         self.parts.height()
     }
 
-    /// The registers.
+    /// Returns the registers.
     pub fn regs(&self) -> &Regs
         ensures { result.now ≡ self.now.parts.regs }
     {
         self.parts.regs()
     }
 
-    /// The open load. None exactly where none is open.
+    /// Returns the open load, or `None` if none is open.
     pub fn load_job(&self) -> Option<Transfer>
         ensures value { result ≡ self.now.parts.load }
         ensures bounds { IsOpen self.now.parts.regs.height result }
@@ -42,7 +42,7 @@ impl Gpu {
         self.parts.load_job()
     }
 
-    /// The open store. None exactly where none is open.
+    /// Returns the open store, or `None` if none is open.
     pub fn store_job(&self) -> Option<Transfer>
         ensures value { result ≡ self.now.parts.store }
         ensures bounds { IsOpen self.now.parts.regs.height result }
@@ -50,8 +50,8 @@ impl Gpu {
         self.parts.store_job()
     }
 
-    /// What is pending of the words of GP0. Data words are wanted exactly where a load is open, and as many as it has
-    /// left.
+    /// Returns what is pending of the GP0 words. It needs data words exactly if a load is open, and as many as the load
+    /// has left.
     pub fn pending(&self) -> Pending
         ensures value { result ≡ self.now.pending }
         ensures bounds { IsPending result }
@@ -60,8 +60,12 @@ impl Gpu {
         self.splitter.pending()
     }
 
-    /// Puts registers, what is pending, and open transfers in place of its own; video memory stays. It then stands for
-    /// some state, since a list of words leaves what is pending.
+    /// Replaces the registers, what is pending, and the open transfers. Video memory stays. Some list of words leads to
+    /// `pending`, so the result is the essential part of some state.
+    ///
+    /// Requires: (1) video memory has the height of `regs`; (2) some list of words leads to `pending`; (3) it needs
+    /// data words exactly if `load` is `Some`, as many as the load has left; (4) both transfers are possible at this
+    /// height and unfinished, at a cell where a word begins.
     pub fn set_state(
         &mut self,
         regs: Regs,
@@ -86,7 +90,8 @@ impl Gpu {
         }
     }
 
-    /// Sets sixteen cells of video memory, whatever the mask setting is. All else stays. One store step.
+    /// Writes sixteen cells of row `y` from column `x` on, whatever the mask setting is. `x` is a multiple of 16 below
+    /// 1024, `y` is below the height. Nothing else changes. Costs one store step.
     pub fn set_cells<L: Ledger>(&mut self, x: u16, y: u16, lanes: u16x16, steps: &mut Steps<L>)
         requires lanes { length lanes ≡ 16 }
         requires chunk { x % 16 ≡ 0 }

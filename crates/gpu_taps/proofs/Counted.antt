@@ -1,4 +1,4 @@
--- What notes without an area do to the numbers of counts and of a cover.
+-- The effect of notes without an area on the numbers of counts and of a cover.
 use Rattle.std.proofs.Common.{◌≡◌, ℕ, ◌+◌, ◌^◌, ◌<◌, ◌≤◌, nat_lt, true, List, [], ◌∷◌, length, refl, sym, ap, ◌∙◌}
 use Rattle.std.proofs.Common.{arith}
 use Rattle.std.proofs.Common.{slice_index, slice_set, length-set, get_or-set_same}
@@ -13,7 +13,7 @@ one_counted numbers class ten lt =
     let known : nat_lt class 10 ≡ true = grind (arith, nat_tests) in
     rw (ten, known) refl
 
--- they count at once
+-- all are counted at once
 pub counted : (words numbers : List ℕ) (class first : ℕ) → length numbers ≡ 10 → class < 10
     → slice_index numbers class < 2 ^ 64
     → after_notes (bare_notes class first words) (record { kind = 0; numbers = numbers })
@@ -36,7 +36,7 @@ counted (word ∷ words) numbers class first ten lt fits =
     ∙ ap (λ n. record { kind = 0; numbers = slice_set now class n }) sum
     ∙ ap (λ l. record { kind = 0; numbers = l }) (set-set numbers class _ _)
 
--- none of a class above 9 counts
+-- none of a class above 9 is counted
 pub uncounted : (words numbers : List ℕ) (class first : ℕ) → 10 ≤ class
     → after_notes (bare_notes class first words) (record { kind = 0; numbers = numbers })
     ≡ record { kind = 0; numbers = numbers }
@@ -47,7 +47,7 @@ uncounted (word ∷ words) numbers class first past =
     ap (λ l. after_notes (bare_notes class (first + 1) words) (record { kind = 0; numbers = l })) none
     ∙ uncounted words numbers class (first + 1) past
 
--- none covers
+-- none changes a cover
 pub uncovered : (words numbers : List ℕ) (class first : ℕ)
     → after_notes (bare_notes class first words) (record { kind = 2; numbers = numbers })
     ≡ record { kind = 2; numbers = numbers }

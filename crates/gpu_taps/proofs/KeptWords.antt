@@ -1,4 +1,4 @@
--- The notes that a trace keeps, where many come at once.
+-- The notes that a trace records of many words at once.
 use Rattle.std.proofs.Common.{◌≡◌, ℕ, zero, suc, ◌+◌, ◌-◌, ◌<◌, ◌≤◌, List, [], ◌∷◌, ◌++◌, length, take, drop, map}
 use Rattle.std.proofs.Common.{get_or, refl, sym, ap, ◌∙◌, inl, inr, arith, append_assoc, append-nil}
 use Rattle.std.proofs.Common.{length-append, length-drop}
@@ -13,7 +13,7 @@ use Rattle.gpu_taps.specs.declared.noted.Noted.{Noted}
 use Rattle.gpu_taps.proofs.Bare.{bare_notes-push}
 use Rattle.gpu_taps.proofs.Numbers.{trace_after-is}
 
--- to keep the last of a list before more come changes nothing
+-- only the last items of a list matter if more are appended
 pub keep_last-append : {X : Type 0} (n : ℕ) (xs ys : List X) → keep_last n (keep_last n xs ++ ys)
     ≡ keep_last n (xs ++ ys)
 keep_last-append n xs ys =
@@ -49,7 +49,7 @@ trace_after_notes (note ∷ notes) kept few =
     (keep_last-append 64 (kept ++ noted_of note ∷ []) (map noted_of notes)
     ∙ ap (keep_last 64) (append_assoc kept (noted_of note ∷ []) (map noted_of notes)))
 
--- one word more
+-- one more word
 pub words_kept : (class first : ℕ) (words : List ℕ) (i : ℕ) (kept : List Noted) → i < length words
     → keep_last 64 (keep_last 64 (kept ++ map noted_of (bare_notes class first (take i words)))
     ++ noted_of (bare_note class (capped (first + i)) (get_or words i 0)) ∷ [])
@@ -68,7 +68,7 @@ words_kept class first words i kept lt =
     ∙ ap (keep_last 64) (append_assoc kept before (one ∷ [])
     ∙ ap (λ l. kept ++ l) (sym (ap (map noted_of) notes ∙ map_push noted_of (bare_notes class first (take i words)) _)))
 
--- ---- the first of more words than are kept
+-- ---- the first of more words than are recorded
 
 bare_notes-length : (class first : ℕ) (words : List ℕ) → length (bare_notes class first words) ≡ length words
 bare_notes-length class first [] = refl

@@ -51,7 +51,7 @@ trace_after-is notes n capacity size fits =
       | inr full ↦ keep_full notes n (omega arith)
     ])
 
--- number i, by its note and its place there
+-- number i, by its note and its index in the note
 pub number_at : (notes : List Noted) (i : ℕ) (n : Noted) → slice_get notes (i / 3) ≡ Some n →
     note_number n (i % 3) ≡ slice_index (trace_numbers notes) i
 number_at notes i n e =

@@ -5,14 +5,14 @@ ghost use Rattle.gpu_taps.specs.Tally.{capped};
 use crate::tap::Tap;
 use gp0_packets::Note;
 
-/// How many notes of each class there were: ten numbers, by the class.
+/// The number of notes of each class: ten numbers, indexed by class.
 #[derive(Drop)]
 pub struct Counts {
     counts: [u64; 10],
 }
 
 impl Counts {
-    /// No note yet: ten times 0.
+    /// Returns the tap before any note: ten zeros.
     pub fn new() -> Counts
         ensures { ⟦<Counts as Tap>⟧.reading result ≡ record { kind = 0; numbers = replicate 10 0 } }
     {
@@ -20,7 +20,7 @@ impl Counts {
     }
 }
 
-/// A count that grew by so much.
+/// Returns `count + by`, at most 2^64 - 1.
 fn grown(count: u64, by: u64) -> u64
     ensures value { result ≡ capped (count + by) }
     ensures before { count < 2 ^ 64 }

@@ -6,7 +6,7 @@ use crate::tap::Tap;
 use gp0_packets::Note;
 use px_num::Box2;
 
-/// How many notes had an area, the sum of the areas' cells, and the most cells of one area.
+/// The number of notes with an area, the sum of the areas' cells, and the most cells of one area.
 #[derive(Drop)]
 pub struct Cover {
     notes: u64,
@@ -15,7 +15,7 @@ pub struct Cover {
 }
 
 impl Cover {
-    /// No note yet: three times 0.
+    /// Returns the tap before any note: three zeros.
     pub fn new() -> Cover
         ensures { ⟦<Cover as Tap>⟧.reading result ≡ record { kind = 2; numbers = replicate 3 0 } }
     {
@@ -27,7 +27,7 @@ impl Cover {
     }
 }
 
-/// How many cells lie from `first` to `last` in one direction, both inclusive.
+/// Returns how many cells are from `first` to `last` in one direction, both included, and 0 if `last < first`.
 fn side(first: i32, last: i32) -> u64
     ensures value { result ≡ side_of first last }
     ensures fits { result ≤ 2 ^ 32 }
@@ -39,7 +39,7 @@ fn side(first: i32, last: i32) -> u64
     }
 }
 
-/// How many cells a box has, at most `u64::MAX`.
+/// Returns how many cells a box has, at most 2^64 - 1.
 fn cell_count(area: &Box2) -> u64
     ensures { result ≡ capped (cells_of area.now) }
 {

@@ -1,7 +1,7 @@
-//! Taps: what watches the notes of a run, each by numbers of its own kind (this project's own rule).
+//! Taps: observers of the notes of a run. Each records numbers of its kind (this project's own rule).
 //!
-//! Kind 0 counts the notes of each class, kind 1 keeps the last 64 notes, and kind 2 measures the areas.
-//! Numbers stay at 2^64 - 1 once there.
+//! A note is the message that taps receive when a GP0 item has taken effect. Kind 0 counts the notes of each class,
+//! kind 1 records the last 64 notes, and kind 2 measures the areas. Numbers stop at 2^64 - 1.
 #![tactic(auto)]
 
 mod counts;

@@ -1,4 +1,4 @@
-// What can be told of notes, and telling a list of it.
+// Receivers of notes, and sending a note to a list of them.
 ghost use Rattle.std.specs.Prelude.{◌≡◌, ◌<◌, ◌+◌, length, map, slice_index, vec_len};
 ghost use Rattle.gpu_taps.specs.Bare.{bare_notes, after_notes};
 ghost use Rattle.gpu_taps.specs.Tally.{Reading, reading_after};
@@ -6,29 +6,30 @@ ghost use Rattle.gpu_taps.specs.Tally.{Reading, reading_after};
 use crate::tap::Tap;
 use gp0_packets::Note;
 
-/// What can be told of notes, and asked what it says. A tap in a box is one, so that what tells a list of taps is
-/// generic in them and lends out no boxed tap.
+/// Receives notes, and reports its reading: a kind and numbers. A boxed tap is a listener, so code that sends notes to
+/// a list of taps is generic and borrows no boxed tap.
 pub trait Listener: Drop {
-    /// What it says.
+    /// Its reading: its kind and numbers.
     ghost heard: { Self → Reading };
 
-    /// Tells it a note.
+    /// Receives a note.
     fn tell(&mut self, note: &Note)
         ensures { heard self.new ≡ reading_after note.now (heard self.old) };
 
-    /// Tells it notes of this class without an area, one for each of these words, an event each, behind so many events.
+    /// Receives one note per word: class `class`, head the word, no area, events from `played + 1` on. Event numbers
+    /// stop at 2^64 - 1.
     fn tell_bare(&mut self, class: u8, played: u64, words: &[u32])
         ensures { heard self.new ≡ after_notes (bare_notes class (played + 1) words.now) (heard self.old) };
 
-    /// The kind of what it says.
+    /// Returns the kind of its reading.
     fn kind(&self) -> u8
         ensures { result ≡ (heard self.now).kind };
 
-    /// How many numbers it says.
+    /// Returns how many numbers its reading has.
     fn len(&self) -> u32
         ensures { result ≡ length (heard self.now).numbers };
 
-    /// Number `i` of what it says, from 0 on.
+    /// Returns number `i` of its reading, counted from 0.
     fn number(&self, i: u32) -> u64
         requires { i < length (heard self.now).numbers }
         ensures { result ≡ slice_index (heard self.now).numbers i };
@@ -58,7 +59,7 @@ impl Listener for Box<dyn Tap> {
     }
 }
 
-/// Tells every listener of the list the same note, in order.
+/// Sends a note to every listener, in order.
 pub fn tell_all<T: Listener>(taps: &mut Vec<T>, note: &Note)
     ensures len { vec_len taps.new ≡ vec_len taps.old }
     ensures told { map T.heard taps.new.items ≡ map (reading_after note.now) (map T.heard taps.old.items) }
@@ -68,8 +69,8 @@ pub fn tell_all<T: Listener>(taps: &mut Vec<T>, note: &Note)
     }
 }
 
-/// Tells every listener of the list the same notes without an area, in order: those of this class, one for each of
-/// these words, an event each, behind so many events.
+/// Sends every listener, in order, one note per word: class `class`, head the word, no area, events from `played + 1`
+/// on. Each listener receives all of them before the next listener.
 pub fn tell_all_bare<T: Listener>(taps: &mut Vec<T>, class: u8, played: u64, words: &[u32])
     ensures len { vec_len taps.new ≡ vec_len taps.old }
     ensures told { map T.heard taps.new.items

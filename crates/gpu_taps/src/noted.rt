@@ -1,10 +1,10 @@
-// What a trace keeps of a note.
+// The part of a note that a trace records.
 ghost use Rattle.std.specs.Prelude.{◌≡◌};
 ghost use Rattle.gpu_taps.specs.Tally.{note_number, noted_of};
 
 use gp0_packets::Note;
 
-/// What a trace keeps of a note: what its numbers show, and not the area.
+/// The part of a note that a trace records: everything except the area.
 #[derive(Clone, Copy, Drop)]
 pub(crate) struct Noted {
     /// The number of the event.
@@ -16,7 +16,7 @@ pub(crate) struct Noted {
 }
 
 impl Noted {
-    /// What is kept of this note.
+    /// Returns this part of a note.
     pub(crate) fn of(note: &Note) -> Noted
         ensures { result ≡ noted_of note.now }
     {
@@ -27,7 +27,7 @@ impl Noted {
         }
     }
 
-    /// Number `place` of the three: event, class, head.
+    /// Returns the event for `place` 0, the class for 1, otherwise the head.
     pub(crate) fn number(&self, place: u32) -> u64
         ensures { result ≡ note_number self.now place }
     {

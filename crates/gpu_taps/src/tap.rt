@@ -1,24 +1,25 @@
-// What watches notes.
+// Observers of notes.
 ghost use Rattle.std.specs.Prelude.{◌≡◌, ◌<◌, ◌+◌, length, slice_index};
 ghost use Rattle.gpu_taps.specs.Bare.{bare_note, bare_notes, after_notes};
 ghost use Rattle.gpu_taps.specs.Tally.{Reading, reading_after};
 
 use gp0_packets::Note;
 
-/// Watches notes. What a tap says is its kind, which never changes, and its list of numbers.
+/// Observes notes. Its reading is its kind, which never changes, and a list of numbers.
 pub trait Tap: Drop {
     /// The kind and the numbers.
     ghost reading: { Self → Reading };
 
-    /// The kind.
+    /// Returns the kind.
     fn kind(&self) -> u8
         ensures { result ≡ (reading self.now).kind };
 
-    /// Takes one note more, which cannot fail.
+    /// Records a note. It cannot fail.
     fn note(&mut self, note: &Note)
         ensures { reading self.new ≡ reading_after note.now (reading self.old) };
 
-    /// Takes notes of this class without an area, one for each of these words, an event each, behind so many events.
+    /// Records one note per word: class `class`, head the word, no area, events from `played + 1` on. Event numbers
+    /// stop at 2^64 - 1.
     fn bare_notes(&mut self, class: u8, played: u64, words: &[u32])
         ensures { reading self.new ≡ after_notes (bare_notes class (played + 1) words.now) (reading self.old) }
     {
@@ -27,17 +28,17 @@ pub trait Tap: Drop {
         }
     }
 
-    /// How many numbers there are.
+    /// Returns how many numbers there are.
     fn len(&self) -> u32
         ensures { result ≡ length (reading self.now).numbers };
 
-    /// Number `i`, from 0 on.
+    /// Returns number `i`, counted from 0.
     fn number(&self, i: u32) -> u64
         requires { i < length (reading self.now).numbers }
         ensures { result ≡ slice_index (reading self.now).numbers i };
 }
 
-/// A note without an area.
+/// Returns a note without an area.
 pub fn bare_note(event: u64, class: u8, head: u32) -> Note
     ensures { result ≡ bare_note class event head }
 {

@@ -11,10 +11,10 @@ use gp0_packets::Note;
 use px_num::OutOfMemory;
 use std::alloc::Global;
 
-/// How many notes are kept.
+/// How many notes a trace records.
 const KEPT: usize = 64;
 
-/// The last 64 notes, the oldest first: three numbers of each, its event, its class and its head.
+/// The last 64 notes, the oldest first. Each is three numbers: its event, its class and its head.
 #[derive(Drop)]
 pub struct Trace {
     notes: HeapCircularBuffer<Noted>,
@@ -23,7 +23,8 @@ pub struct Trace {
 }
 
 impl Trace {
-    /// No note yet: no numbers. The room for 64 notes is made here, so that a note takes no memory.
+    /// Returns the tap before any note: no numbers. Allocates memory for 64 notes, so a note allocates none. Fails if
+    /// memory runs out.
     pub fn new(alloc: Global) -> Result<Trace, OutOfMemory>
         ensures { IfOk result (λ t. ⟦<Trace as Tap>⟧.reading t ≡ record { kind = 1; numbers = [] }) }
     {
@@ -48,7 +49,7 @@ impl Tap for Trace {
         self.notes.push_back(Noted::of(note));
     }
 
-    // Of more words than are kept the last alone are noted.
+    // Only the last 64 words are recorded.
     fn bare_notes(&mut self, class: u8, played: u64, words: &[u32]) {
         let gone = words.len().saturating_sub(KEPT);
         keep_words(
@@ -68,7 +69,7 @@ impl Tap for Trace {
     }
 }
 
-/// Notes one word after another, an event each, behind so many events.
+/// Records one note per word, events from `played + 1` on.
 fn keep_words(notes: &mut HeapCircularBuffer<Noted>, class: u8, played: u64, words: &[u32])
     requires size { notes.old.capacity ≡ 64 }
     requires fits { length notes.old.items ≤ 64 }
@@ -83,7 +84,7 @@ fn keep_words(notes: &mut HeapCircularBuffer<Noted>, class: u8, played: u64, wor
     }
 }
 
-/// Number `i` of the numbers of these notes.
+/// Returns number `i` of the numbers of these notes, counted from 0.
 fn number_of(notes: &HeapCircularBuffer<Noted>, i: u32) -> u64
     requires { i < length (trace_numbers notes.now.items) }
     ensures { result ≡ slice_index (trace_numbers notes.now.items) i }

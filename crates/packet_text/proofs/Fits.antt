@@ -1,10 +1,10 @@
--- Room for pieces that are put one behind another.
+-- The length of pieces that are joined.
 use Rattle.std.proofs.Common.{◌≡◌, ◌≤◌, ◌<◌, ◌+◌, ◌++◌, ℕ, List, ◌∷◌, length, take, drop, flat_map, ap, sym, ◌∙◌, arith}
 use Rattle.std.proofs.Common.{get_or, length-append}
 use Rattle.std.proofs.lemmas.Grind.{flat_map-append}
 use Rattle.std.proofs.lemmas.List.{drop_more, take-append-drop}
 
--- where all fit, so do the first pieces and the next one
+-- if all pieces fit, so do the first ones and the next one
 pub next_fits : {X : Type 0} (f : X → List ℕ) (xs : List X) (i : ℕ) (d : X) (text : List ℕ) (most : ℕ)
     → i < length xs → text ≡ flat_map f (take i xs) → length (flat_map f xs) ≤ most
     → length text + length (f (get_or xs i d)) ≤ most

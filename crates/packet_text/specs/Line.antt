@@ -26,7 +26,7 @@ miscellaneous_name opcode =
 abbrev pub environment_name : (opcode : ℕ) → List ℕ
 environment_name opcode = if nat_le 0xe1 opcode && nat_le opcode 0xe6 then codes "environment" else codes "nop"
 
--- what an item of a class is called, by its head
+-- the name of an item, by its class and its head
 abbrev pub note_name : (class head : ℕ) → List ℕ
 note_name class head =
     if class == 0 then miscellaneous_name (opcode_of head) else
@@ -52,11 +52,11 @@ note_line note =
     decimal note.event ++ (codes " " ++ (note_name note.class note.head
     ++ (codes " " ++ (word_text note.head ++ (area_text note.area ++ codes "\n")))))
 
--- the line of a note in a list: pixels of a load have none
+-- the line of a note in a list: a data word of a load has none
 abbrev pub listed : Note → List ℕ
 listed note = if note.class == 9 then [] else note_line note
 
--- what an item changed of a cell: event, name, head, and the cell before and behind it
+-- an item that changed a cell: event, name, head, and the cell before and after it
 unfoldable pub change_line : Note → (before after : ℕ) → List ℕ
 change_line note before after =
     decimal note.event ++ (codes " " ++ (note_name note.class note.head

@@ -1,7 +1,7 @@
 -- Numbers as text (our own rule): words in eight hexadecimal digits, cells in four, lower case.
 use Rattle.std.specs.Prelude.{ℕ, zero, suc, List, [], ◌∷◌, ◌++◌, ◌+◌, ◌/◌, ◌%◌, nat_lt, if◌then◌else◌}
 
--- a digit: 0 to 9, and then a to f
+-- a digit: 0 to 9, then a to f
 abbrev pub hex_digit : ℕ → ℕ
 hex_digit n = if nat_lt n 10 then 48 + n else 87 + n
 

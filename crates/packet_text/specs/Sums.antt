@@ -2,7 +2,7 @@
 use Rattle.std.specs.Prelude.{ℕ, List, ◌++◌, codes, decimal}
 use Rattle.hex.specs.Hex.{encode_lower}
 
--- the digest of a picture: the event behind which it is shown, its width, its height
+-- the digest of a picture: the event after which it is displayed, its width, its height
 unfoldable pub frame_sum_line : (event : ℕ) → (shape : ℕ × ℕ) → (digest : List ℕ) → List ℕ
 frame_sum_line event shape digest =
     decimal event ++ (codes " " ++ (decimal shape.0 ++ (codes " " ++ (decimal shape.1

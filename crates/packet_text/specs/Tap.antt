@@ -18,19 +18,19 @@ tap_line reading = codes "tap " ++ (decimal reading.kind ++ (numbers_text readin
 unfoldable pub sum_line : ℕ → List ℕ
 sum_line sum = codes "sum " ++ (decimal sum ++ codes "\n")
 
--- ---- the last items before a fault, as a tap of kind 1 has kept them
+-- ---- the last items before a fault, as a tap of kind 1 has recorded them
 
 -- one item: event, class and head
 unfoldable pub item_line : (event class head : ℕ) → List ℕ
 item_line event class head =
     codes "psxgpu: last" ++ (number_text event ++ (number_text class ++ (number_text head ++ codes "\n")))
 
--- a line for each whole group of three numbers; the numbers after the last whole group are left out
+-- a line for each complete group of three numbers; the numbers after the last complete group are left out
 abbrev pub item_lines : List ℕ → List ℕ
 item_lines (event ∷ class ∷ head ∷ numbers) = item_line event class head ++ item_lines numbers
 item_lines numbers = []
 
--- the numbers from the eighth group from the end on, or all where there are no more than eight whole groups
+-- the numbers from the eighth group from the end on, or all if there are at most eight complete groups
 abbrev pub last_numbers : List ℕ → List ℕ
 last_numbers numbers = drop (3 * (length numbers / 3 - 8)) numbers
 

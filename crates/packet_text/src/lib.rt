@@ -1,7 +1,7 @@
 //! The lines that the commands write, and numbers as text.
 //!
-//! Every line ends with one newline byte. Each call fails only where its sink does, and then a proper prefix of its
-//! bytes was written.
+//! Every line ends with one newline byte. Each call fails only if its sink does. Then only a proper prefix of its bytes
+//! was written.
 #![tactic(auto)]
 
 mod line;

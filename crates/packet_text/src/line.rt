@@ -1,4 +1,4 @@
-// The lines of words, of the status and of notes.
+// The lines of words, of the status word and of notes.
 ghost use Rattle.std.specs.Prelude.{◌≡◌, ◌≤◌, None, Some, length};
 ghost use Rattle.dev_io.specs.Device.{Writes, side};
 ghost use Rattle.packet_text.specs.Line.{word_line, status_line, note_name, note_line, change_line};
@@ -10,7 +10,7 @@ use gp0_packets::Note;
 use itoa::Buffer;
 use px_num::{Box2, bits};
 
-/// Writes the line of a word that was read: its eight hexadecimal digits.
+/// Writes the line of a word that was read: eight hexadecimal digits.
 #[tactic(auto, unfolding(crate::specs::Line::word_line))]
 pub fn write_word<K: Sink>(out: &mut K, word: u32) -> Result<(), Failed>
     ensures { Writes (side K.held K.faults) out.old out.new (word_line word) result }
@@ -26,8 +26,8 @@ pub fn write_status<K: Sink>(out: &mut K, word: u32) -> Result<(), Failed>
     write_pieces(out, &[b"status ", &hex_digits(word), b"\n"])
 }
 
-/// The line of a note: its event, its name, its head in eight hexadecimal digits, and the corners of its area, or a
-/// dash where it has none.
+/// Returns the line of a note: its event in decimal, its name, its head in eight hexadecimal digits, and the corners of
+/// its area, or a dash if it has none. The class must be at most 9.
 pub fn note_text(note: &Note) -> LineText
     requires { note.now.class ≤ 9 }
     ensures { result.items ≡ note_line note.now }
@@ -38,8 +38,8 @@ pub fn note_text(note: &Note) -> LineText
     }
 }
 
-/// The line of what an item changed of a cell: its event, its name, its head in eight hexadecimal digits, and the cell
-/// before and behind it in four.
+/// Returns the line of an item that changed a cell (16-bit VRAM halfword): its event in decimal, its name, its head in
+/// eight hexadecimal digits, and the cell before and after it in four each.
 #[tactic(auto, unfolding(crate::specs::Line::change_line))]
 pub fn change_text(note: &Note, before: u16, after: u16) -> LineText
     ensures { result.items ≡ change_line note.now before after }
@@ -55,7 +55,7 @@ pub fn change_text(note: &Note, before: u16, after: u16) -> LineText
     ])
 }
 
-/// Writes the line of a note.
+/// Writes the line of a note, as [`note_text`] returns it. The class must be at most 9.
 pub fn write_note<K: Sink>(out: &mut K, note: &Note) -> Result<(), Failed>
     requires { note.now.class ≤ 9 }
     ensures { Writes (side K.held K.faults) out.old out.new (note_line note.now) result }
@@ -63,7 +63,7 @@ pub fn write_note<K: Sink>(out: &mut K, note: &Note) -> Result<(), Failed>
     write_all(out, note_text(note).as_slice())
 }
 
-/// Writes the line of what an item changed of a cell.
+/// Writes the line of an item that changed a cell, as [`change_text`] returns it.
 pub fn write_change<K: Sink>(
     out: &mut K,
     note: &Note,
@@ -75,7 +75,7 @@ pub fn write_change<K: Sink>(
     write_all(out, change_text(note, before, after).as_slice())
 }
 
-// The name of a note.
+// Returns the name of a note.
 fn name_of(class: u8, head: u32) -> &'static [u8]
     ensures name { result.now ≡ note_name class head }
     ensures fits { length result.now ≤ 11 }
@@ -100,7 +100,7 @@ fn name_of(class: u8, head: u32) -> &'static [u8]
     }
 }
 
-// The line of a note without an area.
+// Returns the line of a note without an area.
 #[tactic(auto, unfolding(crate::specs::Line::note_line))]
 fn bare_text(note: &Note) -> LineText
     requires { note.now.area ≡ None }
@@ -113,7 +113,7 @@ fn bare_text(note: &Note) -> LineText
     line_text(&[event, b" ", name, b" ", &head, b" -", b"\n"])
 }
 
-// The line of a note with this area.
+// Returns the line of a note with this area.
 #[tactic(auto, unfolding(crate::specs::Line::note_line))]
 fn text_with_area(note: &Note, area: &Box2) -> LineText
     requires { note.now.area ≡ Some area.now }

@@ -5,7 +5,7 @@ ghost use Rattle.packet_text.specs.Number.{word_text, cell_text, address_text, h
 
 use itoa::Buffer;
 
-/// A word in eight hexadecimal digits, lower case.
+/// Returns a word in eight hexadecimal digits, lower case.
 #[tactic(auto, unfolding(crate::specs::Number::word_text))]
 pub fn hex_digits(word: u32) -> [u8; 8]
     ensures { result ≡ word_text word }
@@ -19,7 +19,7 @@ pub fn hex_digits(word: u32) -> [u8; 8]
     digits
 }
 
-/// A cell in four hexadecimal digits, lower case.
+/// Returns a cell in four hexadecimal digits, lower case.
 #[tactic(auto, unfolding(crate::specs::Number::cell_text))]
 pub(crate) fn cell_digits(cell: u16) -> [u8; 4]
     ensures { result ≡ cell_text cell }
@@ -33,7 +33,7 @@ pub(crate) fn cell_digits(cell: u16) -> [u8; 4]
     digits
 }
 
-/// The low 24 bits of an address in six hexadecimal digits, lower case.
+/// Returns the low 24 bits of an address in six hexadecimal digits, lower case.
 #[tactic(auto, unfolding(crate::specs::Number::address_text))]
 pub fn address_digits(address: u32) -> [u8; 6]
     ensures { result ≡ address_text address }
@@ -58,7 +58,7 @@ fn digit(n: u32) -> u8
     }
 }
 
-/// A number in decimal digits, in a buffer of the caller's.
+/// Writes a number to `buffer` in decimal digits and returns them.
 pub fn decimal_text(buffer: &mut Buffer, n: u64) -> &[u8]
     ensures text { result.now ≡ decimal n }
     ensures fits { length result.now ≤ 20 }
@@ -66,7 +66,7 @@ pub fn decimal_text(buffer: &mut Buffer, n: u64) -> &[u8]
     buffer.format(n).as_bytes()
 }
 
-/// A signed number in decimal digits, in a buffer of the caller's.
+/// Writes a signed number to `buffer` in decimal digits and returns them.
 pub(crate) fn signed_text<'a>(buffer: &'a mut Buffer, n: &i32) -> &'a [u8]
     ensures text { result.now ≡ signed_decimal n.now }
     ensures fits { length result.now ≤ 11 }

@@ -9,8 +9,8 @@ use dev_io::{Failed, Sink, write_pieces};
 use hex::encode_to_slice;
 use itoa::Buffer;
 
-/// Writes the line of a picture's digest: the event behind which it is shown, its width and height, and the digest in 64
-/// hexadecimal digits.
+/// Writes the line of a picture's digest: the event after which it is displayed, its width in pixels and height in
+/// rows, all in decimal, and the digest in 64 hexadecimal digits.
 #[tactic(auto, unfolding(crate::specs::Sums::frame_sum_line))]
 pub fn write_frame_sum<K: Sink>(
     out: &mut K,
@@ -41,7 +41,7 @@ pub fn write_vram_sum<K: Sink>(out: &mut K, digest: &[u8; 32]) -> Result<(), Fai
     write_pieces(out, &[b"vram ", &digest_digits(digest), b"\n"])
 }
 
-// A digest in hexadecimal digits, lower case.
+// Returns a digest in hexadecimal digits, lower case.
 fn digest_digits(digest: &[u8; 32]) -> [u8; 64]
     ensures { result ≡ encode_lower digest.now }
 {

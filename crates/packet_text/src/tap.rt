@@ -9,10 +9,10 @@ use dev_io::{Failed, Sink, write_all, write_pieces};
 use gpu_taps::Listener;
 use itoa::Buffer;
 
-/// How many of the last items are written.
+/// The most items that [`write_last`] writes.
 const LAST_ITEMS: u32 = 8;
 
-/// Writes the line of a tap: `tap`, its kind, and each of its numbers in decimal.
+/// Writes the line of a tap: `tap`, its kind and each of its numbers, in decimal.
 pub fn write_tap<K: Sink, T: Listener>(out: &mut K, tap: &T) -> Result<(), Failed>
     ensures { Writes (side K.held K.faults) out.old out.new (tap_line (T.heard tap.now)) result }
 {
@@ -31,8 +31,8 @@ pub fn write_sum<K: Sink>(out: &mut K, sum: u64) -> Result<(), Failed>
     write_pieces(out, &[b"sum ", digits, b"\n"])
 }
 
-/// Writes the lines of the last eight items that a tap of kind 1 has kept: `psxgpu: last`, and the three numbers of the
-/// item in decimal. Of a tap of another kind nothing is written.
+/// Writes a line for each of the last eight items that a tap of kind 1 has recorded: `psxgpu: last`, then the event,
+/// class and head of the item in decimal. Writes nothing for a tap of another kind.
 #[tactic(auto, unfolding(crate::specs::Tap::last_lines))]
 pub fn write_last<K: Sink, T: Listener>(out: &mut K, tap: &T) -> Result<(), Failed>
     ensures { Writes (side K.held K.faults) out.old out.new (last_lines (T.heard tap.now)) result }
@@ -44,7 +44,7 @@ pub fn write_last<K: Sink, T: Listener>(out: &mut K, tap: &T) -> Result<(), Fail
     }
 }
 
-// The lines of the last items.
+// Writes the lines of the last items.
 fn write_items<K: Sink, T: Listener>(out: &mut K, tap: &T) -> Result<(), Failed>
     ensures { Writes (side K.held K.faults) out.old out.new
         (item_lines (last_numbers (T.heard tap.now).numbers)) result }
@@ -59,7 +59,7 @@ fn write_items<K: Sink, T: Listener>(out: &mut K, tap: &T) -> Result<(), Failed>
     Ok(())
 }
 
-// The line of an item.
+// Writes the line of an item.
 #[tactic(auto, unfolding(crate::specs::Tap::item_line))]
 fn write_item<K: Sink>(out: &mut K, event: u64, class: u64, head: u64) -> Result<(), Failed>
     ensures { Writes (side K.held K.faults) out.old out.new (item_line event class head) result }
@@ -76,7 +76,7 @@ fn write_item<K: Sink>(out: &mut K, event: u64, class: u64, head: u64) -> Result
     )
 }
 
-// The kind of a tap.
+// Writes `tap` and the kind of a tap.
 fn write_kind<K: Sink>(out: &mut K, kind: u8) -> Result<(), Failed>
     ensures { Writes (side K.held K.faults) out.old out.new (codes "tap " ++ decimal kind) result }
 {
@@ -85,7 +85,7 @@ fn write_kind<K: Sink>(out: &mut K, kind: u8) -> Result<(), Failed>
     write_pieces(out, &[b"tap ", digits])
 }
 
-// The numbers of a tap, each after a space.
+// Writes the numbers of a tap, each after a space.
 fn write_numbers<K: Sink, T: Listener>(out: &mut K, tap: &T) -> Result<(), Failed>
     ensures { Writes (side K.held K.faults) out.old out.new (numbers_text (T.heard tap.now).numbers) result }
 {
@@ -95,7 +95,7 @@ fn write_numbers<K: Sink, T: Listener>(out: &mut K, tap: &T) -> Result<(), Faile
     Ok(())
 }
 
-// A number after a space.
+// Writes a number after a space.
 fn write_number<K: Sink>(out: &mut K, number: u64) -> Result<(), Failed>
     ensures { Writes (side K.held K.faults) out.old out.new (number_text number) result }
 {

@@ -3,10 +3,10 @@ ghost use Rattle.std.specs.Prelude.{◌≡◌, ◌≤◌, flat_map, length};
 
 use arrayvec::ArrayVec;
 
-/// The bytes of a line. The line of a note or of a change has 90 at the most.
+/// The bytes of a line. The line of a note or of a change has at most 90.
 pub type LineText = ArrayVec<u8, 128>;
 
-/// These pieces, one after another.
+/// Returns the bytes of the pieces, one after another. They must be at most 128.
 pub(crate) fn line_text(pieces: &[&[u8]]) -> LineText
     requires { length (flat_map (λ piece. piece.now) pieces.now) ≤ 128 }
     ensures { result.items ≡ flat_map (λ piece. piece.now) pieces.now }

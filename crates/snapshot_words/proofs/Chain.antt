@@ -28,25 +28,25 @@ use Rattle.snapshot_words.specs.declared.section.Section.TheVariants as section
 use Rattle.snapshot_words.proofs.Back.{played_back, pending_back, load_back, store_back, run_back}
 use Rattle.snapshot_words.proofs.Gathering.{needed_on}
 
--- The words so far of a state were taken. Whatever follows them, it goes on like this from the place behind them.
+-- The words of a state so far were read. Whatever follows them, reading continues at the new offset with `next`.
 pub record Came (before now : Remainder) (got : List ℕ) (next : ℕ → List ℕ → Found Outline) : Type 0 where
   pub bytes : before.left ≡ prepended (bytes_of got) now.left
   pub needed : AreNeeded (outline_from before.place) (bytes_of got)
   pub moved : now.place ≡ before.place + 4 * length got
   pub says : (rest : List ℕ) → outline_from before.place (bytes_of got ++ rest) ≡ next now.place rest
 
--- bytes were taken that say this fault of a state, and none too many
+-- needed bytes were read that mean this fault of a state
 abbrev StopsAll : Remainder → Option (List ℕ) → SnapFault → Type 0
 StopsAll before now why = Stops (outline_from before.place) before.left now why
 
--- the same of one part
+-- the same for one part
 abbrev StopsIn : Section → Remainder → Option (List ℕ) → SnapFault → Type 0
 StopsIn s before now why = Stops (section_from s [] before.place) before.left now why
 
 bytes_both : (a b : List ℕ) → bytes_of (a ++ b) ≡ bytes_of a ++ bytes_of b
 bytes_both a b = flat_map-append word_bytes a b
 
--- what is read of one part, and behind it
+-- the meaning of one part, and of the bytes after it
 abbrev pub part_then : Section → (List ℕ → ℕ → List ℕ → Found Outline) → ℕ → List ℕ → Found Outline
 part_then s next place bytes = found_then (section_from s [] place bytes) next
 
@@ -102,11 +102,11 @@ module _ (s : Section) (next : List ℕ → ℕ → List ℕ → Found Outline) 
 
 -- ---- the parts of a state
 
--- behind the front, by its words
+-- after the front, by its words
 abbrev behind_front : List ℕ → ℕ → List ℕ → Found Outline
 behind_front words = registers_from (height_in words) (played_in words)
 
--- before it nothing has come
+-- before it nothing was read
 none_came : (at : Remainder) → Came at at [] (part_then section.Front behind_front)
 unfolding outline_from
 none_came at = record {
@@ -134,7 +134,7 @@ pub front_stops : (before : Remainder) (now : Option (List ℕ)) (why : SnapFaul
 front_stops before now why stops =
     came_stops section.Front behind_front before before [] (none_came before) now why stops
 
--- behind the registers, by their words, and so on
+-- after the registers, by their words, and so on
 abbrev with_registers : (height played : ℕ) → List ℕ → ℕ → List ℕ → Found Outline
 with_registers height played words = pending_from (begun played (registers_in height words))
 
@@ -200,7 +200,7 @@ outline_came before now got o is came = record {
 
 -- ---- all parts
 
--- the parts that came, up to a fault in the next one or to the end
+-- the parts read so far, up to a fault in the next one or to the end
 module _ (before after_front : Remainder) (height played : ℕ)
     (front : Takes section.Front before after_front (front_words height played)) where
   front_came : Came before after_front (front_words height played) (registers_from height played)
@@ -227,7 +227,7 @@ module _ (before after_front : Remainder) (height played : ℕ)
 
     module _ (after_pending : Remainder) (p : Pending) (load : Option Transfer) (link : IsLinked p load)
         (pendings : Takes (section.Pending height) after_regs after_pending (pending_words p load)) where
-      -- what was read up to here
+      -- what was read so far
       abbrev linked : Outline
       linked = record (begun played regs) { pending = p; load = load }
 

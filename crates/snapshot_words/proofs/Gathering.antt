@@ -1,4 +1,4 @@
--- Parts of a state, word after word.
+-- Parts of a state, word by word.
 use Rattle.std.proofs.Common.{◌≡◌, ◌<◌, ◌+◌, ◌-◌, ◌/◌, ◌%◌, ◌^◌, ◌++◌, ◌*◌, if◌then◌else◌, List, [], ◌∷◌, ℕ, Option}
 use Rattle.std.proofs.Common.{true, false, length, take, slice_index, refl, ap, sym, ◌∙◌, append_assoc, append-nil}
 use Rattle.std.proofs.Common.{arith, inl, inr, suc, ◌≤◌, length-append}
@@ -20,7 +20,7 @@ use Rattle.snapshot_words.specs.declared.fault.SnapFault.{SnapFault}
 use Rattle.snapshot_words.specs.declared.fault.SnapFault.TheVariants as fault
 use Rattle.snapshot_words.specs.declared.section.Section.{Section}
 
--- ---- what the next bytes are
+-- ---- the meaning of the next bytes
 
 pub whole_stays : (s : Section) (got : List ℕ) (place : ℕ) (bytes : List ℕ) → wants s got ≡ false
     → section_from s got place bytes ≡ Whole got place bytes
@@ -54,7 +54,7 @@ number_of_bytes a b c d p q r t =
     let fourth : n / 2 ^ 24 % 256 ≡ d = omega (arith, p, q, r, t) in
     rw (first, second, third, fourth) refl
 
--- the four bytes of a word, and what they say
+-- the four bytes of a word, and their meaning
 pub word_split : (s : Section) (got : List ℕ) (place word : ℕ) (rest : List ℕ) → wants s got ≡ true → word < 2 ^ 32
     → section_from s got place (word_bytes word ++ rest)
     ≡ (if allows s got word then section_from s (got ++ word ∷ []) (place + 4) rest else Bad place word)
@@ -80,7 +80,7 @@ pub bad_word : (s : Section) (got : List ℕ) (place word : ℕ) (rest : List �
     → word < 2 ^ 32 → section_from s got place (word_bytes word ++ rest) ≡ Bad place word
 bad_word s got place word rest due may fits = word_split s got place word rest due fits ∙ (rw may refl)
 
--- ---- none too many
+-- ---- needed bytes
 
 pub part_shorter : (taken part more : List ℕ) → taken ≡ part ++ more → (more ≡ [] → ⊥) → length part < length taken
 part_shorter taken part [] is some = absurd (some refl)
@@ -88,7 +88,7 @@ part_shorter taken part (x ∷ xs) is some =
     let e : length taken ≡ length part + suc (length xs) = ap length is ∙ length-append part (x ∷ xs) in
     omega (arith, e)
 
--- bytes, and others behind them
+-- bytes, and others after them
 pub needed_on : {A : Type 0} (found : List ℕ → Found A) (xs ys : List ℕ) → AreNeeded found xs
     → AreNeeded (λ part. found (xs ++ part)) ys → AreNeeded found (xs ++ ys)
 needed_on found xs ys first next part more is some =
@@ -126,7 +126,7 @@ module _ (s : Section) (before mid : Remainder) (now : Option (List ℕ)) (got :
       → section_from s [] before.place ((bytes_of got) ++ taken) ≡ Short (mid.place + length taken)
   short_says taken due few = goes.says taken ∙ breaks_off s got mid.place taken due few
 
-  -- at most the bytes of the next word
+  -- at most the bytes of the next word are needed
   needed_next : (taken : List ℕ) → wants s got ≡ true → length taken ≤ 4
       → AreNeeded (section_from s [] before.place) (bytes_of got ++ taken)
   needed_next taken due few =
@@ -183,7 +183,7 @@ goes_whole s before now got goes moved full = record {
   says = λ rest. goes.says rest ∙ whole_stays s got now.place rest full;
 }
 
--- ---- every word was due, and may stand at its place
+-- ---- every word was needed and is allowed
 
 pub none_allowed : (s : Section) → AreAllowed s []
 none_allowed s =
@@ -192,7 +192,7 @@ none_allowed s =
 pub minus_self : (n : ℕ) → n - n ≡ 0
 minus_self n = omega arith
 
--- what holds at each place of a list with one word more
+-- a fact at each index of a list with one more word
 at_each : (P : List ℕ → ℕ → Type 0) (got : List ℕ) (word : ℕ)
     → ((i : ℕ) → i < length got → P (take i got) (slice_index got i)) → P got word
     → (i : ℕ) → i < length (got ++ word ∷ []) → P (take i (got ++ word ∷ [])) (slice_index (got ++ word ∷ []) i)
@@ -222,7 +222,7 @@ allowed_on s got word were due may fits = record {
   fits = at_each (λ before w. w < 2 ^ 32) got word were.fits fits;
 }
 
--- the bytes of the word that a buffer is
+-- the bytes of the word in a buffer
 pub buffer_back : (buf : List ℕ) (word : ℕ) → length buf ≡ 4 → ((i : ℕ) → slice_index buf i < 256)
     → word ≡ little_number 4 buf → word_bytes word ≡ buf
 buffer_back [] word long fit is = absurd (omega arith)

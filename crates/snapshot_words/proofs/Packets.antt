@@ -1,4 +1,4 @@
--- Words of an item that is not whole.
+-- Words of an incomplete item.
 use Rattle.std.proofs.Common.{◌≡◌, ◌≤◌, ◌<◌, ◌+◌, ◌-◌, min, List, [], ◌∷◌, ℕ, suc, true, false, length, take}
 use Rattle.std.proofs.Common.{slice_index}
 use Rattle.std.proofs.Common.{nat_lt, nat_le, ◌==◌, refl, sym, ◌∙◌, arith}
@@ -9,14 +9,14 @@ use Rattle.snapshot_words.specs.Sections.{allows, allows_packet, IsWhole}
 use Rattle.snapshot_words.specs.declared.section.Section.TheVariants as section
 use Rattle.snapshot_words.proofs.Shapes.{length_is, taken_word}
 
--- 1, a count, and so many words of an item that is not whole
+-- 1, a count, and as many words of an incomplete item
 pub record IsPacketPart (words : List ℕ) : Type 0 where
   pub some : 1 ≤ slice_index words 1
   pub few : slice_index words 1 ≤ 11
   pub long : length words ≡ 2 + slice_index words 1
   pub part : slice_index words 1 < first_len_of (slice_index words 2)
 
--- the last word of an item that is not whole
+-- the last word of an incomplete item
 last_part : (k n w : ℕ) (got : List ℕ) (word : ℕ) → allows_packet (k ∷ n ∷ w ∷ got) word ≡ true
     → length got + 2 < first_len_of w
 last_part k n w got word may =

@@ -1,4 +1,4 @@
--- What the words of what is pending are, and those of a run.
+-- The values of the words of what is pending, and of a running transfer.
 use Rattle.std.proofs.Common.{◌≡◌, ◌≤◌, ◌*◌, ◌⊎◌, inl, inr, List, [], ◌∷◌, ℕ, zero, suc, Bool}
 use Rattle.std.proofs.Common.{true, false}
 use Rattle.std.proofs.Common.{length, take, slice_index, nat_le, ◌==◌, ◌||◌, refl, sym, subst}

@@ -1,4 +1,4 @@
--- The words of a whole part are taken as these words.
+-- The words of a whole part are read as these words.
 use Rattle.std.proofs.Common.{◌≡◌, ◌<◌, ◌+◌, ◌*◌, ◌^◌, ◌++◌, List, [], ◌∷◌, ℕ, None, true, length, take, slice_index}
 use Rattle.std.proofs.Common.{refl, ap, sym, subst, ◌∙◌, append_assoc, append-nil, length-append, arith}
 use Rattle.std.proofs.lemmas.List.{length_push, take-append-le, take_all, get_or-append_right}
@@ -7,7 +7,7 @@ use Rattle.snapshot_words.specs.Taking.{Goes, Takes, remainder}
 use Rattle.snapshot_words.specs.declared.section.Section.{Section}
 use Rattle.snapshot_words.proofs.Gathering.{goes_start, goes_on, goes_whole, minus_self}
 
--- the words of a whole part that are left, from bytes that nobody tells
+-- the words of a whole part that are left, from a source whose bytes contracts do not know
 takes_on : (s : Section) (all : List ℕ) (first : ℕ) → IsWhole s all → (got more : List ℕ) (place : ℕ)
     → got ++ more ≡ all → place ≡ first + 4 * length got → Goes s (remainder first None) (remainder place None) got
     → Takes s (remainder first None) (remainder (first + 4 * length all) None) all

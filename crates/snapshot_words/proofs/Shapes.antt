@@ -1,4 +1,4 @@
--- What the words of whole parts are.
+-- The values of the words of whole parts.
 use Rattle.std.proofs.Common.{◌≡◌, ◌<◌, ◌+◌, ◌*◌, ◌%◌, ◌/◌, ◌^◌, ◌⊎◌, inl, inr, List, [], ◌∷◌, ℕ, Bool}
 use Rattle.std.proofs.Common.{true, false}
 use Rattle.std.proofs.Common.{not, length, take, slice_index, nat_lt, nat_le, ◌==◌, ◌&&◌, ◌||◌}

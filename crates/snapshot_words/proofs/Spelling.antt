@@ -1,4 +1,4 @@
--- Every state is read from its spelling.
+-- Every state is read from its encoding.
 use Rattle.std.proofs.Common.{◌≡◌, ◌+◌, ◌*◌, ◌++◌, List, ℕ, None, length, refl, ap, ◌∙◌}
 use Rattle.gp1_status.specs.Words.{words_of}
 use Rattle.gpu_capture.specs.Whole.{AreWords}

@@ -1,4 +1,4 @@
--- With its memories too, every state is read from its spelling.
+-- Every state with its memories is read from its encoding.
 use Rattle.std.proofs.Common.{◌≡◌, ◌+◌, ◌*◌, ◌/◌, ◌%◌, ◌^◌, ◌++◌, List, [], ◌∷◌, ℕ, false, length, take}
 use Rattle.std.proofs.Common.{drop, nat_lt}
 use Rattle.std.proofs.Common.{refl, ap, sym, ◌∙◌, append_assoc, length-append, arith}
@@ -80,7 +80,7 @@ state_is : (place : ℕ) (bytes : List ℕ) → state_from place bytes ≡ found
 unfolding state_from
 state_is place bytes = refl
 
--- behind the cells
+-- after the cells
 with_ram : (o : Outline) (cells : List ℕ) → ℕ → List ℕ → Found Snapshot
 with_ram o cells place rest =
     found_then (memory_from ram_words place rest) (λ ram. Whole (record { outline = o; m = cells_in cells; ram = ram }))

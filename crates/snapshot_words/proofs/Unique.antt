@@ -1,4 +1,4 @@
--- What is read as a state is its spelling, and no other bytes are.
+-- The bytes that are read as a state are its encoding, and no others.
 use Rattle.std.proofs.Common.{◌≡◌, ◌<◌, ◌+◌, ◌*◌, ◌^◌, ◌++◌, inl, inr, List, [], ◌∷◌, ℕ, suc, false}
 use Rattle.std.proofs.Common.{length}
 use Rattle.std.proofs.Common.{slice_index, refl, sym, ap, subst, ◌∙◌, append_assoc, append-nil, length-append, arith}
@@ -23,7 +23,7 @@ use Rattle.snapshot_words.proofs.Gathering.{none_allowed, allowed_on}
 use Rattle.snapshot_words.proofs.Pendings.{pending_is, run_is}
 use Rattle.snapshot_words.proofs.Shapes.{front_is, registers_are, store_is}
 
--- ---- what is found
+-- ---- the meaning of bytes
 
 abbrev value_or : {A : Type 0} → A → Found A → A
 value_or a (Whole value place rest) = value
@@ -40,7 +40,7 @@ rest_or (Whole value place rest) = rest
 rest_or (Short place) = []
 rest_or (Bad place word) = []
 
--- what is found whole behind something was found behind something whole
+-- `found` is a whole value, and `all` is the meaning of the bytes after it
 record Behind {A B : Type 0} (found : Found A) (next : A → ℕ → List ℕ → Found B) (all : Found B) : Type 0 where
   value : A
   place : ℕ
@@ -89,7 +89,7 @@ module _ (s : Section) (words : List ℕ) (place : ℕ) (rest : List ℕ) where
         | inr full ↦ full_from s got words first place bytes rest allowed full e
       ]
 
-  -- behind one word more
+  -- after one more word
   on_from : (got : List ℕ) (word first : ℕ) (bytes left : List ℕ) → bytes ≡ word_bytes word ++ left
       → ReadFrom s (got ++ word ∷ []) words (first + 4) place left rest → ReadFrom s got words first place bytes rest
   on_from got word first bytes left is from =

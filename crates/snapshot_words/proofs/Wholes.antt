@@ -1,4 +1,4 @@
--- The words that values within the bounds are spelled by are those of whole parts.
+-- The words of values within the bounds are those of whole parts.
 use Rattle.std.proofs.Common.{◌≡◌, ◌≤◌, ◌<◌, ◌+◌, ◌-◌, ◌*◌, ◌/◌, ◌%◌, ◌^◌, ◌++◌, min, inl, inr, List, [], ◌∷◌, ℕ}
 use Rattle.std.proofs.Common.{zero, suc, Bool, true, false}
 use Rattle.std.proofs.Common.{Option, None, Some, length, take, slice_index, nat_lt, nat_le, ◌==◌, ◌||◌}
@@ -135,7 +135,7 @@ module _ (height : ℕ) (tall : height ≤ 1024) where
 first_most : (w : ℕ) → first_len_of w ≤ 12
 first_most w = grind (arith, nat_tests)
 
--- a polyline's command
+-- a polyline's command word
 line_command : (command : ℕ) → IsPolyline command → is_line command ≡ true
 line_command command is =
     elim (cases_Bool (class_of command == 1)) [
@@ -188,7 +188,7 @@ zero_allowed : (shaded : Bool) → (if shaded then nat_le 0 1 else 0 == 0) ≡ t
 zero_allowed true = refl
 zero_allowed false = refl
 
--- ---- words of an item that is not whole
+-- ---- words of an incomplete item
 
 same_head : (got more : List ℕ) (w f : ℕ) → slice_index (got ++ (w ∷ more)) 0 ≡ f → slice_index (got ++ w ∷ []) 0 ≡ f
 same_head [] more w f e = e

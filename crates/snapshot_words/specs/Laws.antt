@@ -1,11 +1,11 @@
--- What holds of all states (our own rule).
+-- Facts about all states (our own rule).
 use Rattle.std.specs.Prelude.{◌≡◌, ◌<◌, ℕ, ◌+◌, ◌*◌, ◌^◌, List, ◌∷◌, [], ◌++◌, length}
 use Rattle.gpu_capture.specs.Whole.{AreWords}
 use Rattle.snapshot_words.specs.Outline.{IsOutline, AreMemories, outline_words, bytes_of, snap_bytes}
 use Rattle.snapshot_words.specs.Reading.{Whole, outline_from, state_from}
 use Rattle.snapshot_words.specs.declared.outline.Outline.{Outline}
 
--- Every state within the bounds, of whose values each fits a word, is read from its spelling, whatever follows it.
+-- Every state within the bounds whose values fit their words is read from its encoding, whatever bytes follow.
 abbrev pub OutlinesAreRead : Type 0
 OutlinesAreRead = (o : Outline) (place : ℕ) (rest : List ℕ) → IsOutline o → AreWords (outline_words o)
     → outline_from place (bytes_of (outline_words o) ++ rest)
@@ -15,19 +15,19 @@ abbrev pub AreBytes : List ℕ → Type 0
 AreBytes [] = Unit {0}
 AreBytes (byte ∷ bytes) = (byte < 2 ^ 8) × AreBytes bytes
 
--- bytes are the spelling of a state, and what is left of them
+-- bytes are the encoding of a state, and a rest
 pub record IsSpelled (o : Outline) (first place : ℕ) (bytes rest : List ℕ) : Type 0 where
   pub spelled : bytes ≡ bytes_of (outline_words o) ++ rest
   pub moved : place ≡ first + 4 * length (outline_words o)
   pub bounds : IsOutline o
   pub words : AreWords (outline_words o)
 
--- No other bytes are read as a state: it is within the bounds, and they are its spelling.
+-- No other bytes are read as a state: it is within the bounds, and the bytes are its encoding and the rest.
 abbrev pub OneSpelling : Type 0
 OneSpelling = (o : Outline) (first place : ℕ) (bytes rest : List ℕ) → AreBytes bytes
     → outline_from first bytes ≡ Whole o place rest → IsSpelled o first place bytes rest
 
--- the same with both memories
+-- the first law with both memories
 abbrev pub StatesAreRead : Type 0
 StatesAreRead = (o : Outline) (m ram : List ℕ) (place : ℕ) (rest : List ℕ) → IsOutline o → AreWords (outline_words o)
     → AreMemories o m ram → state_from place (snap_bytes o m ram ++ rest)

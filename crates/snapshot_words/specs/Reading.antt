@@ -1,4 +1,4 @@
--- What bytes are, read as a state (our own rule).
+-- The meaning of bytes that are read as a state (our own rule).
 use Rattle.std.specs.Prelude.{ℕ, ◌+◌, ◌*◌, List, [], ◌∷◌, ◌++◌, None, if◌then◌else◌, length, take, drop, nat_lt}
 use Rattle.byteorder.specs.Endian.{little_number}
 use Rattle.gp0_words.specs.declared.pending.Pending.TheVariants as pending
@@ -11,14 +11,14 @@ use Rattle.snapshot_words.specs.declared.outline.Outline.{Outline}
 use Rattle.snapshot_words.specs.declared.section.Section.{Section}
 use Rattle.snapshot_words.specs.declared.section.Section.TheVariants as section
 
--- What bytes from a place on are: a value, with the place behind it and the bytes that are left; or they break off at a
--- place; or the word at a place may not stand there.
+-- The meaning of bytes from an offset on: a value, the offset after it and the bytes left; or truncated, with the
+-- offset of the end; or a word that is not allowed, with its offset.
 pub data Found (A : Type 0) : Type 0 where
   Whole : A → ℕ → List ℕ → Found A
   Short : ℕ → Found A
   Bad : ℕ → ℕ → Found A
 
--- a value, and what is read behind it
+-- a value, then the meaning of the bytes after it
 abbrev pub found_then : {A B : Type 0} → Found A → (A → ℕ → List ℕ → Found B) → Found B
 found_then (Whole value place rest) next = next value place rest
 found_then (Short place) next = Short place
@@ -26,11 +26,11 @@ found_then (Bad place word) next = Bad place word
 
 -- ---- one part
 
--- the word that four bytes are
+-- the word of four bytes
 abbrev pub word_of : (a b c d : ℕ) → ℕ
 word_of a b c d = little_number 4 (a ∷ b ∷ c ∷ d ∷ [])
 
--- the words of a part of which these came
+-- the words of a part; `got` are its words so far
 abbrev pub section_from : Section → (got : List ℕ) → (place : ℕ) → (bytes : List ℕ) → Found (List ℕ)
 section_from s got place [] = if wants s got then Short place else Whole got place []
 section_from s got place (a ∷ []) = if wants s got then Short (place + 1) else Whole got place (a ∷ [])
@@ -43,33 +43,33 @@ section_from s got place (a ∷ b ∷ c ∷ d ∷ rest) =
     (if allows s got word then section_from s (got ++ word ∷ []) (place + 4) rest else Bad place word)
     else Whole got place (a ∷ b ∷ c ∷ d ∷ rest)
 
--- ---- a state but for its memories: its parts, one after another
+-- ---- a state without its memories: its parts, one after another
 
--- Each part that is read takes its place in what was read so far.
+-- Each part is stored in the outline when it is read.
 
--- what was read behind the registers: the parts that are still to come are none yet
+-- the outline after the registers; the parts not read yet are empty
 abbrev pub begun : (played : ℕ) → Registers → Outline
 begun played regs =
     record { played = played; regs = regs; pending = pending.Idle; load = None; store = None; run = run.Idle }
 
--- behind the open store
+-- after the open store
 abbrev pub run_from : Outline → ℕ → List ℕ → Found Outline
 run_from o place bytes =
     found_then (section_from section.Run [] place bytes) (λ words. Whole (record o { run = run_in words }))
 
--- behind what is pending
+-- after what is pending
 abbrev pub store_from : Outline → ℕ → List ℕ → Found Outline
 store_from o place bytes =
     found_then (section_from (section.Store o.regs.height) [] place bytes)
     (λ words. run_from (record o { store = store_in words }))
 
--- behind the registers
+-- after the registers
 abbrev pub pending_from : Outline → ℕ → List ℕ → Found Outline
 pending_from o place bytes =
     found_then (section_from (section.Pending o.regs.height) [] place bytes)
     (λ words. store_from (record o { pending = pending_in words; load = load_in words }))
 
--- behind the front
+-- after the front
 abbrev pub registers_from : (height played : ℕ) → ℕ → List ℕ → Found Outline
 registers_from height played place bytes =
     found_then (section_from (section.Registers height) [] place bytes)
@@ -82,12 +82,12 @@ outline_from place bytes =
 
 -- ---- a whole state
 
--- the words that bytes are, four by four
+-- the words of bytes, four bytes each
 abbrev pub words_in : List ℕ → List ℕ
 words_in (a ∷ b ∷ c ∷ d ∷ rest) = word_of a b c d ∷ words_in rest
 words_in short = []
 
--- so many words, which may be any
+-- `count` words, with any values
 abbrev pub memory_from : (count : ℕ) → (place : ℕ) → List ℕ → Found (List ℕ)
 memory_from count place bytes =
     if nat_lt (length bytes) (4 * count) then Short (place + length bytes)
@@ -103,13 +103,13 @@ pub record Snapshot : Type 0 where
 unfoldable pub ram_words : ℕ
 ram_words = 524288
 
--- behind the outline
+-- after the outline
 abbrev pub memories_from : Outline → ℕ → List ℕ → Found Snapshot
 memories_from o place bytes =
     found_then (memory_from (512 * o.regs.height) place bytes) (λ cells place rest.
     found_then (memory_from ram_words place rest) (λ ram.
     Whole (record { outline = o; m = cells_in cells; ram = ram })))
 
--- the state behind its head
+-- the state after the file header
 unfoldable pub state_from : (place : ℕ) → List ℕ → Found Snapshot
 state_from place bytes = found_then (outline_from place bytes) memories_from

@@ -1,4 +1,4 @@
--- The table of a state: its parts, how many words each has, and which words may stand there (our own rule).
+-- The table of a state: its parts, how many words each has, and which words are allowed there (our own rule).
 use Rattle.std.specs.Prelude.{◌≡◌, ◌<◌, ℕ, ◌+◌, ◌-◌, ◌*◌, ◌%◌, min, Bool, true, false, not, List}
 use Rattle.std.specs.Prelude.{if◌then◌else◌, nat_lt, nat_le, ◌==◌, ◌&&◌, ◌||◌, ◌^◌, length, slice_index, take}
 use Rattle.gp0_words.specs.Kinds.{first_len_of, class_of, is_end, is_set}
@@ -18,10 +18,10 @@ is_address word = (word % 4 == 0) && nat_lt word 0x200000
 abbrev pub is_line : ℕ → Bool
 is_line word = (class_of word == 2) && is_set word 27
 
--- ---- how many words a part has, by the words of it that came; a word that has not come counts as 0
+-- ---- how many words a part has, by its words so far; a word not read yet counts as 0
 
--- what is pending, by its kind: 1 a count and as many words; 2 a transfer; 3 a polyline, with the colour of a begun
--- joint where its flag is 1
+-- What is pending, by its kind. 1: a count and as many words. 2: a transfer. 3: a polyline, with the colour of a begun
+-- joint if its flag is 1.
 abbrev pub need_pending : List ℕ → ℕ
 need_pending got =
     if slice_index got 0 == 1 then 2 + min (slice_index got 1) 11 else
@@ -41,19 +41,19 @@ need (section.Pending height) got = need_pending got
 need (section.Store height) got = need_store got
 need section.Run got = need_run got
 
--- one word more is due
+-- the part needs another word
 abbrev pub wants : Section → List ℕ → Bool
 wants s got = nat_lt (length got) (need s got)
 
--- ---- which word may come behind the words of a part that came
+-- ---- which word is allowed after the words of a part so far
 
--- the height, and the number of events played, low and high
+-- the height, and the number of events played: its low and its high word
 abbrev pub allows_front : List ℕ → ℕ → Bool
 allows_front got word =
     if length got == 0 then (word == 512) || (word == 1024) else
     (if length got == 1 then true else nat_lt word 0x80000000)
 
--- a transfer behind one word: x, y, w, h, and the number of its next pixel, which is the first of a word
+-- a transfer after one word: x, y, w, h, and the index of its next cell, where a word begins
 abbrev pub allows_job : (height : ℕ) → List ℕ → ℕ → Bool
 allows_job height got word =
     if length got == 1 then nat_lt word 1024 else
@@ -62,14 +62,14 @@ allows_job height got word =
     (if length got == 4 then is_within 1 512 word else
     (word % 2 == 0) && nat_lt word (slice_index got 3 * slice_index got 4))))
 
--- a count, and the words of an item that none of them completes
+-- a count, and words of an item that do not complete it
 abbrev pub allows_packet : List ℕ → ℕ → Bool
 allows_packet got word =
     if length got == 1 then is_within 1 11 word else
     (if length got == 2 then nat_lt 1 (first_len_of word)
     else nat_lt (length got - 1) (first_len_of (slice_index got 2)))
 
--- command, colour, vertex, flag, and the colour of a begun joint
+-- command word, colour, vertex, flag, and the colour of a begun joint
 abbrev pub allows_line : List ℕ → ℕ → Bool
 allows_line got word =
     if length got == 1 then is_line word else
@@ -106,7 +106,7 @@ allows (section.Pending height) got word = allows_pending height got word
 allows (section.Store height) got word = allows_store height got word
 allows section.Run got word = allows_run got word
 
--- the heights that there are
+-- the height is possible
 abbrev pub IsSection : Section → Type 0
 IsSection section.Front = Unit {0}
 IsSection (section.Registers height) = IsHeight height
@@ -116,7 +116,7 @@ IsSection section.Run = Unit {0}
 
 -- ---- whole parts
 
--- every word was due, and may stand at its place, behind those before it
+-- every word was needed, and is allowed after the words before it
 pub record AreAllowed (s : Section) (words : List ℕ) : Type 0 where
   pub due : (i : ℕ) → i < length words → wants s (take i words) ≡ true
   pub each : (i : ℕ) → i < length words → allows s (take i words) (slice_index words i) ≡ true

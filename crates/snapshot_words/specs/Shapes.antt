@@ -1,4 +1,4 @@
--- What holds of the words of whole parts: they are the spelling of values, and these are within the bounds.
+-- Facts about the words of whole parts: they are the encoding of values within the bounds.
 use Rattle.std.specs.Prelude.{◌≡◌, ◌<◌, ◌≤◌, ◌^◌, ℕ, List, length, slice_index}
 use Rattle.gp0_words.specs.Next.{IsPending}
 use Rattle.gp1_status.specs.Words.{words_of, registers_in, AreAllowed as RegisterBits}

@@ -1,4 +1,4 @@
--- What is taken from a source, word by word, and what the table says of it.
+-- What is read from a source, word by word, and its meaning by the table.
 use Rattle.std.specs.Prelude.{◌≡◌, ◌<◌, ℕ, ◌+◌, ◌*◌, ◌^◌, List, [], ◌++◌, Option, length}
 use Rattle.dev_io.specs.Device.{prepended, IsAtEnd}
 use Rattle.gpu_capture.specs.Written.{word_bytes}
@@ -17,12 +17,12 @@ IsReadFault other = ⊥
 
 -- ---- words
 
--- a word was taken
+-- a word was read
 pub record IsWord (before now : Option (List ℕ)) (word : ℕ) : Type 0 where
   pub bytes : before ≡ prepended (word_bytes word) now
   pub fits : word < 2 ^ 32
 
--- no word was had, after these bytes of it
+-- why no word could be read, after `taken`, fewer than 4 bytes of it
 abbrev pub SaysNoWord : SnapFault → ℕ → List ℕ → Option (List ℕ) → Type 0
 SaysNoWord (fault.Stop (Truncated byte)) place taken now =
     (length taken < 4) × (byte ≡ place + length taken) × IsAtEnd now
@@ -35,7 +35,7 @@ pub record EndsWord (before now : Option (List ℕ)) (place : ℕ) (why : SnapFa
   pub bytes : before ≡ prepended taken now
   pub says : SaysNoWord why place taken now
 
--- of so many words from a place on not all came: after some whole words a part of the next one
+-- not all of `count` words were there: after some complete words came only a part of the next one
 pub record BreaksOff (before now : Option (List ℕ)) (place count : ℕ) (why : SnapFault) : Type 0 where
   pub got : List ℕ
   pub part : List ℕ
@@ -43,33 +43,33 @@ pub record BreaksOff (before now : Option (List ℕ)) (place count : ℕ) (why :
   pub few : length got < count
   pub says : SaysNoWord why (place + 4 * length got) part now
 
--- ---- what is read of them
+-- ---- the meaning of what is read
 
--- why reading ends, by what the bytes taken are: whatever follows them, where a word may not stand at its place; and
--- without more, where they break off
+-- The meaning of the bytes read if reading ends with a fault. A word that is not allowed is one, whatever follows.
+-- Otherwise the bytes read are truncated.
 abbrev pub SaysFault : {A : Type 0} → SnapFault → (List ℕ → Found A) → List ℕ → Option (List ℕ) → Type 0
 SaysFault (fault.Bad byte word) found taken now = (rest : List ℕ) → found (taken ++ rest) ≡ Bad byte word
 SaysFault (fault.Stop (Truncated byte)) found taken now = (found taken ≡ Short byte) × IsAtEnd now
 SaysFault (fault.Stop (ReadFault byte)) found taken now = found taken ≡ Short byte
 SaysFault (fault.Stop other) found taken now = ⊥
 
--- some bytes break off
+-- these bytes are truncated
 abbrev pub IsShort : {A : Type 0} → Found A → Type 0
 IsShort (Short place) = Unit {0}
 IsShort found = ⊥
 
--- none of these bytes is one too many: a proper part of them breaks off
+-- all of these bytes are needed: any proper prefix of them is truncated
 abbrev pub AreNeeded : {A : Type 0} → (List ℕ → Found A) → List ℕ → Type 0
 AreNeeded found taken = (part more : List ℕ) → taken ≡ part ++ more → (more ≡ [] → ⊥) → IsShort (found part)
 
--- bytes were taken that say this fault, and none too many
+-- needed bytes were read that mean this fault
 pub record Stops {A : Type 0} (found : List ℕ → Found A) (before now : Option (List ℕ)) (why : SnapFault) : Type 0 where
   pub taken : List ℕ
   pub bytes : before ≡ prepended taken now
   pub needed : AreNeeded found taken
   pub says : SaysFault why found taken now
 
--- the bytes that are left of a source, and the place of the first of them
+-- the bytes left in a source, and the offset of the first of them
 pub record Remainder : Type 0 where
   pub place : ℕ
   pub left : Option (List ℕ)
@@ -77,21 +77,21 @@ pub record Remainder : Type 0 where
 abbrev pub remainder : ℕ → Option (List ℕ) → Remainder
 remainder place left = record { place = place; left = left }
 
--- The words so far of a part were taken. Whatever follows, it goes on from them at the place behind them.
+-- The words of a part so far were read. Whatever follows, reading continues after them at the new offset.
 pub record Goes (s : Section) (before now : Remainder) (got : List ℕ) : Type 0 where
   pub bytes : before.left ≡ prepended (bytes_of got) now.left
   pub needed : AreNeeded (section_from s [] before.place) (bytes_of got)
   pub says : (rest : List ℕ)
       → section_from s [] before.place (bytes_of got ++ rest) ≡ section_from s got now.place rest
 
--- the words of a whole part were taken
+-- the words of a whole part were read
 pub record Takes (s : Section) (before now : Remainder) (words : List ℕ) : Type 0 where
   pub bytes : before.left ≡ prepended (bytes_of words) now.left
   pub needed : AreNeeded (section_from s [] before.place) (bytes_of words)
   pub moved : now.place ≡ before.place + 4 * length words
   pub says : (rest : List ℕ) → section_from s [] before.place (bytes_of words ++ rest) ≡ Whole words now.place rest
 
--- the words of a state but for its memories were taken, and no byte more
+-- the words of a state without its memories were read, and no more bytes
 pub record TakesOutline (before now : Option (List ℕ)) (first place : ℕ) (o : Outline) : Type 0 where
   pub bytes : before ≡ prepended (bytes_of (outline_words o)) now
   pub needed : AreNeeded (outline_from first) (bytes_of (outline_words o))

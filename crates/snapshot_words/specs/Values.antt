@@ -1,4 +1,4 @@
--- The values of a state as words, and what the words of whole parts are (our own rule).
+-- The values of a state as words, and the values of the words of whole parts (our own rule).
 use Rattle.std.specs.Prelude.{ℕ, ◌+◌, ◌*◌, ◌/◌, ◌%◌, ◌^◌, List, [], ◌∷◌, Option, None, Some, ◌==◌}
 use Rattle.std.specs.Prelude.{if◌then◌else◌, length, slice_index, drop}
 use Rattle.gp0_words.specs.declared.pending.Pending.{Pending}
@@ -22,7 +22,7 @@ abbrev pub store_words : Option Transfer → List ℕ
 store_words None = 0 ∷ []
 store_words (Some job) = 1 ∷ job_words job
 
--- where data words are pending, the open load says how many
+-- if data words are pending, the open load, which decides how many
 abbrev pub load_words : Option Transfer → List ℕ
 load_words None = []
 load_words (Some job) = job_words job
@@ -57,7 +57,7 @@ height_in words = slice_index words 0
 abbrev pub played_in : List ℕ → ℕ
 played_in words = slice_index words 1 + slice_index words 2 * 2 ^ 32
 
--- a transfer behind one word
+-- the transfer in words 1 to 5 of a part
 abbrev pub job_in : List ℕ → Transfer
 job_in words =
     record {
@@ -71,7 +71,7 @@ job_in words =
 abbrev pub store_in : List ℕ → Option Transfer
 store_in words = if slice_index words 0 == 1 then Some (job_in words) else None
 
--- the load that is open where data words are pending
+-- the load that is open if data words are pending
 abbrev pub load_in : List ℕ → Option Transfer
 load_in words = if slice_index words 0 == 2 then Some (job_in words) else None
 

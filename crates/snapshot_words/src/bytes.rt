@@ -1,11 +1,11 @@
-// The bytes of words, the low byte of each first.
+// Encodes words as bytes, the low byte of each first.
 ghost use Rattle.std.specs.Prelude.{◌≡◌, ◌≤◌, ◌+◌, ◌*◌, ◌++◌, length};
 ghost use Rattle.gpu_capture.specs.Written.{word_bytes};
 ghost use Rattle.snapshot_words.specs.Outline.{bytes_of};
 
 use arrayvec::ArrayVec;
 
-/// The bytes of words.
+/// Returns the bytes of at most 48 words.
 pub(crate) fn bytes_in(words: &[u32]) -> ArrayVec<u8, 192>
     requires { length words.now ≤ 48 }
     ensures { result.items ≡ bytes_of words.now }

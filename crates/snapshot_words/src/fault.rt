@@ -1,17 +1,17 @@
-// Why a snapshot is not read.
+// Why a snapshot cannot be read.
 use gpu_capture::Stop;
 
-/// Why a snapshot is not read.
+/// Why a snapshot cannot be read.
 #[derive(Clone, Copy, Debug, PartialEq, Eq)]
 pub enum SnapFault {
-    /// It is no capture and no snapshot, it breaks off, or the source failed.
+    /// It is neither a capture nor a snapshot, it is truncated, or the source failed.
     Stop {
-        /// Which, and where: NotCapture, Truncated or ReadFault.
+        /// Which of these, and at which offset: NotCapture, Truncated or ReadFault.
         stop: Stop,
     },
-    /// A word that may not stand at its place.
+    /// A word is not allowed at its offset.
     Bad {
-        /// Its place.
+        /// Its byte offset in the snapshot.
         byte: u32,
         /// The word.
         word: u32,

@@ -1,4 +1,4 @@
-//! The table of a snapshot: the state of a machine as words, and which words may stand at each place.
+//! The table of a snapshot: the state of the machine as words, and which words are allowed at each position.
 #![tactic(auto)]
 
 mod bytes;

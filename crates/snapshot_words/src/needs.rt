@@ -1,4 +1,4 @@
-// How many words a part of a state has, by the words of it that came.
+// How many words a part of a state has, by its words so far.
 ghost use Rattle.std.specs.Prelude.{◌≡◌, ◌≤◌, ◌<◌, true, length};
 ghost use Rattle.snapshot_words.specs.Sections.{need, wants, need_pending, need_store, need_run};
 
@@ -34,7 +34,7 @@ fn need_run(got: &[u32]) -> usize
     }
 }
 
-/// How many words a part has, by the words of it that came, at most thirteen.
+/// Returns how many words a part has, at most thirteen. `got` are its words so far.
 pub(crate) fn need(section: Section, got: &[u32]) -> usize
     ensures value { result ≡ need section got.now }
     ensures most { result ≤ 13 }
@@ -48,7 +48,7 @@ pub(crate) fn need(section: Section, got: &[u32]) -> usize
     }
 }
 
-/// Whether one word more is due in a part.
+/// Returns whether a part needs another word. `got` are its words so far.
 pub(crate) fn wants(section: Section, got: &[u32]) -> bool
     ensures value { result ≡ wants section got.now }
     ensures few { result ≡ true → length got.now < 13 }

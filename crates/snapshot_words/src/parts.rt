@@ -1,4 +1,4 @@
-// Whole parts that are read.
+// Reads whole parts.
 ghost use Rattle.std.specs.Prelude.{◌≡◌, ◌≤◌, ◌<◌, ◌+◌, ◌^◌, [], IfOk, IfErr};
 ghost use Rattle.gp1_status.specs.Words.{words_of, AreAllowed as RegisterBits};
 ghost use Rattle.gpu_capture.specs.Reader.{CountsFaults};
@@ -20,7 +20,7 @@ use gp1_status::Regs;
 use list_dma::Run;
 use vram_copy::Transfer;
 
-/// The height of video memory, and the number of events played.
+/// Reads the height of video memory in rows, and the number of events played.
 #[tactic(auto, using(crate::proofs::Shapes::front_is))]
 pub(crate) fn read_front<S: Source>(
     source: &mut S,
@@ -43,7 +43,7 @@ pub(crate) fn read_front<S: Source>(
     }
 }
 
-/// The registers.
+/// Reads the registers.
 #[tactic(auto, using(crate::proofs::Shapes::registers_are))]
 pub(crate) fn read_registers<S: Source>(
     source: &mut S,
@@ -68,7 +68,7 @@ pub(crate) fn read_registers<S: Source>(
     }
 }
 
-/// The open store.
+/// Reads the open store.
 #[tactic(auto, using(crate::proofs::Shapes::store_is))]
 pub(crate) fn read_store<S: Source>(
     source: &mut S,
@@ -92,7 +92,7 @@ pub(crate) fn read_store<S: Source>(
     }
 }
 
-/// What is pending, and the open load.
+/// Reads what is pending, and the open load.
 #[tactic(auto, using(crate::proofs::Pendings::pending_is))]
 pub(crate) fn read_pending<S: Source>(
     source: &mut S,
@@ -119,7 +119,7 @@ pub(crate) fn read_pending<S: Source>(
     }
 }
 
-/// The running transfer.
+/// Reads the running transfer.
 #[tactic(auto, using(crate::proofs::Pendings::run_is))]
 pub(crate) fn read_run<S: Source>(source: &mut S, place: &mut u32) -> Result<Run, SnapFault>
     requires place { place.old < 2 ^ 30 }

@@ -1,4 +1,4 @@
-// A state but for its memories, read part by part.
+// Reads a state without its memories, part by part.
 ghost use Rattle.std.specs.Prelude.{◌≤◌, ◌<◌, ◌+◌, ◌^◌, IfOk, IfErr};
 ghost use Rattle.dev_io.specs.Device.{Rose};
 ghost use Rattle.snapshot_words.specs.Outline.{IsOutline};
@@ -10,18 +10,19 @@ use crate::outline::Outline;
 use crate::parts::{read_front, read_pending, read_registers, read_run, read_store};
 use dev_io::Source;
 
-/// Reads a state but for its memories from a place on, which is then the place behind it.
+/// Reads a state without its memories. `place` is the byte offset of its first word, below 2^29. On success it is then
+/// the offset after the state.
 ///
-/// It takes no byte behind the state. A word that may not stand at its place is refused as soon as it is taken.
+/// Reads no byte after the state. Refuses a word that is not allowed at its offset as soon as it is read.
 pub fn read_outline<S: Source>(source: &mut S, place: &mut u32) -> Result<Outline, SnapFault>
     requires { place.old < 2 ^ 29 }
-    // The bytes taken are its spelling, and it is within the bounds.
+    // The bytes read are its encoding, and it is within the bounds.
     ensures takes { IfOk result (λ outline.
         TakesOutline (S.left source.old) (S.left source.new) place.old place.new outline) }
     ensures bounds { IfOk result IsOutline }
     ensures near { place.new ≤ place.old + 260 }
 
-    // Why it is refused: what the bytes taken say, and a failure of the source only where it failed.
+    // The reason of a refusal is that of the bytes read. It is a failure of the source only if the source failed.
     ensures fault { IfErr result (λ fault.
         Stops (outline_from place.old) (S.left source.old) (S.left source.new) fault) }
     ensures cause { IfErr result (λ fault. IsReadFault fault → Rose (S.faults source.old) (S.faults source.new)) }

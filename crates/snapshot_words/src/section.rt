@@ -1,4 +1,4 @@
-// The parts of a state, and which words may stand in each.
+// The parts of a state, and which words are allowed in each.
 ghost use Rattle.std.specs.Prelude.{◌≡◌, ◌≤◌, ◌<◌, ◌*◌, ◌==◌, length, slice_index};
 ghost use Rattle.gp0_words.specs.Kinds.{is_set, is_end};
 ghost use Rattle.snapshot_words.specs.Sections.{
@@ -19,23 +19,23 @@ ghost use Rattle.snapshot_words.specs.Sections.{
 
 use gp0_words::first_len;
 
-/// How many bytes main memory has.
+/// The size of main memory in bytes.
 const MEMORY_BYTES: u32 = 0x20_0000;
 
-/// How many words main memory has.
+/// The size of main memory in words.
 const MEMORY_WORDS: u32 = MEMORY_BYTES / 4;
 
-/// The most words of a block.
+/// The most words of a DMA block.
 const BLOCK_WORDS: u32 = 65_536;
 
-/// A part of a state.
+/// A part of a state. `height` is the height of video memory in rows.
 #[derive(Clone, Copy, Debug, PartialEq, Eq)]
 pub enum Section {
-    /// The height, and the number of events played, low and high.
+    /// The height, and the number of events played: its low and its high word.
     Front,
     /// The registers.
     Registers { height: u16 },
-    /// What is pending.
+    /// What is pending of the GP0 words, with the open load.
     Pending { height: u16 },
     /// The open store.
     Store { height: u16 },
@@ -43,14 +43,14 @@ pub enum Section {
     Run,
 }
 
-/// A word of those that came, 0 where it has not come.
+/// Returns word `i` of a part, and 0 if it has not been read.
 pub(crate) fn word_at(got: &[u32], i: usize) -> u32
     ensures { result ≡ slice_index got.now i }
 {
     if i < got.len() { got[i] } else { 0 }
 }
 
-// Whether a bit of a word is 1.
+// Returns whether bit `k` of a word is 1.
 fn bit(word: u32, k: u32) -> bool
     requires { k < 32 }
     ensures { result ≡ is_set word k }
@@ -58,7 +58,7 @@ fn bit(word: u32, k: u32) -> bool
     word >> k & 1 == 1
 }
 
-// Whether a word ends a polyline, where it stands in place of a vertex's first word.
+// Returns whether a word ends a polyline if it comes instead of the first word of a vertex.
 fn ends_polyline(word: u32) -> bool
     ensures { result ≡ is_end word }
 {
@@ -179,7 +179,7 @@ fn allows_run(got: &[u32], word: u32) -> bool
     }
 }
 
-/// Whether a word may come in a part behind the words of it that came.
+/// Returns whether `word` is allowed as the next word of a part. `got` are its words so far.
 pub(crate) fn allows(section: Section, got: &[u32], word: u32) -> bool
     requires { IsSection section }
     ensures { result ≡ allows section got.now word }

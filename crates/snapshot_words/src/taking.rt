@@ -1,4 +1,4 @@
-// Words that are taken from a source.
+// Reads words from a source.
 ghost use Rattle.std.specs.Prelude.{◌≡◌, ◌≤◌, ◌<◌, ◌+◌, ◌*◌, ◌^◌, [], IfOk, IfErr};
 ghost use Rattle.dev_io.specs.Device.{Rose};
 ghost use Rattle.gpu_capture.specs.Reader.{CountsFaults};
@@ -15,7 +15,7 @@ use byteorder::{ByteOrder, LittleEndian};
 use dev_io::{Source, fill};
 use gpu_capture::Stop;
 
-// The word of four bytes, low first.
+// Returns the word of four bytes, the low byte first.
 fn word_in(bytes: &[u8; 4]) -> u32
     ensures value { word_bytes result ≡ bytes.now }
     ensures fits { result < 2 ^ 32 }
@@ -23,7 +23,7 @@ fn word_in(bytes: &[u8; 4]) -> u32
     LittleEndian::read_u32(bytes)
 }
 
-/// The word at a place.
+/// Reads a word. `place` is its byte offset, which only the error names.
 pub fn take_word<S: Source>(source: &mut S, place: u32) -> Result<u32, SnapFault>
     requires { place < 2 ^ 31 }
     ensures word { IfOk result (λ word. IsWord (S.left source.old) (S.left source.new) word) }
@@ -49,7 +49,8 @@ pub fn take_word<S: Source>(source: &mut S, place: u32) -> Result<u32, SnapFault
     }
 }
 
-/// The words of a part, from a place on, which is then the place behind them.
+/// Reads the words of a part. `place` is the byte offset of the first one, and on success the offset after the last
+/// one.
 pub(crate) fn take_section<S: Source>(
     source: &mut S,
     place: &mut u32,

@@ -1,4 +1,4 @@
-// What the words of whole parts are.
+// The values that the words of whole parts encode.
 ghost use Rattle.std.specs.Prelude.{◌≡◌, ◌≤◌, ◌<◌, ◌+◌, ◌-◌, ◌/◌, ◌*◌, ◌^◌, length};
 ghost use Rattle.gp1_status.specs.Words.{words_of};
 ghost use Rattle.gpu_core.specs.Kept.{IsJob, IsOpen};
@@ -13,7 +13,7 @@ use gp1_status::Regs;
 use list_dma::Run;
 use vram_copy::Transfer;
 
-/// The height, and the number of events played.
+/// Returns the height of video memory in rows, and the number of events played.
 pub(crate) fn front_in(words: &[u32]) -> (u16, u64)
     requires { IsFront words.now }
     ensures spelled { front_words result.0 result.1 ≡ words.now }
@@ -25,7 +25,7 @@ pub(crate) fn front_in(words: &[u32]) -> (u16, u64)
     (word_at(words, 0) as u16, low + high * 0x1_0000_0000)
 }
 
-// Whether there are 1024 rows.
+// Returns whether the height is 1024 rows.
 fn is_tall(height: u16) -> bool
     requires { IsHeight height }
     ensures { height_of_profile result ≡ height }
@@ -33,7 +33,7 @@ fn is_tall(height: u16) -> bool
     height == 1024
 }
 
-/// The registers that the words of their part are.
+/// Returns the registers that the words of their part encode.
 #[tactic(auto, using(gp1_status::proofs::WordsBack::thirteen))]
 pub(crate) fn registers_in(height: u16, words: &[u32]) -> Regs
     requires known { IsHeight height }
@@ -51,7 +51,7 @@ pub(crate) fn registers_in(height: u16, words: &[u32]) -> Regs
     }
 }
 
-// The transfer behind one word.
+// Returns the transfer that words 1 to 5 of a part encode.
 fn job_in(height: u16, words: &[u32]) -> Transfer
     requires known { IsHeight height }
     requires job { IsJob height (job_in words.now) }
@@ -66,7 +66,7 @@ fn job_in(height: u16, words: &[u32]) -> Transfer
     }
 }
 
-/// The open store that the words of its part are.
+/// Returns the open store that the words of its part encode.
 pub(crate) fn store_in(height: u16, words: &[u32]) -> Option<Transfer>
     requires known { IsHeight height }
     requires words { IsStore height words.now }
@@ -80,7 +80,7 @@ pub(crate) fn store_in(height: u16, words: &[u32]) -> Option<Transfer>
     }
 }
 
-/// What is pending, by the words of its part.
+/// Returns what is pending, by the words of its part.
 pub(crate) fn pending_in(height: u16, words: &[u32]) -> Pending
     requires known { IsHeight height }
     requires words { IsPendingPart height words.now }
@@ -103,7 +103,7 @@ pub(crate) fn pending_in(height: u16, words: &[u32]) -> Pending
     }
 }
 
-// The words of an item that is not whole.
+// Returns the words of an incomplete item.
 fn packet_in(words: &[u32]) -> Words
     requires { length words.now ≤ 12 }
     ensures { result ≡ words.now }
@@ -115,7 +115,7 @@ fn packet_in(words: &[u32]) -> Words
     packet
 }
 
-// How many data words a load still wants.
+// Returns how many data words a load still needs.
 fn wanted(job: &Transfer) -> u32
     requires w { job.now.w ≤ 1024 }
     requires h { job.now.h ≤ 512 }
@@ -125,7 +125,7 @@ fn wanted(job: &Transfer) -> u32
     (u32::from(job.w) * u32::from(job.h) - job.at + 1) / 2
 }
 
-// The colour of a begun joint.
+// Returns the colour of the next vertex of a polyline, if it was received.
 fn half_in(words: &[u32]) -> Option<u32>
     ensures { result ≡ half_in words.now }
 {
@@ -136,7 +136,7 @@ fn half_in(words: &[u32]) -> Option<u32>
     }
 }
 
-/// The load that is open where data words are pending.
+/// Returns the open load, if data words are pending.
 pub(crate) fn load_in(height: u16, words: &[u32]) -> Option<Transfer>
     requires known { IsHeight height }
     requires words { IsPendingPart height words.now }
@@ -149,7 +149,7 @@ pub(crate) fn load_in(height: u16, words: &[u32]) -> Option<Transfer>
     }
 }
 
-/// The running transfer.
+/// Returns the running transfer.
 pub(crate) fn run_in(words: &[u32]) -> Run
     ensures { result ≡ run_in words.now }
 {

@@ -1,4 +1,4 @@
-// A state but for its memories, written as words.
+// Writes a state without its memories as words.
 ghost use Rattle.std.specs.Prelude.{◌≡◌, ◌≤◌, ◌<◌, ◌+◌, ◌*◌, ◌++◌, ◌∷◌, None, length};
 ghost use Rattle.dev_io.specs.Device.{Writes, side};
 ghost use Rattle.gp0_words.specs.Next.{IsPending};
@@ -17,15 +17,15 @@ use vram_copy::Transfer;
 /// The first eight bytes of a snapshot.
 pub const SNAPSHOT_HEAD: [u8; 8] = *b"PSXGPUS1";
 
-/// Writes the head of a snapshot. After a failure a proper part of it was written.
+/// Writes the file header of a snapshot. On failure, only a proper prefix of it was written.
 pub fn write_head<K: Sink>(sink: &mut K) -> Result<(), Failed>
     ensures { Writes (side K.held K.faults) sink.old sink.new snapshot_head result }
 {
     write_all(sink, &SNAPSHOT_HEAD)
 }
 
-/// Writes a state but for its memories, in one call of the sink where that takes all. After a failure a proper part of
-/// it was written.
+/// Writes a state without its memories, in one call of the sink if the sink accepts all bytes. On failure, only a
+/// proper prefix was written. `pending` must be a value that a splitter can have.
 pub fn write_outline<K: Sink>(sink: &mut K, outline: &Outline) -> Result<(), Failed>
     requires { IsPending outline.now.pending }
     ensures { Writes (side K.held K.faults) sink.old sink.new (bytes_of (outline_words outline.now)) result }
@@ -35,7 +35,7 @@ pub fn write_outline<K: Sink>(sink: &mut K, outline: &Outline) -> Result<(), Fai
     write_all(sink, bytes.as_slice())
 }
 
-// The words of a state but for its memories.
+// Returns the words of a state without its memories.
 #[tactic(auto, unfolding(crate::specs::Outline::outline_words))]
 fn gather(outline: &Outline) -> ArrayVec<u32, 48>
     requires { IsPending outline.now.pending }
@@ -83,7 +83,7 @@ fn append_job(words: &mut ArrayVec<u32, 48>, kind: u32, job: &Transfer)
     append(words, &[kind, x, y, w, h, job.at]);
 }
 
-// Where data words are pending, the open load.
+// Appends the kind of pending data words, and the open load.
 fn append_load(words: &mut ArrayVec<u32, 48>, load: &Option<Transfer>)
     requires { length words.old.items ≤ 42 }
     ensures words { words.new.items ≡ words.old.items ++ 2 ∷ load_words load.now }

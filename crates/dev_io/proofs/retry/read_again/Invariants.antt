@@ -1,4 +1,4 @@
--- A read that is made again took nothing, and the buffer keeps its length.
+-- An interrupted read read nothing, and the buffer keeps its length.
 use Rattle.std.proofs.Common.{◌≡◌, length}
 use Rattle.std.specs.Io.KnownBytes.{Keeps}
 use Rattle.dev_io.proofs.retry.read_again.Given as goal

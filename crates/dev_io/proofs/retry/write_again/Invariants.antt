@@ -1,4 +1,4 @@
--- A write that is made again appended nothing.
+-- An interrupted write appended nothing.
 use Rattle.std.specs.Io.KnownBytes.{Keeps}
 use Rattle.dev_io.proofs.retry.write_again.Given as goal
 
