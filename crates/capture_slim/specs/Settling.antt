@@ -42,7 +42,7 @@ abbrev pub AreSettled : List Slot → Type 0
 AreSettled [] = Unit {0}
 AreSettled (s ∷ slots) = IsSettled s.mark × AreSettled slots
 
--- the capacity in slots: 4,096 of the window and the words of further packets
+-- the capacity in slots: the window's 4,096 and 32 more, enough for the words of a packet
 abbrev pub room : ℕ
 room = 4128
 

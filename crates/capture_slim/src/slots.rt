@@ -12,7 +12,7 @@ use px_num::{Box2, OutOfMemory};
 use std::alloc::Global;
 use std::marker::Model;
 
-// The capacity of either part: 4,096 events and the words of further packets.
+// The capacity of either part: the window's 4,096 events and 32 more, enough for the words of a packet.
 const ROOM: usize = 4128;
 
 /// The slots of the waiting events. In contracts, one list.
