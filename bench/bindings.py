@@ -7,7 +7,7 @@ import sys
 
 ROOT = os.path.dirname(os.path.dirname(os.path.abspath(__file__)))
 
-# The words lie in the module's memory; `begin` plays those of the start, `work` the others.
+# The words are in the module's memory; `begin` plays those of the start, `work` the others.
 IN_PAGE = '''
 let at = null, count, start, machine = null;
 function prepare(text, words) {

@@ -24,7 +24,7 @@ COMMANDS = (['vram'], ['frames'], ['sums'], ['pixel', '100', '100'])
 
 
 def recording(length):
-    """A capture of so many seconds."""
+    """Returns a capture of `length` seconds."""
     capture, numbers = Capture(), Numbers()
     capture.gp1(*screen(0, 0, 320, 240)).gp0(TEXTURES)
     for k in range(30 * length):

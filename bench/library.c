@@ -3,8 +3,8 @@
  *     library [words | notes] vram < capture > dump
  *
  * plays a capture of version 1 whose records are Gp0 alone: each record by one call, with `words` by one for each word,
- * and with `notes` by calls that tell of the items, for 65,536 words or fewer each. The capture is mapped, so that
- * reading it takes as good as no time. */
+ * and with `notes` by calls that return notes, each for at most 65,536 words. The capture is mapped, so reading it
+ * takes almost no time. */
 #define _POSIX_C_SOURCE 200809L
 #include <stdint.h>
 #include <stdio.h>

@@ -56,13 +56,13 @@ def megabytes(program, path):
 
 
 def prepare(folder, workloads, scale):
-    """Writes the captures; answers (workload, path, what it moves), the empty capture first."""
+    """Writes the captures. Returns (workload, path, what it moves) for each, the empty capture first."""
     jobs = [(None, os.path.join(folder, 'empty'), 0)]
     Capture().save(jobs[0][1])
     for k, workload in enumerate(workloads):
         count = max(1, int(workload.count * scale))
         path = os.path.join(folder, str(k))
-        # The pieces of work alone are counted, so the start stands in a capture of its own.
+        # Only the pieces of work are measured, so the start is in a capture of its own.
         Capture().gp0(workload.words(count)).save(path)
         Capture().gp0(workload.start).save(path + '.start')
         jobs.append((workload, path, count * workload.size))

@@ -25,7 +25,7 @@ TRIANGLES = 1000
 
 
 def capture_of(millions, single):
-    """A capture of so many million words, in long records or in a record for each."""
+    """Returns a capture of `millions` million words: long records, or with `single` one record per word."""
     numbers, draw = Numbers(), triangle(8)
     words = [word for k in range(TRIANGLES) for word in draw(k, numbers)]
     capture = Capture().gp0(drawing_area(0, 0, 1023, 511))
@@ -36,7 +36,7 @@ def capture_of(millions, single):
 
 
 def seconds(program, path, command, out):
-    """The processor time of one run that writes a file."""
+    """Returns the processor time of one run that writes a file."""
     with open(path, 'rb') as capture, open(out, 'wb') as file:
         child = subprocess.Popen([program, *command], stdin=capture, stdout=file)
         _, status, usage = os.wait4(child.pid, 0)

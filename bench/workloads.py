@@ -39,7 +39,7 @@ class Numbers:
 
 
 class Workload:
-    """`words(n)` gives the words of n pieces of work behind `start`; each piece is `size` pixels, words or frames."""
+    """`words(n)`: `start`, then the words of n pieces of work. Each piece is `size` pixels, words or frames."""
 
     def __init__(self, name, unit, size, count, piece, start=()):
         self.name, self.unit, self.size, self.count = name, unit, size, count
@@ -53,7 +53,7 @@ class Workload:
 
 
 class Recorded(Workload):
-    """A recording, its frames again and again: what stands between two writes of the display start."""
+    """A recording whose frames are repeated. A frame is what is between two writes of the display start."""
 
     def __init__(self, name, count, file):
         super().__init__('real: ' + name, 'frame/s', 1, count, None)

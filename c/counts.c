@@ -1,12 +1,12 @@
 /* Saves machines near the most events that a snapshot counts, 2^63 - 1: what is saved loads again, and a machine with
- * more is not saved. Writes nothing where all is as the header says. */
+ * more is not saved. Writes nothing if all is as the header says. */
 #include <inttypes.h>
 #include <stdio.h>
 #include <string.h>
 
 #include "psxgpu.h"
 
-enum { ROOM = PSXGPU_SAVE_ROOM, COUNT = 12, FILL = 0x5a }; /* the count of events stands in bytes 12 to 19 */
+enum { ROOM = PSXGPU_SAVE_ROOM, COUNT = 12, FILL = 0x5a }; /* the count of events is in bytes 12 to 19 */
 
 static uint8_t first[ROOM], second[ROOM];
 static int failures;
@@ -17,7 +17,7 @@ static void expect(int holds, const char *what) {
     printf("%s\n", what);
 }
 
-/* Puts a count of events into a snapshot. */
+/* Writes a count of events to a snapshot. */
 static void set_count(uint8_t *snapshot, uint64_t count) {
     for (int k = 0; k < 8; k++) snapshot[COUNT + k] = (uint8_t)(count >> 8 * k);
 }

@@ -13,11 +13,11 @@
 
 enum kind { END, RAM, GP0, GP1, READ, STAT, DMA, BEGIN, TURN, SKIP };
 
-/* A capture in memory, and how far it is played. */
+/* A capture in memory, and the state of its replay. */
 struct player {
     psxgpu gpu;
     const uint32_t *words; /* the next words of the capture */
-    uint64_t left;         /* how many events are still to be played */
+    uint64_t left;         /* the number of events not yet played */
     int in_blocks, shows_reads;
     psxgpu_ended ended;
 };
@@ -79,7 +79,7 @@ static uint32_t play_event(struct player *player, enum kind kind, uint32_t chann
     return 0;
 }
 
-/* How many words follow the tag and, of a Ram record, the address. */
+/* Returns the number of words after the tag and, in a Ram record, the address. */
 static size_t words_after(enum kind kind, size_t count) {
     if (kind == RAM || kind == GP0) return count;
     if (kind == DMA || kind == BEGIN) return 3;

@@ -1,6 +1,6 @@
-/* Lets each allocation of each call fail in turn, and looks at the answer: no memory, the machine as before, the room
- * untouched, nothing leaked. Linked with --wrap=malloc, --wrap=realloc and --wrap=free, so that the calls of the
- * library come here. Writes a line for each call that was tried. */
+/* Lets each allocation of each call fail in turn, and checks the result: NO_MEMORY, the machine and the buffer
+ * unchanged, nothing leaked. Linked with --wrap=malloc, --wrap=realloc and --wrap=free, so that this file receives the
+ * calls of the library. Writes a line for each call that was tried. */
 #include <stdio.h>
 #include <stdlib.h>
 #include <string.h>
@@ -9,7 +9,7 @@
 
 /* ---- malloc, as the library sees it */
 
-static size_t calls, failing, blocks; /* how many were asked for; which of them fails, from 1; how many are out */
+static size_t calls, failing, blocks; /* allocations so far; which of them fails, from 1; blocks not freed */
 
 void *__real_malloc(size_t size);
 void *__real_realloc(void *at, size_t size);
@@ -40,8 +40,8 @@ static const uint32_t scene[] = { 0x02802010, 0, 240u << 16 | 320,         /* a 
 static uint8_t out[ROOM], snapshot[ROOM];
 static size_t snapshot_length;
 static psxgpu_ended ended;
-static size_t written; /* how much of the room a call says that it wrote */
-static size_t noted;   /* how many notes */
+static size_t written; /* the count of bytes that a call reports */
+static size_t noted;   /* the count of notes */
 
 static uint32_t try_new(psxgpu *gpu) {
     (void)gpu;
@@ -92,7 +92,7 @@ static const struct trial {
                { "picture_rgba", try_rgba }, { "save", try_save },       { "load", try_load },
                { "play", try_play } };
 
-/* ---- what is looked at */
+/* ---- what is checked */
 
 static int failures;
 
@@ -114,7 +114,7 @@ static int is_filled(const uint8_t *bytes, size_t count) {
     return 1;
 }
 
-/* The call once more for each of its allocations, until it has one more than it makes. */
+/* Repeats the call with each of its allocations failing, until `at` is larger than their number. */
 static void try_all(const struct trial *trial) {
     static uint8_t before[ROOM], after[ROOM];
     for (size_t at = 1;; at++) {

@@ -180,7 +180,7 @@ uint32_t psxgpu_vram(const psxgpu *gpu, uint8_t *out, size_t room, size_t *writt
 /* Reads the cell in column x, 0 to 1023, and row y, 0 to 511 or 1023. `cell` stays on failure. Fails with NO_CELL. */
 uint32_t psxgpu_cell(const psxgpu *gpu, uint32_t x, uint32_t y, uint16_t *cell);
 
-/* Gives the width and height of the shown picture in pixels. Both stay on failure. Fails with NO_PICTURE. */
+/* Sets `width` and `height` to those of the shown picture in pixels. Both stay on failure. Fails with NO_PICTURE. */
 uint32_t psxgpu_shape(const psxgpu *gpu, uint16_t *width, uint16_t *height);
 
 /* Writes the shown picture as PPM (P6). 3 * width * height + 32 bytes always suffice. `written`: the number of bytes, 0
@@ -230,9 +230,9 @@ enum {
 
 /* Plays the capture or snapshot in the `length` bytes at `capture`, and writes the mode's output to `out`. `cell` is
  * x | y << 16, for PIXEL alone. On failure `out` has the first ended->written bytes of the output, as the command
- * writes them, and ended->event is the number of the event that failed. NO_ROOM comes only if `out` is full and the
- * output is longer. Later bytes of `out` stay. Always writes `ended`. Fails with BAD_MODE, NO_MEMORY, NOT_CAPTURE,
- * TRUNCATED, BAD_RECORD, TOO_LONG, BAD_SNAPSHOT, BAD_DMA, DMA_TOO_LONG, LIST_LOOP, NO_PICTURE, NO_ROOM. */
+ * writes them, and ended->event is the number of the event that failed. NO_ROOM means that `out` is full and the output
+ * is longer. Later bytes of `out` stay. Always writes `ended`. Fails with BAD_MODE, NO_MEMORY, NOT_CAPTURE, TRUNCATED,
+ * BAD_RECORD, TOO_LONG, BAD_SNAPSHOT, BAD_DMA, DMA_TOO_LONG, LIST_LOOP, NO_PICTURE, NO_ROOM. */
 uint32_t psxgpu_play(uint32_t mode, uint32_t cell, const uint8_t *capture, size_t length, uint8_t *out, size_t room,
                      psxgpu_ended *ended);
 

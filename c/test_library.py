@@ -120,7 +120,7 @@ class Library(unittest.TestCase):
         self.assertEqual([command for command in commands if command not in page], [])
 
     def assert_snapshot(self, found, cut):
-        """The machine's snapshot is the state of the program's file, with the End of one that has no record behind."""
+        """The machine's snapshot is the state in the program's file, followed by End alone."""
         self.assertEqual(found, cut[:len(found) - 4] + bytes(4))
         self.assertEqual(program.play('play', found)[0], 0)
 

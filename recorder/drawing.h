@@ -1,7 +1,7 @@
 /* The GPU plugin that draws, of the PSEmu Pro interface. What is missing in it is NULL.
 
-   GPUopen of a plugin for pcsxr has to set *display to an X display: pcsxr hands it to its plugin for the keys, which
-   breaks down if it is none. */
+   GPUopen of a plugin for pcsxr has to set *display to an X display: pcsxr passes it to its plugin for the keys, which
+   crashes if it is not one. */
 #ifndef DRAWING_H
 #define DRAWING_H
 #include <stdint.h>
@@ -48,7 +48,7 @@ struct drawing {
 
 extern struct drawing drawing;
 
-/* Loads the plugin at PSXGPU_PLUGIN once; ends the process, with a line, where that is none. */
+/* Loads the plugin at PSXGPU_PLUGIN once. If that is not a plugin, writes a line and ends the process. */
 void load_drawing(void);
 
 #endif

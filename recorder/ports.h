@@ -1,5 +1,5 @@
-/* What the words to a GPU's two ports have set, and what they have begun: what is known of a machine that runs, besides
-   its video memory, where a recording begins in its midst. */
+/* The registers that words to a GPU's two ports have set, and the packet or transfer that they have begun: the state of
+   a running machine, except for its video memory, if a recording begins in its midst. */
 #ifndef PORTS_H
 #define PORTS_H
 #include <stdint.h>
@@ -7,10 +7,10 @@
 
 typedef struct ports {
     uint32_t settings[6];       /* the values of E1h to E6h */
-    uint32_t control[9];        /* the last word of GP1(03h) to GP1(08h) since a reset; 0 where there is none */
+    uint32_t control[9];        /* the last word of GP1(03h) to GP1(08h) since a reset; 0 if there is none */
     uint32_t first, have, need; /* of an open packet: first word, words so far, words in all; need 0: none is open */
-    uint32_t data, reads;       /* words that an open load still takes, and an open store still gives */
-    int polyline;               /* 0: none is open; 1: a joint may begin, or an end come; 2: a joint's vertex is due */
+    uint32_t data, reads;       /* words left of an open load, and of an open store */
+    int polyline;               /* 0: none is open; 1: a joint or an end comes next; 2: a joint's vertex comes next */
     int interrupt;
 } ports;
 
@@ -31,7 +31,7 @@ static inline uint32_t transfer_words(uint32_t size) {
     return ((((size - 1) & 0x3FF) + 1) * (((((size >> 16) - 1) & 0x1FF)) + 1) + 1) / 2;
 }
 
-/* A packet is whole; `word` is its last one. */
+/* Applies a complete packet; `word` is its last one. */
 static inline void ports_packet(ports *p, uint32_t word) {
     const uint32_t opcode = p->first >> 24;
     p->need = 0;

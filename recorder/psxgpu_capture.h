@@ -2,7 +2,7 @@
    C++17, no dependencies, no globals. docs/RECORDING.md says where an emulator calls it, docs/CAPTURE.md has the
    format.
 
-       static psxgpu_capture cap;                      64 KB, so not on a stack; where it is 0, nothing is open
+       static psxgpu_capture cap;                      64 KB, so not on a stack; if it is all 0, nothing is open
 
        psxgpu_capture_open(&cap, "game.capture");
        psxgpu_capture_gp0(&cap, word);                 a write to 1F801810h, or a word that DMA brings there
@@ -13,16 +13,17 @@
        psxgpu_capture_frame(&cap);                     a vertical blank
        psxgpu_capture_close(&cap);
 
-   `open` and `close` answer 0, or an error number of errno.h. Every other call does nothing where no capture is open. A
-   failed write or want of memory closes the recording, the emulator goes on, and `close` tells. One thread at a time.
+   `open` and `close` return 0, or an error number of errno.h. Every other call does nothing if no capture is open. If a
+   write fails or memory runs out, the recording is closed, the emulator continues, and `close` returns the error. One
+   thread at a time.
 
-   The file always ends behind a whole record, and all up to the last frame is in it. Where the emulator did not live to
-   close it, four bytes 0 make it whole. No file becomes longer than a player takes: where that is near, the recording
-   is closed with EFBIG. Who records for so long looks at `cap.bytes`, closes, opens the next file and begins it with
+   The file always ends after a whole record, and has everything up to the last frame. If the emulator ended before it
+   closed the file, four bytes 0 complete it. No file becomes longer than a player accepts: the recording is closed with
+   EFBIG before. To record for longer, look at `cap.bytes`, close, open the next file and begin it with
    `psxgpu_capture_state`.
 
-   Who wants DMA itself in the capture, and main memory as it was, calls, before the transfer is done, and then neither
-   gp0 nor read for its words:
+   To record DMA itself, and main memory as it was, call this before the transfer is done, and then neither gp0 nor read
+   for its words:
 
        psxgpu_capture_dma(&cap, channel, madr, bcr, chcr, ram); */
 #ifndef PSXGPU_CAPTURE_H
@@ -34,7 +35,7 @@
 #include <string.h>
 
 #ifndef PSXGPU_CAPTURE_MOST
-#define PSXGPU_CAPTURE_MOST 0x40000000u /* bytes of a file that a player takes */
+#define PSXGPU_CAPTURE_MOST 0x40000000u /* bytes of a file that a player accepts */
 #endif
 
 /* Kinds of records, and sizes. */
@@ -42,14 +43,14 @@ enum { PSXGPU_RAM = 1, PSXGPU_GP0, PSXGPU_GP1, PSXGPU_READ, PSXGPU_STAT, PSXGPU_
 enum { PSXGPU_ROOM = 65536, PSXGPU_MOST_READS = 262144, PSXGPU_RAM_WORDS = 524288 };
 
 typedef struct psxgpu_capture {
-    FILE *file;           /* NULL where nothing is recorded */
+    FILE *file;           /* NULL if nothing is recorded */
     int error;            /* 0, or what ended the recording before `close` */
     uint64_t bytes;       /* in the file, all of whole records */
     uint32_t frames;      /* marked so far */
     uint32_t *known;      /* main memory as a player will have it; NULL before the first start of DMA */
     unsigned char *stale; /* 1 for each word of it that is not known */
-    uint32_t kind, count; /* of the last record in room; kind 0 where none may grow */
-    size_t tag, used;     /* where that record begins in room, and how many bytes wait there */
+    uint32_t kind, count; /* of the last record in room; kind 0 if none may grow */
+    size_t tag, used;     /* the offset of that record in room; the bytes buffered in room */
     unsigned char room[PSXGPU_ROOM];
 } psxgpu_capture;
 
@@ -87,8 +88,8 @@ static inline size_t psxgpu_whole_(const psxgpu_capture *c, size_t most) {
 
 static inline int psxgpu_errno_(void) { return errno ? errno : EIO; }
 
-/* Closes the file, of which the first `written` bytes of room are a part: behind the last whole record stands End, or
-   nothing, or fewer than four bytes 0 where there is no more space. */
+/* Closes the file. `written`: how many bytes of room are in it already. After the last whole record comes End; without
+   space for it, nothing or fewer than four bytes 0. */
 static inline void psxgpu_end_(psxgpu_capture *c, int error, size_t written) {
     static const unsigned char end[4] = {0, 0, 0, 0};
     size_t whole = psxgpu_whole_(c, written);
@@ -106,7 +107,7 @@ static inline void psxgpu_end_(psxgpu_capture *c, int error, size_t written) {
     c->used = c->kind = 0;
 }
 
-/* Hands all that waits to the operating system. */
+/* Writes all buffered records to the file. */
 static inline void psxgpu_capture_flush(psxgpu_capture *c) {
     size_t most = c->used, written;
     if (c->file) {
@@ -148,7 +149,7 @@ static inline void psxgpu_add_(psxgpu_capture *c, uint32_t word) {
     c->used += 4;
 }
 
-/* A new record, with room for its tag and `words` words behind it. */
+/* Starts a record, with space in room for its tag and `words` words after it. */
 static inline void psxgpu_record_(psxgpu_capture *c, uint32_t kind, uint32_t count, size_t words) {
     if (c->used + 4 + 4 * words > PSXGPU_ROOM) psxgpu_capture_flush(c);
     c->tag = c->used;
@@ -157,7 +158,7 @@ static inline void psxgpu_record_(psxgpu_capture *c, uint32_t kind, uint32_t cou
     psxgpu_add_(c, kind << 24 | count);
 }
 
-/* One more in the last record, with room for `words` words; answers 0 where that has to be a new one. */
+/* Raises the count of the last record, if room has space for `words` words. Returns 0 if a new record is needed. */
 static inline int psxgpu_grow_(psxgpu_capture *c, uint32_t kind, size_t words) {
     if (c->kind != kind || c->count == PSXGPU_MOST_READS || c->used + 4 * words > PSXGPU_ROOM) return 0;
     psxgpu_put_(c->room + c->tag, kind << 24 | ++c->count);
@@ -197,8 +198,8 @@ static inline void psxgpu_capture_frame(psxgpu_capture *c) {
     psxgpu_capture_flush(c);
 }
 
-/* The state of a machine that runs already, where a recording begins in its midst or a saved state is loaded: 512 rows
-   of 1024 cells, the values of E1h to E6h, and n words for GP1 (08h, 06h, 07h, 05h, 04h and 03h as they are in force).
+/* Records the state of a running machine, if a recording begins in its midst or a saved state is loaded: 512 rows of
+   1024 cells, the values of E1h to E6h, and n words for GP1 (08h, 06h, 07h, 05h, 04h and 03h as they are in force).
    Video memory goes in four loads of 512 by 256, since not every emulator takes one of 1024 by 512. */
 static inline void psxgpu_capture_state(psxgpu_capture *c, const uint16_t *cells, const uint32_t settings[6],
                                         const uint32_t *gp1, size_t n) {
@@ -222,7 +223,7 @@ static inline uint32_t psxgpu_ram_(const unsigned char *ram, uint32_t word) {
     return psxgpu_get_(ram + 4 * (size_t)word);
 }
 
-/* n words of main memory from this one on; what a player knows is left out. */
+/* Records n words of main memory from index `word` on, except those that a player knows. */
 static inline void psxgpu_sync_(psxgpu_capture *c, uint32_t word, uint32_t n, const unsigned char *ram) {
     int follows = 0; /* the word before this one is the last in room */
     for (word %= PSXGPU_RAM_WORDS; n && c->file; n--, word = (word + 1) % PSXGPU_RAM_WORDS) {
@@ -242,7 +243,7 @@ static inline void psxgpu_sync_(psxgpu_capture *c, uint32_t word, uint32_t n, co
     }
 }
 
-/* Main memory as a player has it at first: 0. */
+/* Allocates main memory as a player has it at first: 0. Returns 0 if memory ran out; the recording is then closed. */
 static inline int psxgpu_memory_(psxgpu_capture *c) {
     if (!c->known) {
         c->known = (uint32_t *)calloc(PSXGPU_RAM_WORDS, sizeof *c->known + 1);
@@ -261,7 +262,7 @@ static inline void psxgpu_table_(psxgpu_capture *c, uint32_t word, uint32_t n) {
     }
 }
 
-/* The nodes of a list with the words behind them. Answers -1 where it does not end. */
+/* Records the nodes of a list and the words after each. Returns -1 if the list does not end. */
 static inline int psxgpu_list_(psxgpu_capture *c, uint32_t madr, const unsigned char *ram) {
     uint32_t at = madr, nodes = 0, word;
     for (; !(at & 0x800000); at = psxgpu_ram_(ram, at / 4 % PSXGPU_RAM_WORDS))
@@ -273,7 +274,8 @@ static inline int psxgpu_list_(psxgpu_capture *c, uint32_t madr, const unsigned 
     return 0;
 }
 
-/* One block or several. Words that go to main memory are not known from then on. Answers -1 where they are too many. */
+/* Records the words of one block or several. Words that go to main memory are not known from then on. Returns -1 if
+   there are more than main memory has. */
 static inline int psxgpu_blocks_(psxgpu_capture *c, uint32_t madr, uint32_t bcr, uint32_t chcr,
                                  const unsigned char *ram) {
     const uint32_t size = bcr & 0xFFFF ? bcr & 0xFFFF : 0x10000, blocks = bcr >> 16 ? bcr >> 16 : 0x10000;
@@ -286,11 +288,11 @@ static inline int psxgpu_blocks_(psxgpu_capture *c, uint32_t madr, uint32_t bcr,
     return 0;
 }
 
-/* A start of channel 2 or 6, with the values of its registers; `ram` is main memory, 2 MB as the console has it (least
-   significant byte first), before the transfer. What of it the transfer reads and a player does not know yet is written
-   before. Answers -1 where a player would refuse the start (a list that does not end or goes to main memory, mode 3,
-   more words than main memory has): then nothing is written, and the words that your emulator moves nevertheless are
-   for gp0 and read. */
+/* Records a start of channel 2 or 6, with the values of its registers. `ram`: main memory, 2 MB as the console has it
+   (least significant byte first), before the transfer. First records the words that the transfer reads from there and
+   that a player does not know yet. Returns -1 if a player would refuse the start (a list that does not end or goes to
+   main memory, mode 3, more words than main memory has): then nothing is written, and the words that your emulator
+   nevertheless moves are for gp0 and read. */
 static inline int psxgpu_capture_dma(psxgpu_capture *c, uint32_t channel, uint32_t madr, uint32_t bcr, uint32_t chcr,
                                      const void *ram) {
     const unsigned char *bytes = (const unsigned char *)ram;

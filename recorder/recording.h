@@ -8,21 +8,21 @@
 typedef struct recording {
     psxgpu_capture capture;
     ports ports;                /* followed from the start on, whether or not a recording runs */
-    FILE *reads;                /* what the program reads, as `play` prints it; NULL where it is not wanted */
-    const uint32_t *ram;        /* main memory, once it is known and where it is to be recorded; else NULL */
+    FILE *reads;                /* what the program reads, as `play` prints it; NULL if it is not wanted */
+    const uint32_t *ram;        /* main memory, once it is known and if it is to be recorded; else NULL */
     int wants_ram;
-    uint32_t polls, polled;     /* reads of the status behind one another: how many are kept, how many there were */
+    uint32_t polls, polled;     /* consecutive reads of the status: the maximum recorded, and the number so far */
 } recording;
 
 extern recording record;
 
-/* Takes the settings from the environment; from then on a recording runs, unless it is to begin later. */
+/* Reads the settings from the environment. Starts a recording, unless it is to begin later. */
 void recording_open(void);
 
-/* A vertical blank: marks it, and begins and ends recordings. Answers 1 where the emulator is to end. */
+/* A vertical blank: marks it, and begins and ends recordings. Returns 1 if the emulator is to end. */
 int recording_frame(void);
 
-/* Ends the recording that runs, and says so on standard error. Also says why a recording did not begin. */
+/* Ends the running recording, and reports it on standard error. Also reports why a recording did not begin. */
 void recording_end(void);
 
 /* The key or the signal: the recording is ended, or a new one begun, at the next vertical blank. */

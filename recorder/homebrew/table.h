@@ -1,7 +1,7 @@
 /* Two ordering tables with room for their packets: one is built while the other's picture is shown. DEPTHS and ROOM (in
    words) are set before. */
 static u32 tables[2][DEPTHS], rooms[2][ROOM];
-static u32 *table, *room; /* those that are built, and the next free word */
+static u32 *table, *room; /* the table that is built, and the next free word */
 
 static void begin_table(int side) {
     table = tables[side];
@@ -9,7 +9,7 @@ static void begin_table(int side) {
     dma_clear(table, DEPTHS);
 }
 
-/* The n words that stand at room + 1 become a packet of this depth, in front of those that are there. */
+/* Makes the n words at room + 1 a packet of this depth, drawn before those that are there. */
 static void add(int depth, int n) {
     *room = (u32)n << 24 | (table[depth] & 0xFFFFFF);
     table[depth] = phys(room);

@@ -1,4 +1,4 @@
--- How far a capture was read, where the reader has answered an event that is not passed on yet, or a stop.
+-- The bytes read when the reader has returned an event that is not processed yet, or a stop.
 use Rattle.std.proofs.Common.{◌≡◌, ◌≤◌, ◌<◌, ◌⊎◌, inl, inr, ◌+◌, ◌^◌, ◌++◌, max, ℕ, List, [], ◌∷◌, Option, Result, Ok}
 use Rattle.std.proofs.Common.{Err, OnOk, IfOk, IfErr, length, refl, ap, sym, ◌∙◌, subst, arith, nat_lt, true, take}
 use Rattle.std.proofs.Common.{drop, min, length-append, ◌-◌}
@@ -50,7 +50,7 @@ use Rattle.capture_slim.proofs.Rests.{fails_wider}
 use Rattle.capture_slim.proofs.ReadAgain.{is_slim}
 use Rattle.capture_slim.proofs.TooMuch.{is_too_long}
 
--- the version of the file is that of the capture, or 1 where no head was read
+-- the version of the file is that of the capture, or 1 if no header was read
 pub record Awaits (version : ℕ) (before now : Streams) (window : Window) (draft : Draft) (count since : ℕ)
     (new : Progress) (next : Result Event Stop) : Type 0 where
   pub left : Option (List ℕ)
@@ -70,7 +70,7 @@ pub record Awaits (version : ℕ) (before now : Streams) (window : Window) (draf
   pub same : version ≡ max new.version 1
   pub answer : Answers old new left now.left next
 
--- an answer that is known
+-- a result that the reader can return
 pub awaits_is : (version : ℕ) (before now : Streams) (window : Window) (draft : Draft) (count since : ℕ)
     (new : Progress) (next given : Result Event Stop)
     → next ≡ given → Awaits version before now window draft count since new next
@@ -84,7 +84,7 @@ pub count_is : (version : ℕ) (before now : Streams) (window : Window) (draft :
 count_is version before now window draft count since new next at few =
     record { most = omega (arith, counted _ window draft count now.held at.came); few = few }
 
--- ---- how many events may come
+-- ---- how many events can be read
 
 pub left_falls : (p new : Progress) (next : Result Event Stop) → OnOk next (work_left new < work_left p)
     → events_left new next ≤ work_left p
@@ -163,7 +163,7 @@ starts before left faults window first new version draft next file_is none is wi
 abbrev with_pieces : Draft → List Piece → Draft
 with_pieces draft pieces = record { file = draft.file; gathered = pieces }
 
--- few bytes were taken since all was written, or it is written here
+-- few bytes were read since the last flush, or the buffer is flushed here
 pub record Paused (passed : Passed) (taken : List ℕ) (window : Window) (draft : Draft) (count since : ℕ) (p : Progress)
     (held : Option (List ℕ)) : Type 0 where
   pub came : Came passed window draft count held
@@ -215,7 +215,7 @@ module _ (passed : Passed) (taken : List ℕ) (window : Window) (draft : Draft) 
         near = omega (arith, same);
       }
 
-  -- the writing of what is gathered broke off: at a record that was due at the last event or before
+  -- the flush failed at a record that had to be written at the last event or before
   breaks_any : (now : Option (List ℕ)) (lacking : ℕ) → BreaksWriting held now draft.gathered lacking
       → FailsBehind passed now lacking (WriteFailed lacking)
   breaks_any now lacking breaks =
@@ -244,7 +244,7 @@ module _ (passed : Passed) (taken : List ℕ) (window : Window) (draft : Draft) 
         fails = any.fails;
       }
 
--- one event more was passed on, and the reader has answered again
+-- one more event was processed, and the reader has returned again
 module _ (version : ℕ) (before now : Streams) (window : Window) (draft : Draft) (count since : ℕ) (new : Progress)
     (e : Event) (at : Awaits version before now window draft count since new (Ok e)) where
   abbrev passed : Passed
@@ -266,7 +266,7 @@ module _ (version : ℕ) (before now : Streams) (window : Window) (draft : Draft
   all_needed : AreNeeded capture (at.events ++ e ∷ []) (at.taken ++ takes.taken)
   all_needed = needed_on at.old at.events e at.taken takes.taken at.says at.needed takes.needed
 
-  -- the bytes taken, with these events of them
+  -- the bytes read, with these events of them
   abbrev way_of : List Event → Way
   way_of events = record { version = version; taken = at.taken ++ takes.taken; events = events }
 
@@ -286,7 +286,7 @@ module _ (version : ℕ) (before now : Streams) (window : Window) (draft : Draft
   last_on : Since (at.events ++ e ∷ []) (at.taken ++ takes.taken) at.least since
   last_on = since_more at.events e at.taken takes.taken at.least since at.last all_needed
 
-  -- what is gathered behind the event is as late as what was before it
+  -- after the event, what is buffered is as late as before it
   from_on : (next_window : Window) (next_draft : Draft) (held : Option (List ℕ))
       → Came (and_event passed e) next_window next_draft (count + 1) held → AreFrom at.least next_draft.gathered
       → GathersFrom at.least next_window next_draft (count + 1)
@@ -337,7 +337,7 @@ module _ (version : ℕ) (before now : Streams) (window : Window) (draft : Draft
         answer = answer;
       }
 
-  -- few bytes are taken behind the event at which a record was due
+  -- few bytes are read after the event at which a record had to be written
   few_before : (number : ℕ) → at.least ≤ number → number + 4096 ≤ length at.events
       → AreFewBehind capture (take (number + 4096) at.events) (at.taken ++ takes.taken) most_behind
   few_before number from most = few_later at.old at.events at.taken takes.taken at.least since (number + 4096) at.last
@@ -396,7 +396,7 @@ module _ (version : ℕ) (before now : Streams) (window : Window) (draft : Draft
   pushed_says held (Stopped number stop) ends from = absurd ends
   pushed_says held (NotFlat number) ends from = absurd ends
 
-  -- what is gathered could not be written at a pause
+  -- the flush failed at a pause
   pub pause_end : (next_window : Window) (next_draft : Draft) (held held_now : Option (List ℕ)) (lacking : ℕ)
       → Came (and_event passed e) next_window next_draft (count + 1) held → AreFrom at.least next_draft.gathered
       → BreaksWriting held held_now next_draft.gathered lacking
@@ -512,7 +512,7 @@ module _ (version : ℕ) (before now : Streams) (window : Window) (draft : Draft
   unfolding slim_events
   slim_none height = refl
 
-  -- nothing was written of no events, in whichever version
+  -- nothing was written of no events, whatever the version
   none_all : (number : ℕ) (held : Option (List ℕ)) → WritesAll (passed_as version []) held number
       → WritesAll (passed_as new.version []) held number
   none_all number held all = record {

@@ -1,4 +1,4 @@
--- What stands in the file, record by record.
+-- The bytes of the file, record by record.
 use Rattle.std.proofs.Common.{◌≡◌, ◌<◌, ◌⊎◌, inl, inr, Some, ◌≤◌, ◌+◌, ◌++◌, ◌==◌, ℕ, List, [], ◌∷◌, Option, true}
 use Rattle.std.proofs.Common.{false, length, length-append, refl, ap, sym, ◌∙◌, append_assoc, append-nil, subst, arith}
 use Rattle.dev_io.specs.Device.{appended, AppendsPart}
@@ -20,7 +20,7 @@ use Rattle.capture_slim.specs.declared.file.Draft.{Draft}
 use Rattle.capture_slim.specs.declared.file.SlimFile.{SlimFile}
 use Rattle.capture_slim.proofs.Rests.{fails_wider, kept_append}
 
--- ---- the head
+-- ---- the file header
 
 begun_size : (version : ℕ) (e : Event) (events : List Event) → 8 ≤ length (begun version (e ∷ events))
 begun_size version e events = omega (arith, length-append (head_of version) (spell (e ∷ events)))
@@ -33,7 +33,7 @@ head_same file base held (e ∷ events) is =
     let more : (file.size == 0) ≡ false = grind (arith, is.size_is, some) in
     rw more refl
 
--- ---- one record more
+-- ---- one more record
 
 pub begun_more : (version : ℕ) (kept : List Event) (e : Event)
     → begun version (kept ++ e ∷ []) ≡ begun version kept ++ (head_due version kept ++ spelled e)
@@ -48,7 +48,7 @@ pub begun_end : (version : ℕ) (kept : List Event) → begun version kept ++ (h
 begun_end version [] = refl
 begun_end version (x ∷ kept) = refl
 
--- a whole file is at most 8 bytes more than what stands, and an End record
+-- a whole file is at most 8 bytes longer than the file so far with an End record
 pub written_most : (version : ℕ) (kept : List Event) → length (begun version kept) + 4 ≤ limit
     → length (written version kept) ≤ limit
 written_most version [] fits = omega
@@ -81,7 +81,7 @@ size_more file base held kept e is =
           (head_due file.version kept ++ spelled e),
     )
 
--- ---- pieces that are split in two ways
+-- ---- a list of output chunks that is split in two ways
 
 none_split : (whole : List Piece) (p : Piece) (later : List Piece) → [] ≡ whole ++ p ∷ later → ⊥
 none_split [] p later is = cc
@@ -108,7 +108,7 @@ bytes_more [] p = append-nil p.bytes
 bytes_more (x ∷ pieces) p = ap (λ bytes. x.bytes ++ bytes) (bytes_more pieces p)
     ∙ sym (append_assoc x.bytes (bytes_of pieces) p.bytes)
 
--- the writing breaks off in one of the first pieces, or in the last one
+-- the write fails in one of the first chunks, or in the last one
 abbrev BreaksLast : (pieces : List Piece) (p : Piece) (held now : Option (List ℕ)) (number : ℕ) → Type 0
 BreaksLast pieces p held now number =
     BreaksOff pieces held now number ⊎ ((number ≡ p.number) × AppendsPart (appended held (bytes_of pieces)) now p.bytes)
@@ -131,12 +131,12 @@ breaks_last pieces p held now number off =
           inr (off.number_is ∙ ap (λ (q : Piece). q.number) u.1, subst Q u.1 (subst P u.0 off.stands))
     ]
 
--- ---- what is gathered
+-- ---- what is buffered
 
 abbrev draft_of : SlimFile → List Piece → Draft
 draft_of file pieces = record { file = file; gathered = pieces }
 
--- nothing is gathered, and none stays
+-- nothing is buffered, and no event stays
 pub first_draft : (version : ℕ) (held : Option (List ℕ))
     → IsDraft (draft_of (record { version = version; size = 0 }) []) held held []
 first_draft version held = record {
@@ -148,7 +148,7 @@ first_draft version held = record {
   lacks = λ now number off. absurd (none_split off.whole off.broken off.later off.are);
 }
 
--- what was gathered is out behind it, or gathered still
+-- what was buffered is written before it, or is still buffered
 pub out_draft : (file : SlimFile) (pieces gathered : List Piece) (base held now : Option (List ℕ))
     (outs : List (Option Event)) → IsDraft (draft_of file pieces) base held outs → AreOut held pieces now gathered
     → IsDraft (draft_of file gathered) base now outs
@@ -175,7 +175,7 @@ passed_draft draft base held outs none is are =
           fails_wider (output_of draft base now) outs none number (WriteFailed number) (is.lacks now number off);
     }
 
--- ---- one record more
+-- ---- one more record
 
 module _ (draft : Draft) (base held : Option (List ℕ)) (outs : List (Option Event)) (is : IsDraft draft base held outs)
     (e : Event) (number after : ℕ) (at : number ≡ length outs + 1)

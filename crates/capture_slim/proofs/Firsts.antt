@@ -1,4 +1,4 @@
--- What stays of the first events, by what left the window.
+-- Which of the first events stay, given what has left the window.
 use Rattle.std.proofs.Common.{◌≡◌, ◌≤◌, ◌+◌, ◌-◌, ◌++◌, ◌&&◌, ltb, ℕ, suc, List, [], ◌∷◌, Option, None, Some, Bool}
 use Rattle.std.proofs.Common.{true, false, cond, take, length, length-append, refl, ap, sym, ◌∙◌, append_assoc}
 use Rattle.std.proofs.Common.{append-nil, subst, arith, inl, inr}
@@ -39,7 +39,7 @@ use Rattle.capture_slim.proofs.WindowLemmas.{kept_long, judged_long, settled_lon
 abbrev Outs : Type 0
 Outs = List (Option Event)
 
--- ---- one event more
+-- ---- one more event
 
 pub outs_more : (events : List Event) (e : Event) (w : Window) → outs (events ++ e ∷ []) w
     ≡ outs events w ++ leaving (pushed (window_behind events w) e)
@@ -129,7 +129,7 @@ counts (e ∷ events) w =
 pub waiting_size : (w : Window) → length (waiting w) ≡ size w
 waiting_size w = omega (arith, length-append w.slots (kept_words w.words), kept_long w.words)
 
--- ---- an event of the list, in its place
+-- ---- an event of the list at its position
 
 record Placed (all xs : Outs) (e : Event) : Type 0 where
   before : kept_of (take (length xs) all) ≡ kept_of xs
@@ -147,7 +147,7 @@ placed all xs more e are =
           ∙ kept_append xs (Some e ∷ []);
     }
 
--- the record of an event in its place would be too much, or was not written
+-- the record of an event at its position would make the file too long, or was not written
 pub fails_at : (passed : Passed) (held : Option (List ℕ)) (outs : Outs) (number : ℕ) (ending : SlimEnding)
     → places (height_for passed.version) passed.events ≡ outs → FailsIn (output_to passed held) outs number ending
     → FailsAt passed held number ending
@@ -304,7 +304,7 @@ module _ (passed : Passed) (window : Window) (draft : Draft) (count : ℕ) (held
         let P : ℕ → Type 0 = λ v. ClosesFile (of_version v file) mid now ending in
         closed_as stop now ending stops (subst P version_is ends)
 
-  -- ---- an event of the ports comes
+  -- ---- a port event is read
 
   module _ (e : Event) (next : Window) (next_is : next ≡ staying (pushed window e)) (port : IsAtPorts e)
       (holds : HoldsWords e) where
@@ -350,7 +350,7 @@ module _ (passed : Passed) (window : Window) (draft : Draft) (count : ℕ) (held
         by_test true e is = absurd cc
         by_test false e is = (one_out (left_of s.event s.mark) is, ltb-false _ _ e)
 
-    -- one leaves, and stays
+    -- one leaves the window and stays
     module _ (left : Event) (len : ℕ) (is : left ∷ [] ≡ kept_of (leaving (pushed window e))) (len_is : len ≡ size next)
         (most : len ≤ 4096) where
       leaves : (leaving (pushed window e) ≡ Some left ∷ []) × (4096 ≤ len)
@@ -389,11 +389,11 @@ module _ (passed : Passed) (window : Window) (draft : Draft) (count : ℕ) (held
                 ∙ append_assoc gone (Some left ∷ []) all.0,
           )
 
-      -- all events up to now but those that wait, as many as the window has
+      -- all events so far except those that wait: 4,096
       count_now : length gone + 1 + 4096 ≡ length (passed.events ++ e ∷ [])
       count_now = omega (arith, number_is, most, leaves.1, came.count_is, length-append passed.events (e ∷ []))
 
-      -- its record would be too much, or one before it was not written
+      -- its record would make the file too long, or an earlier one was not written
       pub now_fails : (now : Option (List ℕ)) (ending : SlimEnding)
           → FailsNext (output_of draft passed.base now) gone left ending
           → EndsPushed (and_event passed e) now ending

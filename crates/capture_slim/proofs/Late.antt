@@ -1,4 +1,4 @@
--- Of which events the records are that are gathered: late ones, so that few bytes are taken before they are written.
+-- Which events the buffered records belong to: late ones, so that few bytes are read before they are written.
 use Rattle.std.proofs.Common.{◌≡◌, ◌≤◌, ◌<◌, ◌⊎◌, inl, inr, ◌+◌, ◌++◌, ℕ, suc, List, [], ◌∷◌, Option, Bool, true, false}
 use Rattle.std.proofs.Common.{cond, ltb, length, length-append, take, min, refl, ap, sym, ◌∙◌, subst, append_assoc}
 use Rattle.std.proofs.Common.{append-nil, arith}
@@ -26,7 +26,7 @@ use Rattle.capture_slim.specs.declared.slot.Slot.{Slot}
 use Rattle.capture_slim.proofs.Firsts.{pushed_size, size, waiting_size}
 use Rattle.capture_slim.proofs.PushLemmas.{pushed_keeps}
 
--- ---- pieces of late events
+-- ---- output chunks of late events
 
 pub from_append : (least : ℕ) (ps qs : List Piece) → AreFrom least ps → AreFrom least qs → AreFrom least (ps ++ qs)
 from_append least [] qs first last = last
@@ -36,14 +36,14 @@ pub from_last : (least : ℕ) (ps qs : List Piece) → AreFrom least (ps ++ qs) 
 from_last least [] qs all = all
 from_last least (p ∷ ps) qs all = from_last least ps qs all.1
 
--- one more is put, and some are out
+-- one more is added, and some are written
 pub from_put : (least : ℕ) (held now : Option (List ℕ)) (pieces new : List Piece) (p : Piece) → AreFrom least pieces
     → least ≤ p.number → AreOut held (pieces ++ p ∷ []) now new → AreFrom least new
 from_put least held now pieces new p first last out =
     let P : List Piece → Type 0 = λ ps. AreFrom least ps in
     from_last least out.written new (subst P out.are (from_append least pieces (p ∷ []) first (last, tt)))
 
--- the writing broke off in one of them
+-- the write failed in one of them
 pub from_off : (least : ℕ) (pieces : List Piece) (held now : Option (List ℕ)) (number : ℕ) → AreFrom least pieces
     → BreaksOff pieces held now number → least ≤ number
 from_off least pieces held now number all off =
@@ -77,7 +77,7 @@ few_wait height events ports =
     let w = window_behind events (first_window height) in
     omega (arith, waiting_size w, (window_keeps events (first_window height) ports (first_keeps height)).few)
 
--- where one leaves, as many wait as the window has
+-- if one leaves, 4,096 wait
 leaves_or_full : (slots : List Slot) (words : List ℕ) → (leaving_from slots words ≡ [])
     ⊎ (4096 ≤ length (staying_from slots words) + length words)
 leaves_or_full [] words = inl refl
@@ -116,17 +116,17 @@ none_or_full (e ∷ events) w =
       | inr full ↦ inr (full_on events (staying p) full)
     ]
 
--- ---- the bytes taken since all was last written
+-- ---- the bytes read since the last flush
 
--- what these events need, of the bytes taken: those that were taken when all was last written, and some more
+-- the bytes that these events need: those read at the last flush, and some more
 pub record Needs (events : List Event) (flushed taken : List ℕ) : Type 0 where
   pub between : List ℕ
   pub rest : List ℕ
   pub taken_is : taken ≡ (flushed ++ between) ++ rest
   pub needed : AreNeeded capture events (flushed ++ between)
 
--- All was last written at this place of the reader. Since then records of these numbers on were put, each due at an
--- event that came later.
+-- The last flush was at this offset. Since then records of event `number` and later ones were added, each belonging to
+-- an event that was read later.
 pub record Since (events : List Event) (taken : List ℕ) (least since : ℕ) : Type 0 where
   pub flushed : List ℕ
   pub behind : List ℕ
@@ -147,7 +147,7 @@ since_first least = record {
   due = λ m some most. absurd (omega (arith, some, most));
 }
 
--- it is written here
+-- the buffer is flushed here
 pub since_here : (events : List Event) (taken : List ℕ) (least place : ℕ) → length taken ≡ min place limit
     → length events < least + 4096 → Since events taken least place
 since_here events taken least place place_is late = record {
@@ -160,7 +160,7 @@ since_here events taken least place place_is late = record {
   due = λ m some most. absurd (omega (arith, some, most));
 }
 
--- one event more comes
+-- one more event is read
 module _ (events : List Event) (e : Event) (taken more : List ℕ) (least since : ℕ)
     (at : Since events taken least since) (needed : AreNeeded capture (events ++ e ∷ []) (taken ++ more)) where
   abbrev all : List Event
@@ -207,7 +207,7 @@ module _ (events : List Event) (e : Event) (taken more : List ℕ) (least since 
         ];
   }
 
--- few bytes are taken behind those that an event needs, with those of one answer more
+-- few bytes are read after those that an event needs, including those of one more result
 pub few_later : (p : Progress) (events : List Event) (taken more : List ℕ) (least since m : ℕ)
     → Since events taken least since → IsReading p taken events
     → ((rest : List ℕ) → capture (taken ++ rest) ≡ then_events events (capture_from p rest))

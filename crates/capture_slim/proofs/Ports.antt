@@ -1,4 +1,4 @@
--- The window holds events of the ports where only such ones came.
+-- The window holds only port events if only port events entered it.
 use Rattle.std.proofs.Common.{◌≡◌, ◌+◌, ◌&&◌, ltb, ℕ, suc, List, [], ◌∷◌, ◌++◌, Option, None, Some, Bool, true, false}
 use Rattle.std.proofs.Common.{cond, IfSome, option_to_list, length, subst}
 use Rattle.px_num.specs.declared.shape.Box2.{Box2}

@@ -31,7 +31,7 @@ use Rattle.capture_slim.proofs.Firsts.{pushed_size}
 use Rattle.capture_slim.proofs.Ports.{pushed_ports, staying_ports}
 use Rattle.capture_slim.proofs.WindowLaw.{IsTaken, taken_more, taken_first, pushed_begun}
 
--- the area that an event tells is that of the words
+-- the area of an event is that of the words
 whole_area : (c : Control) (done : List ℕ) (word : ℕ) → IsTaken c done word → length (done ++ word ∷ [])
     ≡ first_len_of (slice_index (done ++ word ∷ []) 0)
     → area_at c (event.Gp0 word) ≡ area_behind c done (event.Gp0 word)
@@ -77,7 +77,7 @@ added_same : (q : Queue) (c : Control) (e : Event) → IsBegun q.words c
 added_same q c (event.Gp0 word) begun = word_same q.words q.slots c word begun
 added_same q c other begun = refl
 
--- slots that are settled by what an event says, with the event
+-- slots updated by the effect of an event, together with that event
 pub pushed_is : (old : Window) (e : Event) → IsBegun old.words old.control
     → within (added
     (record { slots = settled_by old.slots (length old.words) (said_at old.control e); words = old.words })
@@ -90,7 +90,7 @@ pushed_is old e begun =
     (sym (settled_is_by old.slots (length old.words) old.control e))
     ∙ ap (λ (q : Queue). within q (controlled old.control e)) (added_same (heeded old e) old.control e begun)
 
--- at most 4096 events are left
+-- at most 4,096 events are left
 few_by : (slots : List Slot) (s : Slot) (words : List ℕ) (b : Bool) → ltb (length slots + length words) 4096 ≡ b
     → length (s ∷ slots) + length words ≤ 4097
     → length (cond b (s ∷ slots) slots) + length words ≤ 4096
@@ -113,12 +113,12 @@ len_most word (polygon class plain) = rw class (polygon_most word)
 len_most word (rectangle class plain) = rw class (omega (arith, rectangle_most word))
 len_most word (line class single) = rw (class, single) (omega arith)
 
--- a packet that may be left out has at most twelve words, and one that is not whole has fewer
+-- a packet that may be dropped has at most twelve words; an incomplete one has fewer
 pub few_words : (words : List ℕ) (c : Control) → IsBegun words c → length words < 12
 few_words [] c begun = omega arith
 few_words (w ∷ ws) c begun = omega (arith, begun.2, len_most w (shape_of w begun.1))
 
--- the window keeps what it keeps
+-- pushing preserves the window's invariant
 pub pushed_keeps : (w : Window) (e : Event) → KeepsWindow w → IsAtPorts e → KeepsWindow (staying (pushed w e))
 pushed_keeps w e keeps port =
     let p = pushed w e in

@@ -96,7 +96,7 @@ module _ (version : ℕ) (taken : List ℕ) (events : List Event) (some : 1 ≤ 
       ≡ record { version = version; events = slim; ending = End; rest = after }
   reads after = written_read version slim after (some, most) allowed fits
 
-  -- playing bytes that say these events
+  -- replaying bytes that encode these events
   plays : (es : List Event) (bytes after : List ℕ)
       → capture bytes ≡ record { version = version; events = es; ending = End; rest = after }
       → ((played_capture first bytes).ending ≡ (replay_of (machine_for version) es).ending)

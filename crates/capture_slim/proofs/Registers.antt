@@ -33,7 +33,7 @@ environment_area : (r : Registers) (word : ℕ) → area_of r (environment_of wo
 unfolding environment_of
 environment_area r word = area_none r _ _ _
 
--- what is said of a word by what it completes
+-- the effect of a word by the item that it completes
 pub record IsQuiet (c : Control) (word : ℕ) : Type 0 where
   pub saying : Quiet ≡ said_at c (event.Gp0 word)
   pub area : None ≡ area_at c (event.Gp0 word)

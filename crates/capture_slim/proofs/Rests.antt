@@ -1,4 +1,4 @@
--- Slots that are written, one after another.
+-- Slots that are written in order.
 use Rattle.std.proofs.Common.{◌≡◌, ◌<◌, ◌≤◌, ◌+◌, ◌++◌, suc, List, [], ◌∷◌, Option, None, Some, drop, take, length}
 use Rattle.std.proofs.Common.{ℕ, length-append, refl, ap, sym, subst, ◌∙◌, append_assoc, append-nil, arith}
 use Rattle.gpu_capture.specs.declared.event.Event.{Event}
@@ -28,7 +28,7 @@ pub all_left_long : (outs : List (Option Event)) (slots : List Slot) → length 
     ≡ length outs + length slots
 all_left_long outs slots = omega (arith, length-append outs (all_left slots), left_long slots)
 
--- the first slot, where its event stays or not
+-- the first slot, whether its event stays or not
 pub first_none : (slots : List Slot) → first_left slots ≡ None → kept_of (all_left (take 1 slots)) ≡ []
 first_none [] none = refl
 first_none (s ∷ slots) none = ap (λ (out : Option Event). kept_of (out ∷ [])) none
@@ -37,7 +37,7 @@ pub first_some : (slots : List Slot) (e : Event) → first_left slots ≡ Some e
 first_some [] e some = absurd cc
 first_some (s ∷ slots) e some = ap (λ (out : Option Event). out ∷ []) some
 
--- the first of the slots that are left goes to those that are done
+-- the first of the remaining slots is done
 pub record MovesOn (all done slots : List Slot) : Type 0 where
   pub next : Slot
   pub after : List Slot
@@ -60,9 +60,9 @@ moves_on all done (s ∷ slots) are lt = record {
       ∙ ap (λ (os : List (Option Event)). outs ++ os) (sym (left_append done (s ∷ [])));
 }
 
--- ---- a record that was not written, or would be too much
+-- ---- a record that was not written, or would make the file too long
 
--- where more events come
+-- if more events follow
 pub fails_wider : (output : Output) (outs more : List (Option Event)) (number : ℕ) (ending : SlimEnding)
     → FailsIn output outs number ending → FailsIn output (outs ++ more) number ending
 fails_wider output outs more number ending fails = record {
@@ -76,7 +76,7 @@ fails_wider output outs more number ending fails = record {
 }
 
 module _ (output : Output) (outs : List (Option Event)) (all done : List Slot) where
-  -- behind some slots, before others
+  -- after some slots, before others
   rest_are : (slots : List Slot) → all ≡ done ++ slots
       → (outs ++ all_left done) ++ all_left slots ≡ outs ++ all_left all
   rest_are slots are =

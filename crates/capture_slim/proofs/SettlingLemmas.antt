@@ -1,4 +1,4 @@
--- Slots that are settled by what an event says.
+-- Slots updated by the effect of an event.
 use Rattle.std.proofs.Common.{◌≡◌, ◌<◌, ◌≤◌, ◌+◌, ◌-◌, not, ltb, ℕ, suc, List, [], ◌∷◌, ◌++◌, Option, None, Some, Bool}
 use Rattle.std.proofs.Common.{true, false, cond, length, take, drop, slice_get, get_or, option_to_list, refl, sym, ap}
 use Rattle.std.proofs.Common.{◌∙◌, arith, append_assoc}
@@ -27,9 +27,9 @@ use Rattle.capture_slim.specs.declared.slot.Mark.{Mark}
 use Rattle.capture_slim.specs.declared.slot.Mark.TheVariants.{Kept, Dropped, Open}
 use Rattle.capture_slim.specs.declared.slot.Slot.{Slot}
 
--- ---- what is said
+-- ---- effects
 
--- a saying, as the two tests that it stands for
+-- an effect, as the two tests that define it
 record Says (say : Saying) (b : Box2) (filling calming : Bool) : Type 0 where
   fill : covers say b ≡ filling
   calm : is_quiet say ≡ calming
@@ -90,7 +90,7 @@ pub settled_by_long : (slots : List Slot) (behind : ℕ) (say : Saying) → leng
 settled_by_long [] behind say = refl
 settled_by_long (s ∷ slots) behind say = ap suc (settled_by_long slots behind say)
 
--- one slot more at the end
+-- one more slot at the end
 pub settled_by_push : (slots : List Slot) (s : Slot) (behind : ℕ) (say : Saying)
     → settled_by (slots ++ s ∷ []) behind say ≡ settled_by slots (suc behind) say
     ++ record { event = s.event; mark = settle_by s.mark behind say } ∷ []
@@ -103,7 +103,7 @@ settled_by_push (x ∷ slots) s behind say =
     ∙ ap (λ (ss : List Slot). record { event = x.event; mark = settle_by x.mark (length slots + suc behind) say } ∷ ss)
     (settled_by_push slots s behind say)
 
--- what fits is kept whole
+-- what fits is kept
 pub keep_all : {X : Type 0} (n : ℕ) (xs : List X) → length xs ≤ n → keep_last n xs ≡ xs
 keep_all n xs le = let none : length xs - n ≡ 0 = omega (arith, le) in ap (λ (k : ℕ). drop k xs) none
 
@@ -112,7 +112,7 @@ pub goes_last : (b now : Buffer Slot) (s : Slot) → length b.items < b.capacity
 goes_last b now s lt is = is ∙ ap (λ (l : List Slot). buffer l b.capacity)
     (keep_all b.capacity (b.items ++ s ∷ []) (omega (arith, lt, length-append b.items (s ∷ []))))
 
--- the first of some slots is settled and goes to the end
+-- the first of some slots is updated and moved to the end
 pub turned_is : (items : List Slot) (s : Slot) (n age : ℕ) (say : Saying) → Some s ≡ slice_get items 0
     → length items ≤ n
     → keep_last n (drop 1 items ++ record { event = s.event; mark = settle_by s.mark age say } ∷ [])
@@ -130,7 +130,7 @@ turned_split : (settled_ones back : List Slot) (s : Slot) (age : ℕ) (say : Say
 turned_split settled_ones back s age say = append_assoc back settled_ones
     (record { event = s.event; mark = settle_by s.mark age say } ∷ [])
 
--- one slot more of the front is settled
+-- one more slot of the front is updated
 pub turned_next : (items : List Slot) (i behind age : ℕ) (say : Saying) → i < length items
     → age ≡ length items - (i + 1) + behind
     → turned (drop i items ++ settled_by (take i items) (length items - i + behind) say) age say
@@ -146,7 +146,7 @@ turned_next items i behind age say lt is =
     (turned_split (settled_by (take i items) (suc age) say) (drop (i + 1) items) s age say
     ∙ ap (λ (ss : List Slot). drop (i + 1) items ++ ss) (sym (settled_by_push (take i items) s age say)))
 
--- ---- what leaves slots as they are, or shuts them
+-- ---- effects that leave slots as they are, or make them stay
 
 quiet_mark : (mark : Mark) (age : ℕ) → settle_by mark age Quiet ≡ mark
 quiet_mark Kept age = refl
@@ -198,7 +198,7 @@ settled_mark Kept age say is = refl
 settled_mark Dropped age say is = refl
 settled_mark (Open b i) age say is = absurd is
 
--- settled slots stay as they are
+-- slots with final marks stay as they are
 pub settled_first : (first last : List Slot) (behind : ℕ) (say : Saying) → AreSettled first
     → settled_by (first ++ last) behind say ≡ first ++ settled_by last behind say
 settled_first [] last behind say are = refl
@@ -234,7 +234,7 @@ judged_push (Some b) words w n e = open_push words w 0 n b (omega (arith, e))
 
 -- ---- slots that move
 
--- one slot more is shut
+-- one more slot is made to stay
 pub shut_next : (items : List Slot) (i : ℕ) → i < length items
     → all_shut (take i items) ++ all_shut (take 1 (drop i items)) ≡ all_shut (take (i + 1) items)
 shut_next items i lt =
@@ -269,13 +269,13 @@ first_leaves (s ∷ slots) words many =
     let le = le-ltb (length slots + length words) 4096 (omega (arith, many)) in
     (rw le (one_kept (left_of s.event s.mark)), rw le refl)
 
--- ---- a settled slot goes behind those that are settled
+-- ---- a slot with a final mark is moved to the settled part
 
 settled_more : (old : List Slot) (s : Slot) → AreSettled old → IsSettled s.mark → AreSettled (old ++ s ∷ [])
 settled_more [] s are is = (is, tt)
 settled_more (x ∷ old) s are is = (are.0, settled_more old s are.1 is)
 
--- the first slot behind the settled ones, which is settled too, goes to them
+-- the first recent slot, whose mark is final, is moved to the settled part
 pub passes : (old items : List Slot) (n m : ℕ) (s : Slot) (settled recent : Buffer Slot)
     → KeepsSlots (buffer old n) (buffer items m) → AreSettled (take 1 items) → Some s ≡ slice_get items 0
     → settled ≡ buffer (keep_last n (old ++ s ∷ [])) n → recent ≡ buffer (drop 1 items) m

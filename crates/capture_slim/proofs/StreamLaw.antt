@@ -1,4 +1,4 @@
--- What leaves the window.
+-- The events that leave the window.
 use Rattle.std.proofs.Common.{◌≡◌, ◌+◌, ltb, ℕ, List, [], ◌∷◌, ◌++◌, Option, Bool, true, false, cond, length, refl, sym}
 use Rattle.std.proofs.Common.{ap, ◌∙◌, append_assoc, append-nil, zero, suc}
 use Rattle.std.proofs.lemmas.Bool.{ltb-false}

@@ -1,4 +1,4 @@
--- What is too long stays too long, whatever events follow.
+-- A file that is too long stays too long, whatever events follow.
 use Rattle.std.proofs.Common.{◌≡◌, ◌≤◌, ◌++◌, ℕ, List, [], ◌∷◌, Option, take, drop, length, length-append, ap, sym, ◌∙◌}
 use Rattle.std.proofs.Common.{append-nil, arith}
 use Rattle.std.proofs.lemmas.List.{take-append-drop, take-append-le}
@@ -20,7 +20,7 @@ use Rattle.capture_slim.proofs.Rests.{kept_append}
 use Rattle.capture_slim.proofs.StreamLaw.{leaves_law, places_law}
 use Rattle.capture_slim.proofs.WindowLaw.{pushed_begun}
 
--- ---- no more events wait than the window has
+-- ---- at most 4,096 events wait
 
 few_behind : (events : List Event) (w : Window) → IsBegun w.words w.control → size w ≤ 4096
     → size (window_behind events w) ≤ 4096
@@ -32,7 +32,7 @@ few_behind (e ∷ events) w begun few =
     few_behind events (staying p) next
     (few_stay p.slots p.words (omega (arith, few, pushed_size w e)) (omega (arith, most)))
 
--- ---- what is due stays
+-- ---- events that are 4,096 events old are final
 
 pub due_law : DueLaw
 due_law height number events more le =
@@ -73,7 +73,7 @@ no_shorter version height number events =
     let all = ap (λ es. length (written version es)) (first_of_slim height number events) in
     omega (arith, all, longer version first rest)
 
--- ---- a record that is too much
+-- ---- a record that would make the file too long
 
 pub is_too_long : (way : Way) (before : Streams) (held : Option (List ℕ)) (number at : ℕ)
     → FailsAt (passed_on way before) held number (TooLong at) → IsTooLong way number

@@ -149,7 +149,7 @@ chosen false s w ws behind idle d e =
 zero_add : (n : ℕ) → 0 + n ≡ n
 zero_add n = omega arith
 
--- a packet is judged by what follows it
+-- a packet is kept or dropped by what follows it
 judged_is : (s : Control) (w : ℕ) (ws : List ℕ) (behind : List Event) → s.pending ≡ pending.Idle → IsDroppable (w ∷ ws)
     → places_from (map event.Gp0 (w ∷ ws) ++ behind) s 0
     ≡ resolved (judged (w ∷ ws) (area_of s.regs (whole_of s.regs.height (w ∷ ws)))) 0 s behind ++ places_from behind s 0
@@ -171,7 +171,7 @@ judged_is s w ws behind idle d = by_area (area_of s.regs (whole_of s.regs.height
         (open_resolved (w ∷ ws) 0 b s behind t
         (ap (λ (n : ℕ). is_covered behind s (4097 - n) b) (zero_add (length (w ∷ ws))))))
 
--- ---- a begun packet
+-- ---- an incomplete packet
 
 -- the words so far, from its start
 begun_control : (ws : List ℕ) (c : Control) (n : ℕ) (done : List ℕ) (w : ℕ) → kind_of (slice_index (done ++ w ∷ ws) 0)
@@ -189,7 +189,7 @@ begun_control (v ∷ ws) c n done w kind part held =
     (ap (λ (l : List ℕ). kind_of (slice_index l 0)) all ∙ kind) (omega (arith, part, ap length all)) refl
     ∙ ap {B = Control} (λ (l : List ℕ). record { regs = c.regs; pending = held_of l }) all
 
--- no word follows where one is due
+-- another event follows although a word comes next
 abbrev IsCut : List Event → Type 0
 IsCut (event.Gp0 word ∷ behind) = ⊥
 IsCut other = Unit {0}
@@ -215,7 +215,7 @@ cut_front s w ws behind short cut = rw (words_short (first_len_of w) (w ∷ ws) 
     same true = refl
     same false = refl
 
--- its words stay where they are cut off
+-- the words of a packet that is cut off stay
 begun_stays : (c : Control) (w : ℕ) (ws : List ℕ) (behind : List Event) → IsBegun (w ∷ ws) c → IsCut behind
     → places_from (map event.Gp0 (w ∷ ws) ++ behind) (start_of (w ∷ ws) c) 0
     ≡ map word_kept (w ∷ ws) ++ places_from behind c 0
@@ -233,9 +233,9 @@ begun_stays c w ws behind begun cut =
     (ap (λ (d : Control). d.pending) part))
     ∙ ap (λ (d : Control). map word_kept (w ∷ ws) ++ places_from behind d 0) now
 
--- ---- one event more
+-- ---- one more event
 
--- what is put behind the slots
+-- what is appended to the slots
 put_behind : (slots more : List Slot) (n : ℕ) (c : Control) (behind : List Event) → length more ≡ n
     → resolved (slots ++ more) 0 c behind ++ places_from behind c 0
     ≡ resolved slots n c behind ++ (resolved more 0 c behind ++ places_from behind c 0)
@@ -277,7 +277,7 @@ judged_any : (s : Control) (words : List ℕ) (behind : List Event) → s.pendin
 judged_any s [] behind idle d = absurd (omega (arith, d.whole, start_len-positive 0))
 judged_any s (w ∷ ws) behind idle d = judged_is s w ws behind idle d
 
--- a word that is taken up
+-- a word that is appended to the packet's words
 pub record IsTaken (c : Control) (done : List ℕ) (word : ℕ) : Type 0 where
   pub held : c.pending ≡ held_of done
   pub kind : is_droppable (slice_index (done ++ word ∷ []) 0) ≡ true
@@ -348,7 +348,7 @@ cut_stays (v ∷ vs) c e behind begun cut none =
     begun_stays c v vs (e ∷ behind) begun cut ∙ ap (λ (outs : Outs). map word_kept (v ∷ vs) ++ outs)
     (first_stays c e behind none)
 
--- the words with one more
+-- the words and one more
 more_words : (words : List ℕ) (word : ℕ) (behind : List Event) → map event.Gp0 words ++ event.Gp0 word ∷ behind
     ≡ map event.Gp0 (words ++ word ∷ []) ++ behind
 more_words [] word behind = refl
@@ -418,7 +418,7 @@ one_more w e behind begun =
     (settled_is w.slots (length w.words) w.control e behind)
     ∙ pushed_value (settled w.slots (length w.words) w.control e) w.words w.control e behind begun
 
--- ---- a packet is begun where there are words
+-- ---- the packet is incomplete if there are words
 
 begun_some : (done : List ℕ) (word : ℕ) (d : Control) → d.pending ≡ held_of (done ++ word ∷ [])
     → is_droppable (slice_index (done ++ word ∷ []) 0) ≡ true
@@ -473,7 +473,7 @@ leaving_out e (Open b i) age c behind old =
     let none : 4096 - (age + i) ≡ 0 = omega (arith, old) in
     rw (none, covered_zero behind c b) refl
 
--- a slot that is 4096 events old is decided
+-- a slot that is 4,096 events old is decided
 pub leaving_law : (s : Slot) (slots : List Slot) (words : List ℕ) (c : Control) (behind : List Event)
     → 4096 ≤ length slots + length words
     → value (record { slots = s ∷ slots; words = words; control = c }) behind
@@ -509,7 +509,7 @@ all_append : (first last : List Slot) → all_left (first ++ last) ≡ all_left 
 all_append [] last = refl
 all_append (s ∷ first) last = ap (λ (outs : Outs). left_of s.event s.mark ∷ outs) (all_append first last)
 
--- where no event follows, all that waits and may stay does
+-- if no event follows, each waiting event stays unless it was dropped
 pub end_law : (w : Window) → IsBegun w.words w.control → value w [] ≡ all_left (waiting w)
 end_law w begun =
     ap (λ (outs : Outs). outs ++ places_from (map event.Gp0 w.words ++ []) (start_of w.words w.control) 0)

@@ -1,4 +1,4 @@
--- Slots that are settled as events come.
+-- Slots updated as events enter the window.
 use Rattle.std.proofs.Common.{◌≡◌, ◌+◌, ◌-◌, ltb, ℕ, zero, suc, List, [], ◌∷◌, ◌++◌, Option, Some, None, Bool, true}
 use Rattle.std.proofs.Common.{false, cond, length, map, refl, sym, ap, ◌∙◌, arith}
 use Rattle.std.proofs.lemmas.Bool.{le-ltb, lt-ltb}
@@ -13,7 +13,7 @@ use Rattle.capture_slim.specs.declared.slot.Mark.TheVariants.{Kept, Dropped, Ope
 use Rattle.capture_slim.specs.declared.slot.Slot.{Slot}
 use Rattle.capture_slim.specs.Window.{settle, settled, kept_words, dropped_words, judged, open_words, out_of, resolved}
 
--- a word that stays, and one that goes
+-- a word that stays, and one that is dropped
 abbrev pub word_kept : ℕ → Option Event
 word_kept word = Some (event.Gp0 word)
 
@@ -52,7 +52,7 @@ pub settled_long : (slots : List Slot) (after : ℕ) (c : Control) (e : Event) �
 settled_long [] after c e = refl
 settled_long (s ∷ slots) after c e = ap suc (settled_long slots after c e)
 
--- one event more is known
+-- one more event is known
 pub settled_is : (slots : List Slot) (after : ℕ) (c : Control) (e : Event) (behind : List Event)
     → resolved slots after c (e ∷ behind) ≡ resolved (settled slots after c e) (suc after) (controlled c e) behind
 settled_is [] after c e behind = refl
@@ -104,7 +104,7 @@ pub judged_long : (words : List ℕ) (area : Option Box2) → length (judged wor
 judged_long words None = dropped_long words
 judged_long words (Some b) = open_long words 0 b
 
--- a packet's words stay or go together
+-- all words of a packet stay, or all are dropped
 pub open_resolved : (words : List ℕ) (i : ℕ) (b : Box2) (c : Control) (behind : List Event) (t : Bool)
     → is_covered behind c (4097 - (i + length words)) b ≡ t
     → resolved (open_words words i b) 0 c behind ≡ cond t (map word_gone words) (map word_kept words)

@@ -1,4 +1,5 @@
--- What is written of the events that stay (our own rule): nothing before the first of them, not even the head.
+-- The bytes that are written of the events that stay (our own rule). Without any of them, nothing is written before the
+-- end, not even the file header.
 use Rattle.std.specs.Prelude.{◌≡◌, ◌≤◌, ◌<◌, ℕ, List, [], ◌∷◌, ◌++◌, ◌+◌, ◌==◌, Option, Some, length, if◌then◌else◌}
 use Rattle.dev_io.specs.Device.{appended, AppendsPart}
 use Rattle.gpu_capture.specs.Capture.{IsVersion, head_of, limit}
@@ -12,17 +13,17 @@ use Rattle.capture_slim.specs.declared.ending.SlimEnding.TheVariants.{TooLong, W
 use Rattle.capture_slim.specs.declared.file.Draft.{Draft}
 use Rattle.capture_slim.specs.declared.file.SlimFile.{SlimFile}
 
--- a file that is written: its version, and what the sink held before it and holds now, where that is told
+-- the output: its version, the bytes in the sink before it and now (None if the sink does not state them)
 pub record Output : Type 0 where
   pub version : ℕ
   pub base : Option (List ℕ)
   pub held : Option (List ℕ)
 
--- what is written of a draft
+-- the output of a draft
 abbrev pub output_of : Draft → (base held : Option (List ℕ)) → Output
 output_of draft base held = record { version = draft.file.version; base = base; held = held }
 
--- what stands where these events were written
+-- the bytes of the file after these events
 abbrev pub begun : (version : ℕ) → List Event → List ℕ
 begun version [] = []
 begun version (e ∷ events) = head_of version ++ spell (e ∷ events)
@@ -32,7 +33,7 @@ pub record HasRoom (file : SlimFile) : Type 0 where
   pub version : IsVersion file.version
   pub size : file.size + 4 ≤ limit
 
--- the head, which is due with the first record
+-- the file header if there is no event yet: it is written with the first record or with End
 abbrev pub head_due : (version : ℕ) → List Event → List ℕ
 head_due version [] = head_of version
 head_due version (e ∷ events) = []
@@ -43,17 +44,17 @@ pub record IsFile (file : SlimFile) (base held : Option (List ℕ)) (kept : List
   pub size_is : file.size ≡ length (begun file.version kept)
   pub fits : file.size + 4 ≤ limit
 
--- the head, by how many bytes stand
+-- the file header if the file is still empty
 abbrev pub head_at : SlimFile → List ℕ
 head_at file = if file.size == 0 then head_of file.version else []
 
--- the record of an event, with the head where that is due
+-- the record of an event, after the file header if it is the first
 abbrev pub due : SlimFile → Event → List ℕ
 due file event = head_at file ++ spelled event
 
--- ---- behind events that were written
+-- ---- after events that were written
 
--- the record of an event would be too much, and was not written
+-- with this record, the file would be too long, and it was not written
 pub record IsTooMuch (output : Output) (kept : List Event) (event : Event) : Type 0 where
   pub stands : output.held ≡ appended output.base (begun output.version kept)
   pub fits : length (begun output.version kept) + 4 ≤ limit
@@ -70,10 +71,10 @@ Fails output kept event number (TooLong at) = (at ≡ number) × IsTooMuch outpu
 Fails output kept event number (WriteFailed at) = (at ≡ number) × IsLacking output kept event
 Fails output kept event number ending = ⊥
 
--- ---- events of a list, each in its place where it stays
+-- ---- a list of events, None for each that was dropped
 
--- the event of this number stays: all that stay before it were written, and its record would be too much, or a proper
--- part of it was
+-- Event `number` stays. All events before it that stay were written, and its record would make the file too long, or a
+-- proper part of it was written.
 pub record FailsIn (output : Output) (outs : List (Option Event)) (number : ℕ) (ending : SlimEnding) : Type 0 where
   pub earlier : List (Option Event)
   pub event : Event
@@ -82,43 +83,43 @@ pub record FailsIn (output : Output) (outs : List (Option Event)) (number : ℕ)
   pub number_is : number ≡ length earlier + 1
   pub fails : Fails output (kept_of earlier) event number ending
 
--- Those that stay were written, or are gathered: the sink holds them once all that is gathered is written, and wherever
--- the writing of that breaks off, one of them was not written.
+-- The events that stay are written or buffered: the sink has them once the buffer is flushed. If the flush fails, one
+-- of them was not written completely.
 pub record IsDraft (draft : Draft) (base held : Option (List ℕ)) (outs : List (Option Event)) : Type 0 where
   pub file_is : IsFile draft.file base (appended held (bytes_of draft.gathered)) (kept_of outs)
   pub lacks : (now : Option (List ℕ)) (number : ℕ) → BreaksOff draft.gathered held now number
       → FailsIn (output_of draft base now) outs number (WriteFailed number)
 
--- what is gathered was written at a record that would be too much, or that failed
+-- the buffer was flushed at a record that would make the file too long, or the flush failed
 abbrev pub EndsTooLong : List Piece → (before now : Option (List ℕ)) → (number : ℕ) → SlimEnding → Type 0
 EndsTooLong pieces before now number (TooLong at) = (at ≡ number) × (now ≡ appended before (bytes_of pieces))
 EndsTooLong pieces before now number (WriteFailed at) = BreaksOff pieces before now at
 EndsTooLong pieces before now number ending = ⊥
 
--- these pieces are due at the event of this number or at later ones
+-- these output chunks belong to event `least` or later ones
 abbrev pub AreFrom : (least : ℕ) → List Piece → Type 0
 AreFrom least [] = Unit {0}
 AreFrom least (p ∷ pieces) = (least ≤ p.number) × AreFrom least pieces
 
--- where a write failed, it was at the event of this number or at a later one
+-- a failed write was at event `least` or a later one
 abbrev pub LacksFrom : (least : ℕ) → SlimEnding → Type 0
 LacksFrom least (WriteFailed number) = least ≤ number
 LacksFrom least ending = Unit {0}
 
--- behind these events the record of one more would be too much, or that of one of them was not written
+-- after these events, one more would make the file too long, or the record of one of them was not written
 abbrev pub FailsNext : Output → List (Option Event) → Event → SlimEnding → Type 0
 FailsNext output outs event (TooLong at) = (at ≡ length outs + 1) × IsTooMuch output (kept_of outs) event
 FailsNext output outs event (WriteFailed at) = FailsIn output outs at (WriteFailed at)
 FailsNext output outs event ending = ⊥
 
--- the same of the first event that waits, which stays
+-- the same for the first waiting event, which stays
 pub record FailsFirst (output : Output) (outs : List (Option Event)) (first : Option Event)
     (ending : SlimEnding) : Type 0 where
   pub event : Event
   pub event_is : first ≡ Some event
   pub fails : FailsNext output outs event ending
 
--- behind these events the record of one of the last ones would be too much, or that of any was not written
+-- after these events, one of the last would make the file too long, or the record of any was not written
 abbrev pub FailsRest : Output → (outs last : List (Option Event)) → SlimEnding → Type 0
 FailsRest output outs last (TooLong at) = (length outs < at) × FailsIn output (outs ++ last) at (TooLong at)
 FailsRest output outs last (WriteFailed at) = FailsIn output (outs ++ last) at (WriteFailed at)

@@ -1,4 +1,4 @@
--- A capture that is written without its dead drawing as the events come (our own rule).
+-- Writing a capture without its dead drawing while its events are read (our own rule).
 use Rattle.std.specs.Prelude.{◌≡◌, ◌≤◌, ◌<◌, ◌⊎◌, ℕ, List, [], ◌∷◌, ◌++◌, ◌+◌, Option, length, take}
 use Rattle.dev_io.specs.Device.{prepended, appended, AppendsPart, Rose}
 use Rattle.gpu_capture.specs.Capture.{capture, limit}
@@ -22,7 +22,8 @@ use Rattle.capture_slim.specs.Places.{slim_first}
 use Rattle.capture_slim.specs.declared.ending.SlimEnding.{SlimEnding}
 use Rattle.capture_slim.specs.declared.ending.SlimEnding.TheVariants.{Done, Stopped, NotFlat, TooLong, WriteFailed}
 
--- the bytes left of the source, how often it failed, and the bytes that the sink holds; None where they are not told
+-- the bytes left in the source, how often it failed, and the bytes in the sink; None if source or sink do not state
+-- them
 pub record Streams : Type 0 where
   pub left : Option (List ℕ)
   pub faults : ℕ
@@ -31,103 +32,103 @@ pub record Streams : Type 0 where
 abbrev pub streams : (left : Option (List ℕ)) → (faults : ℕ) → (held : Option (List ℕ)) → Streams
 streams left faults held = record { left = left; faults = faults; held = held }
 
--- how far a capture was read: its version, the bytes taken, and the events of the ports that they say
+-- what was read of a capture: its version, the bytes, and their port events
 pub record Way : Type 0 where
   pub version : ℕ
   pub taken : List ℕ
   pub events : List Event
 
--- what stays of events of a capture of this version, if they are all
+-- the events that stay, if these are all events of a capture of this version
 abbrev pub slim_of : (version : ℕ) → List Event → List Event
 slim_of version events = slim_events (height_for version) events
 
--- the file of that
+-- its file
 abbrev pub slim_file : (version : ℕ) → List Event → List ℕ
 slim_file version events = written version (slim_of version events)
 
--- what the bytes taken say
+-- what these bytes encode
 abbrev pub said_of : Way → Said
 said_of way = record { version = way.version; events = way.events }
 
--- ---- how the reading stands
+-- ---- why and when reading ended
 
--- the reader stopped behind the events of the way, for a fault only where the source has failed since
+-- the reader stopped after the events that were read; a read error only if the source has failed since
 pub record StopsBehind (way : Way) (stop : Stop) (before now : Streams) : Type 0 where
   pub says : SaysStop capture way.taken (said_of way) stop now.left
   pub needed : AreNeededToEnd capture way.events way.taken
   pub cause : IsReadFault stop → Rose before.faults now.faults
 
--- the next event is none of the ports
+-- the next event is not at the ports
 pub record RefusesNext (way : Way) : Type 0 where
   pub event : Event
   pub refused : IsAtPorts event → ⊥
   pub says : SaysFirst capture way.version way.taken (way.events ++ event ∷ [])
   pub needed : AreNeeded capture (way.events ++ event ∷ []) way.taken
 
--- the last event of the way is so many events behind one of this number
+-- the last event read is 4,096 events after event `number`
 pub record ReadsOn (way : Way) (number : ℕ) : Type 0 where
   pub number_is : length way.events ≡ number + window_events
   pub says : SaysFirst capture way.version way.taken way.events
   pub needed : AreNeeded capture way.events way.taken
 
--- one of this number is among the last events where the reading ends
+-- event `number` is one of the last 4,096
 pub record IsAmongLast (events : List Event) (number : ℕ) : Type 0 where
   pub some : number ≤ length events
   pub late : length events < number + window_events
 
--- the last event of the way is so many events behind one of this number, or more
+-- the last event read is at least 4,096 events after event `number`
 pub record ReadsBeyond (way : Way) (number : ℕ) : Type 0 where
   pub number_is : number + window_events ≤ length way.events
   pub says : SaysFirst capture way.version way.taken way.events
   pub needed : AreNeeded capture way.events way.taken
 
--- the record of the event of this number is due
+-- the record of event `number` is written now
 abbrev pub IsDue : Way → (number : ℕ) → (before now : Streams) → Type 0
 IsDue way number before now =
     ReadsOn way number
     ⊎ (IsAmongLast way.events number × (((stop : Stop) × StopsBehind way stop before now) ⊎ RefusesNext way))
 
--- The record of the event of this number was due: at the last event of the way or before, or where the reading ends.
+-- The record of event `number` had to be written at the last event read, before it, or at the end of reading.
 abbrev pub WasDue : Way → (number : ℕ) → (before now : Streams) → Type 0
 WasDue way number before now =
     ReadsBeyond way number
     ⊎ ((number ≤ length way.events) × (((stop : Stop) × StopsBehind way stop before now) ⊎ RefusesNext way))
 
--- ---- what was passed on
+-- ---- the events that were read
 
--- events of the ports that came, of a capture of this version, and what the sink held before
+-- the port events read from a capture of this version; `base`: the bytes in the sink before
 pub record Passed : Type 0 where
   pub version : ℕ
   pub events : List Event
   pub base : Option (List ℕ)
 
--- those of a way
+-- what was read, as `Passed`
 abbrev pub passed_on : Way → (before : Streams) → Passed
 passed_on way before = record { version = way.version; events = way.events; base = before.held }
 
--- the file that is written of them
+-- the output for them
 abbrev pub output_to : Passed → (held : Option (List ℕ)) → Output
 output_to passed held = record { version = passed.version; base = passed.base; held = held }
 
--- those of the first n that stay, by all of them
+-- those of the first n events that stay, given all events
 abbrev pub first_passed : Passed → (n : ℕ) → List Event
 first_passed passed n = slim_first (height_for passed.version) n passed.events
 
--- they were written as if they were all
+-- they were written as if there were no others
 pub record WritesAll (passed : Passed) (held : Option (List ℕ)) (number : ℕ) : Type 0 where
   pub number_is : number ≡ length passed.events + 1
   pub stands : held ≡ appended passed.base (begun passed.version (slim_of passed.version passed.events))
   pub fits : length (slim_file passed.version passed.events) ≤ limit
 
--- so they were, and a proper part of the End record
+-- the same, and a proper part of the End record
 pub record WritesPart (passed : Passed) (held : Option (List ℕ)) (number : ℕ) : Type 0 where
   pub number_is : number ≡ length passed.events + 1
   pub stands : AppendsPart (appended passed.base (begun passed.version (slim_of passed.version passed.events))) held
       (head_due passed.version (slim_of passed.version passed.events) ++ spelled_end)
   pub fits : length (slim_file passed.version passed.events) ≤ limit
 
--- An event of these stays, and all those that stay before it were written: its record would be too much, or a proper
--- part of it was written.
+-- Event `number` stays, and all events before it that stay were written. Its record would make the file too long, or a
+-- proper part of it was written.
 pub record FailsAt (passed : Passed) (held : Option (List ℕ)) (number : ℕ) (ending : SlimEnding) : Type 0 where
   pub earlier : ℕ
   pub number_is : number ≡ earlier + 1
@@ -141,9 +142,9 @@ pub record FailsAt (passed : Passed) (held : Option (List ℕ)) (number : ℕ) (
 abbrev pub first : Tale
 first = from_state first_machine 0
 
--- All was read and written. What was written is a capture of the same version, whatever stands behind it: it is read as
--- the events that stay, with End, and playing it shows the same words as playing the bytes taken, and leads to the same
--- status word and the same video memory.
+-- Everything was read and written. The output is a capture of the same version, whatever follows it: it is read as the
+-- events that stay, with End. Replaying it shows the same words as replaying the input, and leaves the same status word
+-- and the same video memory.
 pub record IsWhole (way : Way) (before now : Streams) : Type 0 where
   pub stops : StopsBehind way End before now
   pub held : now.held ≡ appended before.held (slim_file way.version way.events)
@@ -152,21 +153,21 @@ pub record IsWhole (way : Way) (before now : Streams) : Type 0 where
       → IsFlatCapture first (played_capture first (way.taken ++ rest)).tale way.version (slim_of way.version way.events)
       (slim_file way.version way.events)
 
--- so it is with this event of the way, whose record is due, and would be too much
+-- the record of event `number` is written now, and would make the file too long
 pub record FailsRecord (way : Way) (number : ℕ) (before now : Streams) (ending : SlimEnding) : Type 0 where
   pub due : IsDue way number before now
   pub fails : FailsAt (passed_on way before) now.held number ending
 
--- So it is with this event of the way, whose record was due, and was not written: it is the first that lacks a byte. If
--- it was due before the reading ended, few bytes were taken after those of the event at which it was.
+-- The record of event `number` had to be written and is the first that lacks a byte. If that was before the end of
+-- reading, at most `most_behind` bytes were read after the event at which it had to be written.
 pub record LacksRecord (way : Way) (number : ℕ) (before now : Streams) : Type 0 where
   pub due : WasDue way number before now
   pub few : number + window_events ≤ length way.events
       → AreFewBehind capture (take (number + window_events) way.events) way.taken most_behind
   pub fails : FailsAt (passed_on way before) now.held number (WriteFailed number)
 
--- The whole file of the events that were read is too long; and where one of this number was due before the reading
--- ended, so is that of these and any other events behind them.
+-- The whole file of the events that were read is too long. If the record of event `number` had to be written before the
+-- end of reading, the file is too long whatever events follow.
 pub record IsTooLong (way : Way) (number : ℕ) : Type 0 where
   pub long : limit < length (slim_file way.version way.events)
   pub stays : number + window_events ≤ length way.events → (more : List Event)
@@ -188,7 +189,7 @@ SaysEnding way before now (TooLong number) =
 SaysEnding way before now (WriteFailed number) =
     LacksRecord way number before now ⊎ LacksEnd way number before now
 
--- how a capture without dead drawing ends
+-- the result of `pass`: what was read, what was written and how it ended
 pub record EndsSlim (before now : Streams) (ending : SlimEnding) : Type 0 where
   pub way : Way
   pub bytes : before.left ≡ prepended way.taken now.left
@@ -197,23 +198,23 @@ pub record EndsSlim (before now : Streams) (ending : SlimEnding) : Type 0 where
 
 -- ---- causes
 
--- it ended by a fault of the source
+-- a failure of the source ended it
 abbrev pub MayReadFault : SlimEnding → Type 0
 MayReadFault (Stopped number (ReadFault byte)) = Unit {0}
 MayReadFault ending = ⊥
 
--- it ended by a fault of the sink
+-- a failure of the sink ended it
 abbrev pub MayWriteFault : SlimEnding → Type 0
 MayWriteFault (WriteFailed number) = Unit {0}
 MayWriteFault ending = ⊥
 
--- it never stops with End
+-- an ending that can occur: `Stopped` never has the stop End
 abbrev pub IsEnding : SlimEnding → Type 0
 IsEnding (Stopped number End) = ⊥
 IsEnding ending = Unit {0}
 
--- an ending of what writes alone, by how often the sink failed before and after: no fault of the source, and a fault of
--- the sink only where it failed
+-- an ending of code that only writes: no read error, and a write error only if the sink failed. `before` and `now`
+-- count the failures of the sink.
 pub record EndsWriting (before now : ℕ) (ending : SlimEnding) : Type 0 where
   pub known : IsEnding ending
   pub read : MayReadFault ending → ⊥

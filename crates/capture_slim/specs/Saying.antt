@@ -1,4 +1,4 @@
--- What events say of the packets before them (our own rule).
+-- The effects of events on the packets drawn before them (our own rule).
 use Rattle.std.specs.Prelude.{ℕ, ◌+◌, Bool, true, false, Option, Some, None, if◌then◌else◌, nat_lt}
 use Rattle.px_num.specs.declared.shape.Box2.{Box2}
 use Rattle.gp0_words.specs.Next.{next_item}

@@ -1,4 +1,4 @@
--- Slots that are settled by what an event says (our own rule).
+-- Slots updated by the effect of an event (our own rule).
 use Rattle.std.specs.Prelude.{◌≡◌, ◌≤◌, ℕ, ◌+◌, Option, Some, None, List, [], ◌∷◌, ◌++◌, length}
 use Rattle.px_num.specs.declared.shape.Box2.{Box2}
 use Rattle.circular_buffer.specs.Buffer.{Buffer}
@@ -9,13 +9,13 @@ use Rattle.capture_slim.specs.declared.slot.Mark.{Mark}
 use Rattle.capture_slim.specs.declared.slot.Mark.TheVariants.{Dropped, Open}
 use Rattle.capture_slim.specs.declared.slot.Slot.{Slot}
 
--- slots before so many others
+-- slots with `behind` more events after them
 abbrev pub settled_by : List Slot → (behind : ℕ) → Saying → List Slot
 settled_by [] behind say = []
 settled_by (s ∷ slots) behind say =
     record { event = s.event; mark = settle_by s.mark (length slots + behind) say } ∷ settled_by slots behind say
 
--- a slot that a loud event has settled
+-- a slot after an event that may read what was drawn
 abbrev pub shut : Slot → Slot
 shut s = record { event = s.event; mark = settle_by s.mark 0 Loud }
 
@@ -23,12 +23,12 @@ abbrev pub all_shut : List Slot → List Slot
 all_shut [] = []
 all_shut (s ∷ slots) = shut s ∷ all_shut slots
 
--- the first slot is settled and goes to the end
+-- the first slot is updated and moved to the end
 abbrev pub turned : List Slot → (age : ℕ) → Saying → List Slot
 turned [] age say = []
 turned (s ∷ slots) age say = slots ++ record { event = s.event; mark = settle_by s.mark age say } ∷ []
 
--- the mark of a packet's word of this number
+-- the mark of word i of a packet
 abbrev pub mark_of : Option Box2 → ℕ → Mark
 mark_of None i = Dropped
 mark_of (Some area) i = Open area i
@@ -42,11 +42,11 @@ abbrev pub AreSettled : List Slot → Type 0
 AreSettled [] = Unit {0}
 AreSettled (s ∷ slots) = IsSettled s.mark × AreSettled slots
 
--- how many slots there is room for: those of the window, with the words of a packet more
+-- the capacity in slots: the window's 4,096 and 32 more, enough for the words of a packet
 abbrev pub room : ℕ
 room = 4128
 
--- slots that are settled, and those behind them that may be open: either part has room for all
+-- slots with final marks, and the later ones, which may be open: either part has room for all
 pub record KeepsSlots (settled recent : Buffer Slot) : Type 0 where
   pub settled_room : settled.capacity ≡ room
   pub recent_room : recent.capacity ≡ room

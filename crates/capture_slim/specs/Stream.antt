@@ -1,4 +1,4 @@
--- Events that come in and go out one by one (our own rule).
+-- Events that enter and leave the window one by one (our own rule).
 use Rattle.std.specs.Prelude.{◌≡◌, ◌≤◌, ℕ, List, [], ◌∷◌, ◌++◌, Option, None, ◌+◌, nat_lt, length, if◌then◌else◌}
 use Rattle.gpu_capture.specs.declared.event.Event.{Event}
 use Rattle.dead_drawing.specs.Dead.{window_events}
@@ -6,7 +6,7 @@ use Rattle.capture_slim.specs.declared.slot.Slot.{Slot}
 use Rattle.capture_slim.specs.Places.{places, slim_first}
 use Rattle.capture_slim.specs.Window.{Window, all_left, first_window, left_of, pushed, waiting}
 
--- the first slot leaves where there are more events than the window has
+-- the first slot leaves if there are more than 4,096 events
 abbrev pub leaving_from : List Slot → List ℕ → List (Option Event)
 leaving_from [] words = []
 leaving_from (s ∷ slots) words =
@@ -22,27 +22,26 @@ leaving w = leaving_from w.slots w.words
 abbrev pub staying : Window → Window
 staying w = record { slots = staying_from w.slots w.words; words = w.words; control = w.control }
 
--- the event of the first slot, where it stays
+-- the event of the first slot, unless it was dropped
 abbrev pub first_left : List Slot → Option Event
 first_left [] = None
 first_left (s ∷ slots) = left_of s.event s.mark
 
--- the words go behind the slots
+-- the words are moved to the slots
 abbrev pub closed : Window → Window
 closed w = record { slots = waiting w; words = []; control = w.control }
 
--- what leaves as events come
+-- what leaves the window while these events enter it
 abbrev pub outs : List Event → Window → List (Option Event)
 outs [] w = []
 outs (e ∷ events) w = leaving (pushed w e) ++ outs events (staying (pushed w e))
 
--- the window behind them
+-- the window after them
 abbrev pub window_behind : List Event → Window → Window
 window_behind [] w = w
 window_behind (e ∷ events) w = window_behind events (staying (pushed w e))
 
--- What leaves as events come is decided whatever follows, and with all that waits at the end it is each event in its
--- place.
+-- What has left the window is final, whatever follows. With what remains at the end, it is each event at its position.
 abbrev pub StreamLaw : Type 0
 StreamLaw = (height : ℕ) (events : List Event) → places height events
     ≡ outs events (first_window height) ++ all_left (waiting (window_behind events (first_window height)))
@@ -51,7 +50,7 @@ abbrev pub LeavesLaw : Type 0
 LeavesLaw = (height : ℕ) (events more : List Event) → (rest : List (Option Event))
     × (places height (events ++ more) ≡ outs events (first_window height) ++ rest)
 
--- Those of the first events that stay are the same whatever follows, once so many more have come as the window has.
+-- Which of the first `number` events stay is final once 4,096 more events have entered.
 abbrev pub DueLaw : Type 0
 DueLaw = (height number : ℕ) (events more : List Event) → number + window_events ≤ length events
     → slim_first height number (events ++ more) ≡ slim_first height number events

@@ -1,4 +1,4 @@
--- What an event tells of the packet that it completes (our own rule).
+-- The area of the packet that an event completes (our own rule).
 use Rattle.std.specs.Prelude.{◌≤◌, ◌+◌, Option, Some, None, length, List, [], ◌∷◌}
 use Rattle.px_num.specs.declared.shape.Box2.{Box2}
 use Rattle.gp0_words.specs.Next.{next_item}
@@ -18,17 +18,17 @@ abbrev pub area_by : Registers → Option Item → Option Box2
 area_by r None = None
 area_by r (Some item) = area_of r (packet_of r.height item)
 
--- the area of the packet that an event completes, with the registers before it
+-- the area of the packet that an event completes, given the registers before it
 abbrev pub area_at : Control → Event → Option Box2
 area_at c (event.Gp0 word) = area_by c.regs (next_item c.pending word)
 area_at c other = None
 
--- events of the ports
+-- slots of port events
 abbrev pub HoldPorts : List Slot → Type 0
 HoldPorts [] = Unit {0}
 HoldPorts (s ∷ slots) = IsAtPorts s.event × HoldPorts slots
 
--- what the window keeps
+-- what always holds of the window
 pub record KeepsWindow (w : Window) : Type 0 where
   pub ports : HoldPorts w.slots
   pub few : length w.slots + length w.words ≤ window_events

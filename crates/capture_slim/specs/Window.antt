@@ -1,4 +1,4 @@
--- Events that wait for a fill: what is known of them when only the events up to now are known (our own rule).
+-- The window of waiting events: what is known of them from the events so far (our own rule).
 use Rattle.std.specs.Prelude.{◌≡◌, ◌<◌, ℕ, suc, ◌+◌, ◌-◌, ◌&&◌, Bool, true, List, [], ◌∷◌, ◌++◌, Option, Some, None}
 use Rattle.std.specs.Prelude.{if◌then◌else◌, nat_lt, length, map, slice_index}
 use Rattle.px_num.specs.declared.shape.Box2.{Box2}
@@ -17,7 +17,7 @@ use Rattle.capture_slim.specs.declared.slot.Mark.TheVariants.{Kept, Dropped, Ope
 use Rattle.capture_slim.specs.declared.slot.Slot.{Slot}
 use Rattle.capture_slim.specs.Places.{places_from}
 
--- the slots, the words of a packet that is not whole yet and may be dropped, and the control now
+-- the slots, the words of an incomplete packet that may be dropped, and the control after them
 pub record Window : Type 0 where
   pub slots : List Slot
   pub words : List ℕ
@@ -26,9 +26,9 @@ pub record Window : Type 0 where
 abbrev pub within : Queue → Control → Window
 within q c = record { slots = q.slots; words = q.words; control = c }
 
--- ---- an event comes
+-- ---- an event enters
 
--- what an event says of a mark that is so many events old
+-- a mark after an event; `age`: the number of events after the slot's, before that event
 abbrev pub settle : Mark → (age : ℕ) → Control → Event → Mark
 settle Kept age c e = Kept
 settle Dropped age c e = Dropped
@@ -36,7 +36,7 @@ settle (Open area i) age c e =
     if fills_at c e area then (if nat_lt (age + i) window_events then Dropped else Kept)
     else (if is_calm_at c e then Open area i else Kept)
 
--- the same of slots before so many others
+-- the same for slots with `behind` more events after them
 abbrev pub settled : List Slot → (behind : ℕ) → Control → Event → List Slot
 settled [] behind c e = []
 settled (s ∷ slots) behind c e =
@@ -57,22 +57,22 @@ abbrev pub open_words : List ℕ → (offset : ℕ) → Box2 → List Slot
 open_words [] i area = []
 open_words (w ∷ ws) i area = record { event = event.Gp0 w; mark = Open area i } ∷ open_words ws (suc i) area
 
--- the words of a packet that is whole now
+-- the words of a packet that is now complete
 abbrev pub judged : List ℕ → Option Box2 → List Slot
 judged words None = dropped_words words
 judged words (Some area) = open_words words 0 area
 
--- these words are of a packet that may be dropped, and where they are all of it this is its area
+-- the words of a packet that may be dropped; if they are all of it, its area is given
 abbrev pub taken_up : List Slot → (words : List ℕ) → Option Box2 → Queue
 taken_up slots words area =
     if nat_lt (length words) (first_len_of (slice_index words 0)) then record { slots = slots; words = words }
     else record { slots = slots ++ judged words area; words = [] }
 
--- an event that is no word of such a packet; nor are the words before it
+-- an event that is no word of such a packet; the words before it belong to none either
 abbrev pub with_event : List Slot → (words : List ℕ) → Event → Queue
 with_event slots words e = record { slots = slots ++ (kept_words words ++ kept e ∷ []); words = [] }
 
--- a word, where nothing is pending or something is
+-- a word, after words of such a packet or not
 abbrev pub with_word : List Slot → (words : List ℕ) → (word : ℕ) → (idle : Bool) → Option Box2 → Queue
 with_word slots [] word idle area =
     if idle && is_droppable word then taken_up slots (word ∷ []) area else with_event slots [] (event.Gp0 word)
@@ -82,12 +82,12 @@ abbrev pub added : Queue → Event → (idle : Bool) → Option Box2 → Queue
 added q (event.Gp0 word) idle area = with_word q.slots q.words word idle area
 added q other idle area = with_event q.slots q.words other
 
--- the area of the packet that these words and one more are
+-- the area of the packet that consists of these words and one more
 abbrev pub area_behind : Control → (words : List ℕ) → Event → Option Box2
 area_behind c words (event.Gp0 word) = area_of c.regs (whole_of c.regs.height (words ++ word ∷ []))
 area_behind c words other = None
 
--- the slots are settled by what an event says
+-- the slots are updated by an event
 abbrev pub heeded : Window → Event → Queue
 heeded w e = record { slots = settled w.slots (length w.words) w.control e; words = w.words }
 
@@ -95,7 +95,7 @@ unfoldable pub pushed : Window → Event → Window
 pushed w e = within (added (heeded w e) e (is_idle w.control.pending) (area_behind w.control w.words e))
     (controlled w.control e)
 
--- ---- what it comes to, whatever follows
+-- ---- the final result, given the events that follow
 
 abbrev pub out_of : Event → Mark → (age : ℕ) → Control → List Event → Option Event
 out_of e Kept age c behind = Some e
@@ -108,7 +108,7 @@ resolved [] after c behind = []
 resolved (s ∷ slots) after c behind =
     out_of s.event s.mark (length slots + after) c behind ∷ resolved slots after c behind
 
--- the control at the first of the words
+-- the control before the first of the words
 abbrev pub start_of : List ℕ → Control → Control
 start_of [] c = c
 start_of (w ∷ ws) c = record { regs = c.regs; pending = pending.Idle }
@@ -118,7 +118,7 @@ value w behind =
     resolved w.slots (length w.words) w.control behind
     ++ places_from (map event.Gp0 w.words ++ behind) (start_of w.words w.control) 0
 
--- the words, if any, are all of an unfinished packet that may be dropped
+-- the words, if any, are all words so far of a packet that may be dropped
 abbrev pub IsBegun : List ℕ → Control → Type 0
 IsBegun [] c = Unit {0}
 IsBegun (w ∷ ws) c =
@@ -127,7 +127,7 @@ IsBegun (w ∷ ws) c =
 abbrev pub first_window : (height : ℕ) → Window
 first_window height = record { slots = []; words = []; control = first_control height }
 
--- the event of a slot, if it stays where no event follows
+-- the event of a slot, unless it was dropped; no event follows
 abbrev pub left_of : Event → Mark → Option Event
 left_of e Dropped = None
 left_of e Kept = Some e
@@ -137,6 +137,6 @@ abbrev pub all_left : List Slot → List (Option Event)
 all_left [] = []
 all_left (s ∷ slots) = left_of s.event s.mark ∷ all_left slots
 
--- all that waits
+-- all waiting events
 abbrev pub waiting : Window → List Slot
 waiting w = w.slots ++ kept_words w.words

@@ -1,14 +1,15 @@
 // The file that is written.
 use gathered_out::Gathered;
 
-/// The version of the capture that is read, and how many bytes stand in the file so far, or are gathered for it.
+/// `version`: the version of the capture, input and output. `size`: length of the file in bytes, including buffered
+/// records.
 #[derive(Clone, Copy)]
 pub struct SlimFile {
     pub version: u8,
     pub size: u32,
 }
 
-/// The file, and those of its records that are gathered and not written yet.
+/// The file, and the records that are buffered and not yet written.
 #[derive(Drop)]
 pub(crate) struct Draft {
     pub file: SlimFile,

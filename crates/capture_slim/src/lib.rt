@@ -1,4 +1,5 @@
-//! Captures without drawing that a later fill covers unseen.
+//! Writes captures without dead drawing: packets that draw nothing, or whose cells a later fill overwrites before
+//! anything reads them.
 #![tactic(auto)]
 
 mod ending;

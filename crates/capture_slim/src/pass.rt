@@ -1,4 +1,4 @@
-// A whole capture is read, and written without its dead drawing.
+// Reads a whole capture and writes it without its dead drawing.
 ghost use Rattle.std.specs.Prelude.{◌≡◌, ◌≤◌, [], IfOk};
 ghost use Rattle.px_num.specs.Height.{short_height};
 ghost use Rattle.dev_io.specs.Device.{Rose};
@@ -18,10 +18,10 @@ use px_num::OutOfMemory;
 use std::alloc::Global;
 use std::marker::Model;
 
-/// The version whose captures are played in the tall profile.
+/// Captures of this version are replayed with 1024 rows of video memory.
 const TALL_VERSION: u8 = 3;
 
-/// What leaves dead drawing out of a capture. Contracts see the window of events that wait.
+/// Removes dead drawing from a capture. In contracts, a value is the window of events that are not yet written.
 #[derive(Drop)]
 pub struct Slim {
     window: Waiting,
@@ -36,7 +36,8 @@ impl Model for Slim {
 }
 
 impl Slim {
-    /// One that no event has come to. All memory that it needs is taken here.
+    /// Creates an empty window for 512 rows of video memory, and allocates all memory that [`Slim::pass`] needs. If
+    /// there is not enough, returns `OutOfMemory`.
     pub fn new(alloc: Global) -> Result<Slim, OutOfMemory>
         ensures { IfOk result (λ slim. slim ≡ first_window short_height) }
     {
@@ -46,15 +47,17 @@ impl Slim {
         }
     }
 
-    /// Reads a capture of the ports, and writes a capture of the same version without its dead drawing. It takes no
-    /// memory.
+    /// Reads a capture of port events from `source` and writes a capture of the same version without its dead drawing
+    /// to `out`. Requires that no event was pushed yet. Allocates nothing.
     ///
-    /// The record of an event is due 4096 events later, or at the end of the reading if that is earlier, and the head
-    /// with the first record or the End record. Records that are due are buffered, up to 4,096 bytes, and written
-    /// together: if there is no room for one more, before a read that may have to wait, and before every ending. So a
-    /// write may fail while a later event is processed; the error still names the first record that lacks a byte. At
-    /// most 4,112 bytes are taken after the event at which that record was due. After every ending all records that
-    /// were due before it are written. No byte is taken past what the ending needs, unless a write fails.
+    /// The record of an event is written 4,096 events later, or at the end of reading if that is earlier. The file
+    /// header is written with the first record or with End. Records are buffered, up to 4,096 bytes, and written
+    /// together: if there is no room for one more, before a read that may have to wait, and before every ending.
+    ///
+    /// A write may therefore fail while a later event is processed. The error still names the first record that lacks a
+    /// byte. By then, at most 4,112 bytes were read after the event at which that record had to be written. At every
+    /// other ending, all records that had to be written before it are written, and no byte is read past what the ending
+    /// needs.
     pub fn pass<S: Source, K: Sink>(&mut self, source: &mut S, out: &mut K) -> SlimEnding
         requires { self.old ≡ first_window short_height }
         ensures ends { EndsSlim (streams (S.left source.old) (S.faults source.old) (K.held out.old))
@@ -69,7 +72,7 @@ impl Slim {
     }
 }
 
-// The same through a window.
+// Does what [`Slim::pass`] does, with the given window.
 fn pass_on<S: Source, K: Sink>(window: &mut Waiting, source: &mut S, out: &mut K) -> SlimEnding
     requires { window.old ≡ first_window short_height }
     ensures ends { EndsSlim (streams (S.left source.old) (S.faults source.old) (K.held out.old))
@@ -82,7 +85,7 @@ fn pass_on<S: Source, K: Sink>(window: &mut Waiting, source: &mut S, out: &mut K
 {
     let mut reader = EventReader::new();
     let mut next = reader.next(source);
-    // Where no head was read there are no events, and nothing is written.
+    // If no header was read, there are no events and nothing is written.
     let version = reader.version().max(1);
     raise(window, version);
     let mut draft = first_draft(version);
@@ -107,7 +110,7 @@ fn pass_on<S: Source, K: Sink>(window: &mut Waiting, source: &mut S, out: &mut K
     }
 }
 
-// The file of a capture of this version, of which nothing is gathered yet.
+// Returns an empty file of this version, with nothing buffered.
 fn first_draft(version: u8) -> Draft
     ensures file { result.file ≡ record { version = version; size = 0 } }
     ensures gathered { result.gathered ≡ [] }
@@ -118,7 +121,7 @@ fn first_draft(version: u8) -> Draft
     }
 }
 
-// Takes on the profile in which captures of this version are played.
+// Extends video memory to 1024 rows if captures of this version are replayed with them.
 fn raise(window: &mut Waiting, version: u8)
     requires { window.old ≡ first_window short_height }
     ensures { window.new ≡ first_window (height_for version) }

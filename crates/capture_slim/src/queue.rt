@@ -1,4 +1,4 @@
-// Events that wait in a row, and words that may yet be those of a dead packet.
+// Events that are not yet written, and the words of a packet that may be dead.
 ghost use Rattle.std.specs.Prelude.{◌≡◌, ◌<◌, ◌≤◌, ◌+◌, ◌++◌, ◌∷◌, [], ◌&&◌, ◌||◌, ◌==◌, not, length, drop};
 ghost use Rattle.std.specs.Prelude.{option_to_list};
 ghost use Rattle.dead_drawing.specs.Dead.{is_droppable};
@@ -14,7 +14,7 @@ use gp0_words::{Words, first_len};
 use gpu_capture::Event;
 use px_num::Box2;
 
-/// The slots of the events that wait, and the words behind them of a packet that is not whole yet and may be left out.
+/// The slots of the waiting events. `words`: the words after them, of an incomplete packet that may be dropped.
 #[derive(Drop)]
 pub(crate) struct Queue {
     pub slots: Slots,
@@ -22,14 +22,15 @@ pub(crate) struct Queue {
 }
 
 impl Queue {
-    /// How many events wait.
+    /// Returns the number of waiting events.
     pub(crate) fn len(&self) -> usize
         ensures { result ≡ length self.now.slots + length self.now.words }
     {
         self.slots.len() + self.words.as_slice().len()
     }
 
-    /// Adds an event, whose area is that of the packet that it completes.
+    /// Appends `event`. `idle`: nothing was pending before it. `area`: that of the packet that it completes, or `None`
+    /// if it draws nothing. Requires fewer than 4,128 waiting events and fewer than 12 words.
     pub(crate) fn add(&mut self, event: Event, idle: bool, area: Option<Box2>)
         requires room { length self.old.slots + length self.old.words < room }
         requires few { length self.old.words < 12 }
@@ -54,7 +55,7 @@ impl Queue {
         }
     }
 
-    // Takes a word up that begins a packet that may be left out, or goes on with one.
+    // Appends a word of a packet that may be dropped. If the packet is then complete, moves its words to the slots.
     fn take_up(&mut self, word: u32, area: Option<Box2>)
         requires room { length self.old.slots + length self.old.words < room }
         requires few { length self.old.words < 12 }
@@ -68,7 +69,7 @@ impl Queue {
         }
     }
 
-    // Puts an event that is no word of a packet that may be left out.
+    // Appends an event that is not a word of a packet that may be dropped. The words before it stay.
     fn put_event(&mut self, event: Event)
         requires { length self.old.slots + length self.old.words < room }
         ensures { self.new ≡ with_event self.old.slots self.old.words event }
@@ -80,7 +81,7 @@ impl Queue {
         });
     }
 
-    /// The words are of no packet that may be left out: they stay.
+    /// Moves the words to the slots as events that stay: their packet will not be dropped.
     pub(crate) fn close(&mut self)
         requires { length self.old.slots + length self.old.words ≤ room }
         ensures { self.new ≡ record { slots = self.old.slots ++ kept_words self.old.words; words = [] } }
@@ -89,7 +90,7 @@ impl Queue {
         self.words = Words::new();
     }
 
-    /// Takes the first slot, and answers its event where it stays.
+    /// Removes the first slot. Returns its event unless that was dropped.
     pub(crate) fn pop(&mut self) -> Option<Event>
         ensures event { result ≡ first_left self.old.slots }
         ensures now { self.new ≡ record self.old { slots = drop 1 self.old.slots } }
@@ -100,7 +101,7 @@ impl Queue {
         }
     }
 
-    /// Lets the first slot leave where there are more events than the window has.
+    /// Removes the first slot if there are more than 4,096 events. Returns its event unless that was dropped.
     pub(crate) fn leave(&mut self) -> Option<Event>
         ensures left { option_to_list result ≡ kept_of (leaving_from self.old.slots self.old.words) }
         ensures now { self.new ≡ record self.old { slots = staying_from self.old.slots self.old.words } }
@@ -112,7 +113,7 @@ impl Queue {
     }
 }
 
-// Whether a packet with this first word may be left out.
+// Whether a packet with this first word may be dropped: a polygon or rectangle without texture, or a single line.
 #[tactic(auto, unfolding(dead_drawing::specs::Dead::is_droppable))]
 fn is_droppable(word: u32) -> bool
     ensures { result ≡ is_droppable word }

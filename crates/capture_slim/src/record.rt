@@ -1,4 +1,4 @@
-// Records of events that stay, one after another.
+// Writes the records of the events that stay.
 ghost use Rattle.std.specs.Prelude.{◌≡◌, ◌≤◌, ◌<◌, ◌+◌, ◌*◌, ◌^◌, ◌++◌, ◌∷◌, [], List, ℕ, Option, Some, length, IfErr};
 ghost use Rattle.std.specs.Prelude.{MatchResult, OnOk};
 ghost use Rattle.dev_io.specs.Device.{Writes, side};
@@ -17,13 +17,13 @@ use dev_io::{Failed, Sink};
 use gathered_out::Gathered;
 use gpu_capture::{Event, RECORD_MOST, head_bytes, record_bytes, write_end, write_start};
 
-/// A written file has no more bytes.
+/// The maximum length of the written file, in bytes.
 const LIMIT: u32 = 1 << 30;
 
-/// The most bytes that a record has, with the head before it.
+/// The maximum length in bytes of a record together with the file header.
 const DUE_MOST: usize = 16;
 
-// Writes the head, where it is due.
+// Writes the file header if nothing was written or buffered before.
 fn write_head<K: Sink>(out: &mut K, file: SlimFile) -> Result<(), Failed>
     requires { IsVersion file.version }
     ensures { Writes (side K.held K.faults) out.old out.new (head_at file) result }
@@ -35,7 +35,7 @@ fn write_head<K: Sink>(out: &mut K, file: SlimFile) -> Result<(), Failed>
     }
 }
 
-// Puts bytes behind others.
+// Appends `more` to `bytes`. Requires at most 16 bytes in all.
 fn put(bytes: &mut ArrayVec<u8, DUE_MOST>, more: &[u8])
     requires { length bytes.old.items + length more.now ≤ 16 }
     ensures { bytes.new.items ≡ bytes.old.items ++ more.now }
@@ -45,7 +45,7 @@ fn put(bytes: &mut ArrayVec<u8, DUE_MOST>, more: &[u8])
     }
 }
 
-// Puts the head behind bytes, where it is due.
+// Appends the file header to the empty `bytes` if nothing was written or buffered before.
 fn put_head(bytes: &mut ArrayVec<u8, DUE_MOST>, file: SlimFile)
     requires none { bytes.old.items ≡ [] }
     requires version { IsVersion file.version }
@@ -56,7 +56,7 @@ fn put_head(bytes: &mut ArrayVec<u8, DUE_MOST>, file: SlimFile)
     }
 }
 
-// The record of an event of the ports.
+// Returns the record of a port event: at most 8 bytes.
 #[tactic(auto, using(gpu_capture::proofs::Spelled::record_length))]
 fn port_record(event: &Event) -> ArrayVec<u8, RECORD_MOST>
     requires { IsAtPorts event.now }
@@ -71,7 +71,7 @@ fn port_record(event: &Event) -> ArrayVec<u8, RECORD_MOST>
     }
 }
 
-// The record of an event, with the head where that is due.
+// Returns the record of `event`, after the file header if this is the first record.
 fn due_bytes(file: SlimFile, event: &Event) -> ArrayVec<u8, DUE_MOST>
     requires version { IsVersion file.version }
     requires event { IsAtPorts event.now }
@@ -84,7 +84,7 @@ fn due_bytes(file: SlimFile, event: &Event) -> ArrayVec<u8, DUE_MOST>
     bytes
 }
 
-/// Writes the End record, with the head where that is due.
+/// Writes the End record, after the file header if there was no record before.
 pub(crate) fn write_last<K: Sink>(out: &mut K, file: SlimFile) -> Result<(), Failed>
     requires version { IsVersion file.version }
     ensures { Writes (side K.held K.faults) out.old out.new (head_at file ++ spelled_end) result }
@@ -93,7 +93,7 @@ pub(crate) fn write_last<K: Sink>(out: &mut K, file: SlimFile) -> Result<(), Fai
     write_end(out)
 }
 
-// Ends at a record that would be too much: what is gathered is written, and that may fail.
+// Flushes the buffer and returns `TooLong` at event `number`, or `WriteFailed` if the flush fails.
 fn end_too_long<K: Sink>(gathered: &mut Gathered, number: u64, out: &mut K) -> SlimEnding
     ensures ends { EndsTooLong gathered.old (K.held out.old) (K.held out.new) number result }
     ensures late { (least : ℕ) → AreFrom least gathered.old → LacksFrom least result }
@@ -106,8 +106,9 @@ fn end_too_long<K: Sink>(gathered: &mut Gathered, number: u64, out: &mut K) -> S
     }
 }
 
-/// Adds the record of the event of this number behind the file so far. Where there is no room for it, what is gathered
-/// is written first.
+/// Buffers the record of `event`, which has number `number`, and flushes the buffer before if it has no room. If the
+/// file with it and an End record would pass 2^30 bytes, flushes the buffer and returns `TooLong`. If a write fails,
+/// returns `WriteFailed` at the first record that lacks a byte. Requires a port event, and room for an End record.
 pub(crate) fn add_record<K: Sink>(
     draft: &mut Draft,
     number: u64,

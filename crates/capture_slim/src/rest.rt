@@ -1,4 +1,4 @@
-// The events that wait are written where no event follows.
+// Writes the waiting events at the end of reading.
 ghost use Rattle.std.specs.Prelude.{◌≡◌, ◌≤◌, ◌+◌, ◌++◌, ◌^◌, List, ℕ, Option, drop, take, length, IfErr, OnOk};
 ghost use Rattle.std.specs.Prelude.{MatchResult};
 ghost use Rattle.gpu_capture.specs.declared.event.Event.{Event as SpecEvent};
@@ -16,7 +16,7 @@ use crate::record::add_record;
 use crate::waiting::Waiting;
 use dev_io::Sink;
 
-// Takes the first event that waits, which has this number, and adds it where it stays.
+// Removes the first waiting event, which has number `number`, and buffers its record unless it was dropped.
 fn add_next<K: Sink>(
     window: &mut Waiting,
     draft: &mut Draft,
@@ -46,7 +46,7 @@ fn add_next<K: Sink>(
     }
 }
 
-// Adds the events that wait and stay, as if no event followed, behind so many events in all.
+// Buffers the records of all waiting events that stay when no event follows. `count`: the number of events read.
 fn add_rest<K: Sink>(
     window: &mut Waiting,
     draft: &mut Draft,
@@ -82,8 +82,8 @@ fn add_rest<K: Sink>(
     Ok(())
 }
 
-/// Writes all that is gathered, and the events that wait and stay, as if no event followed, behind so many events in
-/// all.
+/// Writes the buffer and the records of all waiting events that stay when no event follows. `count`: the number of
+/// events read. Requires room for an End record.
 pub(crate) fn write_rest<K: Sink>(
     window: &mut Waiting,
     draft: &mut Draft,
@@ -112,7 +112,7 @@ pub(crate) fn write_rest<K: Sink>(
     }
 }
 
-// Writes all that is gathered.
+// Flushes the buffer.
 fn write_gathered<K: Sink>(draft: &mut Draft, out: &mut K) -> Result<(), SlimEnding>
     ensures ok { (base : Option (List ℕ)) (outs : List (Option SpecEvent))
         → IsDraft draft.old base (K.held out.old) outs

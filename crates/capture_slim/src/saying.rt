@@ -1,4 +1,4 @@
-// What an event says of the packets before it.
+// The effect of an event on the packets drawn before it.
 ghost use Rattle.std.specs.Prelude.{◌≡◌, ◌<◌, ◌^◌, ◌&&◌};
 ghost use Rattle.std.specs.Int.Signed.{le_z};
 ghost use Rattle.gp0_packets.specs.Ranges.{IsInRange};
@@ -11,21 +11,21 @@ use gp1_status::Regs;
 use prim_draw::area_of;
 use px_num::Box2;
 
-/// A fill may stand so many events behind the first word of a packet that it covers.
+/// A fill drops a packet only if it comes at most 4,096 events after the packet's first word.
 pub(crate) const WINDOW_EVENTS: usize = 4096;
 
-/// What an event says of the packets before it.
+/// The effect of an event on the packets drawn before it.
 #[derive(Clone, Copy, Debug, PartialEq, Eq)]
 pub enum Saying {
-    /// Nothing.
+    /// Reads nothing that they drew and covers nothing.
     Quiet,
-    /// What they drew may be read.
+    /// May read what they drew, so they stay.
     Loud,
-    /// A fill covers this area.
+    /// Completes a fill that overwrites the cells of `area`.
     Cover { area: Box2 },
 }
 
-// What a fill of this area says.
+// Returns the effect of a fill of `area`, or of a fill of no cell if it is `None`.
 fn cover_of(area: Option<Box2>) -> Saying
     ensures { result ≡ cover_of area }
 {
@@ -35,7 +35,7 @@ fn cover_of(area: Option<Box2>) -> Saying
     }
 }
 
-// What drawing says that may read a texture.
+// Returns the effect of drawing, which may read video memory only if it is textured.
 fn loud_if(textured: bool) -> Saying
     ensures { result ≡ loud_if textured }
 {
@@ -46,7 +46,7 @@ fn loud_if(textured: bool) -> Saying
     }
 }
 
-/// What a packet says.
+/// Returns the effect of a packet on the packets before it.
 #[tactic(auto, unfolding(prim_draw::specs::Areas::area_of))]
 pub(crate) fn said(regs: &Regs, packet: &Packet) -> Saying
     requires { IsInRange regs.now.height packet.now }
@@ -67,7 +67,7 @@ pub(crate) fn said(regs: &Regs, packet: &Packet) -> Saying
     }
 }
 
-// Whether a box begins no later than another, in columns and rows.
+// Whether `outer` starts at or before `inner`, in columns and in rows.
 fn begins_before(outer: &Box2, inner: &Box2) -> bool
     ensures { result ≡ (le_z outer.now.x1 inner.now.x1 && le_z outer.now.y1 inner.now.y1) }
 {
@@ -76,7 +76,7 @@ fn begins_before(outer: &Box2, inner: &Box2) -> bool
     left && top
 }
 
-// Whether a box ends no sooner than another, in columns and rows.
+// Whether `outer` ends at or after `inner`, in columns and in rows.
 fn ends_behind(outer: &Box2, inner: &Box2) -> bool
     ensures { result ≡ (le_z inner.now.x2 outer.now.x2 && le_z inner.now.y2 outer.now.y2) }
 {
@@ -85,7 +85,7 @@ fn ends_behind(outer: &Box2, inner: &Box2) -> bool
     right && bottom
 }
 
-// Whether a box holds another.
+// Whether `outer` contains `inner`.
 #[tactic(auto, unfolding(dead_drawing::specs::Dead::holds_box))]
 fn holds_box(outer: &Box2, inner: &Box2) -> bool
     ensures { result ≡ holds_box outer.now inner.now }
@@ -95,7 +95,7 @@ fn holds_box(outer: &Box2, inner: &Box2) -> bool
     first && last
 }
 
-/// What becomes of a mark that is so many events old.
+/// Returns a slot's mark after a later event. `age`: the number of events after the slot's, without that event.
 pub(crate) fn settle(mark: Mark, age: usize, saying: &Saying) -> Mark
     requires { age < 2 ^ 32 }
     ensures { result ≡ settle_by mark age saying.now }

@@ -1,4 +1,4 @@
-// Slots that are settled by what an event says.
+// Updates the marks of slots by the effect of an event.
 ghost use Rattle.std.specs.Prelude.{◌≡◌, ◌<◌, ◌≤◌, ◌+◌, ◌++◌, ◌^◌, [], IsTrue, length, take, drop};
 ghost use Rattle.circular_buffer.specs.Buffer.{buffer};
 ghost use Rattle.capture_slim.specs.Settling.{AreSettled, all_shut, settled_by, turned};
@@ -7,7 +7,7 @@ use crate::saying::{Saying, settle};
 use crate::slot::{Mark, Slot};
 use circular_buffer::HeapCircularBuffer;
 
-// Settles the first slot, which is so many events old, and puts it to the end.
+// Updates the mark of the first slot and moves it to the end. `age`: the number of events after the slot's.
 fn turn(slots: &mut HeapCircularBuffer<Slot>, age: usize, saying: &Saying)
     requires some { 0 < length slots.old.items }
     requires fits { length slots.old.items ≤ slots.old.capacity }
@@ -22,7 +22,8 @@ fn turn(slots: &mut HeapCircularBuffer<Slot>, age: usize, saying: &Saying)
     }
 }
 
-/// Settles slots before so many other events, each in its turn.
+/// Updates the mark of each slot and keeps their order. `behind`: the number of events after the last slot, at most 16.
+/// Requires at most 4,128 slots.
 pub(crate) fn settle_all(slots: &mut HeapCircularBuffer<Slot>, behind: usize, saying: &Saying)
     requires few { length slots.old.items ≤ 4128 }
     requires fits { length slots.old.items ≤ slots.old.capacity }
@@ -35,7 +36,7 @@ pub(crate) fn settle_all(slots: &mut HeapCircularBuffer<Slot>, behind: usize, sa
     }
 }
 
-// Moves the first open slot behind the settled ones; it stays where it was open.
+// Moves the first slot, if any, to the end of `settled`. If its mark was open, the event stays.
 fn shut_first(settled: &mut HeapCircularBuffer<Slot>, recent: &mut HeapCircularBuffer<Slot>)
     requires room { length settled.old.items < settled.old.capacity }
     ensures settled { settled.new
@@ -50,7 +51,7 @@ fn shut_first(settled: &mut HeapCircularBuffer<Slot>, recent: &mut HeapCircularB
     }
 }
 
-/// Moves all open slots behind the settled ones; they stay where they were open.
+/// Moves all slots to the end of `settled`, which must have the capacity for them. Events whose mark was open stay.
 pub(crate) fn shut_all(
     settled: &mut HeapCircularBuffer<Slot>,
     recent: &mut HeapCircularBuffer<Slot>,
@@ -66,7 +67,7 @@ pub(crate) fn shut_all(
     }
 }
 
-/// Whether the first slot, if any, is settled.
+/// Whether there is a first slot and its mark is final.
 pub(crate) fn is_first_settled(slots: &HeapCircularBuffer<Slot>) -> bool
     ensures { IsTrue result → AreSettled (take 1 slots.now.items) }
 {

@@ -1,4 +1,4 @@
-// A whole capture is read, and written without its dead drawing.
+// Processes each event of a capture, and its end.
 ghost use Rattle.std.specs.Prelude.{◌≡◌, ◌≤◌, ◌<◌, ◌+◌, ◌++◌, ◌∷◌, [], ◌^◌, ◌↔◌, IsTrue, List, ℕ, Option, length};
 ghost use Rattle.std.specs.Prelude.{IfErr, MatchResult, OnOk};
 ghost use Rattle.dev_io.specs.Device.{Rose};
@@ -31,7 +31,7 @@ fn is_at_ports(event: &Event) -> bool
     )
 }
 
-// The values of an event of the ports are words. It does nothing.
+// Shows to the prover that the values of a port event are 32-bit words. Does nothing.
 fn holds_words(event: Event)
     requires { IsAtPorts event }
     ensures { HoldsWords event }
@@ -47,7 +47,7 @@ fn holds_words(event: Event)
     }
 }
 
-// Takes an event of the ports behind so many, and adds the one that leaves where it stays.
+// Pushes a port event after `count` events. If that makes an event leave the window and it stays, buffers its record.
 fn push_event<K: Sink>(
     window: &mut Waiting,
     event: Event,
@@ -79,7 +79,7 @@ fn push_event<K: Sink>(
     }
 }
 
-// Ends behind so many events at one that is none of the ports.
+// Ends after `count` events at an event that is not at the ports. Writes the waiting events as if none followed.
 fn refuse<K: Sink>(window: &mut Waiting, draft: &mut Draft, count: u64, out: &mut K) -> SlimEnding
     requires file { HasRoom draft.old.file }
     requires count { HasCount window.old count }
@@ -95,7 +95,7 @@ fn refuse<K: Sink>(window: &mut Waiting, draft: &mut Draft, count: u64, out: &mu
     }
 }
 
-/// Takes any event behind so many: one of the ports is passed on, and any other ends it.
+/// Processes any event after `count` events: pushes a port event, and returns the ending at any other.
 pub(crate) fn take_event<K: Sink>(
     window: &mut Waiting,
     event: Event,
@@ -123,7 +123,7 @@ pub(crate) fn take_event<K: Sink>(
     }
 }
 
-/// Ends at a stop of the reader, behind so many events.
+/// Writes the waiting events after `count` events, and End if `stop` is End. Returns the ending.
 pub(crate) fn finish<K: Sink>(
     window: &mut Waiting,
     stop: Stop,
@@ -147,7 +147,7 @@ pub(crate) fn finish<K: Sink>(
     }
 }
 
-// Writes the End record at an End, behind all that stays; the next event would have this number.
+// Writes the End record if `stop` is End. `number`: the number of events plus 1.
 fn close_file<K: Sink>(file: SlimFile, stop: Stop, number: u64, out: &mut K) -> SlimEnding
     requires { IsVersion file.version }
     ensures ends { StopsAs stop number result }

@@ -1,22 +1,24 @@
-// Events that wait.
+// Events that are not yet written.
 ghost use Rattle.std.specs.Prelude.{◌≡◌};
 ghost use Rattle.capture_slim.specs.Window.{left_of};
 
 use gpu_capture::Event;
 use px_num::Box2;
 
-/// Whether an event stays.
+/// Whether an event stays in the capture.
 #[derive(Clone, Copy, Debug, PartialEq, Eq)]
 pub enum Mark {
     /// It stays.
     Kept,
-    /// It goes.
+    /// It is dropped.
     Dropped,
-    /// It goes where a fill holds the area of its packet, of which it is the word of this number, counted from 0.
+    /// A word of a packet that draws in `area`. It is dropped if a fill covers `area` before anything may read it, at
+    /// most 4,096 events after the packet's first word; else it stays. `offset`: the index of the word in its packet,
+    /// from 0.
     Open { area: Box2, offset: u16 },
 }
 
-/// An event that waits.
+/// A waiting event.
 #[derive(Clone, Copy, Debug, PartialEq, Eq)]
 pub struct Slot {
     pub event: Event,
@@ -24,7 +26,7 @@ pub struct Slot {
 }
 
 impl Slot {
-    /// The event, if it stays where no event follows.
+    /// Returns the event unless it was dropped. No event follows that could drop it.
     pub(crate) fn left(self) -> Option<Event>
         ensures { result ≡ left_of self.event self.mark }
     {

@@ -1,4 +1,4 @@
-// The slots of the events that wait: one list, of which the first part is settled.
+// The slots of the waiting events: one list, in two parts. The marks of the first part are final.
 ghost use Rattle.std.specs.Prelude.{◌≡◌, ◌<◌, ◌≤◌, ◌+◌, ◌++◌, ◌∷◌, [], IfOk, length, drop, slice_get};
 ghost use Rattle.capture_slim.specs.Settling.{mark_of, room, settled_by};
 ghost use Rattle.capture_slim.specs.Window.{judged, kept_words};
@@ -12,10 +12,10 @@ use px_num::{Box2, OutOfMemory};
 use std::alloc::Global;
 use std::marker::Model;
 
-// Either part has room for so many slots: all of the window, with the words of a packet more.
+// The capacity of either part: the window's 4,096 events and 32 more, enough for the words of a packet.
 const ROOM: usize = 4128;
 
-/// The slots of the events that wait. Contracts see one list.
+/// The slots of the waiting events. In contracts, one list.
 #[derive(Drop)]
 pub(crate) struct Slots {
     settled: HeapCircularBuffer<Slot>,
@@ -36,7 +36,7 @@ impl Model for Slots {
 }
 
 impl Slots {
-    /// No slot yet. The room for all is made here.
+    /// Creates an empty list and allocates room for all slots.
     pub(crate) fn new(alloc: Global) -> Result<Slots, OutOfMemory>
         ensures { IfOk result (λ slots. slots ≡ []) }
     {
@@ -49,7 +49,7 @@ impl Slots {
         }
     }
 
-    /// How many there are.
+    /// Returns the number of slots.
     pub(crate) fn len(&self) -> usize
         ensures value { result ≡ length self.now }
         ensures fits { result ≤ room }
@@ -57,7 +57,7 @@ impl Slots {
         self.settled.len() + self.recent.len()
     }
 
-    /// Puts a slot at the end.
+    /// Appends a slot. Requires fewer than 4,128 slots.
     pub(crate) fn push(&mut self, slot: Slot)
         requires { length self.old < room }
         ensures { self.new ≡ self.old ++ slot ∷ [] }
@@ -65,7 +65,7 @@ impl Slots {
         self.recent.push_back(slot);
     }
 
-    /// Takes the first slot.
+    /// Removes and returns the first slot.
     pub(crate) fn pop(&mut self) -> Option<Slot>
         ensures value { result ≡ slice_get self.old 0 }
         ensures slots { self.new ≡ drop 1 self.old }
@@ -76,7 +76,7 @@ impl Slots {
         }
     }
 
-    /// Puts words at the end that stay.
+    /// Appends words that stay. Requires at most 4,128 slots with them.
     pub(crate) fn put_words(&mut self, words: &[u32])
         requires { length self.old + length words.now ≤ room }
         ensures { self.new ≡ self.old ++ kept_words words.now }
@@ -89,7 +89,8 @@ impl Slots {
         }
     }
 
-    /// Puts the words of a packet at the end that is whole now.
+    /// Appends the words of a complete packet, at most 12. If it has no `area`, it draws nothing and is dropped.
+    /// Requires at most 4,128 slots with them.
     pub(crate) fn put_packet(&mut self, words: &[u32], area: Option<Box2>)
         requires room { length self.old + length words.now ≤ room }
         requires few { length words.now ≤ 12 }
@@ -105,7 +106,8 @@ impl Slots {
         }
     }
 
-    /// Settles the slots, before so many other events, by what one says.
+    /// Updates the marks of the slots by the effect of an event. `behind`: the number of events after the last slot, at
+    /// most 16.
     pub(crate) fn heed(&mut self, behind: usize, saying: &Saying)
         requires { behind ≤ 16 }
         ensures { self.new ≡ settled_by self.old behind saying.now }
@@ -120,7 +122,7 @@ impl Slots {
         }
     }
 
-    // Moves the slots up to the first open one behind the settled ones.
+    // Moves the slots before the first open one to the settled part.
     fn pass_settled(&mut self)
         ensures { self.new ≡ self.old }
     {
@@ -133,7 +135,7 @@ impl Slots {
         }
     }
 
-    // Moves a slot behind the settled ones, if the first behind them is settled too, and answers whether it is.
+    // If the first recent slot is settled, moves it to the settled part and returns true. Else returns false.
     fn pass_first(&mut self) -> bool
         ensures { self.new ≡ self.old }
     {
@@ -147,7 +149,7 @@ impl Slots {
     }
 }
 
-// The mark of a packet's word of this number.
+// Returns the mark of word `offset` of a packet.
 fn mark_of(area: Option<Box2>, offset: u16) -> Mark
     ensures { result ≡ mark_of area offset }
 {

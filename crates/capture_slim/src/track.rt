@@ -1,4 +1,4 @@
-// Which packets come, and what they say of those before them.
+// Follows the registers and the pending packet, and determines the effect of each event.
 ghost use Rattle.std.specs.Prelude.{◌≡◌, None};
 ghost use Rattle.px_num.specs.Height.{short_height, tall_height};
 ghost use Rattle.gp0_packets.specs.Ranges.{IsInRange};
@@ -19,7 +19,7 @@ use prim_draw::area_of;
 use px_num::Box2;
 use std::marker::Model;
 
-/// The registers and what is pending.
+/// The GPU registers and the splitter of GP0 words into packets.
 #[derive(Drop)]
 pub(crate) struct Track {
     regs: Regs,
@@ -36,7 +36,8 @@ impl Model for Track {
     ghost invariant = { λ t. Unit };
 }
 
-/// What an event says of the packets before it, and the area of the packet that it completes.
+/// The effect of an event on the packets before it. `area`: that of the packet that it completes, or `None` if there is
+/// none or it draws nothing.
 #[derive(Drop)]
 pub(crate) struct Told {
     pub saying: Saying,
@@ -53,7 +54,7 @@ fn quiet() -> Told
     }
 }
 
-// What a packet does to the registers.
+// Updates the registers by a packet.
 fn put(regs: &mut Regs, packet: &Packet)
     requires { IsInRange regs.old.height packet.now }
     ensures { regs.new ≡ regs_after regs.old packet.now }
@@ -70,7 +71,7 @@ fn put(regs: &mut Regs, packet: &Packet)
     }
 }
 
-// Sets the register that a word of class 7 sets, if any.
+// Sets the register that a word E1h to E6h sets. Other words have no effect.
 #[tactic(auto, unfolding(gp0_packets::specs::Packets::environment_of))]
 fn set_register(regs: &mut Regs, word: u32)
     ensures { regs.new ≡ regs_after regs.old (environment_of word) }
@@ -82,7 +83,7 @@ fn set_register(regs: &mut Regs, word: u32)
 }
 
 impl Track {
-    /// After a reset, with nothing pending.
+    /// Creates the state after a reset: nothing pending, 512 rows.
     #[tactic(auto, unfolding(gp0_words::specs::Items::pending_behind))]
     pub(crate) fn new() -> Track
         ensures { result ≡ first_control short_height }
@@ -93,7 +94,8 @@ impl Track {
         }
     }
 
-    /// Goes on by an event, and answers what it says, and the area of the packet that it completes.
+    /// Applies an event to the registers and the pending packet. Returns its effect, and the area of the packet that it
+    /// completes.
     #[tactic(auto, unfolding(dead_drawing::specs::Control::controlled, gp0_words::specs::Items::pending_behind))]
     pub(crate) fn follow(&mut self, event: &Event) -> Told
         ensures control { self.new ≡ controlled self.old event.now }
@@ -117,7 +119,7 @@ impl Track {
         }
     }
 
-    // Goes on by a word for GP0. Words of registers, and those inside a packet, say nothing and have no area.
+    // Applies a word of GP0. Register words, and words inside a packet, have no effect on earlier packets and no area.
     fn follow_word(&mut self, word: u32) -> Told
         ensures control { self.new ≡ controlled self.old (Gp0 word) }
         ensures saying { result.saying ≡ said_at self.old (Gp0 word) }
@@ -133,7 +135,7 @@ impl Track {
         self.complete(word)
     }
 
-    // The same for any word.
+    // Applies a word of GP0 that may complete a packet.
     #[tactic(auto, unfolding(dead_drawing::specs::Control::controlled, gp0_words::specs::Items::pending_behind))]
     fn complete(&mut self, word: u32) -> Told
         ensures control { self.new ≡ controlled self.old (Gp0 word) }
@@ -152,7 +154,7 @@ impl Track {
         }
     }
 
-    /// Takes on the profile with 1024 rows.
+    /// Extends video memory to 1024 rows.
     pub(crate) fn set_tall(&mut self)
         ensures { self.new ≡ record self.old { regs = record self.old.regs { height = tall_height } } }
     {

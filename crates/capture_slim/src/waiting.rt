@@ -1,4 +1,4 @@
-// Events that wait until it is known whether they stay.
+// Holds events until it is known whether they stay.
 ghost use Rattle.std.specs.Prelude.{◌≡◌, ◌≤◌, ◌+◌, length, drop, IfOk, IfSome, option_to_list};
 ghost use Rattle.px_num.specs.Height.{short_height, tall_height};
 ghost use Rattle.event_play.specs.Ports.{IsAtPorts};
@@ -15,7 +15,7 @@ use px_num::OutOfMemory;
 use std::alloc::Global;
 use std::marker::Model;
 
-/// The last 4096 events of a list, and what is known of them.
+/// The last 4,096 events of a list, with what is known of each.
 #[derive(Drop)]
 pub(crate) struct Waiting {
     queue: Queue,
@@ -34,7 +34,7 @@ impl Model for Waiting {
 }
 
 impl Waiting {
-    /// No event yet. The room for them is made here, so that an event takes no memory.
+    /// Creates an empty window and allocates room for all events: [`Waiting::push`] allocates nothing.
     pub(crate) fn new(alloc: Global) -> Result<Waiting, OutOfMemory>
         ensures { IfOk result (λ waiting. waiting ≡ first_window short_height) }
     {
@@ -50,7 +50,7 @@ impl Waiting {
         }
     }
 
-    /// Takes on the profile with 1024 rows.
+    /// Extends video memory to 1024 rows. Requires that no event was pushed yet.
     pub(crate) fn set_tall(&mut self)
         requires { self.old ≡ first_window short_height }
         ensures { self.new ≡ first_window tall_height }
@@ -58,7 +58,8 @@ impl Waiting {
         self.track.set_tall();
     }
 
-    /// Takes the next event. The event that is 4096 older leaves, and is answered where it stays in the list.
+    /// Appends a port event. If more than 4,096 events are then in the window, removes the oldest and returns it unless
+    /// it was dropped. Otherwise returns `None`.
     pub(crate) fn push(&mut self, event: Event) -> Option<Event>
         requires { IsAtPorts event }
         ensures left { option_to_list result ≡ kept_of (leaving (pushed self.old event)) }
@@ -73,7 +74,7 @@ impl Waiting {
         self.queue.leave()
     }
 
-    /// How many events wait.
+    /// Returns the number of waiting events, at most 4,096.
     pub(crate) fn len(&self) -> usize
         ensures value { result ≡ length self.now.slots + length self.now.words }
         ensures few { result ≤ 4096 }
@@ -81,14 +82,14 @@ impl Waiting {
         self.queue.len()
     }
 
-    /// No event follows: the words of a packet that is not whole stay.
+    /// Marks the end of the list: the words of an incomplete packet stay.
     pub(crate) fn close(&mut self)
         ensures { self.new ≡ closed self.old }
     {
         self.queue.close();
     }
 
-    /// Takes the first slot, where no event follows, and answers its event where it stays.
+    /// Removes the first slot at the end of the list. Returns its event unless it was dropped.
     pub(crate) fn pop(&mut self) -> Option<Event>
         ensures event { result ≡ first_left self.old.slots }
         ensures now { self.new ≡ record self.old { slots = drop 1 self.old.slots } }

@@ -1,7 +1,7 @@
-//! Tests of the crates by what they make public.
+//! Tests of the public items of the other crates.
 //!
-//! They stand here and not beside what they test, since a build with tests proves its whole crate once more, and what
-//! lies below this crate is proved already. Tests of whole commands are in `psxgpu_tool`.
+//! They are not in the crates that they test: a build with tests proves its whole crate again, and the crates below
+//! this one are proved already. Tests of whole commands are in `psxgpu_tool`.
 #![tactic(auto)]
 
 #[cfg(test)]

@@ -1,4 +1,4 @@
--- Blocks of 512 words, as bytes that are told.
+-- Blocks of 512 words, if the source states its bytes.
 use Rattle.std.proofs.Common.{◌≡◌, ◌≤◌, ◌<◌, ◌+◌, ◌*◌, ◌++◌, List, [], ◌∷◌, ℕ, Option, Some, length, take, drop}
 use Rattle.std.proofs.Common.{◌-◌, slice_index, slice_range, ap, sym, subst, ◌∙◌, arith, length-drop}
 use Rattle.std.proofs.lemmas.List.{drop-drop, drop_all, get_or-drop, take_all}
@@ -10,7 +10,7 @@ use Rattle.snapshot_words.specs.Taking.{IsWord}
 use Rattle.snapshot_words.proofs.Gathering.{number_of_bytes}
 use Rattle.gpu_snapshot.specs.Memories.{TakesCells}
 
--- a full buffer was taken
+-- a full buffer was read
 pub gave_block : (before now : Option (List ℕ)) (block : List ℕ) (n : ℕ) → n ≡ length block → Gives before now block n
     → before ≡ prepended block now
 gave_block before now block n all gives =
@@ -33,7 +33,7 @@ fit_behind : (block : List ℕ) (at : ℕ) → ((i : ℕ) → slice_index block 
     → (i : ℕ) → slice_index (drop at block) i < 256
 fit_behind block at fit i = rw (get_or-drop at block i 0) (fit (at + i))
 
--- the word of this number
+-- the word with this index
 pub block_word : (block : List ℕ) (k word : ℕ) → length block ≡ 2048 → k < 512
     → ((i : ℕ) → slice_index block i < 256) → word ≡ little_number 4 (slice_range block (4 * k) (4 * k + 4))
     → IsWord (Some (drop (4 * k) block)) (Some (drop (4 * (k + 1)) block)) word
@@ -48,9 +48,9 @@ block_word block k word long within fit is =
     subst (λ left. IsWord (Some (drop (4 * k) block)) (Some left) word) e
     (first_word (drop (4 * k) block) word some (fit_behind block (4 * k) fit) number)
 
--- ---- a block in the place of a source
+-- ---- a block in place of a source
 
--- what is taken of a block is taken of the source that has its bytes next
+-- what is read of a block is read of the source that has its bytes next
 behind_block : (bytes left taken : List ℕ) (now : Option (List ℕ)) → Some bytes ≡ prepended taken (Some left)
     → prepended bytes now ≡ prepended taken (prepended left now)
 behind_block bytes left taken now is =
@@ -67,7 +67,7 @@ pub word_behind : (bytes left : List ℕ) (word : ℕ) (now : Option (List ℕ))
 word_behind bytes left word now took =
     record { bytes = behind_block bytes left _ now took.bytes; fits = took.fits }
 
--- nothing is left of a block that was taken whole
+-- nothing is left of a block that was read completely
 pub none_behind : (block : List ℕ) (at : ℕ) (now : Option (List ℕ)) → length block ≤ at
     → prepended (drop at block) now ≡ now
 none_behind block at now le = ap (λ left. prepended left now) (drop_all at block le) ∙ sym (prepended-nil now)

@@ -41,12 +41,12 @@ pub AreCells-append : (xs ys : List ℕ) → AreCells xs → AreCells ys → Are
 AreCells-append [] ys are more = more
 AreCells-append (x ∷ xs) ys are more = (are.0, AreCells-append xs ys are.1 more)
 
--- the same place, counted otherwise
+-- the same offset, counted otherwise
 pub short_at : (why : SnapFault) (place other : ℕ) (now : Option (List ℕ)) → place ≡ other → SaysShort why place now
     → SaysShort why other now
 short_at why place other now e says = rw (← e) says
 
--- after these words the next ones are not had
+-- after these words, the next ones could not be read
 pub lacks_later : (before mid now : Option (List ℕ)) (words : List ℕ) (place at few count : ℕ) (why : SnapFault)
     → before ≡ prepended (bytes_of words) mid → length words + few ≤ count → at ≡ place + 4 * length words
     → LacksWords mid now at few why → LacksWords before now place count why

@@ -132,7 +132,7 @@ chunk_taken before mid now old new lanes c long set were took =
     rw (e, chunk_on old new lanes (16 * c) long set)
     (cells_on before mid now (take (16 * c) old) lanes even were took)
 
--- a block was taken next
+-- a block was read next
 pub block_next : (before mid now : Option (List ℕ)) (cells block : List ℕ) → TakesCells before mid cells
     → mid ≡ prepended block now → TakesCells before (prepended block now) cells
 block_next before mid now cells block were took = subst (λ left. TakesCells before left cells) took were
@@ -145,7 +145,7 @@ row_begins before now m block y were =
     let e : 1024 * y ≡ 16 * (64 * y + 0) = omega arith in
     subst (λ n. TakesCells before (prepended block now) (take n m)) e were
 
--- and it ends where nothing is left of the block
+-- it ends if nothing is left of the block
 pub row_ends : (before now : Option (List ℕ)) (m block : List ℕ) (y c : ℕ) → length block ≡ 2048 → c ≡ 64
     → TakesCells before (prepended (drop (32 * c) block) now) (take (16 * (64 * y + c)) m)
     → TakesCells before now (take (1024 * (y + 1)) m)
@@ -154,7 +154,7 @@ row_ends before now m block y c long all takes =
     let none = none_behind block (32 * c) now (omega (arith, long, all)) in
     rw (none, e) at takes
 
--- sixteen cells more of a row
+-- sixteen more cells of a row
 pub row_on : (before now : Option (List ℕ)) (old new lanes block : List ℕ) (y c : ℕ) → length lanes ≡ 16
     → IsSet old (16 * (64 * y + c)) lanes new
     → TakesCells before (prepended (drop (32 * c) block) now) (take (16 * (64 * y + c)) old)
@@ -183,7 +183,7 @@ pub others_on : (first mid now : RigState) → ◌≡◌ {A = RigState} mid (wit
 others_on first mid now were is =
     let f : RigState → RigState = λ r. with_cells r now.gpu.parts.m in is ∙ ap f were
 
--- all cells were taken, but not all of main memory
+-- all cells were read, but not all of main memory
 pub ram_lacks : (before mid now : Option (List ℕ)) (m : List ℕ) (place at height : ℕ) (why : SnapFault)
     → length m ≡ 1024 * height → at ≡ place + 2048 * height → TakesCells before mid m
     → LacksWords mid now at 524288 why → LacksWords before now place (512 * height + 524288) why

@@ -1,4 +1,4 @@
--- A file that cutting a capture writes, opened and played.
+-- Opening and playing a file that cutting a capture writes.
 use Rattle.std.proofs.Common.{◌≡◌, ◌≤◌, ◌+◌, ◌-◌, ◌*◌, ◌==◌, ◌++◌, List, [], ◌∷◌, ℕ, length, refl, ap, sym, subst, ◌∙◌}
 use Rattle.std.proofs.Common.{append_assoc, append-nil, length-append, arith, inl, inr}
 use Rattle.std.proofs.lemmas.Bool.{cases_Bool}
@@ -48,7 +48,7 @@ use Rattle.gpu_snapshot.proofs.Profiles.{no_zeros}
 abbrev bytes_in : Snapshot → List ℕ
 bytes_in s = snap_bytes s.outline s.m s.ram
 
--- the place behind them
+-- the offset after them
 abbrev behind : Snapshot → ℕ
 behind s = first_place + length (bytes_in s)
 
@@ -66,7 +66,7 @@ unfolding script_file
 spelled_plays start s rest is =
     ap played_script (ap (script_opened start (spelled s ++ rest)) (spelled_opens s rest is))
 
--- the words that a snapshot keeps leave what those of its machine leave
+-- the words that a snapshot stores leave what those of its machine leave
 pub restored_alike : (s : Machine) (played : ℕ) → IsSpelledWhole (snapshot_of s played)
     → StandAlike (machine_in (snapshot_of s played)) s
 restored_alike s played is =
@@ -78,7 +78,7 @@ restored_alike s played is =
       running = refl;
     }
 
--- ---- the records behind it
+-- ---- the records after it
 
 version_known : (height : ℕ) → 2 ≤ version_behind height
 version_known height = elim (cases_Bool (height == tall_height)) [
@@ -140,7 +140,7 @@ file_plays start t later rest is =
     ∙ ap (played_from (from_state (machine_in s) t.played))
     (records_said version (behind s) later rest (version_known t.state.gpu.parts.regs.height) is.allowed fits)
 
--- ---- the profile
+-- ---- the height
 
 tall_stays : (m : List ℕ) → length m ≡ 1024 * tall_height → tall m ≡ m
 unfolding tall
@@ -148,7 +148,7 @@ tall_stays m long =
     let none : 1024 * tall_height - length m ≡ 0 = omega (arith, long) in
     ap (λ n. m ++ zeros n) none ∙ no_zeros m
 
--- a machine that is tall stays as it is
+-- a machine with 1024 rows stays as it is
 machine_stays : (s : Machine) → s.gpu.parts.regs.height ≡ tall_height → length s.gpu.parts.m ≡ 1024 * tall_height
     → tall_machine s ≡ s
 unfolding tall_state
@@ -208,7 +208,7 @@ goes_on start t later rest is =
     subst ToReplay (raised_stays t.state t.played memories.cells)
     (subst FromFile (sym (file_plays start t later rest is)) same)
 
--- the whole replay goes on from the machine of the tale
+-- the whole replay continues from the state
 whole_is : (first t : Tale) (events later : List Event) (rest : List ℕ) → LeadsTo first events t
     → played_events first (events ++ later) End rest
     ≡ with_past t (played_events (from_state t.state t.played) later End rest)

@@ -38,7 +38,7 @@ is_head head bytes long_head long is =
     sym (position_from-zero (λ pair. not (pair.0 == pair.1)) (zip head bytes)) in
     sym (same_from 0 head bytes (long_head ∙ sym long) (rw (end, from) at))
 
--- by which of the heads the bytes are
+-- by which of the magic numbers the bytes are
 pub snapshot_is : (bytes : List ℕ) → length bytes ≡ 8 → file_head bytes ≡ Ok Snapshot → bytes ≡ snapshot_head
 unfolding file_head
 snapshot_is bytes long is =
@@ -57,7 +57,7 @@ snapshot_is bytes long is =
       ]
     ]
 
--- a capture is one by the heads of captures alone
+-- the magic numbers of captures alone decide what is a capture
 pub capture_is : (bytes : List ℕ) (version : ℕ) → file_head bytes ≡ Ok (Capture version) → head_version bytes
     ≡ Ok version
 unfolding file_head

@@ -1,4 +1,4 @@
--- What bytes are found to be stays so where more bytes follow them, unless they break off.
+-- What bytes are found to be remains if more bytes follow them, unless they break off.
 use Rattle.std.proofs.Common.{◌≡◌, ◌≤◌, ◌+◌, ◌*◌, ◌++◌, List, [], ◌∷◌, ℕ, false, length, nat_lt}
 use Rattle.std.proofs.Common.{refl, arith, inl, inr, length-append}
 use Rattle.std.proofs.lemmas.Bool.{cases_Bool}
@@ -13,7 +13,7 @@ use Rattle.snapshot_words.specs.declared.section.Section.{Section}
 use Rattle.snapshot_words.specs.declared.section.Section.TheVariants as section
 use Rattle.gp1_status.specs.Words.{registers_in}
 
--- by what was found, what is found where more bytes follow
+-- what is found if more bytes follow, given what was found
 abbrev pub Keeps : {A : Type 0} → Found A → (more : List ℕ) → Found A → Type 0
 Keeps (Whole value place rest) more found = found ≡ Whole value place (rest ++ more)
 Keeps (Short place) more found = Unit {0}
@@ -59,7 +59,7 @@ section_keeps s got place (a ∷ b ∷ c ∷ d ∷ rest) more =
       | inr full ↦ keeps_whole s got place (a ∷ b ∷ c ∷ d ∷ rest) more full
     ]
 
--- ---- one value behind another
+-- ---- one value after another
 
 pub then_keeps : {A B : Type 0} (found wider : Found A) (more : List ℕ) (next : A → ℕ → List ℕ → Found B)
     → Keeps found more wider
@@ -100,7 +100,7 @@ outline_keeps place bytes more =
     then_keeps _ _ more _ (section_keeps section.Front [] place bytes more)
     (λ words place rest. registers_keeps (height_in words) (played_in words) place rest more)
 
--- so many words
+-- `n` words
 pub memory_keeps : (count place : ℕ) (bytes more : List ℕ)
     → Keeps (memory_from count place bytes) more (memory_from count place (bytes ++ more))
 memory_keeps count place bytes more =

@@ -1,4 +1,4 @@
--- How playing ends, where bytes were taken before it that lead to it.
+-- The ending of playing if bytes that lead to it were read before.
 use Rattle.std.proofs.Common.{◌≡◌, ◌≤◌, ◌++◌, List, [], ◌∷◌, ℕ, Option, refl, ap, sym, ◌∙◌, arith, inl, inr}
 use Rattle.std.proofs.Common.{append_assoc}
 use Rattle.dev_io.specs.Device.{prepended}
@@ -35,7 +35,7 @@ abbrev pub StopsShort : (List ℕ → Script) → List ℕ → Type 0
 StopsShort script front =
     (part more : List ℕ) → front ≡ part ++ more → (more ≡ [] → ⊥) → SaysNothing script part
 
--- an ending of playing, in which these bytes were taken first
+-- an ending of playing, in which these bytes were read first
 pub record EndsBehind (mode : Mode) (script : List ℕ → Script) (front : List ℕ) (before now : Streams)
     (rig : RigState) (ending : Ending) : Type 0 where
   pub plays : EndsPlay mode script before (at_end now rig) ending
@@ -57,7 +57,7 @@ module _ (mode : Mode) (script inner : List ℕ → Script) (front : List ℕ)
   move : (taken rest : List ℕ) → plays script ((front ++ taken) ++ rest) ≡ plays inner (taken ++ rest)
   move taken rest = ap played_script (same taken rest)
 
-  -- a proper part of the bytes in front is short of every event
+  -- a proper part of the first bytes is short of every event
   read_needed : (events : List Event) (event : Event) (taken : List ℕ) → StopsShort script front
       → AreNeeded (reads inner) (events ++ event ∷ []) taken
       → AreNeeded (reads script) (events ++ event ∷ []) (front ++ taken)

@@ -1,4 +1,4 @@
--- A file that is opened.
+-- Opening a file.
 use Rattle.std.proofs.Common.{◌≡◌, ◌≤◌, ◌<◌, ◌++◌, List, ℕ, true, false, Option, None}
 use Rattle.std.proofs.Common.{Ok, length, take, drop, nat_lt, refl, ap, sym, ◌∙◌, arith, inl, inr, length-append}
 use Rattle.std.proofs.Common.{append_assoc}
@@ -27,7 +27,7 @@ use Rattle.gpu_snapshot.specs.Restored.{Restores, StopsInState, first_place, sta
 use Rattle.gpu_snapshot.specs.declared.head.FileHead.TheVariants as head
 use Rattle.gpu_snapshot.proofs.Heads.{snapshot_is}
 
--- ---- by the head
+-- ---- by the magic number
 
 head_enough : (first bytes : List ℕ) → length first ≡ 8 → nat_lt (length (first ++ bytes)) 8 ≡ false
 head_enough first bytes long = let all = length-append first bytes in grind (arith, all, long)
@@ -54,9 +54,9 @@ unfolding opening_cost
 cost_of_state first bytes long is =
     rw (head_enough first bytes long, head_of_all first bytes long, behind_all first bytes long, is) refl
 
--- ---- none too many
+-- ---- each byte is needed
 
--- at most eight bytes of a head
+-- at most eight bytes of a magic number
 head_needed : (taken : List ℕ) → length taken ≤ 8 → AreNeeded taken
 head_needed taken few part more is some =
     let short = part_shorter taken part more is some in
@@ -67,7 +67,7 @@ too_short (Short place) is = tt
 too_short (Whole s place rest) is = absurd is
 too_short (Bad place word) is = absurd is
 
--- a head, and what is needed of a state
+-- a magic number, and what is needed of a state
 state_needed : (first taken : List ℕ) → length first ≡ 8 → file_head first ≡ Ok head.Snapshot
     → AreNeededBy (state_from first_place) taken
     → AreNeeded (first ++ taken)
@@ -83,7 +83,7 @@ state_needed first taken long head_is needed part more is some =
           rw (opened_short part (omega (arith, short, long))) tt
     ]
 
--- ---- no head
+-- ---- no magic number
 
 refused_head : (stop : Stop) (taken : List ℕ) (now : Option (List ℕ)) → SaysNoHead stop taken now
     → SaysRefusal (fault.Stop stop) taken now × (length taken ≤ 8)

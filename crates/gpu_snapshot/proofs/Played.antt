@@ -1,4 +1,4 @@
--- A capture or a snapshot that is opened, and then played.
+-- Opening and then playing a capture or a snapshot.
 use Rattle.std.proofs.Common.{◌≡◌, ◌≤◌, ◌+◌, ◌-◌, ◌*◌, ◌==◌, ◌++◌, List, [], ℕ, Option}
 use Rattle.std.proofs.Common.{Result, Ok, Err, length, take, drop, nat_lt, refl, ap, sym, subst, ◌∙◌, arith, inl, inr}
 use Rattle.std.proofs.Common.{append_assoc, append-nil}
@@ -283,9 +283,9 @@ module _ (mode : Mode) (s : Machine) (left mid held : Option (List ℕ)) (heard 
   refuses_any (fault.Stop (BadRecord byte word)) refuses = absurd refuses.says
   refuses_any (fault.Stop (TooLong byte)) refuses = absurd refuses.says
 
--- ---- a bad word
+-- ---- an invalid word
 
--- none of the bytes taken is one too many, from whatever tale they are played
+-- each byte read is needed, whatever the state from which they are played
 pub finds_needed : (first : Tale) (before now : Streams) (byte word : ℕ) (finds : FindsBadWord before now byte word)
     → AreAllNeeded (played_file first) finds.taken
 finds_needed first _ _ byte word finds = all_needed first finds.taken finds.needed

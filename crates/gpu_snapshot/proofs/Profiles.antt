@@ -1,4 +1,4 @@
--- The sizes of the memories of a new rig, in either profile.
+-- The sizes of the memories of a new machine, with 512 or 1024 rows.
 use Rattle.std.proofs.Common.{◌≡◌, ◌*◌, ◌-◌, ◌≤◌, ◌++◌, ℕ, List, length, refl, ap, sym, ◌∙◌, arith, append-nil}
 use Rattle.std.proofs.lemmas.List.{length-append, length-replicate}
 use Rattle.px_num.specs.Height.{tall_height, short_height}
@@ -26,7 +26,7 @@ pub first_rows : length first_rig.gpu.parts.m ≡ 1024 * short_height
 unfolding first_state
 first_rows = blank_long
 
--- a machine for which a new rig stands
+-- a machine that a new rig represents
 pub first_stands : Stands first_rig first_machine
 unfolding first_machine
 first_stands = record { gpu = refl; ram = refl; running = refl }
@@ -46,7 +46,7 @@ same_words : (tall_machine first_machine).ram ≡ first_rig.ram
 unfolding first_machine
 same_words = refl
 
--- a rig in the tall profile, of which nothing else was changed
+-- a rig with 1024 rows that is otherwise new
 pub rows_of_tall : (rig : RigState) → Stands rig (tall_machine first_machine)
     → length rig.gpu.parts.m ≡ 1024 * tall_height
 rows_of_tall rig stands =
@@ -59,7 +59,7 @@ pub no_zeros : (m : List ℕ) → m ++ zeros 0 ≡ m
 unfolding zeros
 no_zeros m = append-nil m
 
--- the tall profile is taken on once
+-- the height is set once
 tall_again : (m : List ℕ) → tall (tall m) ≡ tall m
 unfolding tall
 tall_again m =

@@ -49,7 +49,7 @@ word_taken before mid now ram new i word long within were took is =
       each = AreWords-append (take i ram) (word ∷ []) were.each (took.fits, tt);
     })
 
--- a block was taken next
+-- a block was read next
 pub block_next : (before mid now : Option (List ℕ)) (words block : List ℕ) → TakesWords before mid words
     → mid ≡ prepended block now → TakesWords before (prepended block now) words
 block_next before mid now words block were took = subst (λ left. TakesWords before left words) took were
@@ -62,7 +62,7 @@ block_begins before now ram block b were =
     let e : 512 * b ≡ 512 * b + 0 = omega arith in
     subst (λ n. TakesWords before (prepended block now) (take n ram)) e were
 
--- and it ends where nothing is left of it
+-- it ends if nothing is left of it
 pub block_ends : (before now : Option (List ℕ)) (ram block : List ℕ) (b k : ℕ) → length block ≡ 2048 → k ≡ 512
     → TakesWords before (prepended (drop (4 * k) block) now) (take (512 * b + k) ram)
     → TakesWords before now (take (512 * (b + 1)) ram)
@@ -71,7 +71,7 @@ block_ends before now ram block b k long all takes =
     let none = none_behind block (4 * k) now (omega (arith, long, all)) in
     rw (none, e) at takes
 
--- a word more of a block
+-- one more word of a block
 pub block_on : (before now : Option (List ℕ)) (ram new block : List ℕ) (b k word : ℕ) → length ram ≡ 524288
     → 512 * b + k < 524288 → TakesWords before (prepended (drop (4 * k) block) now) (take (512 * b + k) ram)
     → IsWord (Some (drop (4 * k) block)) (Some (drop (4 * (k + 1)) block)) word

@@ -118,7 +118,7 @@ snap_split o m ram rest =
     ∙ append_assoc (bytes_of (outline_words o)) (cells ++ bytes_of ram) rest
     ∙ ap (λ bytes. bytes_of (outline_words o) ++ bytes) (append_assoc cells (bytes_of ram) rest)
 
--- an outline, and memories behind it
+-- an outline, and memories after it
 state_back : (front bytes rest : List ℕ) (o : Outline) (m ram : List ℕ) (place : ℕ)
     → outline_from first_place (front ++ bytes) ≡ Whole o place bytes
     → memories_from o place bytes

@@ -10,7 +10,7 @@ use Rattle.snapshot_words.specs.declared.outline.Outline.{Outline}
 use Rattle.gpu_snapshot.specs.Restored.{first_place}
 use Rattle.gpu_snapshot.proofs.Keeping.{Keeps, state_keeps}
 
--- ---- none too many
+-- ---- each byte is needed
 
 short_before : {A : Type 0} (found wider : Found A) (more : List ℕ) (place : ℕ) → Keeps found more wider
     → wider ≡ Short place → IsShort found
@@ -90,7 +90,7 @@ memories_lack o place bytes few =
           (ap Short (same_place place cells (length (drop cells bytes)) (length bytes) (omega (arith, behind, le))))
     ]
 
--- behind a whole outline
+-- after a complete outline
 pub state_lacks : (front bytes : List ℕ) (o : Outline) (place : ℕ) → outline_from first_place (front ++ bytes)
     ≡ Whole o place bytes
     → length bytes < 4 * (512 * o.regs.height + 524288) → state_from first_place (front ++ bytes)

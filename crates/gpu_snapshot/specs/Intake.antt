@@ -1,7 +1,7 @@
--- What reading works on besides a rig.
+-- What reading uses besides the machine.
 use Rattle.std.specs.Prelude.{ℕ, List, Option}
 
--- the bytes left of a source (None where they are not told), and the store steps
+-- the bytes left of a source (None if it does not state them), and the steps (accesses to video memory) so far
 pub record Intake : Type 0 where
   pub left : Option (List ℕ)
   pub steps : ℕ

@@ -9,7 +9,7 @@ use Rattle.snapshot_words.specs.Reading.{Snapshot}
 use Rattle.gpu_snapshot.specs.Opened.{Restored, opened}
 use Rattle.gpu_snapshot.specs.Restored.{machine_in}
 
--- what is spelled of a machine after so many events
+-- the snapshot of a machine after `played` events
 abbrev pub snapshot_of : Machine → (played : ℕ) → Snapshot
 snapshot_of s played = record {
   outline = record {
@@ -24,7 +24,7 @@ snapshot_of s played = record {
   ram = s.ram;
 }
 
--- a head, and the spelling of a state
+-- the magic number and the bytes of a state
 abbrev pub spelled : Snapshot → List ℕ
 spelled s = snapshot_head ++ snap_bytes s.outline s.m s.ram
 
@@ -34,7 +34,7 @@ pub record IsSpelledWhole (s : Snapshot) : Type 0 where
   pub words : AreWords (outline_words s.outline)
   pub memories : AreMemories s.outline s.m s.ram
 
--- bytes are opened as a state in which a machine goes on as this one does, after as many events
+-- opening the bytes gives a state whose machine continues as this one, after the same number of events
 pub record OpensAlike (s : Machine) (played : ℕ) (bytes rest : List ℕ) : Type 0 where
   pub snapshot : Snapshot
   pub place : ℕ
@@ -42,7 +42,7 @@ pub record OpensAlike (s : Machine) (played : ℕ) (bytes rest : List ℕ) : Typ
   pub alike : StandAlike s (machine_in snapshot)
   pub played_is : snapshot.outline.played ≡ played
 
--- The spelling of every machine within the bounds is opened as an alike one, whatever follows it.
+-- The bytes of every machine within the bounds are opened as an alike one, whatever follows them.
 abbrev pub StatesAreRead : Type 0
 StatesAreRead = (s : Machine) (played : ℕ) (rest : List ℕ) → IsSpelledWhole (snapshot_of s played)
     → OpensAlike s played (spelled (snapshot_of s played) ++ rest) rest

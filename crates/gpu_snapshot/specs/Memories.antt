@@ -1,4 +1,4 @@
--- The memories of a state, as they are taken from a source.
+-- The memories of a state, as they are read from a source.
 use Rattle.std.specs.Prelude.{◌≡◌, ◌≤◌, ◌<◌, ℕ, ◌+◌, ◌*◌, List, ◌++◌, Option, Result, IfErr, length, take}
 use Rattle.dev_io.specs.Device.{prepended, IsAtEnd, Rose}
 use Rattle.px_num.specs.Height.{IsHeight}
@@ -11,17 +11,17 @@ use Rattle.snapshot_words.specs.Values.{cell_words}
 use Rattle.snapshot_words.specs.declared.fault.SnapFault.{SnapFault}
 use Rattle.snapshot_words.specs.declared.fault.SnapFault.TheVariants as fault
 
--- these cells were taken, two in each word, and no byte more
+-- these cells were read, two in each word, and no byte more
 pub record TakesCells (before now : Option (List ℕ)) (cells : List ℕ) : Type 0 where
   pub bytes : before ≡ prepended (bytes_of (cell_words cells)) now
   pub each : AreCells cells
 
--- these words were taken, and no byte more
+-- these words were read, and no byte more
 pub record TakesWords (before now : Option (List ℕ)) (words : List ℕ) : Type 0 where
   pub bytes : before ≡ prepended (bytes_of words) now
   pub each : AreWords words
 
--- whatever took the rows before this one, and has the bytes of the block next, took this row too
+-- if the rows before row y were read and the bytes of the block come next, then row y is read too
 abbrev pub HasRow : (block : List ℕ) → (y : ℕ) → (m now : List ℕ) → Type 0
 HasRow block y m now = (before left : Option (List ℕ)) → TakesCells before (prepended block left) (take (1024 * y) m)
     → TakesCells before left (take (1024 * (y + 1)) now)
@@ -32,7 +32,7 @@ HasBlock block b ram now = (before left : Option (List ℕ))
     → TakesWords before (prepended block left) (take (512 * b) ram)
     → TakesWords before left (take (512 * (b + 1)) now)
 
--- both memories were taken, and no byte more
+-- both memories were read, and no byte more
 pub record TakesMemories (before now : Option (List ℕ)) (m ram : List ℕ) : Type 0 where
   pub bytes : before ≡ prepended (bytes_of (cell_words m) ++ bytes_of ram) now
   pub cells : AreCells m
@@ -44,40 +44,40 @@ pub record HasMemories (rig : RigState) : Type 0 where
   pub rows : length rig.gpu.parts.m ≡ 1024 * rig.gpu.parts.regs.height
   pub words : length rig.ram ≡ 524288
 
--- video memory has this number of rows, which is the height
+-- video memory has `rows` rows, which is its height
 pub record HasRows (rig : RigState) (rows : ℕ) : Type 0 where
   pub all : length rig.gpu.parts.m ≡ 1024 * rows
   pub height : rig.gpu.parts.regs.height ≡ rows
   pub most : rows ≤ 1024
 
--- why a word breaks off at a place
+-- why reading ended within a word, at byte offset `place`
 abbrev pub SaysShort : SnapFault → (place : ℕ) → (now : Option (List ℕ)) → Type 0
 SaysShort (fault.Stop (Truncated byte)) place now = (byte ≡ place) × IsAtEnd now
 SaysShort (fault.Stop (ReadFault byte)) place now = byte ≡ place
 SaysShort (fault.Stop other) place now = ⊥
 SaysShort (fault.Bad byte word) place now = ⊥
 
--- so many words are due from a place on, and fewer bytes than theirs were had
+-- `count` words were wanted from byte offset `place` on, and fewer bytes were read
 pub record LacksWords (before now : Option (List ℕ)) (place count : ℕ) (why : SnapFault) : Type 0 where
   pub taken : List ℕ
   pub bytes : before ≡ prepended taken now
   pub few : length taken < 4 * count
   pub says : SaysShort why (place + length taken) now
 
--- a rig with other cells
+-- a machine with other cells
 abbrev pub with_cells : RigState → List ℕ → RigState
 with_cells rig m = record rig { gpu = record rig.gpu { parts = record rig.gpu.parts { m = m } } }
 
--- a rig with other memories
+-- a machine with other memories
 abbrev pub with_memories : RigState → (m ram : List ℕ) → RigState
 with_memories rig m ram = record (with_cells rig m) { ram = ram }
 
--- a rig took on other memories, of the same sizes
+-- a machine received other memories, of the same sizes
 pub record ChangesMemories (before now : RigState) : Type 0 where
   pub others : now ≡ with_memories before now.gpu.parts.m now.ram
   pub sizes : HasMemories now
 
--- by how often a source failed before and after, a read of it ended by a fault of its own only where it failed
+-- a read error only if the source failed; `before` and `now` count its failures
 pub record HasCause {Value : Type 0} (before now : ℕ) (result : Result Value SnapFault) : Type 0 where
   pub rose : IfErr result (λ fault. IsReadFault fault → Rose before now)
   pub faults : before ≤ now

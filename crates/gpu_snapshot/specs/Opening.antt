@@ -1,4 +1,4 @@
--- A file that is opened: what is taken of its bytes, and what they say.
+-- Opening a file: the bytes that are read, and what they contain.
 use Rattle.std.specs.Prelude.{◌≡◌, ◌≤◌, ℕ, ◌+◌, ◌*◌, List, [], ◌++◌, None, Result, Ok, if◌then◌else◌, length, take}
 use Rattle.std.specs.Prelude.{drop, nat_lt, Option}
 use Rattle.dev_io.specs.Device.{prepended, IsAtEnd}
@@ -19,7 +19,7 @@ use Rattle.gpu_snapshot.specs.Restored.{rig_in, machine_in, reader_behind, state
 use Rattle.gpu_snapshot.specs.declared.head.FileHead.{FileHead}
 use Rattle.gpu_snapshot.specs.declared.head.FileHead.TheVariants as head
 
--- the most store steps of opening: those of reading a state, where there is one
+-- the maximum steps of opening: those of reading a state, if there is one
 abbrev pub cost_behind : Result FileHead ℕ → List ℕ → ℕ
 cost_behind (Ok head.Snapshot) bytes = state_cost bytes
 cost_behind other bytes = 0
@@ -28,17 +28,17 @@ unfoldable pub opening_cost : List ℕ → ℕ
 opening_cost bytes =
     if nat_lt (length bytes) 8 then 0 else cost_behind (file_head (take 8 bytes)) (drop 8 bytes)
 
--- some bytes are too few
+-- the bytes end too early
 abbrev pub IsTooShort : Opened → Type 0
 IsTooShort (BreaksOff place) = Unit {0}
 IsTooShort found = ⊥
 
--- none of these bytes is one too many: a proper part of them is too short for a head, or for a state
+-- each of these bytes is needed: a proper part of them is too short for a magic number, or for a state
 abbrev pub AreNeeded : List ℕ → Type 0
 AreNeeded taken = (part more : List ℕ) → taken ≡ part ++ more → (more ≡ [] → ⊥) → IsTooShort (opened part)
 
--- The head of a capture was taken, and no byte more. The rig is a new one, tall for version 3, and the reader stands
--- behind the head.
+-- The magic number of a capture was read, and no byte more. The machine is new, with 1024 rows for version 3. The
+-- reader is at the first record.
 pub record OpensCapture (before now : Intake) (rig : RigState) (reader : ReaderState) : Type 0 where
   pub version : ℕ
   pub known : IsVersion version
@@ -51,8 +51,8 @@ pub record OpensCapture (before now : Intake) (rig : RigState) (reader : ReaderS
   pub played : rig.played ≡ 0
   pub cost : now.steps ≡ before.steps
 
--- The head of a snapshot and the spelling of its state were taken, and no byte more. The rig is that state, and the
--- reader stands behind it.
+-- The magic number of a snapshot and the bytes of its state were read, and no byte more. The machine is in that state,
+-- and the reader is after it.
 pub record OpensState (before now : Intake) (rig : RigState) (reader : ReaderState) : Type 0 where
   pub snapshot : Snapshot
   pub place : ℕ
@@ -67,7 +67,7 @@ pub record OpensState (before now : Intake) (rig : RigState) (reader : ReaderSta
   pub cost : now.steps ≤ before.steps + 64 * snapshot.outline.regs.height
   pub cost_is : (rest : List ℕ) → opening_cost (taken ++ rest) ≡ 64 * snapshot.outline.regs.height
 
--- why a file is not opened, by what the bytes taken are
+-- why a file is not opened, given the bytes read
 abbrev pub SaysRefusal : SnapFault → (taken : List ℕ) → (now : Option (List ℕ)) → Type 0
 SaysRefusal (fault.Stop (NotCapture byte)) taken now = (rest : List ℕ) → opened (taken ++ rest) ≡ Unknown byte rest
 SaysRefusal (fault.Stop (Truncated byte)) taken now = (opened taken ≡ BreaksOff byte) × IsAtEnd now
@@ -75,7 +75,7 @@ SaysRefusal (fault.Stop (ReadFault byte)) taken now = opened taken ≡ BreaksOff
 SaysRefusal (fault.Stop stop) taken now = ⊥
 SaysRefusal (fault.Bad byte word) taken now = (rest : List ℕ) → opened (taken ++ rest) ≡ BadWord byte word
 
--- bytes were taken, none of them one too many, and the file is refused
+-- bytes were read, each of them needed, and the file is refused
 pub record Refuses (before now : Intake) (why : SnapFault) : Type 0 where
   pub taken : List ℕ
   pub bytes : before.left ≡ prepended taken now.left

@@ -1,4 +1,4 @@
--- How a capture or a snapshot is played (our own rule).
+-- Playing a capture or a snapshot (our own rule).
 use Rattle.std.specs.Prelude.{◌≡◌, ◌≤◌, ℕ, ◌+◌, List, [], ◌++◌}
 use Rattle.dev_io.specs.Device.{prepended}
 use Rattle.gpu_capture.specs.Capture.{ended}
@@ -25,11 +25,11 @@ use Rattle.gpu_snapshot.specs.declared.ending.AnyEnding.{AnyEnding}
 use Rattle.gpu_snapshot.specs.declared.ending.AnyEnding.TheVariants as any
 use Rattle.event_play.specs.Course.{at_end}
 
--- the tale of a state: nothing was played from it yet, and it says how many events were played before
+-- the start of a replay from a state: nothing was played from it yet, and it counts the events played before
 abbrev pub restored_tale : Snapshot → Tale
 restored_tale s = from_state (machine_in s) s.outline.played
 
--- the records behind a state that ends at a place, played from it
+-- the records after a state that ends at `place`, played from it
 abbrev pub script_restored : Snapshot → (place : ℕ) → List ℕ → Script
 script_restored s place rest = script_behind (restored_tale s) (tag_due (version_behind s.outline.regs.height) place)
     rest
@@ -48,9 +48,9 @@ script_opened first bytes (Unknown place rest) = unplayed first (NotCapture plac
 script_opened first bytes (BreaksOff place) = unplayed first (Truncated place) []
 script_opened first bytes (BadWord place word) = unplayed first (BadRecord place word) []
 
--- A capture is played from a tale; a snapshot from its own state, with the records behind it. Other bytes have no
--- event. Those in which a word of a state may not stand at its place end as if it were that of a record;
--- `any_ending_under` tells them apart.
+-- A capture is played from `first`; a snapshot from its own state, with the records after it. Other bytes have no
+-- event. Those with an invalid word in a state end like those with an invalid record; `any_ending_under` separates the
+-- two.
 unfoldable pub script_file : Tale → List ℕ → Script
 script_file first bytes = script_opened first bytes (opened bytes)
 
@@ -59,16 +59,16 @@ played_file first bytes = played_script (script_file first bytes)
 
 -- ---- endings
 
--- a bad word of a state is an ending of its own
+-- an invalid word of a state is an ending of its own
 abbrev pub any_ending : Opened → Ending → AnyEnding
 any_ending (BadWord place word) ending = any.BadSnapshot place word
 any_ending found ending = any.Played ending
 
--- how playing bytes ends under a mode
+-- the ending of playing bytes in a mode
 abbrev pub any_ending_under : Mode → Tale → List ℕ → AnyEnding
 any_ending_under mode first bytes = any_ending (opened bytes) (ending_under mode (played_file first bytes))
 
--- how it ends where a file is not opened
+-- the ending for a file that is not opened
 abbrev pub any_ending_of : SnapFault → AnyEnding
 any_ending_of (fault.Stop stop) = any.Played (Stopped 1 stop)
 any_ending_of (fault.Bad byte word) = any.BadSnapshot byte word
@@ -85,24 +85,24 @@ abbrev pub AnyMayWriteFault : AnyEnding → Type 0
 AnyMayWriteFault (any.Played ending) = MayWriteFault ending
 AnyMayWriteFault (any.BadSnapshot byte word) = ⊥
 
--- ---- how it is played
+-- ---- playing it
 
 abbrev pub HasNoBadWord : Opened → Type 0
 HasNoBadWord (BadWord place word) = ⊥
 HasNoBadWord found = Unit {0}
 
--- no word of a state is bad: in the bytes taken, where there are no others or the source failed, and else in any that
--- begin with them
+-- No word of a state is invalid: in the bytes read, if these are all or the source failed; else in any bytes that begin
+-- with them.
 abbrev pub IsGood : Ending → (taken : List ℕ) → Type 0
 IsGood (Stopped number (Truncated byte)) taken = HasNoBadWord (opened taken)
 IsGood (Stopped number (ReadFault byte)) taken = HasNoBadWord (opened taken)
 IsGood ending taken = (rest : List ℕ) → HasNoBadWord (opened (taken ++ rest))
 
--- with so many store steps more
+-- with `more` more steps
 abbrev pub spent : Streams → ℕ → Streams
 spent before more = record before { steps = before.steps + more }
 
--- It was played to this ending, by how bytes are played, with the store steps of opening it besides those of playing.
+-- It was played to this ending. The steps are those of opening it and those of playing.
 pub record PlaysAny (mode : Mode) (first : Tale) (before now : Streams) (ending : Ending) : Type 0 where
   pub rig : RigState
   pub opening : ℕ
@@ -110,8 +110,8 @@ pub record PlaysAny (mode : Mode) (first : Tale) (before now : Streams) (ending 
   pub good : IsGood ending plays.taken
   pub cost : (rest : List ℕ) → opening ≤ opening_cost (plays.taken ++ rest)
 
--- This word of a state is bad, whatever follows the bytes taken, and none of them is one too many: a proper part of
--- them breaks off in the head or the state. Nothing was played or written.
+-- This word of a state is invalid, whatever follows, and each byte read is needed: a proper part of them ends within
+-- the magic number or the state. Nothing was played or written.
 pub record FindsBadWord (before now : Streams) (byte word : ℕ) : Type 0 where
   pub taken : List ℕ
   pub bytes : before.left ≡ prepended taken now.left

@@ -1,4 +1,4 @@
--- What a rig and a reader are behind a state (our own rule).
+-- A machine and a reader after a state was read (our own rule).
 use Rattle.std.specs.Prelude.{◌≡◌, ◌≤◌, ℕ, ◌+◌, ◌*◌, List, ◌++◌, ◌==◌, if◌then◌else◌, None, length}
 use Rattle.px_num.specs.Height.{tall_height}
 use Rattle.dev_io.specs.Device.{prepended}
@@ -15,11 +15,11 @@ use Rattle.snapshot_words.specs.Taking.{SaysFault, AreNeeded}
 use Rattle.snapshot_words.specs.declared.fault.SnapFault.{SnapFault}
 use Rattle.snapshot_words.specs.declared.outline.Outline.{Outline}
 
--- a state begins behind the head
+-- a state begins after the magic number
 abbrev pub first_place : ℕ
 first_place = 8
 
--- the rig that a state is
+-- the rig of a state
 abbrev pub rig_in : Snapshot → RigState
 rig_in s = record {
   gpu = kept_with s.m s.outline.regs s.outline.pending s.outline.load s.outline.store;
@@ -28,21 +28,21 @@ rig_in s = record {
   played = s.outline.played;
 }
 
--- the machine that it is: the words of its drawing processor are one list that leaves what is pending
+-- the machine of a state: its GP0 words are one list that leaves what is pending
 abbrev pub machine_in : Snapshot → Machine
 machine_in s = record { gpu = state_with (rig_in s).gpu; ram = s.ram; running = s.outline.run }
 
--- the records behind a state are those of a capture of version 3 where video memory is tall, and else of version 2
+-- the records after a state are those of a capture of version 3 if video memory has 1024 rows, and else of version 2
 abbrev pub version_behind : (height : ℕ) → ℕ
 version_behind height = if height == tall_height then tall_version else 2
 
--- the reader of the records behind a state that ends at a place
+-- the reader of the records after a state that ends at `place`
 abbrev pub reader_behind : (height place : ℕ) → ReaderState
 reader_behind height place = record { progress = tag_due (version_behind height) place; stop = None }
 
--- ---- how it is put together
+-- ---- setting it
 
--- a rig has all of a state but for its memories, and these have their sizes; some machine stands for it
+-- a rig has everything of a state except for its memories, and these have their sizes; it represents some machine
 pub record HoldsOutline (rig : RigState) (o : Outline) : Type 0 where
   pub gpu : rig.gpu ≡ kept_with rig.gpu.parts.m o.regs o.pending o.load o.store
   pub running : rig.running ≡ o.run
@@ -51,19 +51,19 @@ pub record HoldsOutline (rig : RigState) (o : Outline) : Type 0 where
   pub words : length rig.ram ≡ 524288
   pub stands : kept_of (state_with rig.gpu) ≡ rig.gpu
 
--- ---- how it is read
+-- ---- reading it
 
--- how many rows a state says that video memory has; 0 where it breaks off before that is settled
+-- the rows of video memory of the outline that was read; 0 if none was read completely
 abbrev pub rows_found : Found Outline → ℕ
 rows_found (Whole o place rest) = o.regs.height
 rows_found (Short place) = 0
 rows_found (Bad place word) = 0
 
--- the most store steps of reading a state: one for each sixteen cells
+-- the maximum steps of reading a state: one for each sixteen cells
 unfoldable pub state_cost : (bytes : List ℕ) → ℕ
 state_cost bytes = 64 * rows_found (outline_from first_place bytes)
 
--- The spelling of a state was taken, and no byte more. The rig is that state, and the reader stands behind it.
+-- The bytes of a state were read, and no byte more. The rig is in that state, and the reader is after it.
 pub record Restores (before now : Intake) (rig : RigState) (reader : ReaderState) : Type 0 where
   pub snapshot : Snapshot
   pub place : ℕ
@@ -78,7 +78,7 @@ pub record Restores (before now : Intake) (rig : RigState) (reader : ReaderState
   pub cost_is : (rest : List ℕ) → state_cost (snap_bytes snapshot.outline snapshot.m snapshot.ram ++ rest)
       ≡ 64 * snapshot.outline.regs.height
 
--- bytes were taken that are no state, and none too many
+-- bytes were read that are no state, each of them needed
 pub record StopsInState (before now : Intake) (why : SnapFault) : Type 0 where
   pub taken : List ℕ
   pub bytes : before.left ≡ prepended taken now.left

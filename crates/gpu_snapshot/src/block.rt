@@ -1,4 +1,4 @@
-// Blocks of 512 words, taken from a source.
+// Reads blocks of 512 words from a source.
 ghost use Rattle.std.specs.Prelude.{◌≡◌, ◌<◌, ◌+◌, ◌*◌, ◌^◌, Some, drop, length, IfErr, OnOk};
 ghost use Rattle.dev_io.specs.Device.{prepended};
 ghost use Rattle.gpu_snapshot.specs.Memories.{HasCause, LacksWords};
@@ -9,7 +9,9 @@ use dev_io::{Source, fill};
 use gpu_capture::Stop;
 use snapshot_words::SnapFault;
 
-/// Takes the next 512 words. The first is at byte `place`. No byte after them is taken.
+/// Reads the next 512 words (2,048 bytes) into `block`, and no byte after them. `place`: byte offset of the first,
+/// below 2^31. If the source ends or fails, returns `Truncated` or `ReadFault` with the offset of the first missing
+/// byte.
 pub(crate) fn take_block<S: Source>(
     source: &mut S,
     place: u32,
@@ -38,7 +40,7 @@ pub(crate) fn take_block<S: Source>(
     }
 }
 
-/// Returns word `k` of a block.
+/// Returns word `k` of a block, `k` below 512.
 pub(crate) fn word_in(block: &[u8; 2048], k: usize) -> u32
     requires { k < 512 }
     ensures { IsWord (Some (drop (4 * k) block.now)) (Some (drop (4 * (k + 1)) block.now)) result }

@@ -1,4 +1,4 @@
-// Cells of video memory, sixteen at a time.
+// Reads cells (16-bit VRAM halfwords), sixteen at a time.
 ghost use Rattle.std.specs.Prelude.{◌≡◌, ◌≤◌, ◌<◌, ◌+◌, ◌*◌, ◌/◌, ◌%◌, ◌^◌, Some, drop, length, IfErr, OnOk};
 ghost use Rattle.gpu_core.specs.Kept.{IsSet};
 ghost use Rattle.gpu_snapshot.specs.Memories.{HasCause, HasRow, HasRows, LacksWords, TakesCells, with_cells};
@@ -39,8 +39,8 @@ fn lanes_in(block: &[u8; 2048], c: usize) -> [u16; 16]
     lanes
 }
 
-/// Reads the cells of `rows` rows, which are all of video memory. The number of rows is a variable here, so that no
-/// proof computes the list.
+/// Reads the cells of all `rows` rows of video memory. `place`: byte offset of the first, below 2^29. `rows` is a
+/// parameter so that no proof computes the list. Costs at most 64 steps per row.
 pub(crate) fn read_cells<S: Source, L: Ledger>(
     source: &mut S,
     place: u32,
@@ -82,7 +82,7 @@ fn set_row<L: Ledger>(rig: &mut Rig, y: u32, block: &[u8; 2048], steps: &mut Ste
     }
 }
 
-/// Sets the chunk of this number, counted row by row.
+/// Sets the sixteen cells of chunk `c`. Chunks are numbered row by row, 64 per row.
 fn set_chunk<L: Ledger>(rig: &mut Rig, c: u32, lanes: [u16; 16], steps: &mut Steps<L>)
     requires row { c < 64 * rig.old.gpu.parts.regs.height }
     requires most { c < 65536 }

@@ -1,11 +1,10 @@
-// How playing a capture or a snapshot ends.
 use event_play::Ending;
 
 /// How playing a capture or a snapshot ends.
 #[derive(Clone, Copy, Debug, PartialEq, Eq)]
 pub enum AnyEnding {
-    /// It was played, or refused before its first event, and ended so.
+    /// The file was played to this ending, or refused before its first event.
     Played { ending: Ending },
-    /// It is a snapshot, and this word of its state may not stand at its place. Nothing was played.
+    /// The file is a snapshot whose state has the invalid value `word` at byte offset `byte`. Nothing was played.
     BadSnapshot { byte: u32, word: u32 },
 }

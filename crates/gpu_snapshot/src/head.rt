@@ -7,10 +7,10 @@ ghost use Rattle.gpu_snapshot.specs.Head.{file_head, IsFileHead, TakesHead, Stop
 use dev_io::{Source, fill};
 use gpu_capture::{Stop, head_among};
 
-/// The known heads: those of captures in the order of their versions, and that of a snapshot.
+/// The known magic numbers: those of captures in the order of their versions, then that of a snapshot.
 const HEADS: [[u8; 8]; 4] = [*b"PSXGPUC1", *b"PSXGPUC2", *b"PSXGPUC3", *b"PSXGPUS1"];
 
-/// What a file is by its head.
+/// The kind of a file, by its magic number.
 #[derive(Clone, Copy, Debug, PartialEq, Eq)]
 pub enum FileHead {
     /// A capture of this version.
@@ -19,7 +19,8 @@ pub enum FileHead {
     Snapshot,
 }
 
-/// What a file is by its first 8 bytes, or the first place at which no known head goes on.
+/// Returns the kind of a file by its first 8 bytes. If they are no known magic number, returns the index of the first
+/// byte at which they no longer agree with any of them.
 #[tactic(auto, unfolding(crate::specs::Head::file_head))]
 fn file_head(bytes: &[u8; 8]) -> Result<FileHead, usize>
     ensures head { result ≡ file_head bytes.now }
@@ -35,7 +36,8 @@ fn file_head(bytes: &[u8; 8]) -> Result<FileHead, usize>
     }
 }
 
-/// Takes the head of a file.
+/// Reads the magic number of a file, 8 bytes. If it is not known, returns `NotCapture` with the first byte that fits
+/// none; if there are fewer bytes, `Truncated` or `ReadFault` with the offset of the first missing byte.
 pub(crate) fn take_head<S: Source>(source: &mut S) -> Result<FileHead, Stop>
     ensures takes { IfOk result (λ head. TakesHead (S.left source.old) (S.left source.new) head) }
     ensures bounds { IfOk result IsFileHead }

@@ -1,5 +1,5 @@
-//! Snapshots of a machine, and captures: one of either is opened, and played. What cuts a capture into a snapshot is
-//! passed on from `capture_cut`, and the error of opening from `snapshot_words`.
+//! Opens and plays captures and snapshots of a machine. Re-exports what cuts a capture into a snapshot from
+//! `capture_cut`, and the error of opening from `snapshot_words`.
 #![tactic(auto)]
 
 mod block;

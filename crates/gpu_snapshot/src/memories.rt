@@ -1,4 +1,4 @@
-// Both memories of a state.
+// Reads both memories of a state.
 ghost use Rattle.std.specs.Prelude.{◌≡◌, ◌≤◌, ◌<◌, ◌+◌, ◌*◌, ◌^◌, OnOk, IfErr};
 ghost use Rattle.gpu_snapshot.specs.Memories.{ChangesMemories, HasCause, HasMemories, LacksWords, TakesMemories};
 
@@ -10,13 +10,14 @@ use snapshot_words::SnapFault;
 use std::sync::ledger::Ledger;
 use vram_store::Steps;
 
-/// How many blocks of 512 words main memory has.
+/// The number of blocks of 512 words in main memory.
 const MEMORY_BLOCKS: u32 = 1024;
 
-/// How many bytes a block has, and a row of cells.
+/// The size in bytes of a block, and of a row of cells.
 const BLOCK_BYTES: u32 = 2048;
 
-/// Both memories, from a place on, which is then the place behind them.
+/// Reads video memory and main memory. `place`: byte offset of the first byte, below 2^20; advanced past the last if
+/// all was read.
 pub(crate) fn read_memories<S: Source, L: Ledger>(
     source: &mut S,
     place: &mut u32,

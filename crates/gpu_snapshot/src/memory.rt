@@ -7,8 +7,8 @@ use dev_io::Source;
 use event_play::Rig;
 use snapshot_words::SnapFault;
 
-/// Reads all words of main memory, in `blocks` blocks. Their number is a variable here, so that no proof computes the
-/// list.
+/// Reads all words of main memory, in `blocks` blocks. `place`: byte offset of the first, below 2^30. `blocks` is a
+/// parameter so that no proof computes the list.
 pub(crate) fn read_words<S: Source>(
     source: &mut S,
     place: u32,
@@ -35,7 +35,7 @@ pub(crate) fn read_words<S: Source>(
     Ok(())
 }
 
-/// Sets the words of main memory from number `512 * b` on to those of a block.
+/// Sets the words of main memory from index `512 * b` on to those of a block.
 fn set_block(rig: &mut Rig, b: u32, block: &[u8; 2048])
     requires within { b < 1024 }
     requires long { length rig.old.ram ≡ 524288 }

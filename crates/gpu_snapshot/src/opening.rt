@@ -1,4 +1,4 @@
-// A capture or a snapshot is opened.
+// Opens a capture or a snapshot.
 ghost use Rattle.std.specs.Prelude.{◌≡◌, ◌≤◌, ◌⊎◌, IfOk, IfErr};
 ghost use Rattle.dev_io.specs.Device.{Rose};
 ghost use Rattle.event_play.specs.RigState.{first_rig};
@@ -16,18 +16,21 @@ use snapshot_words::SnapFault;
 use std::sync::ledger::Ledger;
 use vram_store::Steps;
 
-/// The version whose captures are played in the tall profile.
+/// Captures of this version are replayed with 1024 rows of video memory.
 const TALL_VERSION: u8 = 3;
 
-/// The place behind a head.
+/// The byte offset after the magic number.
 const BEHIND_HEAD: u32 = 8;
 
-/// Opens a capture or a snapshot with a new rig, which is gone after a refusal. Behind the head of a capture it answers
-/// the rig in the capture's profile, and a reader of its records; behind a state the rig that is that state, and a
-/// reader of the records behind it.
+/// Opens the capture or snapshot in `source` with a new machine. Returns the machine and a reader of the records that
+/// follow.
 ///
-/// The refusals are NotCapture, Truncated and ReadFault, and `Bad` for the first word of a state that may not stand at
-/// its place.
+/// For a capture, reads the file header, and the machine has as many rows of video memory as its version needs. For a
+/// snapshot, reads also the state, and the machine is in that state. No further byte is read. Requires a machine
+/// as [`Rig::new`] makes it; a refusal drops it.
+///
+/// Refuses with `Stop`: NotCapture (no known magic number), Truncated or ReadFault; and with `Bad`: the first invalid
+/// word of a state. Costs one step per sixteen cells of a state, and none for a capture.
 pub fn open<S: Source, L: Ledger>(
     rig: Rig,
     source: &mut S,

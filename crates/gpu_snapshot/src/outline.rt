@@ -1,4 +1,4 @@
-// A state is put into a rig, but for its memories.
+// Sets the state of a machine, except for its memories.
 ghost use Rattle.std.specs.Prelude.{◌≡◌};
 ghost use Rattle.event_play.specs.RigState.{first_rig};
 ghost use Rattle.snapshot_words.specs.Outline.{IsOutline};
@@ -8,7 +8,7 @@ use crate::profile::set_profile;
 use event_play::Rig;
 use snapshot_words::Outline;
 
-/// Puts all of a state but for its memories into a new rig.
+/// Sets everything except the contents of the memories. Requires a new machine, and an outline within its bounds.
 pub(crate) fn put_outline(rig: &mut Rig, outline: Outline)
     requires new { rig.old ≡ first_rig }
     requires bounds { IsOutline outline }

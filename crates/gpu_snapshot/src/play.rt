@@ -1,4 +1,4 @@
-// A capture or a snapshot is played to its end.
+// Plays a capture or a snapshot to its end.
 ghost use Rattle.std.specs.Prelude.{◌≡◌, ◌≤◌, map};
 ghost use Rattle.dev_io.specs.Device.{Rose};
 ghost use Rattle.event_play.specs.Replay.{from_state};
@@ -16,9 +16,9 @@ use snapshot_words::SnapFault;
 use std::sync::ledger::Ledger;
 use vram_store::Steps;
 
-/// Plays a capture, or a snapshot and what is recorded behind it, to its End with a new rig, and writes what the mode
-/// asks for. The taps are told every note. Where the bytes are no capture and no snapshot, or break off in a head or a
-/// state, it stops at event 1.
+/// Plays a capture, or a snapshot and the records after it, to its End with a new machine. Writes to `out` what `mode`
+/// asks for, and sends every note to the taps. If the bytes are neither capture nor snapshot, or end within the magic
+/// number or the state, stops at event 1.
 pub fn play_any<S: Source, K: Sink, T: Listener, L: Ledger>(
     rig: Rig,
     source: &mut S,
@@ -28,7 +28,7 @@ pub fn play_any<S: Source, K: Sink, T: Listener, L: Ledger>(
     steps: &mut Steps<L>,
 ) -> AnyEnding
     requires new { rig ≡ first_rig }
-    // For every machine for which a new rig stands, this is how playing the bytes ends.
+    // For every machine that a new rig represents, this is how playing the bytes ends.
     ensures ends { (s : Machine) → Stands first_rig s → EndsAny mode (from_state s 0)
         (streams (S.left source.old) (K.held out.old) (map T.heard taps.old.items) steps.old)
         (streams (S.left source.new) (K.held out.new) (map T.heard taps.new.items) steps.new) result }
@@ -49,7 +49,7 @@ pub fn play_any<S: Source, K: Sink, T: Listener, L: Ledger>(
     }
 }
 
-/// How playing ends where a file is not opened.
+/// Returns the ending for a file that was not opened.
 fn refused(fault: SnapFault) -> AnyEnding
     ensures { result ≡ any_ending_of fault }
 {

@@ -1,4 +1,4 @@
-// The profile of a new rig.
+// Sets the height of a new machine's video memory.
 ghost use Rattle.std.specs.Prelude.{◌≡◌, ◌*◌, length, if◌then◌else◌};
 ghost use Rattle.px_num.specs.Height.{height_of_profile};
 ghost use Rattle.event_play.specs.Replay.{Tale, tall_tale};
@@ -6,7 +6,7 @@ ghost use Rattle.event_play.specs.RigState.{first_rig, StandsFor};
 
 use event_play::Rig;
 
-/// Takes on the tall profile, or keeps the other.
+/// Sets 1024 rows if `tall`, and else keeps 512. Requires a new machine.
 pub(crate) fn set_profile(rig: &mut Rig, tall: bool)
     requires new { rig.old ≡ first_rig }
     ensures stands { (t : Tale) → StandsFor rig.old t → StandsFor rig.new (if tall then tall_tale t else t) }

@@ -1,4 +1,4 @@
-// A state is read into a rig.
+// Reads a state into a machine.
 ghost use Rattle.std.specs.Prelude.{◌≡◌, ◌≤◌, ◌==◌, IfOk, IfErr};
 ghost use Rattle.dev_io.specs.Device.{Rose};
 ghost use Rattle.gpu_capture.specs.Capture.{IsVersion};
@@ -16,13 +16,13 @@ use snapshot_words::{SnapFault, read_outline};
 use std::sync::ledger::Ledger;
 use vram_store::Steps;
 
-/// How many rows video memory has in the tall profile.
+/// The rows of a tall video memory.
 const TALL_HEIGHT: u16 = 1024;
 
-/// The place of a state, behind the head.
+/// The byte offset of a state, after the magic number.
 const FIRST_PLACE: u32 = 8;
 
-/// The version of the records behind a state of this height.
+/// Returns the version of the records after a state with this height: 3 for 1024 rows, else 2.
 fn version_behind(height: u16) -> u8
     ensures value { result ≡ version_behind height }
     ensures known { IsVersion result }
@@ -30,7 +30,7 @@ fn version_behind(height: u16) -> u8
     if height == TALL_HEIGHT { 3 } else { 2 }
 }
 
-/// Reads a state into a new rig, and answers the reader of the records behind it.
+/// Reads a state into a new machine and returns the reader of the records after it.
 pub(crate) fn restore<S: Source, L: Ledger>(
     rig: &mut Rig,
     source: &mut S,

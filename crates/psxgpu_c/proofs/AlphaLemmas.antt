@@ -10,7 +10,7 @@ use Rattle.gp1_status.specs.Registers.{Registers}
 use Rattle.picture_out.specs.Picture.{display_of, numbered_pixel, pixels_from, picture_head, picture_of}
 use Rattle.psxgpu_c.specs.Shown.{with_alpha}
 
--- one pixel more
+-- one more pixel
 pub alpha_more : (bytes out part : List ℕ) (k w : ℕ) → take (4 * k) out ≡ with_alpha bytes k
     → part ≡ slice_range bytes (3 * k) (3 * k + 3) ++ 255 ∷ [] → 4 * k ≤ length out → length part ≡ 4
     → take (4 * (k + 1)) (put_mid (4 * k) w out part) ≡ with_alpha bytes (k + 1)
@@ -27,7 +27,7 @@ length_pixel : (m : List ℕ) (regs : Registers) (shape : ℕ × ℕ) (k : ℕ)
 unfolding numbered_pixel
 length_pixel m regs shape k = either_long (display_of regs shape).is_deep _ _ refl refl
 
--- three bytes a pixel
+-- three bytes per pixel
 pub length_pixels : (m : List ℕ) (regs : Registers) (shape : ℕ × ℕ) (first n : ℕ)
     → length (pixels_from m (display_of regs shape) first n) ≡ 3 * n
 length_pixels m regs shape first zero = refl
@@ -37,7 +37,7 @@ length_pixels m regs shape first (suc n) =
     let before = length_pixels m regs shape first n in
     rw (length-append (pixels_from m shown first n) (numbered_pixel m shown (first + n)), before, one) (omega arith)
 
--- four bytes a pixel
+-- four bytes per pixel
 pub length_alpha : (bytes : List ℕ) (n : ℕ) → 3 * n ≤ length bytes → length (with_alpha bytes n) ≡ 4 * n
 length_alpha bytes zero le = refl
 length_alpha bytes (suc n) le =
@@ -46,7 +46,7 @@ length_alpha bytes (suc n) le =
     let rest : 3 ≤ length (drop (3 * n) bytes) = simp length-drop (omega (arith, le)) in
     grind (arith, common_steps)
 
--- a picture has three bytes a pixel and more, and the last of them are its pixels
+-- a picture has three bytes per pixel and more, and the last of them are its pixels
 pub picture_long : (m : List ℕ) (regs : Registers) (shape : ℕ × ℕ) (bytes : List ℕ)
     → bytes ≡ picture_of m (display_of regs shape) → 3 * (shape.0 * shape.1) ≤ length bytes
 unfolding picture_of

@@ -1,4 +1,4 @@
--- Data words of a load that are taken at once: nothing is told of them.
+-- Data words of a load that are fed at once: they have no notes.
 use Rattle.std.proofs.Common.{◌≡◌, ◌≤◌, ◌<◌, ◌+◌, ◌-◌, ◌++◌, ℕ, zero, suc, List, [], ◌∷◌, true, length, take, drop}
 use Rattle.std.proofs.Common.{get_or, nat_lt, Some, refl, ap, sym, subst, arith, ◌∙◌}
 use Rattle.std.proofs.lemmas.Bool.Decides.{nat_tests}
@@ -44,7 +44,7 @@ next_wanted s word left is some few =
     let on : nat_lt 1 left ≡ true = grind (arith, nat_tests, some) in
     ap (λ (k : Kept). k.pending) f.feed ∙ rw on refl
 
--- ---- data words, one after another
+-- ---- data words in order
 
 wanted_on : (t : Tale) (words : List ℕ) (at n left : ℕ) → at + n ≤ length words → n < left → left ≤ most_data_words
     → pending_behind (after_words t (take at words)).state.gpu.words ≡ pending.Pixels left
@@ -79,7 +79,7 @@ quiet_words t words at (suc n) left within some few is =
     append_nil_is [] = refl
     append_nil_is (x ∷ xs) = ap (λ ys. x ∷ ys) (append_nil_is xs)
 
--- ---- what a tale has told before decides nothing
+-- ---- the notes recorded before decide nothing
 
 same_start : (t u : Tale) (words : List ℕ) (rig : RigState) → t.state ≡ u.state → t.played ≡ u.played
     → StandsFor rig (after_words t words) → StandsFor rig (after_words u words)
@@ -91,7 +91,7 @@ same_start t u (word ∷ words) rig state played h =
     same_start (after_word t word) (after_word u word) words rig
     (ap (λ (s : Machine). record s { gpu = after_gp0 s.gpu word }) state) (ap next_number played) h
 
--- data words were taken at once behind the first words
+-- data words were fed at once after the first words
 pub noted_data : (t : Tale) (words : List ℕ) (at n k : ℕ) (rig next : RigState) (before now : List ItemNote)
     (count : ℕ)
     → k ≡ n → 0 < n → at + n ≤ length words → n ≤ wanted rig.gpu.pending → IsPending rig.gpu.pending

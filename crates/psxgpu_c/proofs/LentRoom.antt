@@ -1,4 +1,4 @@
--- How playing ends, told without the room of the sink that was lent.
+-- The ending of playing, stated without the capacity of the sink.
 use Rattle.std.proofs.Common.{◌≡◌, ◌+◌, ◌++◌, List, [], ℕ, Option, Some, take, ap}
 use Rattle.dev_io.specs.Device.{appended}
 use Rattle.dev_io.specs.Memory.{SinkState}
@@ -19,7 +19,7 @@ use Rattle.gpu_taps.specs.Tally.{Reading}
 use Rattle.psxgpu_c.specs.Room.{room_and_bytes}
 use Rattle.psxgpu_c.proofs.RoomLemmas.{empty_sink, taken_bytes}
 
--- what the sink holds is these bytes, and its room stayed
+-- the sink holds these bytes, and its capacity is unchanged
 abbrev IsTold : (room : ℕ) (sink : SinkState) (bytes : List ℕ) → Type 0
 IsTold room sink bytes = (Some sink.held ≡ appended (Some []) bytes) × (sink.room ≡ room)
 

@@ -1,4 +1,4 @@
--- Bytes that a machine loads, and those that are saved of it.
+-- The bytes that a machine loads, and those that are saved of it.
 use Rattle.std.proofs.Common.{◌≡◌, ◌<◌, ◌⊎◌, ◌+◌, ◌^◌, ◌++◌, List, ℕ, true, None, Some, Ok}
 use Rattle.std.proofs.Common.{length, nat_lt, refl, ap, sym, subst, ◌∙◌, inl, inr, append-nil, length-append, arith}
 use Rattle.capture_cut.specs.File.{IsWritable, outline_of, rig_bytes}
@@ -24,7 +24,7 @@ use Rattle.psxgpu_c.specs.declared.refusal.Refusal.TheVariants as refusal
 
 -- ---- loading
 
--- the bytes taken of a source that had these bytes, and those that it has left
+-- the bytes read from a source that had these bytes, and those that remain
 whole : (source bytes taken left : List ℕ) → source ≡ bytes → Some source ≡ prepended taken (Some left)
     → bytes ≡ taken ++ left
 whole source bytes taken left is split = cc
@@ -63,7 +63,7 @@ not_opened source bytes left steps steps_now (snap.Bad byte word) is refused nev
 
 -- ---- what is saved
 
--- the state that is spelled of a rig
+-- the state of a rig, as bytes
 abbrev snapshot_in : RigState → Snapshot
 snapshot_in rig = record { outline = outline_of rig; m = rig.gpu.parts.m; ram = rig.ram }
 

@@ -1,4 +1,4 @@
--- What is told of words that are taken one after another.
+-- The notes of words that are fed one after another.
 use Rattle.std.proofs.Common.{◌≡◌, ◌≤◌, ◌<◌, ◌+◌, ◌++◌, ℕ, List, Option, length, take, drop, get_or}
 use Rattle.std.proofs.Common.{refl, ap, sym, subst, arith, ◌∙◌, length-append, add-one}
 use Rattle.std.proofs.lemmas.List.{take_all, drop-drop}
@@ -12,7 +12,7 @@ use Rattle.event_play.specs.Step.{Machine}
 use Rattle.gpu_core.specs.Machine.{gp0_note}
 use Rattle.psxgpu_c.specs.Notes.{HasNoted, first_notes, noted_at, noting}
 
--- the first n words were taken, and what is told of them stands in front
+-- the first n words were fed, and their notes are at the start of the buffer
 pub record HasNotedFirst (t : Tale) (words : List ℕ) (n : ℕ) (rig : RigState) (before now : List ItemNote) (count : ℕ)
     : Type 0 where
   pub stands : StandsFor rig (after_words t (take n words))
@@ -29,7 +29,7 @@ noted_none s rig words before stands = record {
   is_count = refl;
 }
 
--- one word more
+-- one more word
 pub noted_more : (t : Tale) (words : List ℕ) (n : ℕ) (rig next : RigState) (before mid now : List ItemNote)
     (count more : ℕ) (note : Option Note) → n < length words
     → HasNotedFirst t words n rig before mid count

@@ -1,14 +1,14 @@
--- A sink with a room that was lent.
+-- A sink with a fixed capacity.
 use Rattle.std.proofs.Common.{◌≡◌, List, [], ℕ, length, arith}
 use Rattle.dev_io.specs.Device.{Rose, appended}
 use Rattle.dev_io.specs.Memory.{SinkState}
 use Rattle.psxgpu_c.specs.Room.{FailsWhereFull, room_and_bytes}
 
--- an empty sink with this room
+-- an empty sink with this capacity
 abbrev pub empty_sink : ℕ → SinkState
 empty_sink room = record { held = []; room = room; faults = 0 }
 
--- these bytes came into it, and its room stayed
+-- these bytes were written to it, and its capacity is unchanged
 pub record HasTaken (room : ℕ) (now : SinkState) (bytes : List ℕ) : Type 0 where
   pub held : now.held ≡ bytes
   pub room_is : now.room ≡ room

@@ -1,4 +1,4 @@
--- What a call of C answers: 0, or the code of a cause, and what more there is to say of it (our own rule).
+-- What a call of C returns: 0, or the code of a cause, and its details (our own rule).
 use Rattle.std.specs.Prelude.{ℕ, Option, Some, None, Result, Ok, Err}
 use Rattle.event_play.specs.declared.fault.EventFault.{EventFault}
 use Rattle.event_play.specs.declared.fault.EventFault.TheVariants as fault
@@ -10,15 +10,15 @@ use Rattle.psxgpu_c.specs.declared.ended.Ended.{Ended}
 use Rattle.psxgpu_c.specs.declared.refusal.Refusal.{Refusal}
 use Rattle.psxgpu_c.specs.declared.refusal.Refusal.TheVariants as refusal
 
--- nothing was put into a room
+-- nothing was written
 abbrev pub numbers : (code event place word : ℕ) → Ended
 numbers code event place word = record { written = 0; event = event; place = place; word = word; code = code }
 
--- at a place in bytes
+-- at a byte offset
 abbrev pub at_place : (code event byte word : ℕ) → Ended
 at_place code event byte word = numbers code event byte word
 
--- a stop of a reader, where the event of this number was due
+-- a stop of the reader; `event`: the number of the event that would have been read
 abbrev pub at_stop : (event : ℕ) → Stop → Ended
 at_stop event stop.End = numbers 1 event 0 0
 at_stop event (stop.NotCapture byte) = at_place 2 event byte 0
@@ -27,13 +27,13 @@ at_stop event (stop.BadRecord byte word) = at_place 4 event byte word
 at_stop event (stop.TooLong byte) = at_place 5 event byte 0
 at_stop event (stop.ReadFault byte) = at_place 6 event byte 0
 
--- the fault of the event of this number
+-- a fault of event `event`
 abbrev pub at_fault : (event : ℕ) → EventFault → Ended
 at_fault event fault.BadDma = numbers 7 event 0 0
 at_fault event (fault.DmaTooLong words) = numbers 8 event words 0
 at_fault event (fault.ListLoop node) = numbers 9 event 0 node
 
--- bytes that are not opened, before the first event
+-- bytes that cannot be opened: event 1
 abbrev pub unopened : SnapFault → Ended
 unopened (snap.Stop stop) = at_stop 1 stop
 unopened (snap.Bad byte word) = at_place 12 1 byte word
@@ -53,7 +53,7 @@ refused refusal.TooManyEvents = numbers 20 0 0 0
 refused (refusal.Faulted event fault) = at_fault event fault
 refused (refusal.Unopened fault) = unopened fault
 
--- the code of a refusal, and of an answer
+-- the code of a refusal, and of a result
 abbrev pub code_for : Refusal → ℕ
 code_for why = (refused why).code
 
@@ -61,12 +61,12 @@ abbrev pub code_of : {Value : Type 0} → Result Value Refusal → ℕ
 code_of (Ok value) = 0
 code_of (Err why) = code_for why
 
--- all that is told of an answer
+-- the details of a result
 abbrev pub told_of : {Value : Type 0} → Result Value Refusal → Ended
 told_of (Ok value) = numbers 0 0 0 0
 told_of (Err why) = refused why
 
--- all that is told where there may be a refusal
+-- the details of a refusal, or of success
 abbrev pub told_by : Option Refusal → Ended
 told_by None = numbers 0 0 0 0
 told_by (Some why) = refused why

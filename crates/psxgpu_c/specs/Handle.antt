@@ -20,7 +20,7 @@ abbrev pub holds : Global → Ptr → Option row.Denot → Fml
 holds a p None = ftrue
 holds a p (Some x) = boxed a p x
 
--- There is a machine in it.
+-- The handle has a machine.
 abbrev pub IsOpen : Option row.Denot → Type 0
 IsOpen None = ⊥
 IsOpen (Some x) = Unit {0}
@@ -33,7 +33,7 @@ pub machine_in-is : (held : Option row.Denot) (open' : IsOpen held) → held ≡
 machine_in-is None open' = absurd open'
 machine_in-is (Some x) open' = refl
 
--- the mark of a handle: 1 where a machine is in it, and else 0
+-- the mark of a handle: 1 if it has a machine, else 0
 abbrev pub mark_of : Option row.Denot → ℕ
 mark_of None = 0
 mark_of (Some x) = 1

@@ -1,4 +1,4 @@
--- What is told of the items that words of GP0 complete, in a room that the caller lends.
+-- The notes of the items that GP0 words complete, in a buffer of the caller.
 use Rattle.std.specs.Prelude.{◌≡◌, ◌<◌, ◌==◌, ℕ, zero, suc, pos, List, [], ◌∷◌, ◌++◌, Option, Some, None, Result, Ok}
 use Rattle.std.specs.Prelude.{Err, if◌then◌else◌, length, take, slice_index}
 use Rattle.event_play.specs.PlayedWords.{after_words}
@@ -14,12 +14,12 @@ use Rattle.psxgpu_c.specs.declared.note.ItemNote.{ItemNote}
 use Rattle.psxgpu_c.specs.declared.refusal.Refusal.{Refusal}
 use Rattle.psxgpu_c.specs.declared.refusal.Refusal.TheVariants as refusal
 
--- an item with this area, if it has one; else the area's numbers are 0
+-- a note with this area, if there is one; else the area's numbers are 0
 abbrev pub with_area : ItemNote → Option Box2 → ItemNote
 with_area item None = item
 with_area item (Some area) = record item { has_area = 1; x1 = area.x1; y1 = area.y1; x2 = area.x2; y2 = area.y2 }
 
--- what is told of an item that the word at this place completed
+-- the note of an item that the word with this index completed
 abbrev pub item_note : (word : ℕ) → Note → ItemNote
 item_note word note = with_area (record {
   event = note.event;
@@ -33,12 +33,12 @@ item_note word note = with_area (record {
   y2 = pos 0;
 }) note.area
 
--- nothing is told where no item is completed, and nothing of two pixels of a load
+-- no note if no item is completed, or if it is a data word of a load
 abbrev pub noted_at : (word : ℕ) → Option Note → List ItemNote
 noted_at word None = []
 noted_at word (Some note) = if note.class == 9 then [] else item_note word note ∷ []
 
--- what is told of the first n of these words, which come behind a tale
+-- the notes of the first n of these words, fed after `t`
 abbrev pub first_notes : Tale → (words : List ℕ) → (n : ℕ) → List ItemNote
 first_notes t words zero = []
 first_notes t words (suc n) =
@@ -46,7 +46,7 @@ first_notes t words (suc n) =
     first_notes t words n
     ++ noted_at n (gp0_note before.state.gpu (next_number before.played) (slice_index words n))
 
--- what is held, a rig or what a handle holds, and the caller's notes
+-- a rig or the content of a handle, and the caller's notes
 pub record Noting (Held : Type 0) : Type 0 where
   pub held : Held
   pub notes : List ItemNote
@@ -54,22 +54,21 @@ pub record Noting (Held : Type 0) : Type 0 where
 abbrev pub noting : {Held : Type 0} → Held → List ItemNote → Noting Held
 noting held notes = record { held = held; notes = notes }
 
--- these words were taken behind a tale, and what is told of them, so many items, stands in front
+-- these words were fed after `t`, and their `count` notes are at the start of the buffer
 pub record HasNoted (t : Tale) (words : List ℕ) (before : List ItemNote) (now : Noting RigState) (count : ℕ)
     : Type 0 where
   pub stands : StandsFor now.held (after_words t words)
   pub front : StandsInFront (first_notes t words (length words)) before now.notes
   pub is_count : count ≡ length (first_notes t words (length words))
 
--- The same behind each machine for which the rig stood; or there is too little room, less than a note for each word,
--- and nothing changed.
+-- The same for each machine that the rig represented. Or the buffer is shorter than the words, and nothing changed.
 abbrev pub TakesNoted : (words : List ℕ) → (before now : Noting RigState) → Result ℕ Refusal → Type 0
 TakesNoted words before now (Ok count) = (s : Machine) → Stands before.held s
     → HasNoted (from_state s before.held.played) words before.notes now count
 TakesNoted words before now (Err refusal.NoRoom) = (length before.notes < length words) × (now ≡ before)
 TakesNoted words before now (Err other) = ⊥
 
--- the same of a handle
+-- the same for a handle
 abbrev pub TakesHeld : (words : List ℕ) → (before now : Noting (Option RigState)) → Result ℕ Refusal → Type 0
 TakesHeld words before now answer = WhereHeld before.held now.held
     (λ was rig. TakesNoted words (noting was before.notes) (noting rig now.notes) answer)

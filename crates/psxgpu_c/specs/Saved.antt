@@ -1,4 +1,4 @@
--- A machine as a snapshot in memory, and back.
+-- Writing a machine as a snapshot in memory, and reading one.
 use Rattle.std.specs.Prelude.{◌≡◌, ◌⊎◌, ◌++◌, ◌^◌, ℕ, Bool, true, false, List, Option, Some, None, Result, Err, OnOk}
 use Rattle.std.specs.Prelude.{nat_lt}
 use Rattle.capture_cut.specs.File.{rig_bytes}
@@ -16,24 +16,24 @@ use Rattle.psxgpu_c.specs.declared.ended.Ended.{Ended}
 use Rattle.psxgpu_c.specs.declared.refusal.Refusal.{Refusal}
 use Rattle.psxgpu_c.specs.declared.refusal.Refusal.TheVariants as refusal
 
--- the head of a snapshot, the state of a rig, and an End record: what cutting writes where no event is left
+-- the magic number of a snapshot, the state of a rig, and an End record: what cutting writes if no event remains
 abbrev pub saved : RigState → List ℕ
 saved rig = rig_bytes rig ++ spelled_end
 
--- fewer events were played than 2^63: a snapshot counts no more
+-- fewer than 2^63 events were played: a snapshot counts no more
 abbrev pub can_be_saved : RigState → Bool
 can_be_saved rig = nat_lt rig.played (2 ^ 63)
 
 -- ---- loading
 
--- the rig is what these bytes are: the state of a snapshot, or the first one in the profile of a capture
+-- the rig is in the state of a snapshot, or in the first state for a capture
 abbrev pub IsOpened : Opened → RigState → Type 0
 IsOpened (Captured version rest) rig =
     ((t : Tale) → StandsFor first_rig t → StandsFor rig (raised t version)) × (rig.played ≡ 0)
 IsOpened (Restored s place rest) rig = (rig ≡ rig_in s) × Stands rig (machine_in s)
 IsOpened other rig = ⊥
 
--- why bytes are not opened, by what they are
+-- why bytes cannot be opened, given what they are
 abbrev pub fault_of : Opened → Option SnapFault
 fault_of (Captured version rest) = None
 fault_of (Restored s place rest) = None
@@ -41,21 +41,21 @@ fault_of (Unknown place rest) = Some (snap.Stop (stop.NotCapture place))
 fault_of (BreaksOff place) = Some (snap.Stop (stop.Truncated place))
 fault_of (BadWord place word) = Some (snap.Bad place word)
 
--- The rig is what the bytes are. Or it is as it was, because they are neither a snapshot nor a capture, or memory ran
--- out.
+-- The rig is what the bytes describe. Or it is unchanged, because they are neither a snapshot nor a capture, or memory
+-- ran out.
 abbrev pub Loads : (bytes : List ℕ) → (was rig : RigState) → (why : Option Refusal) → Type 0
 Loads bytes was rig None = IsOpened (opened bytes) rig
 Loads bytes was rig (Some refusal.NoMemory) = rig ≡ was
 Loads bytes was rig (Some (refusal.Unopened fault)) = (rig ≡ was) × (fault_of (opened bytes) ≡ Some fault)
 Loads bytes was rig (Some other) = ⊥
 
--- the same of a handle
+-- the same for a handle
 abbrev pub LoadsHeld : (before now : Option RigState) → (bytes : List ℕ) → (why : Option Refusal) → Type 0
 LoadsHeld (Some was) (Some rig) bytes why = Loads bytes was rig why
 LoadsHeld (Some was) None bytes why = ⊥
 LoadsHeld None now bytes why = (now ≡ None) × (why ≡ Some refusal.Closed)
 
--- and what is told of it
+-- the same, and its details
 pub record TellsLoad (before now : Option RigState) (bytes : List ℕ) (told : Ended) : Type 0 where
   pub why : Option Refusal
   pub loads : LoadsHeld before now bytes why
@@ -63,13 +63,13 @@ pub record TellsLoad (before now : Option RigState) (bytes : List ℕ) (told : E
 
 -- ---- saving
 
--- Whatever machine loads these bytes becomes this one, unless memory runs out.
+-- Any machine that loads these bytes becomes this one, unless memory runs out.
 abbrev pub AreLoadedAs : RigState → (bytes : List ℕ) → Type 0
 AreLoadedAs rig bytes = (was now : RigState) (why : Option Refusal) → Loads bytes was now why
     → ((why ≡ None) × (now ≡ rig)) ⊎ ((why ≡ Some refusal.NoMemory) × (now ≡ was))
 
--- What is saved of the rig was put in front, and loads as the rig. Or there is too little room, or memory ran out; or a
--- snapshot can't count its events.
+-- The snapshot of the rig was written to the start, and loads as the rig. Or the buffer is too short, or memory ran
+-- out; or too many events were played.
 abbrev pub SavesWhere : (can : Bool) → RigState → (before now : List ℕ) → Result ℕ Refusal → Type 0
 SavesWhere true rig before now answer = Puts (saved rig) before now answer × OnOk answer (AreLoadedAs rig (saved rig))
 SavesWhere false rig before now answer = (answer ≡ Err refusal.TooManyEvents) × (now ≡ before)
@@ -77,7 +77,7 @@ SavesWhere false rig before now answer = (answer ≡ Err refusal.TooManyEvents) 
 abbrev pub Saves : RigState → (before now : List ℕ) → Result ℕ Refusal → Type 0
 Saves rig before now answer = SavesWhere (can_be_saved rig) rig before now answer
 
--- the same of a handle
+-- the same for a handle
 abbrev pub SavesHeld : Option RigState → (before now : List ℕ) → Result ℕ Refusal → Type 0
 SavesHeld None before now answer = (answer ≡ Err refusal.Closed) × (now ≡ before)
 SavesHeld (Some rig) before now answer = Saves rig before now answer

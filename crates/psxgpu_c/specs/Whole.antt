@@ -1,4 +1,4 @@
--- What playing a capture or a snapshot in memory does.
+-- Playing a capture or a snapshot in memory.
 use Rattle.std.specs.Prelude.{◌≡◌, ◌⊎◌, ◌/◌, ◌%◌, ◌^◌, ℕ, List, [], ◌∷◌, Option, Some, None, slice_get}
 use Rattle.std.specs.Prelude.{length, replicate}
 use Rattle.event_play.specs.Replay.{from_state}
@@ -23,7 +23,7 @@ use Rattle.psxgpu_c.specs.declared.refusal.Refusal.TheVariants as refusal
 abbrev pub cell_in : ℕ → Cell
 cell_in word = record { x = word % 2 ^ 16; y = word / 2 ^ 16 }
 
--- the modes in the order of their numbers; the cell is that of a pixel
+-- the modes in the order of their numbers; the cell is for `Pixel`
 abbrev pub modes : Cell → List Mode
 modes cell =
     mode.Play ∷ mode.Vram ∷ mode.Shot ∷ mode.List ∷ mode.Report ∷ mode.Frames moment.Flip ∷ mode.Frames moment.Mark
@@ -47,14 +47,14 @@ at_end (any.BadSnapshot byte word) = at_place 12 1 byte word
 
 -- ---- playing
 
--- what the taps of a report say before the first note: no note of any class, none of the last ones, and no area
+-- the state of the taps of a report before the first note: no note of any class, none of the last ones, and no area
 abbrev pub new_taps : List Reading
 new_taps = record { kind = 0; numbers = replicate 10 0 }
     ∷ record { kind = 1; numbers = [] }
     ∷ record { kind = 2; numbers = replicate 3 0 } ∷ []
 
--- A new machine played these bytes, with taps that said this before: what it wrote stands in front, and how it ended is
--- told. No source failed, and no more could be written only where the room is full.
+-- A new machine played these bytes, with taps in this state. What it wrote is at the start of the buffer, and `told`
+-- has the details of the ending. The source never failed, and a write failed only if the buffer is full.
 pub record PlaysInto (m : Mode) (first : List Reading) (bytes before now : List ℕ) (told : Ended) : Type 0 where
   pub end : AnyEnding
   pub left : List ℕ
@@ -69,7 +69,7 @@ pub record PlaysInto (m : Mode) (first : List Reading) (bytes before now : List 
   pub front : StandsInFront held before now
   pub is_told : told ≡ record (at_end end) { written = length held }
 
--- nothing was played where there is no such mode, or where memory ran out
+-- nothing was played if there is no such mode, or if memory ran out
 abbrev pub PlaysMode : Option Mode → (bytes before now : List ℕ) → (told : Ended) → Type 0
 PlaysMode None bytes before now told = (told ≡ refused refusal.BadMode) × (now ≡ before)
 PlaysMode (Some m) bytes before now told =

@@ -1,4 +1,4 @@
-// How a call ended, in numbers.
+// The details of how a call ended, as numbers.
 ghost use Rattle.std.specs.Prelude.{◌≡◌};
 ghost use Rattle.psxgpu_c.specs.Codes.{at_fault, at_place, at_stop, code_for, numbers, refused, unopened};
 
@@ -7,30 +7,30 @@ use event_play::EventFault;
 use gpu_capture::Stop;
 use snapshot_words::SnapFault;
 
-/// How a call ended.
+/// The details of how a call ended: `psxgpu_ended` in c/psxgpu.h. A field that the code does not name is 0.
 #[repr(C)]
 #[derive(Clone, Copy)]
 pub struct Ended {
-    /// How many bytes were put into the room.
+    /// The number of bytes written to the caller's buffer.
     pub written: usize,
-    /// The number of the event at which it ended, or 0.
+    /// The number of the event at which the call ended, or 0.
     pub event: u64,
-    /// A place in bytes, or a count of words.
+    /// A byte offset, or a count of words.
     pub place: u64,
     /// A word, or an address.
     pub word: u32,
-    /// What the call answers.
+    /// The code that the call returns.
     pub code: u32,
 }
 
-/// The code of a refusal.
+/// Returns the code of a refusal.
 pub(crate) fn code_for(why: Refusal) -> u32
     ensures { result ≡ code_for why }
 {
     of_refusal(why).code
 }
 
-/// A refusal, with nothing put into a room.
+/// Returns the details of a refusal, with nothing written.
 pub(crate) fn of_refusal(why: Refusal) -> Ended
     ensures { result ≡ refused why }
 {
@@ -50,7 +50,7 @@ pub(crate) fn of_refusal(why: Refusal) -> Ended
     }
 }
 
-/// The fault of the event of this number.
+/// Returns the details of a fault of event `event`.
 pub(crate) fn of_fault(event: u64, fault: EventFault) -> Ended
     ensures { result ≡ at_fault event fault }
 {
@@ -61,7 +61,7 @@ pub(crate) fn of_fault(event: u64, fault: EventFault) -> Ended
     }
 }
 
-/// A stop of a reader, where the event of this number was due.
+/// Returns the details of a stop of the reader. `event`: the number of the event that would have been read.
 pub(crate) fn of_stop(event: u64, stop: Stop) -> Ended
     ensures { result ≡ at_stop event stop }
 {
@@ -75,7 +75,7 @@ pub(crate) fn of_stop(event: u64, stop: Stop) -> Ended
     }
 }
 
-// Bytes that are not opened, before the first event.
+// Returns the details for bytes that cannot be opened: event 1.
 fn of_unopened(fault: SnapFault) -> Ended
     ensures { result ≡ unopened fault }
 {
@@ -85,14 +85,14 @@ fn of_unopened(fault: SnapFault) -> Ended
     }
 }
 
-/// At a place in bytes.
+/// Returns the details of an ending at byte offset `byte`.
 pub(crate) fn at_place(code: u32, event: u64, byte: u32, word: u32) -> Ended
     ensures { result ≡ at_place code event byte word }
 {
     numbers(code, event, u64::from(byte), word)
 }
 
-/// These numbers, with nothing put into a room.
+/// Returns these details, with nothing written.
 pub(crate) fn numbers(code: u32, event: u64, place: u64, word: u32) -> Ended
     ensures { result ≡ numbers code event place word }
 {

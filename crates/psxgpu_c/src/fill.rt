@@ -1,4 +1,4 @@
-// Words are put into main memory.
+// Writes words to main memory.
 ghost use Rattle.std.specs.Prelude.{◌≡◌, length, true};
 ghost use Rattle.psxgpu_c.specs.Memory.{Fills, lie_in_memory, put_first};
 
@@ -6,10 +6,11 @@ use crate::ended::code_for;
 use crate::refusal::Refusal;
 use event_play::Rig;
 
-/// The address behind main memory.
+/// The byte address after main memory.
 const MEMORY_END: u64 = 0x20_0000;
 
-/// Puts words into main memory, an event each, if they lie in it.
+/// Writes `words` from byte address `address` on, one event per word, and returns 0. If `address` is not a multiple of
+/// 4 or the range passes 200000h, writes nothing and returns the code of `BadAddress`.
 pub(crate) fn put_words(rig: &mut Rig, address: u32, words: &[u32]) -> u32
     ensures { Fills address words.now rig.old rig.new result }
 {
@@ -31,7 +32,7 @@ fn lie_in_memory(address: u32, words: &[u32]) -> bool
     aligned && inside
 }
 
-// Puts all of them there.
+// Writes all words. Requires that they are in main memory.
 fn put_all(rig: &mut Rig, address: u32, words: &[u32])
     requires { lie_in_memory address (length words.now) ≡ true }
     ensures { rig.new ≡ record rig.old { ram = put_first rig.old.ram address words.now (length words.now) } }

@@ -1,4 +1,4 @@
-// Values that are put in front of a caller's.
+// Writes values to the start of a caller's buffer.
 ghost use Rattle.psxgpu_c.specs.Codes.{code_of};
 ghost use Rattle.std.specs.Prelude.{◌≡◌, ◌≤◌, length};
 ghost use Rattle.psxgpu_c.specs.Shown.{Puts, PutsIfRoom, StandsInFront, count_of};
@@ -6,7 +6,8 @@ ghost use Rattle.psxgpu_c.specs.Shown.{Puts, PutsIfRoom, StandsInFront, count_of
 use crate::ended::code_for;
 use crate::refusal::Refusal;
 
-/// Puts bytes in front, if there is room, and answers how many they are.
+/// Writes `bytes` to the start of `out` and returns their number. If `out` is shorter, writes nothing and returns
+/// `NoRoom`.
 pub(crate) fn put_front(out: &mut [u8], bytes: &[u8]) -> Result<usize, Refusal>
     ensures { Puts bytes.now out.old out.new result }
 {
@@ -17,7 +18,7 @@ pub(crate) fn put_front(out: &mut [u8], bytes: &[u8]) -> Result<usize, Refusal>
     Ok(bytes.len())
 }
 
-/// Puts bytes in front, for which there is room.
+/// Writes `bytes` to the start of `out`, which must be long enough.
 pub(crate) fn put_all(out: &mut [u8], bytes: &[u8])
     requires { length bytes.now ≤ length out.old }
     ensures { StandsInFront bytes.now out.old out.new }
@@ -25,7 +26,8 @@ pub(crate) fn put_all(out: &mut [u8], bytes: &[u8])
     out[..bytes.len()].copy_from_slice(bytes);
 }
 
-/// Puts words in front, if there is room, and answers how many they are.
+/// Writes `words` to the start of `out` and returns their number. If `out` is shorter, writes nothing and returns
+/// `NoRoom`.
 pub(crate) fn put_words(out: &mut [u32], words: &[u32]) -> Result<usize, Refusal>
     ensures { PutsIfRoom words.now out.old out.new result }
 {
@@ -37,7 +39,7 @@ pub(crate) fn put_words(out: &mut [u32], words: &[u32]) -> Result<usize, Refusal
     Ok(n)
 }
 
-/// The code of an answer.
+/// Returns 0, or the code of a refusal.
 pub(crate) fn code_of(answer: Result<usize, Refusal>) -> u32
     ensures { result ≡ code_of answer }
 {
@@ -47,7 +49,7 @@ pub(crate) fn code_of(answer: Result<usize, Refusal>) -> u32
     }
 }
 
-/// Tells how many values were put in front, and answers the code.
+/// Sets `written` to the number of values, or to 0 after a refusal. Returns 0, or the refusal's code.
 pub(crate) fn tell(answer: Result<usize, Refusal>, written: &mut usize) -> u32
     ensures code { result ≡ code_of answer }
     ensures count { written.new ≡ count_of answer }

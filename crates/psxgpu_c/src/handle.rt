@@ -1,4 +1,4 @@
-// A handle that C holds.
+// The handle of a machine: `psxgpu` in c/psxgpu.h.
 ghost use Rattle.std.specs.Prelude.{◌≡◌, Option, Some, None};
 ghost use Rattle.std.specs.Option.{MatchOption};
 ghost use Rattle.std.specs.Coded.{coded_option};
@@ -11,7 +11,7 @@ use std::marker::Model;
 use std::mem;
 use std::ptr::null_mut;
 
-/// A machine's box as a pointer, or nothing.
+/// A boxed machine as a raw pointer, or none.
 #[repr(C)]
 #[derive(Drop)]
 pub struct Held {
@@ -56,7 +56,7 @@ impl Held {
     }
 }
 
-/// A machine, or none. C begins it as zeros.
+/// A machine, or none. C initializes it with zeros (`PSXGPU_NONE`).
 #[repr(C)]
 #[derive(Drop)]
 pub struct Psxgpu {
@@ -66,7 +66,7 @@ pub struct Psxgpu {
 }
 
 impl Psxgpu {
-    /// Takes the machine out, if there is one. The handle holds none then.
+    /// Removes and returns the machine, if there is one.
     pub(crate) fn take(&mut self, alloc: Global) -> Option<Box<Rig>>
         ensures machine { MatchOption result (self.old.held.value ≡ None)
             (λ rig. self.old.held.value ≡ Some rig.value) }
@@ -88,7 +88,7 @@ impl Psxgpu {
         }
     }
 
-    /// Puts a machine in.
+    /// Stores a machine.
     pub(crate) fn put(&mut self, rig: Box<Rig>)
         ensures { self.new.held.value ≡ Some rig.value }
     {

@@ -1,7 +1,8 @@
-//! The drawing processor for programs in C.
+//! The C interface of the drawing processor (GPU). c/psxgpu.h has the declarations.
 //!
-//! A handle is a struct that C holds, and a call changes what stands behind it. C begins it as zeros. Each call answers
-//! a code: 0, or the cause for which it did not do what it is asked for.
+//! A handle is a struct that the C program owns and initializes with zeros. Each function except `psxgpu_free` returns
+//! 0 on success, otherwise a code for the cause. A function that needs a machine returns the code of `Closed` if the
+//! handle has none. After a failure the machine is unchanged.
 #![tactic(auto)]
 
 mod ended;

@@ -1,4 +1,4 @@
-// What is to be seen of the machine of a handle, which stays as it is.
+// Reads the machine of a handle without changing it.
 ghost use Rattle.std.specs.Prelude.{◌≡◌, ◌<◌, ◌^◌, IsTrue, Some};
 ghost use Rattle.gp1_status.specs.Words.{words_of};
 ghost use Rattle.picture_out.specs.Dump.{dump};
@@ -12,7 +12,8 @@ use crate::views::{cell_of, put_vram};
 use event_play::Rig;
 use std::alloc::Global;
 
-/// Puts video memory in front of the caller's bytes: its cells row by row, each low byte first.
+/// Writes the cells of video memory to the start of `out`, row by row, the low byte of each cell first. `written`: the
+/// number of bytes. Refuses with `NoRoom` or `NoMemory`; then `out` is unchanged and `written` is 0.
 #[unsafe(no_mangle)]
 pub extern "C" fn psxgpu_vram(
     alloc: Global,
@@ -41,7 +42,7 @@ fn vram_of(alloc: Global, gpu: &mut Psxgpu, out: &mut [u8]) -> Result<usize, Ref
     }
 }
 
-/// Tells a cell.
+/// Sets `cell` to the cell in column `x` and row `y`. If there is none, leaves `cell` and returns the code of `NoCell`.
 #[unsafe(no_mangle)]
 pub extern "C" fn psxgpu_cell(
     alloc: Global,
@@ -74,7 +75,7 @@ fn see_cell(rig: &Rig, x: u32, y: u32, cell: &mut u16) -> u32
     }
 }
 
-// Whether video memory has a cell there.
+// Whether video memory has a cell in column `x` and row `y`.
 fn has_cell(rig: &Rig, x: u32, y: u32) -> bool
     ensures value { result ≡ has_cell rig.now x y }
     ensures in_row { IsTrue result → x < 1024 }
@@ -87,7 +88,8 @@ fn has_cell(rig: &Rig, x: u32, y: u32) -> bool
     in_row && in_height
 }
 
-/// Puts the words of the registers in front of the caller's words.
+/// Writes the registers as 13 words to the start of `words`. If it is shorter, writes nothing and returns the code of
+/// `NoRoom`.
 #[unsafe(no_mangle)]
 pub extern "C" fn psxgpu_registers(alloc: Global, gpu: &mut Psxgpu, words: &mut [u32]) -> u32
     ensures words { Answers (SeesWords gpu.old.held.value (λ rig. words_of rig.gpu.parts.regs) words.old words.new)

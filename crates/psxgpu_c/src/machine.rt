@@ -1,4 +1,4 @@
-// A machine is made, begins again, and goes.
+// Creates, resets and frees a machine.
 ghost use Rattle.std.specs.Prelude.{◌≡◌, None};
 ghost use Rattle.psxgpu_c.specs.Calls.{Begins, Changes, Grows, Makes};
 
@@ -8,7 +8,8 @@ use crate::refusal::Refusal;
 use event_play::Rig;
 use std::alloc::Global;
 
-/// Makes a machine in its first state, where there is none.
+/// Creates a machine in its first state. If there is one already, returns the code of `Open`; if memory runs out, that
+/// of `NoMemory`.
 #[unsafe(no_mangle)]
 pub extern "C" fn psxgpu_new(alloc: Global, gpu: &mut Psxgpu) -> u32
     ensures { Makes gpu.old.held.value gpu.new.held.value result }
@@ -22,7 +23,7 @@ pub extern "C" fn psxgpu_new(alloc: Global, gpu: &mut Psxgpu) -> u32
     }
 }
 
-// The same where there is none.
+// Creates a machine in an empty handle.
 fn make(alloc: Global, gpu: &mut Psxgpu) -> u32
     requires { gpu.old.held.value ≡ None }
     ensures { Makes None gpu.new.held.value result }
@@ -37,7 +38,7 @@ fn make(alloc: Global, gpu: &mut Psxgpu) -> u32
     0
 }
 
-/// Lets the machine go, if there is one. There is none then.
+/// Frees the machine, if there is one. The handle is then empty.
 #[unsafe(no_mangle)]
 pub extern "C" fn psxgpu_free(alloc: Global, gpu: &mut Psxgpu)
     ensures { gpu.new.held.value ≡ None }
@@ -45,7 +46,8 @@ pub extern "C" fn psxgpu_free(alloc: Global, gpu: &mut Psxgpu)
     drop(gpu.take(alloc));
 }
 
-/// Puts the machine back into its first state.
+/// Resets the machine to its first state, with no event played. If memory runs out, leaves it and returns the code of
+/// `NoMemory`.
 #[unsafe(no_mangle)]
 pub extern "C" fn psxgpu_clear(alloc: Global, gpu: &mut Psxgpu) -> u32
     ensures { Changes gpu.old.held.value gpu.new.held.value result Begins }
@@ -60,7 +62,7 @@ pub extern "C" fn psxgpu_clear(alloc: Global, gpu: &mut Psxgpu) -> u32
     }
 }
 
-// Puts a new machine in place of this one.
+// Replaces the machine by a new one.
 fn begin(alloc: Global, rig: &mut Rig) -> u32
     ensures { Begins rig.old rig.new result }
 {
@@ -73,7 +75,7 @@ fn begin(alloc: Global, rig: &mut Rig) -> u32
     }
 }
 
-/// Makes the height of video memory 1024 rows.
+/// Extends video memory to 1024 rows; the new rows are 0. Does nothing if it has them already. No event.
 #[unsafe(no_mangle)]
 pub extern "C" fn psxgpu_set_tall(alloc: Global, gpu: &mut Psxgpu) -> u32
     ensures { Changes gpu.old.held.value gpu.new.held.value result Grows }

@@ -13,7 +13,8 @@ use crate::refusal::Refusal;
 use gpu_capture::Event;
 use std::alloc::Global;
 
-/// Puts words into main memory, from an address on.
+/// Writes `words` to main memory from byte address `address` on, one event per word. If they are not all in main
+/// memory, or `address` is not a multiple of 4, writes nothing and returns the code of `BadAddress`.
 #[unsafe(no_mangle)]
 pub extern "C" fn psxgpu_ram(alloc: Global, gpu: &mut Psxgpu, address: u32, words: &[u32]) -> u32
     ensures { Changes gpu.old.held.value gpu.new.held.value result (Fills address words.now) }
@@ -28,7 +29,8 @@ pub extern "C" fn psxgpu_ram(alloc: Global, gpu: &mut Psxgpu, address: u32, word
     }
 }
 
-/// Starts DMA channel 2 or 6 and moves all that there is to move.
+/// Starts DMA channel 2 or 6 with its three registers and moves all words: one event. Sets `ended` in every case and
+/// returns its code. Any other channel is refused with `BadChannel`.
 #[unsafe(no_mangle)]
 pub extern "C" fn psxgpu_dma(
     alloc: Global,
@@ -47,7 +49,7 @@ pub extern "C" fn psxgpu_dma(
     ended.code
 }
 
-// The channel of this number, if there is one.
+// Returns the channel, if its number is 2 or 6.
 fn channel_named(number: u32) -> Option<u8>
     ensures { result ≡ channel_named number }
 {
@@ -58,7 +60,7 @@ fn channel_named(number: u32) -> Option<u8>
     }
 }
 
-// Starts a channel, if there is one.
+// Starts `channel`, or refuses with `BadChannel` if it is `None`.
 fn start(
     alloc: Global,
     gpu: &mut Psxgpu,
@@ -84,7 +86,7 @@ fn start(
     }
 }
 
-// Nothing is done, for this cause or for want of a machine.
+// Returns why nothing is done: `why`, or `Closed` if there is no machine.
 fn refused(alloc: Global, gpu: &mut Psxgpu, why: Refusal) -> Refusal
     ensures { Refuses gpu.old.held.value gpu.new.held.value why (λ answer. answer ≡ Err result) }
 {
@@ -97,7 +99,8 @@ fn refused(alloc: Global, gpu: &mut Psxgpu, why: Refusal) -> Refusal
     }
 }
 
-/// Starts DMA channel 2 and moves nothing before its first turn.
+/// Starts DMA channel 2 and moves nothing before the first [`psxgpu_turn`]: one event. Sets `ended` in every case and
+/// returns its code.
 #[unsafe(no_mangle)]
 pub extern "C" fn psxgpu_begin(
     alloc: Global,
@@ -115,7 +118,7 @@ pub extern "C" fn psxgpu_begin(
     ended.code
 }
 
-/// The running transfer moves its next block, or the words of its next node.
+/// Moves the next block of the running transfer, or the words of its next node: one event. Moves nothing if none runs.
 #[unsafe(no_mangle)]
 pub extern "C" fn psxgpu_turn(alloc: Global, gpu: &mut Psxgpu) -> u32
     ensures { Plays gpu.old.held.value gpu.new.held.value Event.Turn (λ answer. result ≡ code_of answer) }
@@ -123,7 +126,7 @@ pub extern "C" fn psxgpu_turn(alloc: Global, gpu: &mut Psxgpu) -> u32
     play_coded(alloc, gpu, &Event::Turn)
 }
 
-// What is told of an answer.
+// Returns the details of a result.
 fn told_of(answer: Result<Option<u32>, Refusal>) -> Ended
     ensures { result ≡ told_of answer }
 {

@@ -1,25 +1,25 @@
-// What a caller is told of an item.
+// The notes that a caller receives.
 ghost use Rattle.std.specs.Prelude.{◌≡◌, ◌≤◌, ◌<◌, ◌+◌, ◌++◌, length, take, drop, Some};
 ghost use Rattle.psxgpu_c.specs.Notes.{item_note, noted_at};
 
 use gp0_packets::Note;
 use px_num::Box2;
 
-/// What is told of an item, with the place of the word that completed it.
+/// One completed item: `psxgpu_note` in c/psxgpu.h.
 #[repr(C)]
 #[derive(Clone, Copy)]
 pub struct ItemNote {
     /// The number of the event that completed the item.
     pub event: u64,
-    /// The place of its word among those of the call, from 0.
+    /// The index in the call of the word that completed it, from 0.
     pub word: usize,
-    /// The command, or the end word.
+    /// The command, or the end word of a polyline.
     pub head: u32,
-    /// 0 to 7 by the top three bits of the command, 8 for the end of a polyline.
+    /// 0 to 7: the top three bits of the command. 8: the end of a polyline.
     pub class: u16,
-    /// 1 where the item has an area, and else 0.
+    /// 1 if the item has an area, else 0.
     pub has_area: u16,
-    /// The first column of the area.
+    /// The first column of the area; 0 without an area.
     pub x1: i32,
     /// Its first row.
     pub y1: i32,
@@ -30,7 +30,7 @@ pub struct ItemNote {
 }
 
 impl ItemNote {
-    // What is told of an item.
+    // Returns the note of an item. `word`: the index of the word that completed it.
     fn of(word: usize, note: &Note) -> ItemNote
         ensures { result ≡ item_note word note.now }
     {
@@ -60,7 +60,8 @@ impl ItemNote {
     }
 }
 
-/// Puts what is told of the item that a word completes behind so many, and says how many there are then.
+/// Stores the note, if there is one and it is not of data words of a load (class 9), at index `count` of `notes`.
+/// Returns the new number of notes. Requires that `notes` is longer than `count`.
 pub(crate) fn put_note(
     word: usize,
     note: &Option<Note>,

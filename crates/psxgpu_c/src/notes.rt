@@ -1,4 +1,4 @@
-// Words are fed to a rig, and what they complete is told.
+// Feeds words to GP0 and returns notes of the items that they complete.
 ghost use Rattle.std.specs.Prelude.{◌≡◌, ◌≤◌, ◌<◌, length};
 ghost use Rattle.event_play.specs.Replay.{from_state};
 ghost use Rattle.event_play.specs.RigState.{Stands};
@@ -20,8 +20,9 @@ use std::marker::Brand;
 use std::sync::ledger::{Blank, Ledger};
 use vram_store::Steps;
 
-/// Takes words of GP0, one after another, and puts what is told of the items that they complete in front of the
-/// caller's notes. There is room for a note of each word.
+/// Feeds `words` to GP0, one event per word, and stores one note per completed item at the start of `notes`. Data words
+/// of a load have no note. `written`: the number of notes. If `notes` is shorter than `words`, feeds nothing and
+/// returns the code of `NoRoom`.
 #[unsafe(no_mangle)]
 pub extern "C" fn psxgpu_gp0_notes(
     alloc: Global,
@@ -54,7 +55,7 @@ fn noted_of(
     }
 }
 
-// Takes words of GP0, puts what is told of the items that they complete in front, and answers how many these are.
+// Does the same for a machine, and returns the number of notes.
 fn take_noted(
     alloc: Global,
     rig: &mut Rig,
@@ -69,7 +70,7 @@ fn take_noted(
     Ok(take_told::<Brand>(alloc, rig, words, notes, Blank::new(1)))
 }
 
-// The same where there is room for a note of each word.
+// Does the same. Requires that `notes` is at least as long as `words`.
 fn take_told<L: Ledger>(
     alloc: Global,
     rig: &mut Rig,
@@ -105,7 +106,7 @@ fn take_told<L: Ledger>(
     count
 }
 
-// How many of the words that come next are data words of an open load, at most so many; none where none may be open.
+// Returns how many of the next words are data words of an open load, at most `most`. Returns 0 if `may_load` is false.
 fn data_words(rig: &Rig, may_load: bool, most: usize) -> usize
     ensures most { result ≤ most }
     ensures wanted { result ≤ wanted rig.now.gpu.pending }
@@ -117,7 +118,7 @@ fn data_words(rig: &Rig, may_load: bool, most: usize) -> usize
     }
 }
 
-// Whether a load may be open behind an item.
+// Whether a load may be open after this note: its class is 5.
 fn opens_load(note: &Option<Note>) -> bool {
     match note {
         Some(note) => note.class == 5,

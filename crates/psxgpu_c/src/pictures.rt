@@ -1,4 +1,4 @@
-// The shown picture of the machine of a handle, which stays as it is.
+// Reads the shown picture of the machine of a handle, which stays as it is.
 ghost use Rattle.std.specs.Prelude.{◌≡◌};
 ghost use Rattle.psxgpu_c.specs.Shown.{SeesShape, Tells, Views, picture_due, rgba_due};
 
@@ -11,7 +11,8 @@ use crate::views::put_picture;
 use picture_out::shape;
 use std::alloc::Global;
 
-/// Puts the shown picture in front of the caller's bytes, as PPM.
+/// Writes the shown picture to the start of `out` as PPM. `written`: the number of bytes. Refuses with `NoPicture`,
+/// `NoRoom` or `NoMemory`; then `out` is unchanged and `written` is 0.
 #[unsafe(no_mangle)]
 pub extern "C" fn psxgpu_picture(
     alloc: Global,
@@ -39,7 +40,8 @@ fn picture_of(alloc: Global, gpu: &mut Psxgpu, out: &mut [u8]) -> Result<usize, 
     }
 }
 
-/// Puts the shown picture in front of the caller's bytes, as RGBA: four bytes a pixel, rows from the top.
+/// Writes the shown picture to the start of `out` as RGBA: four bytes per pixel, row by row from the top. `written`:
+/// the number of bytes. Refuses as [`psxgpu_picture`] does.
 #[unsafe(no_mangle)]
 pub extern "C" fn psxgpu_picture_rgba(
     alloc: Global,
@@ -67,7 +69,8 @@ fn rgba_of(alloc: Global, gpu: &mut Psxgpu, out: &mut [u8]) -> Result<usize, Ref
     }
 }
 
-/// Tells the width and height of the shown picture.
+/// Sets `width` and `height` to those of the shown picture, in pixels. If it has no pixel, leaves both and returns the
+/// code of `NoPicture`.
 #[unsafe(no_mangle)]
 pub extern "C" fn psxgpu_shape(
     alloc: Global,

@@ -1,4 +1,4 @@
-// Words go to the ports of the machine, and come from them.
+// Writes words to the ports of the machine, and reads them.
 ghost use Rattle.std.specs.Prelude.{◌≡◌, ◌∷◌, []};
 ghost use Rattle.psxgpu_c.specs.Calls.{Changes, Plays, Takes, word_shown};
 ghost use Rattle.psxgpu_c.specs.Codes.{code_of};
@@ -10,7 +10,7 @@ use crate::words::{play, take_word, take_words};
 use gpu_capture::Event;
 use std::alloc::Global;
 
-/// Takes a word of GP0.
+/// Writes a word to GP0 (1F801810h): one event.
 #[unsafe(no_mangle)]
 pub extern "C" fn psxgpu_gp0(alloc: Global, gpu: &mut Psxgpu, word: u32) -> u32
     ensures { Changes gpu.old.held.value gpu.new.held.value result (Takes (word ∷ [])) }
@@ -25,7 +25,7 @@ pub extern "C" fn psxgpu_gp0(alloc: Global, gpu: &mut Psxgpu, word: u32) -> u32
     }
 }
 
-/// Takes words of GP0, one after another.
+/// Writes `words` to GP0, one event per word.
 #[unsafe(no_mangle)]
 pub extern "C" fn psxgpu_gp0_words(alloc: Global, gpu: &mut Psxgpu, words: &[u32]) -> u32
     ensures { Changes gpu.old.held.value gpu.new.held.value result (Takes words.now) }
@@ -40,7 +40,7 @@ pub extern "C" fn psxgpu_gp0_words(alloc: Global, gpu: &mut Psxgpu, words: &[u32
     }
 }
 
-/// Takes a word of GP1.
+/// Writes a word to GP1 (1F801814h): one event.
 #[unsafe(no_mangle)]
 pub extern "C" fn psxgpu_gp1(alloc: Global, gpu: &mut Psxgpu, word: u32) -> u32
     ensures { Plays gpu.old.held.value gpu.new.held.value (Event.Gp1 word) (λ answer. result ≡ code_of answer) }
@@ -48,7 +48,7 @@ pub extern "C" fn psxgpu_gp1(alloc: Global, gpu: &mut Psxgpu, word: u32) -> u32
     play_coded(alloc, gpu, &Event::Gp1 { word })
 }
 
-/// Reads a word of the data port.
+/// Reads a word from the data port (1F801810h): one event.
 #[unsafe(no_mangle)]
 pub extern "C" fn psxgpu_read(alloc: Global, gpu: &mut Psxgpu, word: &mut u32) -> u32
     ensures { Plays gpu.old.held.value gpu.new.held.value Event.Read
@@ -57,7 +57,7 @@ pub extern "C" fn psxgpu_read(alloc: Global, gpu: &mut Psxgpu, word: &mut u32) -
     play_shown(alloc, gpu, &Event::Read, word)
 }
 
-/// Reads the status word.
+/// Reads the status word (1F801814h): one event.
 #[unsafe(no_mangle)]
 pub extern "C" fn psxgpu_status(alloc: Global, gpu: &mut Psxgpu, word: &mut u32) -> u32
     ensures { Plays gpu.old.held.value gpu.new.held.value Event.Stat
@@ -66,7 +66,7 @@ pub extern "C" fn psxgpu_status(alloc: Global, gpu: &mut Psxgpu, word: &mut u32)
     play_shown(alloc, gpu, &Event::Stat, word)
 }
 
-/// Reads a word of the data port, and drops it.
+/// Reads a word from the data port and discards it: one event.
 #[unsafe(no_mangle)]
 pub extern "C" fn psxgpu_skip(alloc: Global, gpu: &mut Psxgpu) -> u32
     ensures { Plays gpu.old.held.value gpu.new.held.value Event.Skip (λ answer. result ≡ code_of answer) }
@@ -74,14 +74,14 @@ pub extern "C" fn psxgpu_skip(alloc: Global, gpu: &mut Psxgpu) -> u32
     play_coded(alloc, gpu, &Event::Skip)
 }
 
-/// Plays an event on the machine of a handle, and answers its code.
+/// Plays an event on the machine of a handle. Returns 0, or the code of the refusal.
 pub(crate) fn play_coded(alloc: Global, gpu: &mut Psxgpu, event: &Event) -> u32
     ensures { Plays gpu.old.held.value gpu.new.held.value event.now (λ answer. result ≡ code_of answer) }
 {
     code_of(play_held(alloc, gpu, event))
 }
 
-// The same, and puts the word that it shows where the caller wants it.
+// Plays an event on the machine of a handle, and sets `word` to the word that it shows, if any. Returns the code.
 fn play_shown(alloc: Global, gpu: &mut Psxgpu, event: &Event, word: &mut u32) -> u32
     ensures { Plays gpu.old.held.value gpu.new.held.value event.now
         (λ answer. (result ≡ code_of answer) × (word.new ≡ word_shown word.old answer)) }
@@ -93,7 +93,8 @@ fn play_shown(alloc: Global, gpu: &mut Psxgpu, event: &Event, word: &mut u32) ->
     code_of(answer)
 }
 
-/// Plays an event on the machine of a handle.
+/// Plays an event on the machine of a handle. Returns the word that it shows, if any. After a refusal the machine is
+/// unchanged.
 pub(crate) fn play_held(
     alloc: Global,
     gpu: &mut Psxgpu,
@@ -111,7 +112,7 @@ pub(crate) fn play_held(
     }
 }
 
-// The code of an answer.
+// Returns 0, or the code of a refusal.
 fn code_of(answer: Result<Option<u32>, Refusal>) -> u32
     ensures { result ≡ code_of answer }
 {

@@ -1,32 +1,31 @@
-// Why a call does not do what it is asked for.
 use event_play::EventFault;
 use snapshot_words::SnapFault;
 
-/// Why a call does not do what it is asked for.
+/// Why a call failed.
 #[derive(Clone, Copy, Debug, PartialEq, Eq)]
 pub enum Refusal {
-    /// There is no machine in the handle.
+    /// The handle has no machine.
     Closed,
-    /// There is one already.
+    /// The handle has a machine already.
     Open,
     /// Memory ran out.
     NoMemory,
-    /// What is due does not fit into the room.
+    /// The caller's buffer is too short.
     NoRoom,
     /// The shown picture has no pixel.
     NoPicture,
     /// Video memory has no such cell.
     NoCell,
-    /// Main memory has no words there.
+    /// The words are not all in main memory, or the address is not a multiple of 4.
     BadAddress,
     /// The channel is neither 2 nor 6.
     BadChannel,
     /// No mode has this number.
     BadMode,
-    /// More events were played than a snapshot counts.
+    /// 2^63 events or more were played: a snapshot counts at most 2^63 - 1.
     TooManyEvents,
-    /// The event of this number has a fault.
+    /// Event `event` has a fault.
     Faulted { event: u64, fault: EventFault },
-    /// The bytes are not opened.
+    /// The bytes cannot be opened as a capture or a snapshot.
     Unopened { fault: SnapFault },
 }

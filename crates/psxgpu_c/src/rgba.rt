@@ -8,7 +8,8 @@ use event_play::Rig;
 use picture_out::shape;
 use std::alloc::Global;
 
-/// Puts the shown picture in front, as RGBA, if there is one.
+/// Writes the shown picture to the start of `out` as RGBA, and returns the number of bytes. Refuses with `NoPicture`,
+/// `NoRoom` or `NoMemory`, and then writes nothing.
 pub(crate) fn put_rgba(alloc: Global, rig: &Rig, out: &mut [u8]) -> Result<usize, Refusal>
     ensures { PutsDue (rgba_due rig.now) out.old out.new result }
 {
@@ -26,7 +27,7 @@ pub(crate) fn put_rgba(alloc: Global, rig: &Rig, out: &mut [u8]) -> Result<usize
     Ok(4 * count)
 }
 
-// So many of the last bytes.
+// Returns the last `count` bytes.
 fn last_bytes(bytes: &[u8], count: usize) -> &[u8]
     requires { count ≤ length bytes.now }
     ensures { result.now ≡ drop (length bytes.now - count) bytes.now }
@@ -34,7 +35,7 @@ fn last_bytes(bytes: &[u8], count: usize) -> &[u8]
     &bytes[bytes.len() - count..]
 }
 
-// Puts so many pixels of three bytes in front, each with 255 behind it.
+// Writes `count` pixels of three bytes to the start of `out`, each followed by 255.
 fn add_alpha(bytes: &[u8], count: usize, out: &mut [u8])
     requires bytes { 3 * count ≤ length bytes.now }
     requires room { 4 * count ≤ length out.old }
@@ -46,7 +47,7 @@ fn add_alpha(bytes: &[u8], count: usize, out: &mut [u8])
     }
 }
 
-// A pixel of three bytes with 255 behind it.
+// Writes the three bytes of a pixel, and 255.
 fn put_pixel(bytes: &[u8], out: &mut [u8])
     requires bytes { length bytes.now ≡ 3 }
     requires room { length out.old ≡ 4 }

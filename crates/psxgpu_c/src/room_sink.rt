@@ -1,4 +1,4 @@
-// A sink that fails only where its room is full.
+// A sink in memory with a fixed capacity.
 ghost use Rattle.std.specs.Prelude.{◌≡◌, [], IfOk};
 ghost use Rattle.dev_io.specs.Memory.{SinkState};
 ghost use Rattle.psxgpu_c.specs.Room.{FailsWhereFull, room_and_bytes};
@@ -8,7 +8,7 @@ use px_num::OutOfMemory;
 use std::alloc::Global;
 use std::marker::Model;
 
-/// A sink in memory that fails only where its room is full.
+/// A sink in memory that fails only if its capacity is reached.
 #[derive(Drop)]
 pub(crate) struct RoomSink {
     sink: MemSink,
@@ -23,7 +23,7 @@ impl Model for RoomSink {
 }
 
 impl RoomSink {
-    /// An empty sink with room for so many bytes. Refused where memory runs out.
+    /// Creates an empty sink for `room` bytes. Returns `OutOfMemory` if memory runs out.
     pub(crate) fn new(alloc: Global, room: usize) -> Result<Self, OutOfMemory>
         ensures { IfOk result (λ sink. sink ≡ record { held = []; room = room; faults = 0 }) }
     {
@@ -32,7 +32,7 @@ impl RoomSink {
         })
     }
 
-    /// The bytes held.
+    /// Returns the bytes written.
     pub(crate) fn bytes(&self) -> &[u8]
         ensures value { result.now ≡ self.now.held }
         ensures bounds { FailsWhereFull self.now }

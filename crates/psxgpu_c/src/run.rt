@@ -1,4 +1,4 @@
-// A run over bytes of a caller.
+// Plays bytes of a caller.
 ghost use Rattle.std.specs.Prelude.{◌≡◌, ◌<◌, map};
 ghost use Rattle.std.specs.Option.{MatchOption};
 ghost use Rattle.psxgpu_c.specs.Whole.{PlaysInto, at_end, new_taps};
@@ -16,7 +16,8 @@ use std::marker::Brand;
 use std::sync::ledger::{Blank, Ledger};
 use vram_store::Steps;
 
-/// Plays a capture or a snapshot with a new machine, and puts what it writes in front. None where memory runs out.
+/// Plays a capture or a snapshot with a new machine and writes the output to the start of `out`. Returns `None` if
+/// memory runs out before; then nothing is written.
 pub(crate) fn play_over(alloc: Global, mode: Mode, capture: &[u8], out: &mut [u8]) -> Option<Ended>
     ensures { MatchOption result (out.new ≡ out.old) (λ told.
         PlaysInto mode new_taps capture.now out.old out.new told) }
@@ -24,7 +25,7 @@ pub(crate) fn play_over(alloc: Global, mode: Mode, capture: &[u8], out: &mut [u8
     play_report::<Brand>(alloc, mode, capture, out, Blank::new(1))
 }
 
-// The same with the taps of a report, and a count of store steps that is let go.
+// Does the same with the taps of `report`. The count of steps is dropped.
 fn play_report<L: Ledger>(
     alloc: Global,
     mode: Mode,
@@ -64,7 +65,7 @@ fn play_report<L: Ledger>(
     play_into(alloc, mode, capture, out, &mut taps, &mut steps)
 }
 
-// The same with any taps.
+// Does the same with any taps.
 fn play_into<T: Listener, L: Ledger>(
     alloc: Global,
     mode: Mode,
@@ -89,7 +90,7 @@ fn play_into<T: Listener, L: Ledger>(
     Some(told(end, bytes.len()))
 }
 
-// How playing ended, and how many bytes it wrote.
+// Returns the details of the ending, with the number of bytes written.
 fn told(end: AnyEnding, written: usize) -> Ended
     ensures { result ≡ record (at_end end) { written = written } }
 {

@@ -1,4 +1,4 @@
-// The machine of a handle as a snapshot in memory, and back.
+// Writes the machine of a handle as a snapshot, and reads one.
 ghost use Rattle.std.specs.Prelude.{◌≡◌};
 ghost use Rattle.psxgpu_c.specs.Codes.{told_by};
 ghost use Rattle.psxgpu_c.specs.Saved.{LoadsHeld, SavesHeld, TellsLoad};
@@ -11,7 +11,8 @@ use crate::refusal::Refusal;
 use crate::state::{load, put_saved};
 use std::alloc::Global;
 
-/// Puts the machine in front of the caller's bytes, as a snapshot with no record behind its state.
+/// Writes the machine to the start of `out` as a snapshot with no record after its state. `written`: the number of
+/// bytes. Refuses with `TooManyEvents`, `NoRoom` or `NoMemory`; then `out` is unchanged and `written` is 0.
 #[unsafe(no_mangle)]
 pub extern "C" fn psxgpu_save(
     alloc: Global,
@@ -39,7 +40,8 @@ fn saved_of(alloc: Global, gpu: &mut Psxgpu, out: &mut [u8]) -> Result<usize, Re
     }
 }
 
-/// Makes the machine the state of a snapshot.
+/// Replaces the machine by the state of a snapshot, or by the first state of a capture. Sets `ended` in every case and
+/// returns its code. If the bytes are neither, or memory runs out, the machine is unchanged.
 #[unsafe(no_mangle)]
 pub extern "C" fn psxgpu_load(
     alloc: Global,
@@ -54,7 +56,7 @@ pub extern "C" fn psxgpu_load(
     ended.code
 }
 
-// The same, and answers why it is not done.
+// Does the same. Returns why it failed, or `None`.
 fn load_held(alloc: Global, gpu: &mut Psxgpu, bytes: &[u8]) -> Option<Refusal>
     ensures { LoadsHeld gpu.old.held.value gpu.new.held.value bytes.now result }
 {
@@ -68,7 +70,7 @@ fn load_held(alloc: Global, gpu: &mut Psxgpu, bytes: &[u8]) -> Option<Refusal>
     }
 }
 
-// What is told where there may be a refusal.
+// Returns the details of a refusal, or of success.
 fn told_by(why: Option<Refusal>) -> Ended
     ensures { result ≡ told_by why }
 {

@@ -1,4 +1,4 @@
-// A rig as a snapshot in memory, and back.
+// Writes a machine as a snapshot in memory, and reads one.
 ghost use Rattle.std.specs.Prelude.{◌≡◌, ◌<◌, OnOk, length};
 ghost use Rattle.dev_io.specs.Device.{Writes, side};
 ghost use Rattle.psxgpu_c.specs.Saved.{Loads, Saves, saved};
@@ -18,13 +18,13 @@ use std::marker::Brand;
 use std::sync::ledger::{Blank, Ledger};
 use vram_store::Steps;
 
-/// How many events a snapshot counts at most.
+/// The maximum number of events that a snapshot counts.
 const MOST_EVENTS: u64 = 0x7fff_ffff_ffff_ffff;
 
-/// How many bytes an End record has.
+/// The size in bytes of an End record.
 const END_SIZE: usize = 4;
 
-/// Puts a snapshot of a rig in front, with no record behind its state.
+/// Writes a snapshot of a machine to the start of `out`, with no record after its state. Returns its size in bytes.
 pub(crate) fn put_saved(alloc: Global, rig: &Rig, out: &mut [u8]) -> Result<usize, Refusal>
     ensures { Saves rig.now out.old out.new result }
 {
@@ -61,14 +61,14 @@ fn put_snapshot<L: Ledger>(
     Ok(size)
 }
 
-// How many bytes the snapshot of a rig has.
+// Returns the size in bytes of the snapshot of a machine.
 fn saved_size(rig: &Rig) -> usize
     ensures { result ≡ length (saved rig.now) }
 {
     state_size(rig) as usize + END_SIZE
 }
 
-// Writes the snapshot of a rig.
+// Writes the snapshot of a machine.
 fn write_saved<K: Sink, L: Ledger>(
     rig: &Rig,
     out: &mut K,
@@ -81,7 +81,7 @@ fn write_saved<K: Sink, L: Ledger>(
     write_end(out)
 }
 
-/// Makes a rig the state of a snapshot, or the beginning of a capture, and answers why it does not.
+/// Replaces a machine by the state of a snapshot, or by the first state of a capture. Returns why it failed, or `None`.
 pub(crate) fn load(alloc: Global, rig: &mut Rig, bytes: &[u8]) -> Option<Refusal>
     ensures { Loads bytes.now rig.old rig.new result }
 {

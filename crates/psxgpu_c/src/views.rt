@@ -1,4 +1,4 @@
-// What is seen of a rig: video memory and the shown picture, as bytes.
+// Writes video memory and the shown picture as bytes.
 ghost use Rattle.std.specs.Prelude.{◌≡◌, ◌<◌, ◌^◌, IfOk, IsSome, Some};
 ghost use Rattle.gp1_status.specs.Shape.{shape_of};
 ghost use Rattle.picture_out.specs.Dump.{dump};
@@ -17,10 +17,10 @@ use std::marker::Brand;
 use std::sync::ledger::{Blank, Ledger};
 use vram_store::Steps;
 
-/// How many bytes the head of a picture has, at most.
+/// The maximum size in bytes of a PPM header.
 const MOST_HEAD: usize = 32;
 
-/// Puts the bytes of video memory in front.
+/// Writes the bytes of video memory to the start of `out`, and returns their number.
 pub(crate) fn put_vram(alloc: Global, rig: &Rig, out: &mut [u8]) -> Result<usize, Refusal>
     ensures { PutsDue (Some (dump rig.now.gpu.parts.m)) out.old out.new result }
 {
@@ -49,7 +49,8 @@ fn put_dump<L: Ledger>(
     }
 }
 
-/// Puts the shown picture in front, as PPM, if there is one.
+/// Writes the shown picture to the start of `out` as PPM, and returns the number of bytes. If it has no pixel, returns
+/// `NoPicture`.
 pub(crate) fn put_picture(alloc: Global, rig: &Rig, out: &mut [u8]) -> Result<usize, Refusal>
     ensures { PutsDue (picture_due rig.now) out.old out.new result }
 {
@@ -62,7 +63,7 @@ pub(crate) fn put_picture(alloc: Global, rig: &Rig, out: &mut [u8]) -> Result<us
     }
 }
 
-/// The shown picture, of so many pixels, as PPM in memory of its own.
+/// Returns the shown picture as PPM in memory of its own. `count`: its number of pixels. Requires that there is one.
 pub(crate) fn picture_in_memory(
     alloc: Global,
     rig: &Rig,
@@ -97,7 +98,7 @@ fn write_picture<L: Ledger>(
     }
 }
 
-/// A cell.
+/// Returns a cell. Requires that column and row are in video memory.
 pub(crate) fn cell_of(rig: &Rig, x: u16, y: u16) -> u16
     requires in_row { x < 1024 }
     requires in_height { y < rig.now.gpu.parts.regs.height }

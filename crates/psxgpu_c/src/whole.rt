@@ -1,4 +1,4 @@
-// A whole capture or snapshot is played by a machine of its own.
+// Plays a whole capture or snapshot with a machine of its own.
 ghost use Rattle.std.specs.Prelude.{◌≡◌};
 ghost use Rattle.psxgpu_c.specs.Whole.{PlaysMode, at_end, at_ending, cell_in, mode_named};
 
@@ -10,7 +10,9 @@ use gpu_snapshot::AnyEnding;
 use px_num::Cell;
 use std::alloc::Global;
 
-/// Plays a capture or a snapshot with a new machine, and puts what the mode asks for in front of the caller's bytes.
+/// Plays a capture or a snapshot with a new machine, and writes what the mode asks for to the start of `out`. `mode`: a
+/// `PSXGPU_MODE_` number. `cell`: x | y << 16, for `Pixel` only. Sets `ended` in every case and returns its code. An
+/// unknown mode is refused with `BadMode`.
 #[unsafe(no_mangle)]
 pub extern "C" fn psxgpu_play(
     alloc: Global,
@@ -39,7 +41,7 @@ fn play_mode(alloc: Global, mode: Option<Mode>, capture: &[u8], out: &mut [u8]) 
     }
 }
 
-// The mode of this number.
+// Returns the mode with this number, if there is one.
 fn mode_of(number: u32, cell: u32) -> Option<Mode>
     ensures { result ≡ mode_named number cell }
 {
@@ -60,7 +62,7 @@ fn mode_of(number: u32, cell: u32) -> Option<Mode>
     modes.get(number as usize).copied()
 }
 
-// A column in the low half of a word, and a row in the high half.
+// Returns the cell with the column in the low half of a word and the row in the high half.
 fn cell_in(word: u32) -> Cell
     ensures { result ≡ cell_in word }
 {
@@ -70,7 +72,7 @@ fn cell_in(word: u32) -> Cell
     }
 }
 
-/// How playing ended.
+/// Returns the details of an ending.
 pub(crate) fn at_end(end: AnyEnding) -> Ended
     ensures { result ≡ at_end end }
 {

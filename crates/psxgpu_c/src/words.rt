@@ -1,4 +1,4 @@
-// Words are fed to a rig, and events played on it. Nobody listens, and the count of store steps is let go.
+// Feeds words to a machine, and plays events on it. There are no taps, and the count of steps is dropped.
 ghost use Rattle.std.specs.Prelude.{◌≡◌, ◌<◌, ◌∷◌, []};
 ghost use Rattle.psxgpu_c.specs.Calls.{HasPlayed, Takes};
 
@@ -11,7 +11,7 @@ use std::marker::Brand;
 use std::sync::ledger::{Blank, Ledger};
 use vram_store::Steps;
 
-/// Takes a word of GP0.
+/// Feeds a word to GP0.
 pub(crate) fn take_word(alloc: Global, rig: &mut Rig, word: u32)
     ensures { Takes (word ∷ []) rig.old rig.new 0 }
 {
@@ -29,7 +29,7 @@ fn take_one<L: Ledger>(alloc: Global, rig: &mut Rig, word: u32, blank: Blank)
     let _ = rig.take_word(word, &mut taps, &mut steps);
 }
 
-/// Takes words of GP0, one after another.
+/// Feeds `words` to GP0, one event per word.
 pub(crate) fn take_words(alloc: Global, rig: &mut Rig, words: &[u32])
     ensures { Takes words.now rig.old rig.new 0 }
 {
@@ -47,7 +47,7 @@ fn take_all<L: Ledger>(alloc: Global, rig: &mut Rig, words: &[u32], blank: Blank
     rig.take_words(words, &mut taps, &mut steps);
 }
 
-/// Plays an event.
+/// Plays an event. Returns the word that it shows, if any. If it has a fault, changes nothing and returns `Faulted`.
 pub(crate) fn play(alloc: Global, rig: &mut Rig, event: &Event) -> Result<Option<u32>, Refusal>
     ensures { HasPlayed rig.old rig.new event.now (λ answer. answer ≡ result) }
 {

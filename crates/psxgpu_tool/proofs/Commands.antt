@@ -16,11 +16,11 @@ use Rattle.psxgpu_tool.specs.declared.command.Command.TheVariants.{Plays, Flat, 
 abbrev letters : List ℕ → ℕ
 letters name = 65536 * slice_index_or name 0 0 + 256 * slice_index_or name 2 0 + slice_index_or name 3 0
 
--- the moments of this second name
+-- the `Moment` of this second name
 abbrev moment_by : (name : List ℕ) → Moment
 moment_by name = if slice_index_or name 0 0 == 109 then Mark else Flip
 
--- the command of these letters, with this moment and these numbers
+-- the command of these letters, with this `Moment` and these numbers
 abbrev command_by : (letters : ℕ) → Moment → (n m : ℕ) → Command
 command_by given at n m =
     if given == letters (codes "play") then Plays Words else
@@ -42,7 +42,7 @@ abbrev command_of : (names : List (List ℕ)) → Command
 command_of names = command_by (letters (slice_index_or names 0 [])) (moment_by (slice_index_or names 1 []))
     (digits_value 10 (slice_index_or names 1 [])) (digits_value 10 (slice_index_or names 2 []))
 
--- its names give a command back
+-- a command is determined by its names
 is_named : (command : Command) → IsCommand command → command_of (names_of command) ≡ command
 is_named (Plays Words) is = refl
 is_named (Plays Vram) is = refl

@@ -1,4 +1,4 @@
--- What the end of cutting a capture says, where the bytes of the source are told.
+-- The result of cutting a capture, if the source states its bytes.
 use Rattle.std.proofs.Common.{◌≡◌, ◌≤◌, ◌<◌, inl, inr, ℕ, zero, suc, ◌++◌, List, [], ◌∷◌, Some, Err, length, take}
 use Rattle.std.proofs.Common.{drop}
 use Rattle.std.proofs.Common.{refl, ap, sym, subst, ◌∙◌, append-nil, append_assoc, arith}
@@ -76,7 +76,7 @@ cut_four (Stopped n (ReadFault byte)) four = absurd (omega (arith, four))
 
 -- ---- the first events
 
--- more events behind the first make no shorter file
+-- more events after the first make no shorter file
 longer : (t : Tale) (xs ys : List Event) → length (cut_file t xs) ≤ length (cut_file t (xs ++ ys))
 longer t xs ys =
     let a = length-append (begun t xs) spelled_end in
@@ -128,7 +128,7 @@ module _ (n : ℕ) (way : Way) (plays : Plays (raised first way.version) way.pla
         (λ fault. record { tale = way.tale; ending = play.Faulted (next_number way.tale.played) fault; rest = [] }))
         after)
 
--- the file of a capture that was cut goes on where it was cut
+-- the file of a cut capture continues it
 cut_goes_on : (n : ℕ) (way : Way) (was now : Streams)
     → Plays (raised first way.version) way.played way.tale → IsCut n way was now
     → GoesOnAs way.tale (λ rest. played_events (raised first way.version) (events_of way) End rest)
@@ -144,7 +144,7 @@ cut_goes_on n way was now plays is =
           cut_files.ends_on first (raised first way.version) way.tale way.played way.later rest leads whole;
     }
 
--- the first of a list that is longer, beyond a part of it
+-- the first of a longer list, beyond a part of it
 first_beyond : (xs : List Event) (y : Event) (ys : List Event) (n : ℕ) → length xs < n
     → (more : List Event) × (take n ((xs ++ y ∷ []) ++ ys) ≡ xs ++ y ∷ more)
 first_beyond [] y ys zero lt = absurd (omega (arith, lt))
@@ -201,11 +201,11 @@ module _ (n : ℕ) (small : n ≤ 4294967295) (heard heard_now : List Reading) (
   pub cut_whole : (ending : CutEnding) → Ends ending → cut_status ending ≡ 0 → CutWhole n bytes before now
   cut_whole ending ends none = whole_by (subst Ends (cut_zero ending none) ends)
 
-  -- it is refused, because it can't be cut
+  -- it is refused, because it cannot be cut
   refused : (IsCuttable n (capture bytes) → ⊥) → EndsAsCut n (capture bytes) 2
   refused cannot = inr (refl, cannot)
 
-  -- it is whole, and has too few events
+  -- it is complete, and has too few events
   past_end : (number : ℕ) → Ends (PastEnd number) → EndsAsCut n (capture bytes) 2
   past_end number ends =
       let way = ends.way in
@@ -247,7 +247,7 @@ module _ (n : ℕ) (small : n ≤ 4294967295) (heard heard_now : List Reading) (
       in
       refused (λ cuttable. absurd (cc (ending, cuttable.fine)))
 
-  -- with the records of the events that were read it is too long, and so it is with those of all
+  -- the file with the records of the events that were read is too long, and so is that with all records
   long_by : (number : ℕ) → Ends (TooLong number) → EndsAsCut n (capture bytes) 2
   long_by number ends =
       let way = ends.way in

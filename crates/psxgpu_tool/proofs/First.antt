@@ -1,4 +1,4 @@
--- A new rig, and the machine for which it stands.
+-- A new rig, and the machine that it represents.
 use Rattle.std.proofs.Common.{◌≡◌, sym, subst, refl}
 use Rattle.event_play.specs.RigState.{RigState, Stands, first_rig}
 use Rattle.event_play.specs.Step.{first_machine}

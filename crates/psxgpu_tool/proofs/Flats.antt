@@ -1,4 +1,4 @@
--- What the end of a flat capture says, where the bytes of the source are told.
+-- The result of writing a flat capture, if the source states its bytes.
 use Rattle.std.proofs.Common.{◌≡◌, ◌≤◌, ◌<◌, ℕ, ◌++◌, List, [], ◌∷◌, Some, Result, Ok, Err, length, refl, ap, sym}
 use Rattle.std.proofs.Common.{subst, ◌∙◌, append-nil, append_assoc, arith}
 use Rattle.std.proofs.lemmas.List.{length-append}
@@ -76,7 +76,7 @@ flat_four (Stopped n (ReadFault byte)) four = absurd (omega (arith, four))
 
 -- ---- flat events
 
--- an event with a fault gives none
+-- an event with a fault has none
 asks_none : (s : Machine) (number : ℕ) (asked : Result Work EventFault) (fault : EventFault)
     → stepped s number asked ≡ Err fault → flat_asked s.ram asked ≡ []
 asks_none s number (Ok asked) fault is = absurd cc
@@ -125,7 +125,7 @@ fits_as : (bytes : List ℕ) (status : ℕ) → length (flat_of (capture bytes))
     ≡ status → EndsAsFlat bytes status
 fits_as bytes status fits is = record { long = λ long. absurd (omega (arith, fits, long)); fits = λ few. sym is }
 
--- what is said of bytes by what their capture is
+-- the status for bytes, given their capture
 by_capture : (bytes : List ℕ) (captured : Captured) (status : ℕ) → capture bytes ≡ captured
     → length (flat_of captured) ≤ limit
     → status_of (played_events (raised first captured.version) captured.events captured.ending captured.rest).ending
@@ -137,7 +137,7 @@ by_capture bytes captured status is fits ends =
     ≡ status)
     (sym is) ends)
 
--- a stop behind the events of a way
+-- a stop after the events that were read
 by_stop : (bytes rest : List ℕ) (way : Way) (number : ℕ) (stop : Stop)
     → Follows (raised first way.version) way.events way.tale way.flat
     → capture bytes ≡ record { version = way.version; events = way.events; ending = stop; rest = rest } → IsNotEnd stop

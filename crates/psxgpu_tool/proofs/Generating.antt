@@ -1,4 +1,4 @@
--- The words of a demo, one after another.
+-- The words of a demo, in order.
 use Rattle.std.proofs.Common.{◌≡◌, ◌≤◌, ◌<◌, ◌+◌, ◌%◌, ◌++◌, ℕ, zero, suc, List, [], ◌∷◌, map, flat_map, length}
 use Rattle.std.proofs.Common.{slice_index, arith, refl, ap, ◌∙◌}
 use Rattle.std.specs.List.{range_with_len}
@@ -50,7 +50,7 @@ lists_more f k =
     ap (flat_map f) (range_more 0 k k (omega arith)) ∙ flat_map-append f (range_with_len 0 k) (k ∷ [])
     ∙ ap (λ xs. flat_map f (range_with_len 0 k) ++ xs) (append-nil (f k))
 
--- where the generator stands behind a packet
+-- the state of the generator after a packet
 pub number_on : (n k number now : ℕ) → now ≡ after_draws (length_of k) number → number ≡ number_before n k
     → now ≡ number_before n (k + 1)
 number_on n k number now is at = let e : k + 1 ≡ suc k = omega arith in rw (e, ← at) is

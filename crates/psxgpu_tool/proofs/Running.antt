@@ -1,4 +1,4 @@
--- What a run does, by its words and by how it ended.
+-- What a run does, given its arguments and how it ended.
 use Rattle.std.proofs.Common.{◌≡◌, ◌≤◌, ◌+◌, ◌⊎◌, inl, inr, ℕ, List, [], map, Vec, String}
 use Rattle.std.proofs.Common.{string_bytes, refl, ap, sym, subst, ◌∙◌, append-nil, arith}
 use Rattle.std.specs.declared.alloc.Global.{Global}
@@ -163,7 +163,7 @@ answers command heard before now status known silent does = record {
   few = known.few;
 }
 
--- a capture or a snapshot that is played
+-- playing a capture or a snapshot
 module _ (heard heard_now : List Reading) (before now : Outside) where
   play_run : (mode : Mode) (ending : Ending) → PlaysAny mode first (seen heard before) (seen heard_now now) ending
       → Says before.err now.err (ending_text ending heard_now)
@@ -239,7 +239,7 @@ module _ (heard heard_now : List Reading) (before now : Outside) where
 module _ (heard heard_now : List Reading) (before now : Outside) (ending : Ending)
     (says : Says before.err now.err (ending_text ending heard_now))
     (silent : status_of ending ≡ 0 → now.err ≡ before.err) where
-  -- what was to be told was, or a part of it
+  -- the output was written, or a part of it
   tells : (bytes : List ℕ) (event : ℕ) (e : Ending) → EndsTelling bytes event before.out now.out e
       → Says before.err now.err (ending_text e heard_now)
       → Tells bytes event before now (status_of e)
@@ -408,9 +408,9 @@ nothing_played heard steps rig is = record {
   height = refl;
 }
 
--- ---- any words
+-- ---- any arguments
 
--- words that name a command
+-- arguments that name a command
 pub command_runs : (words : Vec (String Global) Global) (command : Command) (heard : List Reading)
     (before now : Outside) (status : ℕ) → Names words command → CommandRun command heard before now status
     → Runs words heard before now status
@@ -424,7 +424,7 @@ command_runs words command heard before now status named run = record {
   few = run.few;
 }
 
--- words that name none
+-- arguments that name none
 pub misused_runs : (words : Vec (String Global) Global) (heard : List Reading) (before now : Outside) → IsUsage words
     → Declined usage_line before now → Runs words heard before now 1
 misused_runs words heard before now usage declined = record {

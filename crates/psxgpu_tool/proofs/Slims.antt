@@ -1,4 +1,4 @@
--- What the end of a capture without dead drawing says, where the bytes of the source are told.
+-- The result of writing a capture without dead drawing, if the source states its bytes.
 use Rattle.std.proofs.Common.{◌≡◌, ◌≤◌, ◌+◌, inl, inr, ℕ, ◌++◌, List, [], ◌∷◌, Some, length}
 use Rattle.std.proofs.Common.{refl, ap, sym, subst, ◌∙◌, arith}
 use Rattle.dev_io.specs.Device.{appended}
@@ -70,11 +70,11 @@ among : (xs : List Event) (e : Event) (ys : List Event) → AreAtPorts ((xs ++ e
 among [] e ys ports = ports.0
 among (x ∷ xs) e ys ports = among xs e ys ports.1
 
--- a whole capture that says these events
+-- a complete capture that encodes these events
 abbrev whole_of : Way → (rest : List ℕ) → Captured
 whole_of way rest = record { version = way.version; events = way.events; ending = End; rest = rest }
 
--- what was written of a capture is one, and replays alike
+-- what was written of a capture is a capture, and replays alike
 abbrev IsSlimOf : Tale → Captured → Type 0
 IsSlimOf t c = IsFlatCapture first t c.version (slim_events (height_for c.version) c.events) (slim_of c)
 
@@ -118,7 +118,7 @@ module _ (before now : Outside) (bytes : List ℕ) (told : before.source.left �
 
   -- ---- a refusal that is too long
 
-  -- what was read is all that the capture says
+  -- what was read is the whole capture
   long_by : (way : Way) (number : ℕ) (stop : Stop) (rest : List ℕ) → AreAtPorts way.events → IsTooLong way number
       → capture bytes ≡ record { version = way.version; events = way.events; ending = stop; rest = rest }
       → EndsAsSlim (capture bytes) 2
@@ -131,7 +131,7 @@ module _ (before now : Outside) (bytes : List ℕ) (told : before.source.left �
         absurd (omega (arith, few, much));
   }
 
-  -- the capture goes on
+  -- the capture continues
   long_on : (way : Way) (number : ℕ) (more : Captured) → number + window_events ≤ length way.events
       → IsTooLong way number → capture bytes ≡ then_events way.events more → more.version ≡ way.version
       → EndsAsSlim (capture bytes) 2
@@ -145,7 +145,7 @@ module _ (before now : Outside) (bytes : List ℕ) (told : before.source.left �
         absurd (omega (arith, fewer, much));
   }
 
-  -- it is refused at an event that is none of the ports
+  -- it is refused at an event that is not at the ports
   stops_next : (way : Way) (next : RefusesNext way) (rest : List ℕ) → bytes ≡ way.taken ++ rest
       → EndsAsSlim (capture bytes) 2
   stops_next way next rest all =

@@ -5,11 +5,11 @@ use Rattle.std.proofs.lemmas.List.{drop-drop}
 use Rattle.std.proofs.lemmas.List.Sums.{sum_by-append}
 use Rattle.std.proofs.Math.Seq.{take-add}
 
--- n numbers more
+-- n more numbers
 sum_more : (m : List ℕ) (i n : ℕ) → sum (take (i + n) m) ≡ sum (take i m) + sum (take n (drop i m))
 sum_more m i n = ap sum (take-add i n m) ∙ sum_by-append (λ x. x) (take i m) (take n (drop i m))
 
--- sixteen cells of a row more
+-- sixteen more cells of a row
 pub lanes_more : (m lanes : List ℕ) (start k : ℕ) → lanes ≡ take 16 (drop (start + 16 * k) m)
     → sum (take (16 * (k + 1)) (drop start m)) ≡ sum (take (16 * k) (drop start m)) + sum lanes
 lanes_more m lanes start k loaded =
@@ -27,7 +27,7 @@ row_more m y =
     let e : 1024 * (y + 1) ≡ 1024 * y + 1024 = omega arith in
     rw (e, row_is m y) (sum_more m (1024 * y) 1024)
 
--- a row more of these cells
+-- one more row of these cells
 pub sum_on : (m cells : List ℕ) (y total row : ℕ) → cells ≡ m → total ≡ sum (take (1024 * y) m)
     → row ≡ sum (slice_range cells (1024 * y) (1024 * y + 1024)) → total + row ≡ sum (take (1024 * (y + 1)) m)
 sum_on m cells y total row same before next =

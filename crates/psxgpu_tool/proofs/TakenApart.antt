@@ -1,4 +1,4 @@
--- The four ways in which arguments are taken apart.
+-- The four ways in which the file name is separated from the arguments.
 use Rattle.std.proofs.Common.{◌≡◌, ◌∷◌, ◌++◌, [], List, Bool, String, Option, None, Some, IsSome, option_to_list}
 use Rattle.std.proofs.Common.{map, string_bytes, refl, sym, ap, ◌∙◌}
 use Rattle.std.specs.declared.alloc.Global.{Global}
@@ -44,7 +44,7 @@ typed_other is_there words unnamed silent fileless = record {
   other = λ _ _ _. (refl, refl);
 }
 
--- what is popped off is the last word
+-- the argument that is removed is the last one
 pub popped_last : (words command rest : Words) (file : String Global) (popped : Option (String Global)) →
     words ≡ command ++ file ∷ [] → words ≡ rest ++ option_to_list popped → IsSome popped →
     (command ≡ rest) × (Some file ≡ popped)

@@ -1,4 +1,4 @@
--- What the end of playing says, where the bytes of the source are told.
+-- The result of playing, if the source states its bytes.
 use Rattle.std.proofs.Common.{◌≡◌, ◌≤◌, ◌+◌, ◌⊎◌, inl, inr, ℕ, ◌++◌, Bool, true, false, List, [], Option, Some, None}
 use Rattle.std.proofs.Common.{IfSome, refl, ap, sym, subst, ◌∙◌, append-nil, arith}
 use Rattle.dev_io.specs.Device.{prepended, appended, IsAtEnd}
@@ -42,12 +42,12 @@ stays true number (NoPicture n) other = refl
 stays true number (WriteFailed n) other = refl
 stays false number ending other = refl
 
--- a replay that is not whole ends so under every mode
+-- a replay that is not complete has the same ending in every mode
 stays_under : (mode : Mode) (r : Played) (ending : Ending) → r.ending ≡ ending → IsNotDone ending
     → ending_under mode r ≡ ending
 stays_under mode r ending is other = ap (unless_lacking _ _) is ∙ stays _ _ ending other
 
--- nothing is due behind the events of a replay that is not whole
+-- a replay that is not complete has no output after its events
 no_finals : (mode : Mode) (heard : List Reading) (t : Tale) (ending : Ending) → IsNotDone ending
     → finals_at ending mode (told_notes t.notes heard) (next_number t.played) t.state.gpu ≡ []
 no_finals mode heard t Done other = absurd other
@@ -56,7 +56,7 @@ no_finals mode heard t (Faulted n fault) other = refl
 no_finals mode heard t (NoPicture n) other = refl
 no_finals mode heard t (WriteFailed n) other = refl
 
--- all that is written of a replay, by its tale and its ending
+-- the whole output of a replay, given its state and its ending
 out_is : (mode : Mode) (heard : List Reading) (r : Played) (t : Tale) (ending : Ending) → r.tale ≡ t
     → ending_under mode r ≡ ending
     → out_bytes mode heard r ≡ lines_of mode t
@@ -132,9 +132,9 @@ write_four (Faulted n fault) may = absurd may
 write_four (WriteFailed n) may = refl
 write_four (Stopped n stop) may = absurd may
 
--- ---- the bytes taken
+-- ---- the bytes read
 
--- the bytes that were taken, and those that are left
+-- the bytes that were read, and those that remain
 pub record IsCut (bytes taken : List ℕ) (left : Option (List ℕ)) : Type 0 where
   pub rest : List ℕ
   pub all : bytes ≡ taken ++ rest
@@ -148,11 +148,11 @@ pub none_left : (left : Option (List ℕ)) (rest : List ℕ) → left ≡ Some r
 none_left None rest e at_end = absurd cc
 none_left (Some left) rest e at_end = let same : left ≡ rest = cc in sym same ∙ at_end
 
--- all bytes were taken
+-- all bytes were read
 pub all_taken : (bytes taken rest : List ℕ) → bytes ≡ taken ++ rest → rest ≡ [] → bytes ≡ taken
 all_taken bytes taken rest all none = all ∙ ap (λ xs. taken ++ xs) none ∙ append-nil taken
 
--- a fact of the bytes left, where they are told
+-- a fact about the bytes that remain, if the source states them
 pub if_told : (left : Option (List ℕ)) (P : List ℕ → Type 0) → ((bytes : List ℕ) → left ≡ Some bytes → P bytes)
     → IfSome left P
 if_told None P fact = tt
@@ -160,7 +160,7 @@ if_told (Some bytes) P fact = fact bytes refl
 
 -- ---- playing from a new machine
 
--- it ended as the capture does, and all that is to be written was
+-- it ended as the capture does, and the whole output was written
 pub record EndsCaptured (mode : Mode) (heard : List Reading) (bytes taken rest : List ℕ) (before now : Outside)
     (t : Tale) (ending : Ending)
     : Type 0 where
@@ -169,7 +169,7 @@ pub record EndsCaptured (mode : Mode) (heard : List Reading) (bytes taken rest :
   pub held : now.out.held ≡ appended before.out.held (out_bytes mode heard (play_file bytes))
   pub decides : ((more : List ℕ) → ending_under mode (play_file (taken ++ more)) ≡ ending) ⊎ (rest ≡ [])
 
--- a file with no bad word ends as it is played
+-- a file without an invalid word ends as it is played
 good_any : (found : Opened) (ending : Ending) → HasNoBadWord found → any_ending found ending ≡ any.Played ending
 good_any (Captured version rest) ending good = refl
 good_any (Restored s place rest) ending good = refl
@@ -182,7 +182,7 @@ file_by : (mode : Mode) (bytes : List ℕ) (ending : Ending) → HasNoBadWord (o
 file_by mode bytes ending good is =
     good_any (opened bytes) (ending_under mode (play_file bytes)) good ∙ ap any.Played is
 
--- it ended so as a file
+-- it ended in this way as a file
 pub record EndsFile (mode : Mode) (bytes : List ℕ) (ending : Ending) (taken rest : List ℕ) : Type 0 where
   pub ends : file_ending mode bytes ≡ any.Played ending
   pub decides : ((more : List ℕ) → file_ending mode (taken ++ more) ≡ any.Played ending) ⊎ (rest ≡ [])
@@ -210,7 +210,7 @@ module _ (mode : Mode) (heard heard_now : List Reading) (before now : Outside) (
         decides = decides;
       }
 
-  -- a stop that the bytes taken decide
+  -- a stop that the bytes read decide
   stopped : (taken rest : List ℕ) (t : Tale) (ending : Ending) → bytes ≡ taken ++ rest
       → ((rest : List ℕ) → play_file (taken ++ rest) ≡ record { tale = t; ending = ending; rest = rest })
       → IsNotDone ending
@@ -279,7 +279,7 @@ module _ (mode : Mode) (heard heard_now : List Reading) (before now : Outside) (
       let is_cut = taken_of (Stopped number (TooLong byte)) ends in
       stopped ends.taken is_cut.rest ends.tale (Stopped number (TooLong byte)) is_cut.all ends.says.0 tt ends.says.1
 
-  -- the rig and the taps are as after the tale
+  -- the rig and the taps are as after the replay
   last_of : (ending : Ending) (ends : Ends ending) → (MayWriteFault ending → ⊥) → ends.last ≡ ends.tale
   last_of Done ends write = ends.is_last
   last_of (NoPicture number) ends write = ends.is_last
@@ -287,9 +287,9 @@ module _ (mode : Mode) (heard heard_now : List Reading) (before now : Outside) (
   last_of (Faulted number fault) ends write = ends.is_last
   last_of (WriteFailed number) ends write = absurd (write tt)
 
-  -- ---- with what opening says
+  -- ---- with the result of opening
 
-  -- no word of a state is bad, whatever follows the bytes taken
+  -- no word of a state is invalid, whatever follows the bytes read
   good_all : (ending : Ending) (ends : Ends ending) → ((rest : List ℕ) → HasNoBadWord (opened (ends.taken ++ rest)))
       → (MayReadFault ending → ⊥) → (MayWriteFault ending → ⊥)
       → EndsFile mode bytes ending ends.taken (taken_of ending ends).rest
@@ -332,7 +332,7 @@ module _ (mode : Mode) (heard heard_now : List Reading) (before now : Outside) (
 
   -- ---- the statuses
 
-  -- an ending of which no bad word is known
+  -- an ending without a known invalid word
   abbrev Good : Ending → Type 0
   Good ending = (ends : Ends ending) × IsGood ending ends.taken
 
@@ -447,7 +447,7 @@ module _ (mode : Mode) (heard heard_now : List Reading) (before now : Outside) (
       → status_of ending ≡ any_status (file_ending mode bytes)
   complete_run ending both read write = sym (ap any_status (file_ends ending both.0 both.1 read write).ends)
 
-  -- the store steps of opening are within those of all bytes
+  -- the steps of opening are within those of all bytes
   opened_within : (ending : Ending) (ends : Ends ending)
       → ((rest : List ℕ) → opening ≤ opening_cost (ends.taken ++ rest)) → opening ≤ opening_cost bytes
   opened_within ending ends cost = let is_cut = taken_of ending ends in rw is_cut.all (cost is_cut.rest)
@@ -474,7 +474,7 @@ module _ (mode : Mode) (heard heard_now : List Reading) (before now : Outside) (
       let first = opened_within ending ends cost in
       omega (arith, played, first)
 
--- ---- a bad word of a state
+-- ---- an invalid word of a state
 
 module _ (mode : Mode) (heard heard_now : List Reading) (before now : Outside) (bytes : List ℕ)
     (told : before.source.left ≡ Some bytes) (byte word : ℕ)

@@ -1,4 +1,4 @@
--- Words that are played one after another.
+-- Words that are played in order.
 use Rattle.std.proofs.Common.{◌≡◌, ◌≤◌, ◌+◌, ◌<◌, ◌++◌, ℕ, zero, suc, List, [], ◌∷◌, length, take, get_or, map}
 use Rattle.std.proofs.Common.{Option, Result, Ok, Err, OnOk, IfOk, IfErr, option_to_list, arith, refl, ap, sym}
 use Rattle.std.proofs.Common.{append_assoc, ◌∙◌}
@@ -24,7 +24,7 @@ use Rattle.psxgpu_tool.proofs.Generating.{lists_more}
 use Rattle.psxgpu_tool.proofs.Heights.{feed_height}
 use Rattle.event_play.specs.Setting.{setting}
 
--- the tale with one event more
+-- the state after one more event
 abbrev tale_on : Tale → Event → Machine → Option ℕ → List Note → Tale
 tale_on t event machine shown notes = record {
   state = machine;
@@ -63,7 +63,7 @@ events_before words word more =
     ∙ append_assoc (map Gp0 words) (Gp0 word ∷ []) more
 
 module _ (first : Tale) (words : List ℕ) (word : ℕ) (start before now : Outlets) (was rig : RigState) where
-  -- one word more was played
+  -- one more word was played
   stepped_on : (played : HavePlayed first words start before was) (shown : Option ℕ)
       → HasStepped played.tale.state (numbered (next_number was.played) (Gp0 word)) shown before (setting now rig)
       → rig.played ≡ next_number was.played
@@ -103,7 +103,7 @@ module _ (first : Tale) (words : List ℕ) (word : ℕ) (start before now : Outl
   word_on (Err why) played stepped count fault =
       absurd (no_fault played.tale.state (next_number was.played) why (fault played.tale.state played.stands.state))
 
--- no word more
+-- no more words
 pub none_on : (first : Tale) (words : List ℕ) (start now : Outlets) (rig : RigState)
     → HavePlayed first words start now rig
     → HavePlayed first (words ++ []) start now rig

@@ -1,5 +1,5 @@
--- What a run says that cuts a capture behind its first n events. Where the bytes of its source aren't told, only its
--- ending is said.
+-- What a run does that cuts a capture after its first n events. If the source does not state its bytes, only the ending
+-- is described.
 use Rattle.std.specs.Prelude.{◌≡◌, ◌≤◌, ◌+◌, ◌++◌, ◌⊎◌, ℕ, List, [], IfSome, Some, length, take, drop}
 use Rattle.dev_io.specs.Device.{appended}
 use Rattle.gpu_capture.specs.Capture.{Captured, capture, limit}
@@ -24,39 +24,38 @@ use Rattle.psxgpu_tool.specs.Outside.{Outside, Says, HasFailed, HasFailedToRead}
 abbrev pub play_first : (n : ℕ) → Captured → Played
 play_first n captured = played_events (raised first captured.version) (take n captured.events) End []
 
--- the state behind them, the records of the others, and an End record
+-- the state after them, the records of the others, and an End record
 abbrev pub cut_of : (n : ℕ) → Captured → List ℕ
 cut_of n captured = cut_file (play_first n captured).tale (drop n captured.events)
 
--- a capture can be cut: it is whole and has n events or more, none of the first n has a fault, and the file is not too
--- long
+-- a capture can be cut: it is complete and has at least n events, none of the first n has a fault, and the file is not
+-- too long
 pub record IsCuttable (n : ℕ) (captured : Captured) : Type 0 where
   pub ending : captured.ending ≡ End
   pub many : n ≤ length captured.events
   pub fine : (play_first n captured).ending ≡ Done
   pub fits : length (cut_of n captured) ≤ limit
 
--- the store steps are at most these, and those of reading all cells once
+-- the steps are at most `cost` and those of reading all cells once
 abbrev pub IsWithin : (cost : ℕ) → Tale → (before now : Outside) → Type 0
 IsWithin cost t before now = now.steps ≤ before.steps + cost + dump_cost t.state.gpu.parts.m
 
--- the whole capture, where these bytes stand behind it
+-- the whole capture, if the bytes `rest` follow it
 abbrev pub play_whole : Captured → (rest : List ℕ) → Played
 play_whole captured rest = played_events (raised first captured.version) captured.events captured.ending rest
 
--- A file goes on where a capture was cut, whatever bytes stand behind it: what the whole capture writes is what was
--- due, and then what the file writes, by taps that have heard the first events. Both end alike.
+-- A file continues the capture that was cut, whatever bytes follow it. The output of the whole capture is that of the
+-- state `was` followed by that of the file, for taps that received the notes of the first events. Both end alike.
 pub record GoesOnAs (was : Tale) (whole file : (rest : List ℕ) → Played) : Type 0 where
   pub writes : (mode : Mode) (heard : List Reading) (rest : List ℕ)
       → out_bytes mode heard (whole rest) ≡ lines_of mode was ++ out_bytes mode (told_notes was.notes heard) (file rest)
   pub ends : (rest : List ℕ) → EndAlike (file rest) (whole rest)
 
--- the file of a capture that was cut, where these bytes stand behind it
+-- the file of the cut capture, if the bytes `rest` follow it
 abbrev pub play_cut : (n : ℕ) → Captured → (rest : List ℕ) → Played
 play_cut n captured rest = play_file (cut_of n captured ++ rest)
 
--- status 0: the capture can be cut, those bytes are left that stand behind its End, and it was cut; the file goes on
--- where it was cut
+-- status 0: the capture can be cut and was cut, the bytes after its End remain, and the file continues it
 pub record CutWhole (n : ℕ) (bytes : List ℕ) (before now : Outside) : Type 0 where
   pub cuttable : IsCuttable n (capture bytes)
   pub left : now.source.left ≡ Some (capture bytes).rest
@@ -65,13 +64,13 @@ pub record CutWhole (n : ℕ) (bytes : List ℕ) (before now : Outside) : Type 0
   pub cost : IsWithin (play_first n (capture bytes)).tale.cost (play_first n (capture bytes)).tale before now
   pub box_cost : IsWithin (play_first n (capture bytes)).tale.box_cost (play_first n (capture bytes)).tale before now
 
--- the status by the capture alone: it is cut, or it is refused because it can't be
+-- the status given the capture alone: it is cut, or refused because it cannot be cut
 abbrev pub EndsAsCut : (n : ℕ) → Captured → (status : ℕ) → Type 0
 EndsAsCut n captured status =
     ((status ≡ 0) × IsCuttable n captured) ⊎ ((status ≡ 2) × (IsCuttable n captured → ⊥))
 
--- any status: how it ends, from a new machine, with all that was due before, what the taps were told and the store
--- steps; err says that, and behind a refusal the last items of the taps as they are then
+-- any status: the ending, starting with a new machine, what was written before it, the notes of the taps and the steps;
+-- `err` receives the line of the ending and, after a refusal, the last items of the taps
 pub record CutEnds (n : ℕ) (heard : List Reading) (before now : Outside) (status : ℕ) : Type 0 where
   pub ending : CutEnding
   pub rig : RigState
@@ -81,12 +80,12 @@ pub record CutEnds (n : ℕ) (heard : List Reading) (before now : Outside) (stat
   pub status_is : status ≡ cut_status ending
   pub says : Says before.err now.err (cut_text ending told)
 
--- what a run does that cuts a capture; with status 5 it does nothing but say so
+-- what a run does that cuts a capture; with status 5 it only reports that memory ran out
 pub record CutRun (n : ℕ) (heard : List Reading) (before now : Outside) (status : ℕ) : Type 0 where
   pub ends : (status ≡ 5) ⊎ CutEnds n heard before now status
   pub whole : status ≡ 0 → IfSome before.source.left (λ bytes. CutWhole n bytes before now)
   pub starved : status ≡ 3 → HasFailedToRead before.source now.source
   pub cut : status ≡ 4 → HasFailed before.out now.out
-  -- where nothing failed, the capture alone decides the status, or memory ran out
+  -- if nothing failed, the capture alone decides the status, or memory ran out
   pub complete : (HasFailedToRead before.source now.source → ⊥) → (HasFailed before.out now.out → ⊥)
       → (status ≡ 5) ⊎ IfSome before.source.left (λ bytes. EndsAsCut n (capture bytes) status)

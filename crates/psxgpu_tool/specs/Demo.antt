@@ -1,4 +1,4 @@
--- The packets of a demo: a long list of valid words that is made from a number (our own rule).
+-- The packets of a demo: a long list of valid words that is generated from a number (our own rule).
 use Rattle.std.specs.Prelude.{ℕ, zero, suc, ◌+◌, ◌*◌, ◌/◌, ◌%◌, ◌^◌, ◌==◌, if◌then◌else◌, List, [], ◌∷◌, ◌++◌, map}
 use Rattle.std.specs.Prelude.{flat_map, slice_index}
 use Rattle.std.specs.List.{range_with_len}
@@ -7,23 +7,23 @@ use Rattle.gpu_capture.specs.declared.event.Event.TheVariants.{Gp0}
 
 -- ---- the numbers drawn
 
--- a draw makes a number this
+-- the number after a draw
 abbrev pub drawn : ℕ → ℕ
 drawn number = (1664525 * number + 1013904223) % 2 ^ 32
 
--- what so many draws make of it
+-- the number after `draws` draws
 abbrev pub after_draws : (draws number : ℕ) → ℕ
 after_draws zero number = number
 after_draws (suc n) number = drawn (after_draws n number)
 
 -- ---- one packet
 
--- in turns of eight: a fill, a triangle, a shaded quad, a textured triangle, a textured rectangle, a line, a copy, a
--- shaded textured quad
+-- in turn: a fill, a triangle, a shaded quad, a textured triangle, a textured rectangle, a line, a copy, a shaded
+-- textured quad
 abbrev pub opcodes : List ℕ
 opcodes = 0x02 ∷ 0x20 ∷ 0x38 ∷ 0x24 ∷ 0x64 ∷ 0x40 ∷ 0x80 ∷ 0x3e ∷ []
 
--- and how many words each has
+-- the number of words of each
 abbrev pub lengths : List ℕ
 lengths = 3 ∷ 4 ∷ 8 ∷ 7 ∷ 4 ∷ 3 ∷ 4 ∷ 12 ∷ []
 
@@ -42,13 +42,13 @@ word_of opcode j draw =
 abbrev pub packet_word : (k number j : ℕ) → ℕ
 packet_word k number j = word_of (opcode_of k) j (after_draws (j + 1) number)
 
--- packet k, where the generator stands at this number: a draw for each of its words
+-- packet k, from a generator with this state: a draw for each of its words
 abbrev pub packet : (k number : ℕ) → List ℕ
 packet k number = map (packet_word k number) (range_with_len 0 (length_of k))
 
 -- ---- all packets
 
--- where the generator stands before packet k of n: it begins at n
+-- the state of the generator before packet k of n: it begins at n
 abbrev pub number_before : (n k : ℕ) → ℕ
 number_before n zero = n
 number_before n (suc k) = after_draws (length_of k) (number_before n k)

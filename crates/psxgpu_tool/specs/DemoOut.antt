@@ -1,4 +1,4 @@
--- What is written of a demo (our own rule).
+-- The output of a demo (our own rule).
 use Rattle.std.specs.Prelude.{ℕ, ◌+◌, ◌*◌, List, ◌++◌, flat_map, sum}
 use Rattle.gpu_core.specs.Machine.{State, status_word}
 use Rattle.gpu_taps.specs.Tally.{Reading}
@@ -15,19 +15,19 @@ use Rattle.psxgpu_tool.specs.Words.{whole_replay}
 abbrev pub demo_bytes : (heard : List Reading) → State → List ℕ
 demo_bytes heard s = flat_map tap_line heard ++ (status_line (status_word s) ++ sum_line (sum s.parts.m))
 
--- the tale of the demo with n packets, on a new machine
+-- the replay of the demo with n packets, on a new machine
 abbrev pub demo_tale : (n : ℕ) → Tale
 demo_tale n = (whole_replay (from_state first_machine 0) (demo_events n)).tale
 
--- all that is written, by what the taps said when they were handed in
+-- the whole output, given the state of the taps before
 abbrev pub demo_out : (n : ℕ) → (heard : List Reading) → List ℕ
 demo_out n heard = demo_bytes (told_notes (demo_tale n).notes heard) (demo_tale n).state.gpu
 
--- the store steps of reading all cells, sixteen at a step
+-- the steps of reading all cells, sixteen per step
 abbrev pub cells_cost : ℕ
 cells_cost = 64 * short_height
 
--- the most store steps of playing and writing, and the same by the boxes
+-- the maximum steps of playing and writing, and the same by the boxes of what is drawn
 abbrev pub demo_cost : (n : ℕ) → ℕ
 demo_cost n = (demo_tale n).cost + cells_cost
 

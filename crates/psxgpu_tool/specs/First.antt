@@ -12,21 +12,21 @@ use Rattle.psxgpu_tool.specs.Outside.{Outside}
 abbrev pub first : Tale
 first = from_state first_machine 0
 
--- a whole capture
+-- the replay of a capture
 abbrev pub play_of : List ℕ → Played
 play_of bytes = played_capture first bytes
 
--- a file: a whole capture, or a snapshot and what is recorded behind it; what it gives to play, and how that is played
+-- a file: a capture, or a snapshot and the records after it; its events, and their replay
 abbrev pub file_script : List ℕ → Script
 file_script bytes = script_file first bytes
 
 abbrev pub play_file : List ℕ → Played
 play_file bytes = played_file first bytes
 
--- how a file ends under a mode
+-- how a file ends in a mode
 abbrev pub file_ending : Mode → List ℕ → AnyEnding
 file_ending mode bytes = any_ending_under mode first bytes
 
--- what playing sees of the outside
+-- the source, the sink, the taps and the steps that playing uses
 abbrev pub seen : List Reading → Outside → Streams
 seen heard o = streams o.source.left o.out.held heard o.steps

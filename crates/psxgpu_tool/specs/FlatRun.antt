@@ -1,4 +1,4 @@
--- What a run says that writes a flat capture. Where the bytes of its source aren't told, only its ending is said.
+-- What a run does that writes a flat capture. If the source does not state its bytes, only the ending is described.
 use Rattle.std.specs.Prelude.{◌≡◌, ◌≤◌, ◌<◌, ◌⊎◌, ℕ, List, IfSome, Some, length}
 use Rattle.dev_io.specs.Device.{appended}
 use Rattle.gpu_capture.specs.Capture.{Captured, capture, limit}
@@ -19,8 +19,8 @@ use Rattle.psxgpu_tool.specs.Outside.{Outside, Says, HasFailed, HasFailedToRead}
 abbrev pub flat_of : Captured → List ℕ
 flat_of captured = flat_file (raised first captured.version) captured.version captured.events
 
--- status 0: the capture is whole, those bytes are left that stand behind its End, and its flat capture was written,
--- which replays to the same words shown, the same status word and the same video memory, whatever stands behind it
+-- status 0: the capture is complete and the bytes after its End remain. Its flat capture was written. Whatever follows
+-- that, it replays to the same words shown, the same status word and the same video memory.
 pub record FlatWhole (bytes : List ℕ) (before now : Outside) : Type 0 where
   pub ending : (play_of bytes).ending ≡ Done
   pub left : now.source.left ≡ Some (play_of bytes).rest
@@ -29,14 +29,13 @@ pub record FlatWhole (bytes : List ℕ) (before now : Outside) : Type 0 where
   pub is_flat : IsFlatCapture first (play_of bytes).tale (flat_version (capture bytes).version)
       (flat_replay (raised first (capture bytes).version) (capture bytes).events) (flat_of (capture bytes))
 
--- the status by the capture alone: it is refused where its flat capture would be too long, and else it ends as it is
--- played
+-- the status given the capture alone: refused if its flat capture would be too long, else that of playing it
 pub record EndsAsFlat (bytes : List ℕ) (status : ℕ) : Type 0 where
   pub long : limit < length (flat_of (capture bytes)) → status ≡ 2
   pub fits : length (flat_of (capture bytes)) ≤ limit → status ≡ status_of (play_of bytes).ending
 
--- any status: how the flat capture ends, from a new machine, with all that was due before, what the taps were told and
--- the store steps; err says that, and behind a refusal the last items of the taps as they are then
+-- any status: the ending of the flat capture, starting with a new machine, what was written before it, the notes of the
+-- taps and the steps; `err` receives the line of the ending and, after a refusal, the last items of the taps
 pub record FlatEnds (heard : List Reading) (before now : Outside) (status : ℕ) : Type 0 where
   pub ending : FlatEnding
   pub rig : RigState
@@ -46,12 +45,12 @@ pub record FlatEnds (heard : List Reading) (before now : Outside) (status : ℕ)
   pub status_is : status ≡ flat_status ending
   pub says : Says before.err now.err (flat_text ending told)
 
--- what a run does that writes a flat capture; with status 5 it does nothing but say so
+-- what a run does that writes a flat capture; with status 5 it only reports that memory ran out
 pub record FlatRun (heard : List Reading) (before now : Outside) (status : ℕ) : Type 0 where
   pub ends : (status ≡ 5) ⊎ FlatEnds heard before now status
   pub whole : status ≡ 0 → IfSome before.source.left (λ bytes. FlatWhole bytes before now)
   pub starved : status ≡ 3 → HasFailedToRead before.source now.source
   pub cut : status ≡ 4 → HasFailed before.out now.out
-  -- where nothing failed, the capture alone decides the status, or memory ran out
+  -- if nothing failed, the capture alone decides the status, or memory ran out
   pub complete : (HasFailedToRead before.source now.source → ⊥) → (HasFailed before.out now.out → ⊥)
       → (status ≡ 5) ⊎ IfSome before.source.left (λ bytes. EndsAsFlat bytes status)

@@ -63,7 +63,7 @@ fault_line event BadDma = event_line (codes "bad-dma") event
 fault_line event (DmaTooLong words) = too_long_line event words
 fault_line event (ListLoop node) = list_loop_line event node
 
--- the line of an ending; one that is no fault has none
+-- the line of an ending; empty after a success
 abbrev pub ending_line : Ending → List ℕ
 ending_line Done = []
 ending_line (Stopped event stop) = stop_line event stop
@@ -88,11 +88,11 @@ status_of (WriteFailed event) = 4
 
 -- ---- the last items
 
--- behind the line of a refusal, the last items of each tap that has kept them, in the order of the list
+-- after the line of a refusal, the last items of each tap that stores them, in the order of the taps
 abbrev pub last_items : (status : ℕ) → List Reading → List ℕ
 last_items status heard = if status == 2 then flat_map last_lines heard else []
 
--- all that is told of an ending, by its line, its status, and what the taps say then
+-- all that is written of an ending, given its line, its status and the state of the taps
 abbrev pub told : (line : List ℕ) → (status : ℕ) → List Reading → List ℕ
 told line status heard = line ++ last_items status heard
 

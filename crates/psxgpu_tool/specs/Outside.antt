@@ -1,10 +1,10 @@
--- What a run works on: a source, and two sinks of which one is for faults.
+-- What a run uses: a source, and two sinks, one of them for failures.
 use Rattle.std.specs.Prelude.{◌≡◌, ◌⊎◌, ℕ, List, Option}
 use Rattle.dev_io.specs.Device.{AppendsPart, Rose, SinkSide, appended}
 use Rattle.event_play.specs.declared.ending.Ending.{Ending}
 use Rattle.event_play.specs.declared.ending.Ending.TheVariants.{Done, WriteFailed}
 
--- a source: the bytes left (None where they are not told), and how often it failed
+-- a source: the bytes left (None if it does not state them), and how often it failed
 pub record SourceSide : Type 0 where
   pub left : Option (List ℕ)
   pub faults : ℕ
@@ -12,7 +12,7 @@ pub record SourceSide : Type 0 where
 abbrev pub source_side : Option (List ℕ) → ℕ → SourceSide
 source_side left faults = record { left = left; faults = faults }
 
--- all of it, and the store steps
+-- all of it, and the steps (accesses to video memory)
 pub record Outside : Type 0 where
   pub source : SourceSide
   pub out : SinkSide
@@ -29,12 +29,12 @@ HasFailed before now = Rose before.faults now.faults
 abbrev pub HasFailedToRead : (before now : SourceSide) → Type 0
 HasFailedToRead before now = Rose before.faults now.faults
 
--- these bytes were written, or a proper part of them where the sink failed
+-- these bytes were written, or a proper part of them if the sink failed
 abbrev pub Says : (before now : SinkSide) → (bytes : List ℕ) → Type 0
 Says before now bytes = (now.held ≡ appended before.held bytes)
     ⊎ (AppendsPart before.held now.held bytes × HasFailed before now)
 
--- these bytes were written; or the sink failed, and lacks one that was due at this event
+-- these bytes were written; or the sink failed, and a byte that belongs to this event is missing
 abbrev pub EndsTelling : (bytes : List ℕ) → (event : ℕ) → (before now : SinkSide) → Ending → Type 0
 EndsTelling bytes event before now Done = now.held ≡ appended before.held bytes
 EndsTelling bytes event before now (WriteFailed at) =

@@ -1,5 +1,5 @@
--- What a run says that plays a capture or a snapshot, by its mode and by what the taps said when they were handed in.
--- Where the bytes of its source aren't told, nothing can be said of them.
+-- What a run does that plays a capture or a snapshot, given its mode and the state of the taps before. If the source
+-- does not state its bytes, nothing is described.
 use Rattle.std.specs.Prelude.{◌≡◌, ◌≤◌, ◌+◌, ◌++◌, ◌⊎◌, ℕ, List, [], IfSome, Some}
 use Rattle.dev_io.specs.Device.{appended}
 use Rattle.gpu_capture.specs.declared.event.Stop.TheVariants.{Truncated, ReadFault}
@@ -17,8 +17,8 @@ use Rattle.psxgpu_tool.specs.Line.{ending_line, any_status, any_text}
 use Rattle.psxgpu_tool.specs.Outside.{Outside, Says, HasFailed, HasFailedToRead}
 use Rattle.event_play.specs.Course.{course, tales}
 
--- status 0: the capture is whole, or the records behind the state of the snapshot are; for a picture there is one;
--- those bytes are left that stand behind the End, and all that there is to write was written
+-- status 0: the capture is complete, or the records after the state of the snapshot are; if a picture is written, there
+-- is one; the bytes after the End remain, and the whole output was written
 pub record WholeRun (mode : Mode) (heard : List Reading) (bytes : List ℕ) (before now : Outside) : Type 0 where
   pub ending : file_ending mode bytes ≡ Played Done
   pub left : now.source.left ≡ Some (play_file bytes).rest
@@ -27,7 +27,7 @@ pub record WholeRun (mode : Mode) (heard : List Reading) (bytes : List ℕ) (bef
 abbrev pub Whole : Mode → List Reading → (before now : Outside) → Type 0
 Whole mode heard before now = IfSome before.source.left (λ bytes. WholeRun mode heard bytes before now)
 
--- the bytes taken decide the ending, whatever follows them, or there are no others; and none of them is one too many
+-- the bytes read decide the ending, whatever follows them, or there are no others; and each of them is needed
 pub record Decided (mode : Mode) (bytes : List ℕ) (now : Outside) : Type 0 where
   pub taken : List ℕ
   pub rest : List ℕ
@@ -37,8 +37,8 @@ pub record Decided (mode : Mode) (bytes : List ℕ) (now : Outside) : Type 0 whe
   pub decides : ((more : List ℕ) → file_ending mode (taken ++ more) ≡ file_ending mode bytes)
       ⊎ (rest ≡ [])
 
--- status 2: the capture, the state of the snapshot, or one of the events, is refused. All that was due before was
--- written, and err says why and where, and then the last items.
+-- status 2: the capture, the state of the snapshot, or one of the events, is refused. All output before was written,
+-- and `err` receives why and where, and then the last items.
 pub record RefusedRun (mode : Mode) (heard : List Reading) (bytes : List ℕ) (before now : Outside) : Type 0 where
   pub status : any_status (file_ending mode bytes) ≡ 2
   pub held : now.out.held ≡ appended before.out.held (out_bytes mode heard (play_file bytes))
@@ -49,8 +49,7 @@ pub record RefusedRun (mode : Mode) (heard : List Reading) (bytes : List ℕ) (b
 abbrev pub Refused : Mode → List Reading → (before now : Outside) → Type 0
 Refused mode heard before now = IfSome before.source.left (λ bytes. RefusedRun mode heard bytes before now)
 
--- status 3: the source failed where a byte was still needed, at this event and place; all that was due before was
--- written
+-- status 3: the source failed when a byte was needed, at this event and byte offset; all output before was written
 pub record StarvedRun (mode : Mode) (heard : List Reading) (bytes : List ℕ) (before now : Outside) : Type 0 where
   pub taken : List ℕ
   pub rest : List ℕ
@@ -67,9 +66,9 @@ Starved mode heard before now =
     HasFailedToRead before.source now.source × IfSome before.source.left
     (λ bytes. StarvedRun mode heard bytes before now)
 
--- status 4: out failed. What was written begins all that there is to write, and lacks a byte that is due at the event
--- on the line. None of the bytes taken is one too many for that event, or for the End behind which it was due; but
--- where lines are gathered, few bytes may have been taken behind it.
+-- status 4: `out` failed. What was written is the start of the whole output, and a byte that belongs to the event on
+-- the line is missing. Each byte read is needed for that event, or for the End after it. But if lines are buffered, a
+-- few more bytes may have been read.
 pub record BlockedRun (mode : Mode) (heard : List Reading) (bytes : List ℕ) (before now : Outside) : Type 0 where
   pub taken : List ℕ
   pub rest : List ℕ
@@ -90,23 +89,23 @@ abbrev pub EndsAsCaptured : Mode → Outside → (status : ℕ) → Type 0
 EndsAsCaptured mode before status = IfSome before.source.left
     (λ bytes. status ≡ any_status (file_ending mode bytes))
 
--- no more store steps than reading a state, the events and the output cost
+-- at most as many steps as reading a state, the events and the output cost
 abbrev pub WithinCost : Mode → (before now : Outside) → Type 0
 WithinCost mode before now = IfSome before.source.left
     (λ bytes. now.steps ≤ before.steps + opening_cost bytes + out_cost mode (play_file bytes))
 
--- no more than four for each cell of the boxes of what is drawn, those of reading a state, and the output's
+-- at most four steps for each cell of the boxes of what is drawn, those of reading a state, and those of the output
 abbrev pub WithinBoxCost : Mode → (before now : Outside) → Type 0
 WithinBoxCost mode before now = IfSome before.source.left
     (λ bytes. now.steps ≤ before.steps + opening_cost bytes + out_box_cost mode (play_file bytes))
 
--- what a run does that plays a capture; with status 5 it does nothing but say so
+-- what a run does that plays a capture; with status 5 it only reports that memory ran out
 pub record PlayRun (mode : Mode) (heard : List Reading) (before now : Outside) (status : ℕ) : Type 0 where
   pub whole : status ≡ 0 → Whole mode heard before now
   pub refused : status ≡ 2 → Refused mode heard before now
   pub starved : status ≡ 3 → Starved mode heard before now
   pub cut : status ≡ 4 → Blocked mode heard before now
-  -- where nothing failed, the capture alone decides the status, or memory ran out
+  -- if nothing failed, the capture alone decides the status, or memory ran out
   pub complete : (HasFailedToRead before.source now.source → ⊥) → (HasFailed before.out now.out → ⊥)
       → (status ≡ 5) ⊎ EndsAsCaptured mode before status
   pub cost : WithinCost mode before now

@@ -1,4 +1,4 @@
--- What a run says, by its words, by what its taps say when they are handed in, and by its status.
+-- What a run does, given its arguments, the state of its taps before, and its status.
 use Rattle.std.specs.Prelude.{◌≡◌, ◌≤◌, ◌↔◌, ℕ, List, Vec, String}
 use Rattle.std.specs.declared.alloc.Global.{Global}
 use Rattle.gpu_taps.specs.Tally.{Reading}
@@ -24,15 +24,15 @@ RunsAs (Demo packets) heard before now status = DemoRun packets heard before now
 RunsAs Help heard before now status = TextRun HELP.now before now status
 RunsAs Version heard before now status = TextRun VERSION.now before now status
 
--- nothing but err is touched, which says this
+-- nothing is used except `err`, which receives this line
 pub record Declined (line : List ℕ) (before now : Outside) : Type 0 where
   pub unread : Unread before now
   pub unwritten : now.out ≡ before.out
   pub free : now.steps ≡ before.steps
   pub says : Says before.err now.err line
 
--- What a run does whose words name a command. It is never taken for usage; without memory it only says so; and where
--- all was written err stays as it was.
+-- What a run does whose arguments name a command. It never ends as wrong usage. If memory runs out, it only reports
+-- that. If everything was written, `err` is unchanged.
 pub record CommandRun (command : Command) (heard : List Reading) (before now : Outside) (status : ℕ) : Type 0 where
   pub does : RunsAs command heard before now status
   pub used : status ≡ 1 → ⊥
@@ -40,7 +40,7 @@ pub record CommandRun (command : Command) (heard : List Reading) (before now : O
   pub silent : status ≡ 0 → now.err ≡ before.err
   pub few : status ≤ 5
 
--- what a run does by its words: that of the command that they name, or nothing
+-- what a run does, given its arguments: that of the command that they name, or nothing
 pub record Runs (words : Vec (String Global) Global) (heard : List Reading) (before now : Outside)
     (status : ℕ) : Type 0 where
   pub does : (command : Command) → Names words command → RunsAs command heard before now status

@@ -1,5 +1,5 @@
--- What a run says that writes a capture without its dead drawing. Where the bytes of its source aren't told, only its
--- ending is said.
+-- What a run does that writes a capture without its dead drawing. If the source does not state its bytes, only the
+-- ending is described.
 use Rattle.std.specs.Prelude.{◌≡◌, ◌≤◌, ◌<◌, ◌⊎◌, ℕ, List, IfSome, Some, length}
 use Rattle.dev_io.specs.Device.{appended}
 use Rattle.gpu_capture.specs.Capture.{Captured, capture, limit}
@@ -16,14 +16,13 @@ use Rattle.psxgpu_tool.specs.First.{first, play_of}
 use Rattle.psxgpu_tool.specs.Line.{slim_status, slim_text}
 use Rattle.psxgpu_tool.specs.Outside.{Outside, Says, HasFailed, HasFailedToRead}
 
--- a capture of the ports without its dead drawing, in the same version
+-- a capture of port events without its dead drawing, in the same version
 abbrev pub slim_of : Captured → List ℕ
 slim_of captured = slim_file captured.version captured.events
 
--- status 0: the capture is whole and has events of the ports alone, those bytes are left that stand behind its End,
--- and all of it but its dead drawing was written: a capture of the same version, which is read as the events that stay,
--- with End, and replays to the same words shown, the same status word and the same video memory, whatever stands behind
--- it
+-- status 0: the capture is complete and has only port events, and the bytes after its End remain. It was written
+-- without its dead drawing: a capture of the same version, read as the events that stay, with End. Whatever follows
+-- that, it replays to the same words shown, the same status word and the same video memory.
 pub record SlimWhole (bytes : List ℕ) (before now : Outside) : Type 0 where
   pub ending : (capture bytes).ending ≡ End
   pub ports : AreAtPorts (capture bytes).events
@@ -33,21 +32,20 @@ pub record SlimWhole (bytes : List ℕ) (before now : Outside) : Type 0 where
   pub is_slim : IsFlatCapture first (play_of bytes).tale (capture bytes).version
       (slim_events (height_for (capture bytes).version) (capture bytes).events) (slim_of (capture bytes))
 
--- the exit status of a capture that ends so
+-- the exit status of a capture with this ending
 abbrev pub stop_status : Stop → ℕ
 stop_status End = 0
 stop_status other = 2
 
--- the status by the capture alone: it is refused where an event is none of the ports, or where it would be too long
--- without its dead drawing, and only there; else it ends as it is read
+-- the status given the capture alone: it is refused if an event is not at the ports, or if it would be too long without
+-- its dead drawing; else it ends as it is read
 pub record EndsAsSlim (captured : Captured) (status : ℕ) : Type 0 where
   pub refused : (AreAtPorts captured.events → ⊥) → status ≡ 2
   pub long : limit < length (slim_of captured) → status ≡ 2
   pub fits : AreAtPorts captured.events → length (slim_of captured) ≤ limit → status ≡ stop_status captured.ending
 
--- any status: how it ends, with all that was due before. No tap is told; err says how it ends, and behind a refusal
--- the
--- last items of the taps as they were handed in.
+-- any status: the ending, and what was written before it. No tap receives a note. `err` receives the line of the ending
+-- and, after a refusal, the last items of the taps as they were before.
 pub record SlimEnds (heard : List Reading) (before now : Outside) (status : ℕ) : Type 0 where
   pub ending : SlimEnding
   pub ends : EndsSlim (streams before.source.left before.source.faults before.out.held)
@@ -55,11 +53,11 @@ pub record SlimEnds (heard : List Reading) (before now : Outside) (status : ℕ)
   pub known : IsEnding ending
   pub status_is : status ≡ slim_status ending
   pub says : Says before.err now.err (slim_text ending heard)
-  -- where nothing failed, the capture alone decides the status
+  -- if nothing failed, the capture alone decides the status
   pub complete : (HasFailedToRead before.source now.source → ⊥) → (HasFailed before.out now.out → ⊥)
       → IfSome before.source.left (λ bytes. EndsAsSlim (capture bytes) status)
 
--- what a run does that writes a capture without its dead drawing; with status 5 it does nothing but say so
+-- what a run does that writes a capture without its dead drawing; with status 5 it only reports that memory ran out
 pub record SlimRun (heard : List Reading) (before now : Outside) (status : ℕ) : Type 0 where
   pub ends : (status ≡ 5) ⊎ SlimEnds heard before now status
   pub whole : status ≡ 0 → IfSome before.source.left (λ bytes. SlimWhole bytes before now)

@@ -1,4 +1,4 @@
--- What a run says that reads nothing.
+-- What a run does that reads nothing.
 use Rattle.std.specs.Prelude.{◌≡◌, ◌≤◌, ◌+◌, ◌⊎◌, ℕ, List}
 use Rattle.dev_io.specs.Device.{appended, AppendsPart}
 use Rattle.gpu_taps.specs.Tally.{Reading}
@@ -8,18 +8,18 @@ use Rattle.psxgpu_tool.specs.DemoOut.{demo_tale, demo_out, demo_cost, demo_box_c
 use Rattle.psxgpu_tool.specs.Line.{ending_line}
 use Rattle.psxgpu_tool.specs.Outside.{Outside, Says, HasFailed}
 
--- the source, and its count, are as they were
+-- the source, and its count of failures, are unchanged
 abbrev pub Unread : (before now : Outside) → Type 0
 Unread before now = now.source ≡ before.source
 
--- these bytes were written; or out failed, and lacks one that was due at this event
+-- these bytes were written; or `out` failed, and a byte that belongs to this event is missing
 abbrev pub Tells : (bytes : List ℕ) → (event : ℕ) → (before now : Outside) → (status : ℕ) → Type 0
 Tells bytes event before now status =
     ((status ≡ 0) × (now.out.held ≡ appended before.out.held bytes))
     ⊎ ((status ≡ 4) × AppendsPart before.out.held now.out.held bytes × HasFailed before.out now.out
     × Says before.err now.err (ending_line (WriteFailed event)))
 
--- a demo: what is told of it is due behind its last event
+-- a demo: its output follows its last event
 pub record DemoRun (packets : ℕ) (heard : List Reading) (before now : Outside) (status : ℕ) : Type 0 where
   pub tells : (status ≡ 5) ⊎ Tells (demo_out packets heard) (next_number (demo_tale packets).played) before now status
   pub unread : Unread before now

@@ -1,4 +1,4 @@
--- Words that are played one after another, each as an event of GP0.
+-- Words that are played in order, each as an event of GP0.
 use Rattle.std.specs.Prelude.{◌≡◌, ◌≤◌, ◌+◌, ◌++◌, ℕ, List, [], map}
 use Rattle.gpu_capture.specs.declared.event.Event.{Event}
 use Rattle.gpu_capture.specs.declared.event.Event.TheVariants.{Gp0}
@@ -8,12 +8,12 @@ use Rattle.event_play.specs.RigState.{RigState, StandsFor}
 use Rattle.event_play.specs.Streams.{Outlets}
 use Rattle.event_play.specs.Told.{told_notes}
 
--- the replay of a list of events that is whole
+-- the replay of a complete list of events
 abbrev pub whole_replay : Tale → List Event → Played
 whole_replay first events = played_events first events End []
 
--- Since a rig stood for the first tale these words were played: their replay comes to a tale for which the rig stands
--- now, the taps were told its notes, the store steps are within its cost, and video memory is as high as it was.
+-- These words were played on a rig that represented the state `first`. Their replay leads to a state that the rig now
+-- represents; the taps received its notes, the steps are within its cost, and the height of video memory is unchanged.
 pub record HavePlayed (first : Tale) (words : List ℕ) (before now : Outlets) (rig : RigState) : Type 0 where
   pub tale : Tale
   pub comes : (more : List Event) → whole_replay first (map Gp0 words ++ more) ≡ whole_replay tale more

@@ -1,4 +1,4 @@
-// A demo: packets of the program's own are played, and what they did is told.
+// Plays generated packets and writes what they did.
 ghost use Rattle.std.specs.Prelude.{◌≡◌, ◌≤◌, ◌<◌, ◌+◌, ◌++◌, [], ◌∷◌, ℕ, List, map};
 ghost use Rattle.dev_io.specs.Device.{Writes, side};
 ghost use Rattle.event_play.specs.Replay.{Tale, next_number};
@@ -24,7 +24,7 @@ use vram_store::Steps;
 /// Textures of 15 bits with dither, and the drawing area from (0, 0) to (1023, 511).
 const PROLOGUE: [u32; 3] = [0xe100_0200, 0xe300_0000, 0xe407_ffff];
 
-/// Plays the words of the demo with so many packets, each as an event of GP0.
+/// Plays the demo of `packets` packets: one GP0 event per word.
 pub fn play_demo<T: Listener, L: Ledger>(
     rig: &mut Rig,
     packets: u32,
@@ -42,7 +42,7 @@ pub fn play_demo<T: Listener, L: Ledger>(
     }
 }
 
-/// Tells of a demo that was played.
+/// Writes the output of a demo that was played. On failure, the ending names the number of events plus 1.
 pub fn tell_demo<K: Sink, T: Listener, L: Ledger>(
     rig: &Rig,
     out: &mut K,

@@ -1,4 +1,4 @@
-// How a run ends: its exit status, and what is said of a fault.
+// The exit status of a run, and the line that explains a failure.
 ghost use Rattle.std.specs.Prelude.{◌≡◌, flat_map, map, ℕ, List, []};
 ghost use Rattle.dev_io.specs.Device.{Writes, side};
 ghost use Rattle.packet_text.specs.Tap.{last_lines};
@@ -9,15 +9,15 @@ use dev_io::{Failed, Sink, write_all};
 use gpu_taps::Listener;
 use packet_text::write_last;
 
-/// An ending of a command: what it means for who started the run.
+/// The ending of a command, as an exit status and a line.
 pub trait Ended: Copy {
     /// The exit status.
     ghost exit: { Self → ℕ };
 
-    /// The line that says why, which an ending that is no fault does not have.
+    /// The line that explains a failure; empty after a success.
     ghost line: { Self → List ℕ };
 
-    /// The exit status, which is 0 only where there is nothing to say.
+    /// Returns the exit status: 0 only if the line is empty.
     fn status(self) -> u8
         ensures exit { result ≡ exit self }
         ensures silent { result ≡ 0 → line self ≡ [] };
@@ -27,8 +27,8 @@ pub trait Ended: Copy {
         ensures { Writes (side E.held E.faults) err.old err.new (line self) result };
 }
 
-/// Says why a run ended so, if that is a fault, and answers its exit status. What becomes of the text changes nothing
-/// else.
+/// Writes the line of a failure and the last items of the taps to `err`. Returns the exit status. Errors of `err` are
+/// ignored.
 pub fn end<N: Ended, E: Sink, T: Listener>(err: &mut E, ending: N, taps: &Vec<T>) -> u8
     ensures status { result ≡ N.exit ending }
     ensures says { Says (side E.held E.faults err.old) (side E.held E.faults err.new)
@@ -42,7 +42,7 @@ pub fn end<N: Ended, E: Sink, T: Listener>(err: &mut E, ending: N, taps: &Vec<T>
     status
 }
 
-// Writes the line of an ending, and behind that of a refusal the last items.
+// Writes the line of an ending and, for status 2, the last items.
 fn write_told<N: Ended, E: Sink, T: Listener>(
     err: &mut E,
     ending: N,
@@ -55,7 +55,7 @@ fn write_told<N: Ended, E: Sink, T: Listener>(
     write_last_items(err, ending.status(), taps)
 }
 
-// Writes the last items of every tap that keeps them, where the status is that of a refusal.
+// If the status is 2 (refused), writes the last items of every tap that stores them.
 fn write_last_items<E: Sink, T: Listener>(
     err: &mut E,
     status: u8,
@@ -79,7 +79,7 @@ fn write_lasts<E: Sink, T: Listener>(err: &mut E, taps: &Vec<T>) -> Result<(), F
     Ok(())
 }
 
-/// Writes a line. What becomes of it changes nothing else.
+/// Writes a line. Errors of `err` are ignored.
 pub fn tell<E: Sink>(err: &mut E, line: &[u8])
     ensures { Says (side E.held E.faults err.old) (side E.held E.faults err.new) line.now }
 {

@@ -13,7 +13,7 @@ use event_play::Ending;
 use gpu_capture::Stop;
 use gpu_snapshot::AnyEnding;
 
-/// The exit status of a stop of the reader that ends a run.
+/// Returns the exit status of a run that a stop of the reader ended: 3 after a failed read, else 2.
 fn status_of_stop(stop: Stop) -> u8
     ensures { result ≡ status_of_stop stop }
 {

@@ -1,30 +1,30 @@
-// The packets of a demo, which are made from a number.
+// The generated packets of a demo.
 ghost use Rattle.std.specs.Prelude.{◌≡◌, ◌<◌};
 ghost use Rattle.psxgpu_tool.specs.Demo.{drawn, after_draws, length_of, word_of, packet};
 
 use gp0_words::Words;
 
-/// The opcodes of the packets, in turns of eight.
+/// The opcodes of the packets, in turn.
 const OPCODES: [u32; 8] = [0x02, 0x20, 0x38, 0x24, 0x64, 0x40, 0x80, 0x3e];
 
-/// How many words each of them has.
+/// The number of words of each.
 const LENGTHS: [u32; 8] = [3, 4, 8, 7, 4, 3, 4, 12];
 
-/// Makes packets from the number at which it stands.
+/// A generator of packets: a linear congruential generator with the state `number`.
 #[derive(Drop)]
 pub struct Generator {
     number: u32,
 }
 
 impl Generator {
-    /// A generator that stands at this number.
+    /// Creates a generator with the state `number`.
     pub fn new(number: u32) -> Generator
         ensures { result.number ≡ number }
     {
         Generator { number }
     }
 
-    /// Packet `k`, with a draw for each of its words.
+    /// Returns packet `k`. Each word takes one draw.
     pub fn packet(&mut self, k: u32) -> Words
         ensures words { result ≡ packet k self.old.number }
         ensures number { self.new.number ≡ after_draws (length_of k) self.old.number }
@@ -50,7 +50,8 @@ impl Generator {
     }
 }
 
-/// Word `j` of a packet, from its draw.
+/// Returns word `j` of a packet, from its draw. Word 0 has the opcode and the draw's low 24 bits; others have the low
+/// nine bits of each half of the draw.
 fn word_of(opcode: u32, j: u32, draw: u32) -> u32
     requires { opcode < 256 }
     ensures { result ≡ word_of opcode j draw }

@@ -1,4 +1,4 @@
-// What a person at a terminal is told after the lines that programs read.
+// Explains refusals to a person at a terminal, after the lines that programs read.
 ghost use Rattle.std.specs.Prelude.{◌≡◌, ◌≤◌, ◌⊎◌, ◌↔◌, None, IsTrue, codes, nat_eq};
 ghost use Rattle.std.specs.List.{starts_with};
 
@@ -6,7 +6,7 @@ use crate::typed::after_reader;
 use std::alloc::{AllocError, Global};
 use strsim::osa_distance;
 
-/// Replaces all arguments if one of them is not UTF-8. It names no command.
+/// Replaces all arguments if one of them is not UTF-8. No command has this name.
 pub const NOT_UTF8: &str = "\u{fffd}";
 
 /// The names of the commands, in the order of the help.
@@ -27,7 +27,7 @@ const NAMES: [&str; 14] = [
     "--version",
 ];
 
-/// The distance of a name that is taken for a slip: two letters added, left out, changed or exchanged.
+/// The maximum distance of a name from the nearest command: two letters added, left out, changed or exchanged.
 const FARTHEST: usize = 2;
 
 /// Returns what is wrong with arguments that name no command. `is_there`: whether the first of them is the name of an
@@ -55,7 +55,7 @@ pub fn usage_hint(alloc: Global, words: &[String], is_there: bool) -> Result<Str
     }
 }
 
-// What is wrong with arguments that begin with this name, if a command has it.
+// Returns what is wrong with arguments that begin with this name, if it is a command's.
 fn wrong_arguments(name: &str) -> Option<&'static str> {
     match name {
         "cut" => Some("cut takes a number of events, 1 to 4294967295, and at most a file name"),
@@ -71,7 +71,7 @@ fn wrong_arguments(name: &str) -> Option<&'static str> {
     }
 }
 
-// What is said of a name that no command has.
+// Returns the text for a name that no command has.
 fn unknown_hint(alloc: Global, name: &str) -> Result<String, AllocError> {
     match nearest_name(alloc, name)? {
         Some(nearest) => format!(in alloc;
@@ -81,7 +81,7 @@ fn unknown_hint(alloc: Global, name: &str) -> Result<String, AllocError> {
     }
 }
 
-// The name of a command that is nearest to this one, if it is near.
+// Returns the name of the nearest command, if it is at most `FARTHEST` away.
 fn nearest_name(alloc: Global, name: &str) -> Result<Option<&'static str>, AllocError> {
     let mut nearest = None;
     let mut least = FARTHEST;
@@ -95,10 +95,10 @@ fn nearest_name(alloc: Global, name: &str) -> Result<Option<&'static str>, Alloc
     Ok(nearest)
 }
 
-/// How many bytes the header of a capture has.
+/// The size in bytes of a capture's magic number.
 const HEAD: usize = 8;
 
-// What an input seems to be whose first bytes are not those of a capture.
+// Returns what an input seems to be whose first bytes are not those of a capture.
 fn input_hint(first: &[u8]) -> Option<&'static str>
     ensures { IsTrue (starts_with nat_eq first.now (codes "PSXGPUC")) → result ≡ None }
 {
@@ -121,7 +121,7 @@ fn input_hint(first: &[u8]) -> Option<&'static str>
     }
 }
 
-// What unpacks an input of these first bytes, if it is compressed.
+// Returns how to decompress an input with these first bytes, if it is compressed.
 fn compression_hint(first: &[u8]) -> Option<&'static str> {
     if first.starts_with(b"\x1f\x8b") {
         Some("the input is compressed: gzip -dc FILE | psxgpu_tool COMMAND")
@@ -136,14 +136,14 @@ fn compression_hint(first: &[u8]) -> Option<&'static str> {
     }
 }
 
-// Whether a byte is one that text has.
+// Whether a byte occurs in text.
 fn is_text(byte: u8) -> bool
     ensures { IsTrue result ↔ ((byte ≡ 9) ⊎ ((byte ≡ 10) ⊎ ((byte ≡ 13) ⊎ ((32 ≤ byte) × (byte ≤ 126))))) }
 {
     byte == b'\t' || byte == b'\n' || byte == b'\r' || (b' '..=b'~').contains(&byte)
 }
 
-/// Returns what a refusal means for a person. `lines`: what was written of it. `first`: the first bytes of the input.
+/// Returns what a refusal means for a person. `lines`: the lines of the refusal. `first`: the first bytes of the input.
 pub fn refusal_hint(
     alloc: Global,
     lines: &str,
@@ -163,7 +163,7 @@ pub fn refusal_hint(
     Ok(Some(hint))
 }
 
-// What is said of a capture of this many events that cannot be cut after so late an event.
+// Returns the text for a cut after the last event of a capture of `events` events.
 fn past_end_hint(alloc: Global, events: u64) -> Result<String, AllocError> {
     match events {
         0 => String::from_str(alloc, "the capture has no events"),
@@ -172,7 +172,7 @@ fn past_end_hint(alloc: Global, events: u64) -> Result<String, AllocError> {
     }
 }
 
-// What is said of an input that ends after this many complete events.
+// Returns the text for an input that ends after `events` complete events.
 fn truncation_hint(alloc: Global, events: u64, first: &[u8]) -> Result<String, AllocError> {
     if events == 0 {
         String::from_str(alloc, "the input ends before its first event is complete")
@@ -185,7 +185,7 @@ fn truncation_hint(alloc: Global, events: u64, first: &[u8]) -> Result<String, A
     }
 }
 
-// The name of a refusal and the event of its first line, `psxgpu: NAME at event N ..`.
+// Returns the name and the event of a refusal from its first line, `psxgpu: NAME at event N ..`.
 fn refusal_of(lines: &str) -> Option<(&str, u64)> {
     let (line, _) = lines.split_once('\n')?;
     let (name, place) = line.strip_prefix("psxgpu: ")?.split_once(" at event ")?;

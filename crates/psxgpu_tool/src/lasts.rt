@@ -5,7 +5,7 @@ use gp0_packets::Note;
 use packet_text::note_text;
 use std::str;
 
-/// Shows the last items among the lines of a refusal, as `psxgpu packets` does: event, name and first word.
+/// Writes the last items among the lines of a refusal, as `psxgpu packets` does: event, name and first word.
 pub fn tell_lasts(rt: &HostRuntime, lines: &str) {
     for line in lines.lines() {
         if let Some(note) = item_of(line) {
@@ -18,7 +18,7 @@ pub fn tell_lasts(rt: &HostRuntime, lines: &str) {
     }
 }
 
-// The item of a line `psxgpu: last EVENT CLASS WORD`.
+// Returns the item of a line `psxgpu: last EVENT CLASS WORD`, if it is one.
 fn item_of(line: &str) -> Option<Note>
     ensures { IfSome result (λ note. (note.class ≤ 9) × (note.area ≡ None)) }
 {

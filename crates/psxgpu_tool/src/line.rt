@@ -1,4 +1,4 @@
-// The lines of refusals.
+// Writes the lines of refusals.
 ghost use Rattle.dev_io.specs.Device.{Writes, side};
 ghost use Rattle.psxgpu_tool.specs.Line.{event_line, place_line, word_line, too_long_line, list_loop_line};
 ghost use Rattle.psxgpu_tool.specs.Line.{fault_line, stop_line};
@@ -9,7 +9,8 @@ use gpu_capture::Stop;
 use itoa::Buffer;
 use packet_text::{address_digits, decimal_text, hex_digits};
 
-/// Writes the line of a stop of the reader, where this event was due.
+/// Writes the line of a stop of the reader. `event`: the number of the event that would have been read. End has no
+/// line.
 pub(crate) fn write_stop<E: Sink>(err: &mut E, event: u64, stop: Stop) -> Result<(), Failed>
     ensures { Writes (side E.held E.faults) err.old err.new (stop_line event stop) result }
 {
@@ -23,7 +24,7 @@ pub(crate) fn write_stop<E: Sink>(err: &mut E, event: u64, stop: Stop) -> Result
     }
 }
 
-/// Writes the line of an event that is refused.
+/// Writes the line of a faulty event.
 pub(crate) fn write_fault<E: Sink>(err: &mut E, event: u64, fault: EventFault) -> Result<(), Failed>
     ensures { Writes (side E.held E.faults) err.old err.new (fault_line event fault) result }
 {
@@ -34,7 +35,7 @@ pub(crate) fn write_fault<E: Sink>(err: &mut E, event: u64, fault: EventFault) -
     }
 }
 
-/// Writes the line of a cause at an event.
+/// Writes `psxgpu: NAME at event N`.
 #[tactic(auto, unfolding(crate::specs::Line::event_line))]
 pub(crate) fn write_event<E: Sink>(err: &mut E, name: &[u8], event: u64) -> Result<(), Failed>
     ensures { Writes (side E.held E.faults) err.old err.new (event_line name.now event) result }
@@ -58,7 +59,7 @@ fn write_place<E: Sink>(err: &mut E, name: &[u8], event: u64, byte: u32) -> Resu
     )
 }
 
-/// Writes the line of a cause at an event, with the place of a word and the word.
+/// Writes `psxgpu: NAME at event N byte B word W`.
 #[tactic(auto, unfolding(crate::specs::Line::word_line))]
 pub(crate) fn write_word<E: Sink>(
     err: &mut E,

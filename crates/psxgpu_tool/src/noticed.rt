@@ -1,4 +1,4 @@
-// A reader and a writer that keep what a person is told if a run fails.
+// A reader and a writer that record what explains a failed run to a person.
 ghost use Rattle.std.specs.Prelude.{◌≡◌, ◌≤◌, ◌++◌, [], List, ℕ, None, Some, length, take, IfOk, IfErr, OnOk};
 ghost use Rattle.std.specs.Io.{ReadsAtMost, WritesAtMost};
 ghost use Rattle.std.specs.Io.KnownBytes.{Keeps, ReadConsumes, WriteAppends};
@@ -7,10 +7,10 @@ ghost use Rattle.std.specs.IoError.{raw_os_error};
 use std::io;
 use std::io::{Read, Write};
 
-/// How many of the first bytes are kept.
+/// The number of first bytes that are recorded.
 pub const KEPT: usize = 12;
 
-/// A reader that keeps the first bytes that it returned and its last error.
+/// A reader that records its first `KEPT` bytes and its last error.
 #[derive(Drop)]
 pub struct NoticedReader<R: Read> {
     reader: R,
@@ -33,21 +33,21 @@ impl<R: Read> NoticedReader<R> {
         }
     }
 
-    /// Returns the first bytes that it returned.
+    /// Returns the recorded first bytes.
     pub fn first(&self) -> &[u8]
         ensures { result.now ≡ take self.now.len self.now.first }
     {
         &self.first[..self.len]
     }
 
-    /// Returns the system's number of its last error.
+    /// Returns the operating system's number of the last error.
     pub fn error(&self) -> Option<i32>
         ensures { result ≡ self.now.error }
     {
         self.error
     }
 
-    // Keeps as many of these bytes as are still wanted.
+    // Records bytes until there are `KEPT`.
     fn keep(&mut self, came: &[u8])
         ensures first { take self.new.len self.new.first ≡ take 12 (take self.old.len self.old.first ++ came.now) }
         ensures reader { self.new.reader ≡ self.old.reader }
@@ -82,7 +82,7 @@ impl<R: Read> Read for NoticedReader<R> {
     }
 }
 
-/// A writer that keeps its last error.
+/// A writer that records its last error.
 #[derive(Drop)]
 pub struct NoticedWriter<W: Write> {
     writer: W,
@@ -99,7 +99,7 @@ impl<W: Write> NoticedWriter<W> {
         }
     }
 
-    /// Returns the system's number of its last error.
+    /// Returns the operating system's number of the last error.
     pub fn error(&self) -> Option<i32>
         ensures { result ≡ self.now.error }
     {
@@ -129,10 +129,10 @@ impl<W: Write> Write for NoticedWriter<W> {
     }
 }
 
-/// How many bytes a run's lines and last items have at most.
+/// The maximum size in bytes of the lines and last items of a run.
 const MOST: usize = 4096;
 
-/// The lines of a run, which are shown when it has ended. It takes 4,096 bytes.
+/// Buffers the lines of a run until it has ended, up to 4,096 bytes.
 #[derive(Drop)]
 pub struct Lines {
     bytes: [u8; MOST],

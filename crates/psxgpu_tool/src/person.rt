@@ -1,5 +1,5 @@
-// What a person at a terminal is told after the lines that programs read. None of it is written if standard error is
-// no terminal, except the line of a file that cannot be opened.
+// Explains failures to a person at a terminal, after the lines that programs read. None of it is written if standard
+// error is not a terminal, except the line of a file that cannot be opened and that of binary output to a terminal.
 ghost use Rattle.std.specs.Prelude.{◌≡◌, ◌↔◌, IsTrue};
 ghost use Rattle.psxgpu_tool.specs.Person.{IsBrokenPipe};
 ghost use Rattle.psxgpu_tool.specs.Typed.{IsBinary, NamesSome};
@@ -11,7 +11,7 @@ use std::alloc::AllocError;
 use std::io::{Error, ErrorKind, IsTerminal};
 use std::{fs, str};
 
-/// Which of the standard streams are terminals.
+/// Whether standard input (`types`), output (`sees`) and error (`hears`) are terminals.
 #[derive(Clone, Copy)]
 pub struct Person {
     types: bool,
@@ -19,21 +19,21 @@ pub struct Person {
     hears: bool,
 }
 
-/// A run that has ended.
+/// The outcome of a run.
 #[derive(Clone, Copy)]
 pub struct Outcome<'a> {
     pub status: u8,
     pub words: &'a [String],
     /// The first bytes of the input.
     pub first: &'a [u8],
-    /// What the run wrote for standard error.
+    /// What the run wrote to standard error.
     pub lines: &'a [u8],
-    /// The system's number of the error of a read or a write.
+    /// The operating system's number of the error of a read or a write.
     pub error: Option<i32>,
 }
 
 impl Person {
-    /// Returns the one at this program's standard streams.
+    /// Returns which standard streams of this program are terminals.
     pub fn at(rt: &HostRuntime) -> Person {
         Person {
             types: rt.stdin().is_terminal(),
@@ -42,21 +42,22 @@ impl Person {
         }
     }
 
-    /// Whether what the command writes is kept from a screen, since it is not text.
+    /// Whether the command writes binary output and standard output is a terminal.
     pub fn refuses(self, words: &[String]) -> bool
         ensures { IsTrue result ↔ (IsTrue self.sees × NamesSome IsBinary words.now) }
     {
         self.sees && names_binary(words)
     }
 
-    /// Says that the output is kept from a screen.
+    /// Writes that the output is binary and must be redirected.
     pub fn tell_refused(self, rt: &HostRuntime) {
         let _ = eprintln!(rt;
             "psxgpu: the output is binary: redirect it to a file or a program, as in > FILE"
         );
     }
 
-    /// Says that the capture is awaited from the keyboard.
+    /// If standard input and error are terminals and the command reads a capture, writes that it reads from the
+    /// terminal.
     pub fn tell_waiting(self, rt: &HostRuntime, words: &[String]) {
         if self.types && self.hears && names_reader(words) {
             let _ = eprintln!(rt;
@@ -65,20 +66,20 @@ impl Person {
         }
     }
 
-    /// Says why a file cannot be opened.
+    /// Writes why a file cannot be opened.
     pub fn tell_unopened(self, rt: &HostRuntime, name: &str, error: &Error) {
         let _ = eprintln!(rt; "psxgpu: {name}: {error}");
     }
 
-    /// Whether the lines of a run of this status are left out, since nobody reads its output any more. `wrote`: the
-    /// system's number of the error of a write.
+    /// Whether the lines of a run are left out: standard error is a terminal, and a write failed since nobody reads the
+    /// output any more. `wrote`: the operating system's number of the error of a write.
     pub fn passes_over(self, status: u8, wrote: Option<i32>) -> bool
         ensures { IsTrue result ↔ (IsTrue self.hears × (status ≡ 4) × IsBrokenPipe wrote) }
     {
         self.hears && status == 4 && is_broken_pipe(wrote)
     }
 
-    /// Says what a run that failed may have failed of.
+    /// Writes the likely cause of a failed run, if standard error is a terminal.
     pub fn tell_after(self, rt: &HostRuntime, outcome: &Outcome<'_>) {
         if self.hears {
             let _ = match outcome.status {
@@ -119,12 +120,12 @@ fn tell_error(rt: &HostRuntime, error: Option<i32>) -> Result<(), AllocError> {
     Ok(())
 }
 
-/// Whether the system says that a file of this name exists.
+/// Whether the system says that a file of this name exists. False if it cannot tell.
 pub fn is_file(rt: &HostRuntime, name: &str) -> bool {
     fs::exists(rt, name).unwrap_or(false)
 }
 
-// Whether the system's number says that nobody reads what is written.
+// Whether the error says that nobody reads the output any more.
 fn is_broken_pipe(error: Option<i32>) -> bool
     ensures { IsTrue result ↔ IsBrokenPipe error }
 {

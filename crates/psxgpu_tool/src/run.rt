@@ -1,4 +1,4 @@
-// The whole run of the program.
+// Runs the program.
 ghost use Rattle.std.specs.Prelude.{◌≡◌, map};
 ghost use Rattle.dev_io.specs.Device.{side};
 ghost use Rattle.psxgpu_tool.specs.Command.{IsCommand};
@@ -20,11 +20,16 @@ use std::alloc::Global;
 use std::sync::ledger::Ledger;
 use vram_store::Steps;
 
-/// Runs the command that the words name, and answers the exit status.
+/// Runs the command that the arguments name, and returns the exit status.
 ///
-/// 0: all was written. 1: the words name no command. 2: the capture, or one of its events, is refused, and err says
-/// why and where. 3: the source failed. 4: out failed. 5: memory ran out, before anything was read or written. What
-/// becomes of err changes nothing else. The taps are told every note of the run, and dropped at its end.
+/// - 0: everything was written.
+/// - 1: the arguments name no command.
+/// - 2: the capture, or one of its events, is refused; `err` receives why and where.
+/// - 3: `source` failed.
+/// - 4: `out` failed.
+/// - 5: memory ran out before anything was read or written.
+///
+/// Errors of `err` are ignored. The taps receive every note of the run, and are dropped at its end.
 pub fn run<S: Source, K: Sink, E: Sink, L: Ledger>(
     alloc: Global,
     words: &Vec<String>,
@@ -110,7 +115,7 @@ fn run_command<S: Source, K: Sink, E: Sink, L: Ledger>(
     }
 }
 
-/// Writes a text to out.
+/// Writes a text to `out`.
 fn tell_text<K: Sink>(text: &[u8], out: &mut K) -> Ending
     ensures { EndsTelling text.now 1 (side K.held K.faults out.old) (side K.held K.faults out.new) result }
 {
@@ -120,7 +125,7 @@ fn tell_text<K: Sink>(text: &[u8], out: &mut K) -> Ending
     }
 }
 
-/// Says that memory ran out, and answers the status of that.
+/// Writes that memory ran out, and returns its status, 5.
 fn tell_no_memory<E: Sink>(err: &mut E) -> u8
     ensures status { result ≡ 5 }
     ensures says { Says (side E.held E.faults err.old) (side E.held E.faults err.new) memory_line }

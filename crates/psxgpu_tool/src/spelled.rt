@@ -1,9 +1,9 @@
-// Numbers that words of the command line spell.
+// Numbers in arguments.
 ghost use Rattle.std.specs.Prelude.{◌≡◌, ◌↔◌, ◌≤◌, ◌<◌, ℕ, decimal, IsTrue, MatchOption};
 
 use itoa::Buffer;
 
-/// The number below 1024 that the text spells.
+/// Returns the number below 1024 that the text spells in decimal, without sign and leading zeros.
 pub(crate) fn place_of(text: &str) -> Option<u16>
     ensures { MatchOption result ((n : ℕ) → n < 1024 → text.now ≡ decimal n → ⊥)
         (λ n. (n < 1024) × (text.now ≡ decimal n)) }
@@ -20,7 +20,7 @@ pub(crate) fn place_of(text: &str) -> Option<u16>
     }
 }
 
-// Whether the text spells this number, and it is below 1024.
+// Whether the text spells `n`, and `n` is below 1024.
 fn is_place(text: &str, n: u32) -> bool
     ensures { IsTrue result ↔ ((n < 1024) × (text.now ≡ decimal n)) }
 {
@@ -29,7 +29,7 @@ fn is_place(text: &str, n: u32) -> bool
     few && is_so
 }
 
-/// The number from 1 to `most` that the text spells.
+/// Returns the number from 1 to `most` that the text spells in decimal, without sign and leading zeros.
 pub(crate) fn count_of(text: &str, most: u32) -> Option<u32>
     ensures { MatchOption result ((n : ℕ) → 1 ≤ n → n ≤ most → text.now ≡ decimal n → ⊥)
         (λ n. (1 ≤ n) × (n ≤ most) × (text.now ≡ decimal n)) }
@@ -46,7 +46,7 @@ pub(crate) fn count_of(text: &str, most: u32) -> Option<u32>
     }
 }
 
-// Whether the text spells this number, and it is one from 1 to `most`.
+// Whether the text spells `n`, and `n` is from 1 to `most`.
 fn is_count(text: &str, n: u32, most: u32) -> bool
     ensures { IsTrue result ↔ ((1 ≤ n) × (n ≤ most) × (text.now ≡ decimal n)) }
 {
@@ -56,7 +56,7 @@ fn is_count(text: &str, n: u32, most: u32) -> bool
     some && few && spelled
 }
 
-// Whether the text is the decimal spelling of the number, which has no sign and no leading 0.
+// Whether the text is the decimal spelling of `n`, which has no sign and no leading zero.
 fn is_spelling(text: &str, n: u32) -> bool
     ensures { IsTrue result ↔ (text.now ≡ decimal n) }
 {
@@ -64,7 +64,7 @@ fn is_spelling(text: &str, n: u32) -> bool
     is_same(text, buffer.format(n))
 }
 
-/// Whether both texts are the same.
+/// Whether both texts are equal.
 pub(crate) fn is_same(a: &str, b: &str) -> bool
     ensures { IsTrue result ↔ (a.now ≡ b.now) }
 {

@@ -6,7 +6,7 @@ use gpu_core::Gpu;
 use std::sync::ledger::Ledger;
 use vram_store::{Steps, Vram};
 
-/// The sum of all cells, which are read sixteen at a step.
+/// Returns the sum of all cells. Reads sixteen cells per step.
 pub fn sum_of_cells<L: Ledger>(gpu: &Gpu, steps: &mut Steps<L>) -> u64
     ensures value { result ≡ sum gpu.now.parts.m }
     ensures cost { steps.new ≡ steps.old + 64 * gpu.now.parts.regs.height }
@@ -18,7 +18,7 @@ pub fn sum_of_cells<L: Ledger>(gpu: &Gpu, steps: &mut Steps<L>) -> u64
     total
 }
 
-/// The sum of a row.
+/// Returns the sum of the cells of row `y`.
 fn row_sum<L: Ledger>(vram: &Vram, y: u16, steps: &mut Steps<L>) -> u64
     requires { y < height_of vram.now }
     ensures value { result ≡ sum (slice_range vram.now (1024 * y) (1024 * y + 1024)) }

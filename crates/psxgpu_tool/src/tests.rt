@@ -1,4 +1,4 @@
-// The program over ends in memory.
+// Tests of whole commands with sources and sinks in memory.
 ghost use Rattle.std.specs.Prelude.{◌≡◌, ◌<◌};
 
 mod capture;
@@ -23,10 +23,10 @@ use std::marker::Brand;
 use std::sync::ledger::{Blank, Ledger};
 use vram_store::Steps;
 
-/// The room of a sink for lines.
+/// The capacity in bytes of a sink for lines.
 pub(crate) const LINES: usize = 4096;
 
-/// The words of a command line, with spaces between them.
+/// Returns the arguments of a command line: words with spaces between them.
 pub(crate) fn words_of(alloc: Global, words: &str) -> io::Result<Vec<String>> {
     let mut owned = Vec::new(alloc);
     for word in words.split_whitespace() {
@@ -35,7 +35,7 @@ pub(crate) fn words_of(alloc: Global, words: &str) -> io::Result<Vec<String>> {
     Ok(owned)
 }
 
-/// The exit status of a run without taps.
+/// Returns the exit status of a run without taps.
 pub(crate) fn status_over<S: Source, K: Sink>(
     alloc: Global,
     words: &str,
@@ -46,7 +46,7 @@ pub(crate) fn status_over<S: Source, K: Sink>(
     status_with(alloc, words, source, out, err, Vec::new(alloc))
 }
 
-/// The exit status of a run.
+/// Returns the exit status of a run.
 pub(crate) fn status_with<S: Source, K: Sink>(
     alloc: Global,
     words: &str,

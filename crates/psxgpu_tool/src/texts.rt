@@ -1,6 +1,6 @@
 // The fixed texts.
 
-/// What `--help` writes.
+/// The output of `--help`.
 pub const HELP: &[u8] = b"psxgpu_tool COMMAND [FILE] > output
 
 Plays a recorded list of PlayStation graphics events, from FILE or standard input, and writes what the command asks for.
@@ -26,7 +26,7 @@ Exit status: 0 all was written; 1 wrong arguments, or binary output to a termina
 3 a read failed, or FILE cannot be opened; 4 a write failed; 5 no memory.
 ";
 
-/// What `--version` writes.
+/// The output of `--version`.
 pub const VERSION: &[u8] = b"psxgpu_tool 1.0.0
 plays captures of versions 1, 2 and 3, and snapshots of version 1
 proved with rattle-kit-13b logic dac8208d650f15bf

@@ -1,4 +1,4 @@
-// The arguments as a person types them: those of a command, and the file that the last of them may name.
+// The arguments as a person types them: those of a command, and a file name as the last of them.
 ghost use Rattle.std.specs.Prelude.{◌≡◌, ◌↔◌, ℕ, List, [], ◌∷◌, IsTrue, IfOk, map, string_bytes, codes, MatchOption};
 ghost use Rattle.psxgpu_tool.specs.Command.{AreNames};
 ghost use Rattle.psxgpu_tool.specs.Typed.{AsksForHelp, EndsInHelp, HasFile, IsAlone, IsBinary, IsFileName, IsHelpWord};
@@ -10,16 +10,16 @@ use crate::spelled::is_same;
 use event_play::Mode;
 use std::alloc::{AllocError, Global};
 
-/// Arguments, taken apart.
+/// The arguments of `run`, and the file to be read.
 #[derive(Drop)]
 pub struct Typed {
-    /// The arguments that `run` is given.
+    /// The arguments for `run`.
     pub words: Vec<String>,
     /// The file that is read instead of standard input.
     pub file: Option<String>,
 }
 
-/// Takes the arguments apart. `is_there` says whether a file of the last one's name exists.
+/// Separates the file name from the arguments. `is_there`: whether a file with the name of the last one exists.
 ///
 /// 1. Arguments that name a command are this command over standard input, so a file named `marks` is typed `./marks`.
 /// 2. `help` alone, and `-h` or `--help` after other arguments, ask for the help.

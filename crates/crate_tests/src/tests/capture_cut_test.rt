@@ -1,4 +1,4 @@
-// A capture that is cut.
+// Captures that are cut.
 ghost use Rattle.std.specs.Prelude.{◌≡◌, ◌<◌, ◌≤◌};
 
 use capture_cut::{CutEnding, cut};
@@ -11,8 +11,8 @@ use std::sync::ledger::{Blank, Ledger};
 use std::test::Fail;
 use vram_store::Steps;
 
-// How a capture of seven events, with a triangle around them, ends where it is cut behind so many, and how many
-// bytes are written.
+// Cuts a capture of seven events, with a triangle among them, after `n` events. Returns the ending and the number of
+// bytes written.
 fn cut_behind<L: Ledger>(alloc: Global, blank: Blank, n: u32) -> Result<(CutEnding, usize), Fail>
     requires name { blank.name ≡ L.name }
     requires parts { blank.parts ≡ L.parts }

@@ -12,7 +12,8 @@ use std::sync::ledger::{Blank, Ledger};
 use std::test::Fail;
 use vram_store::Steps;
 
-// How a capture of this version ends, and whether what is written are the wanted words behind the head that is due.
+// Returns how `flat` of a capture of this version ends, and whether it writes the wanted words with the expected
+// version.
 fn flat_of<L: Ledger>(
     alloc: Global,
     blank: Blank,

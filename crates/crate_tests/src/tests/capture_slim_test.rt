@@ -1,4 +1,4 @@
-// Captures without drawing that nobody sees.
+// Captures without dead drawing.
 ghost use Rattle.std.specs.Prelude.{◌≤◌};
 
 use super::captures::capture_of;
@@ -7,7 +7,7 @@ use dev_io::{CutSource, MemSink};
 use std::alloc::Global;
 use std::test::Fail;
 
-// How a capture of this version ends, and whether the wanted words are written behind the same head.
+// Returns how `pass` of a capture of this version ends, and whether it writes the wanted words with the same version.
 fn slim_of(
     alloc: Global,
     version: u8,

@@ -4,7 +4,7 @@ ghost use Rattle.std.specs.Prelude.{◌≤◌};
 use std::alloc::Global;
 use std::test::Fail;
 
-/// The bytes of the head of a version and of words.
+/// Returns the file header of a version, followed by words.
 pub(crate) fn capture_of(alloc: Global, version: u8, words: &[u32]) -> Result<Vec<u8>, Fail>
     requires { version ≤ 3 }
 {

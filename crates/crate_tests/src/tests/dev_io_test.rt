@@ -1,4 +1,4 @@
-// Sources and sinks in memory, and the edges to readers and writers.
+// Sources and sinks in memory, and the adapters for readers and writers.
 use dev_io::{
     CutSource, FailSink, Failed, MemSink, MemSource, ReadEdge, Source, WriteEdge, fill, write_all,
     write_pieces,
@@ -66,7 +66,7 @@ fn the_edges_pass_bytes_on(rt: HostRuntime) -> Result<(), Fail> {
     Ok(())
 }
 
-/// Bytes to be read, and those that were written; a signal interrupts each first of two calls.
+/// A reader of `left` bytes and a writer that counts bytes. A signal interrupts every other call, from the first on.
 #[derive(Drop)]
 struct Interrupted {
     left: u8,

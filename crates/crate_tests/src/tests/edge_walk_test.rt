@@ -53,7 +53,7 @@ fn rows_of_a_square(rt: HostRuntime) -> Result<(), Fail> {
     Ok(())
 }
 
-// Red at a cell, alone and in a lane.
+// Returns red at a cell, computed alone and in a lane.
 fn red_at(tri: &Tri, x: i32, y: i32) -> Option<(u8, [u16; 16])> {
     if tri.inside(x, y) {
         Some((tri.attr_at(0, x, y), tri.attr_lanes(0, x, y, 1).to_array()))

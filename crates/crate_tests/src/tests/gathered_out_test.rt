@@ -1,10 +1,11 @@
-// Pieces that are gathered before a sink that fails.
+// Output chunks that are buffered before a sink that fails.
 use dev_io::FailSink;
 use gathered_out::Gathered;
 use std::alloc::Global;
 use std::test::Fail;
 
-// What pieces of events 3, 5 and 9 leave where the sink takes so many bytes: the number of the first that lacks one.
+// Writes chunks of events 3, 5 and 9 to a sink of `room` bytes. Returns the event of the first incomplete one, and the
+// bytes written.
 fn pieces_into(alloc: Global, room: usize) -> Result<(Result<(), u64>, Vec<u8>), Fail> {
     let mut out = FailSink::new(alloc, room, 2, Vec::new(alloc))?;
     let mut gathered = Gathered::new();

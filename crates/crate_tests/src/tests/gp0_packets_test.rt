@@ -1,9 +1,9 @@
-// The packets of words whose fields were worked out by hand.
+// The packets of words whose fields were derived by hand.
 use gp0_packets::{Packet, class_of, decode, head_of};
 use gp0_words::Splitter;
 use px_num::{Cell, Vertex};
 
-// The last packet of these words, with its class and head.
+// Returns the last packet of these words, with its class and head.
 fn last_packet(words: &[u32]) -> (Packet, u8, u32) {
     let mut splitter = Splitter::new();
     let mut last = (Packet::Nop, 0, 0);
@@ -49,7 +49,7 @@ fn red_segment(a: (i32, i32), b: (i32, i32)) -> Packet {
     }
 }
 
-// A raw textured rectangle of black.
+// Returns a raw textured rectangle with the colour black.
 fn texels(x: i32, w: u16, u: u8) -> Packet {
     Packet::Rect {
         x,

@@ -1,4 +1,4 @@
-// Words that are cut into packets, with their lengths.
+// Words that are split into packets, and their lengths.
 use gp0_words::{Item, Pending, Splitter, first_len};
 
 #[derive(Clone, Copy, Debug, PartialEq)]
@@ -55,7 +55,7 @@ fn a_load_and_two_polylines_are_cut(rt: HostRuntime) {
     }
 }
 
-// How many pushes of a command and then of a word complete an item, 0 where twelve do not.
+// Returns how many pushes of a command and then of a word complete an item, or 0 if twelve do not.
 fn pushes(command: u32, word: u32) -> usize {
     let mut splitter = Splitter::new();
     if splitter.push(command).is_some() {

@@ -1,9 +1,9 @@
-// Stops of a reader, and what is written.
+// Stops of a reader, and written records.
 use dev_io::{CutSource, MemSink, MemSource};
 use gpu_capture::{Event, EventReader, Stop, write_end, write_event, write_start};
 use std::test::Fail;
 
-// The events before the stop of at most ten, and the stop.
+// Returns the number of events before the stop, at most ten, and the stop.
 fn read(source: &mut CutSource) -> (u32, Option<Stop>) {
     let mut reader = EventReader::new();
     for n in 0..10 {

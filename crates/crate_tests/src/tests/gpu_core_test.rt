@@ -9,7 +9,7 @@ use std::sync::ledger::{Blank, Ledger};
 use std::test::Fail;
 use vram_store::Steps;
 
-// What a read, the status word, the height and a cell of row 600 are after a fill of that row in the tall profile.
+// Returns a read, the status word, the height and a cell of row 600 after a fill of that row with 1024 rows.
 fn after_a_fill<L: Ledger>(alloc: Global, blank: Blank) -> Result<(u32, u32, u16, u16), Fail>
     requires name { blank.name ≡ L.name }
     requires parts { blank.parts ≡ L.parts }

@@ -1,4 +1,4 @@
-// What the taps of a list say of its notes.
+// The readings of a list of taps.
 use gp0_packets::Note;
 use gpu_taps::{Counts, Cover, Tap, Trace, tell_all};
 use px_num::Box2;

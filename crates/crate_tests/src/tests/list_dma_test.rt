@@ -3,7 +3,7 @@ use list_dma::{DmaFault, ListLoop, Plan, Run, Walk, block_plan, next_node, start
 use ot_clear_dma::Ram;
 use std::test::Fail;
 
-// A list of 1,000 nodes from 1000h on, each naming the word behind it.
+// A list of 1,000 nodes from 1000h on, each linked to the next word.
 fn long_list(ram: &mut Ram) {
     for k in 0..999u32 {
         ram.put(0x1000 + 4 * k, 0x1004 + 4 * k);

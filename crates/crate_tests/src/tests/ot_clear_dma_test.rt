@@ -1,4 +1,4 @@
-// Main memory, and a table that is cleared.
+// Main memory, and an ordering table that is cleared.
 use ot_clear_dma::Ram;
 use std::test::Fail;
 

@@ -1,4 +1,4 @@
-// Lines of what is played, and of what taps say.
+// The lines of a replay and of taps.
 use dev_io::MemSink;
 use gp0_packets::Note;
 use gpu_taps::{Counts, Listener, Tap, Trace};

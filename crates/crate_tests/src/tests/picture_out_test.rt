@@ -10,7 +10,7 @@ use std::sync::ledger::{Blank, Ledger};
 use std::test::Fail;
 use vram_store::{Steps, Vram};
 
-// The dump of video memory in which one cell holds something, to a sink with so much room, and whether all was
+// Writes a dump of video memory with one nonzero cell to a sink of `room` bytes. Returns the sink, and whether all was
 // written.
 fn dumped<L: Ledger>(alloc: Global, blank: Blank, room: usize) -> Result<(MemSink, bool), Fail>
     requires name { blank.name ≡ L.name }
@@ -38,8 +38,7 @@ fn a_dump_has_each_low_byte_first(rt: HostRuntime) -> Result<(), Fail> {
     Ok(())
 }
 
-// What is written after these words of GP1, and where these cells hold something: the picture, or nothing where
-// none is shown.
+// Returns the shown picture after these words of GP1 and with these cells, or nothing if none is shown.
 fn shot<L: Ledger>(
     alloc: Global,
     blank: Blank,

@@ -11,7 +11,7 @@ use std::sync::ledger::{Blank, Ledger};
 use std::test::Fail;
 use vram_store::{Steps, Vram};
 
-// Cells (1..4, 1) and the area of a rectangle, after it was drawn with an offset of (1, 1).
+// Returns cells (1..4, 1) and the area of a rectangle, after it was drawn with an offset of (1, 1).
 fn drawn<L: Ledger>(alloc: Global, blank: Blank, w: u16) -> Result<([u16; 4], Option<Box2>), Fail>
     requires name { blank.name ≡ L.name }
     requires parts { blank.parts ≡ L.parts }

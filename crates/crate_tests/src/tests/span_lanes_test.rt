@@ -30,7 +30,7 @@ struct Row {
     clut: u16,
 }
 
-// Five cells of row 0 from a column on, after a row of texels was drawn.
+// Returns five cells of row 0 from a column on, after a row of texels was drawn.
 fn sampled<L: Ledger>(
     alloc: Global,
     blank: Blank,
@@ -167,7 +167,7 @@ fn corner(x: i32, y: i32) -> Vertex {
     }
 }
 
-// A cell of row 0 of a triangle of one colour, dithered.
+// Returns a cell of row 0 of a triangle of one colour, dithered.
 fn dithered<L: Ledger>(alloc: Global, blank: Blank, tri: Tri, x: u16) -> Result<u16, Fail>
     requires name { blank.name ≡ L.name }
     requires parts { blank.parts ≡ L.parts }

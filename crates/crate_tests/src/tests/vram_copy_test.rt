@@ -9,7 +9,7 @@ use std::test::Fail;
 use vram_copy::{Transfer, copy, fill, laws, load_word, store_word};
 use vram_store::{Steps, Vram};
 
-// What a fill leaves in cells of its corners and around them.
+// Returns cells at the corners of a fill and around them.
 fn filled<L: Ledger>(
     alloc: Global,
     blank: Blank,
@@ -52,7 +52,7 @@ fn fills_wrap_in_both_directions(rt: HostRuntime) -> Result<(), Fail> {
     Ok(())
 }
 
-// What a copy one column to the right leaves in (0, 0), (16, 0), (17, 0), (1023, 0) and (1, 1).
+// Returns (0, 0), (16, 0), (17, 0), (1023, 0) and (1, 1) after a copy one column to the right.
 fn smeared<L: Ledger>(alloc: Global, blank: Blank, w: u16, h: u16) -> Result<[u16; 5], Fail>
     requires name { blank.name ≡ L.name }
     requires parts { blank.parts ≡ L.parts }
@@ -87,8 +87,7 @@ fn copies_repeat_what_they_wrote(rt: HostRuntime) -> Result<(), Fail> {
     Ok(())
 }
 
-// Three pixels that were loaded, as they are stored; and a pixel loaded over one that the mask
-// setting keeps.
+// Returns three pixels that were loaded and stored again, and a pixel loaded over one that the mask setting protects.
 fn moved<L: Ledger>(alloc: Global, blank: Blank) -> Result<[u32; 3], Fail>
     requires name { blank.name ≡ L.name }
     requires parts { blank.parts ≡ L.parts }

@@ -8,7 +8,7 @@ use std::sync::ledger::{Blank, Ledger};
 use std::test::Fail;
 use vram_store::{Steps, Vram};
 
-// The cells (1008..1023, 511) after a store of its first three lanes, of which the second is masked.
+// Returns the cells (1008..1023, 511) after a store of its first three lanes, the second of them masked.
 fn corner<L: Ledger>(alloc: Global, blank: Blank) -> Result<[u16; 16], Fail>
     requires name { blank.name ≡ L.name }
     requires parts { blank.parts ≡ L.parts }
@@ -21,7 +21,7 @@ fn corner<L: Ledger>(alloc: Global, blank: Blank) -> Result<[u16; 16], Fail>
     Ok(vram.load16(1008, 511, 16, &mut steps).to_array())
 }
 
-// The cells at the corners of new video memory.
+// Returns the cells at the corners of new video memory.
 fn first_corners<L: Ledger>(alloc: Global, blank: Blank) -> Result<[u16; 4], Fail>
     requires name { blank.name ≡ L.name }
     requires parts { blank.parts ≡ L.parts }

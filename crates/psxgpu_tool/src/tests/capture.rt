@@ -3,8 +3,8 @@ use dev_io::CutSource;
 use std::alloc::Global;
 use std::io;
 
-/// The bytes of a capture of this head, from its records: each a name and hexadecimal numbers, with a comma behind
-/// all but the last. An End stands behind them.
+/// Returns a capture with this magic number. `records`: each a name and hexadecimal numbers, separated by commas. An
+/// End is appended.
 pub(crate) fn capture(alloc: Global, head: &[u8], records: &str) -> io::Result<Vec<u8>> {
     let mut bytes = head.to_vec(alloc)?;
     for record in records.split(',') {
@@ -29,7 +29,7 @@ pub(crate) fn push_word(bytes: &mut Vec<u8>, word: u32) -> io::Result<()> {
     Ok(())
 }
 
-/// A source that gives these bytes one a call, and fails at the calls of these numbers.
+/// Returns a source that gives one byte per call and fails at the calls with these numbers, from 0.
 pub(crate) fn bytewise(alloc: Global, bytes: &[u8], fails: &[u64]) -> io::Result<CutSource> {
     let mut pieces = Vec::new(alloc);
     for _ in bytes {
@@ -38,7 +38,7 @@ pub(crate) fn bytewise(alloc: Global, bytes: &[u8], fails: &[u64]) -> io::Result
     Ok(CutSource::new(bytes.to_vec(alloc)?, pieces, fails.to_vec(alloc)?))
 }
 
-// A record: its tag, and the numbers that stand behind that.
+// Appends a record: its tag and the numbers after it.
 fn push_record(bytes: &mut Vec<u8>, name: &str, numbers: &[u32]) -> io::Result<()> {
     let count = (numbers.len() % 0x1000) as u32;
     let (tag, behind) = match numbers {
@@ -57,7 +57,7 @@ fn push_record(bytes: &mut Vec<u8>, name: &str, numbers: &[u32]) -> io::Result<(
     Ok(())
 }
 
-// The kind of a record whose first number stands in its tag; a raw word has it in its number.
+// Returns the kind of a record whose first number is in its tag. A `raw` word has it in its number.
 fn kind_of(name: &str) -> u32 {
     if name == "read" {
         0x0400_0000

@@ -6,17 +6,17 @@ use dev_io::MemSource;
 use std::alloc::Global;
 use std::test::Fail;
 
-/// A triangle, with a read of the status behind its first word.
+/// A triangle, with a read of the status after its first word.
 const TRIANGLE: &str = "gp0 e407ffff 20ffffff, stat, gp0 0 8 80000, stat";
 
-/// The bytes of the snapshot behind three events of it: a head of 8, 21 words, both memories, and the rest of the
-/// capture.
+/// The size in bytes of the snapshot after three of its events: a magic number of 8 bytes, 21 words, both memories, and
+/// the rest of the capture.
 const LEN: usize = 3_145_852;
 
-/// Where the rest of the capture begins.
+/// The byte offset of the rest of the capture.
 const REST: usize = 3_145_820;
 
-// Whether these bytes stand at a place.
+// Whether `want` is at byte offset `place`.
 fn stands_at(bytes: &[u8], place: usize, want: &[u8]) -> bool {
     if place <= bytes.len() {
         bytes[place..].starts_with(want)
@@ -25,7 +25,7 @@ fn stands_at(bytes: &[u8], place: usize, want: &[u8]) -> bool {
     }
 }
 
-// The snapshot behind three events of the triangle.
+// Returns the snapshot after three events of the triangle.
 fn snapshot(alloc: Global) -> Result<Vec<u8>, Fail> {
     let mut source = MemSource::new(capture(alloc, b"PSXGPUC1", TRIANGLE)?);
     let cut = ran(alloc, "cut 3", &mut source, LEN)?;
@@ -38,7 +38,7 @@ fn a_snapshot_is_the_state_and_the_rest(rt: HostRuntime) -> Result<(), Fail> {
     let bytes = snapshot(alloc)?;
     assert_eq!(rt; bytes.len(), LEN);
     assert!(rt; stands_at(&bytes, 0, b"PSXGPUS1\0\x02\0\0\x03\0\0\0\0\0\0\0"));
-    // One word of a packet is pending, and nothing is stored or runs.
+    // One word of a packet is pending. No store is open, and no transfer runs.
     assert!(rt;
         stands_at(
             &bytes,
@@ -51,7 +51,7 @@ fn a_snapshot_is_the_state_and_the_rest(rt: HostRuntime) -> Result<(), Fail> {
     Ok(())
 }
 
-// Whether a command goes on from the snapshot as it should.
+// Whether a command over the snapshot writes `want`.
 fn goes_on(alloc: Global, words: &str, want: &[u8]) -> Result<bool, Fail> {
     let mut source = MemSource::new(snapshot(alloc)?);
     Ok(ran(alloc, words, &mut source, LEN)?.is(0, want, b""))
@@ -69,7 +69,7 @@ fn a_snapshot_is_played_on(rt: HostRuntime) -> Result<(), Fail> {
     Ok(())
 }
 
-/// Snapshots whose height is no height, and that break off in their state.
+/// Snapshots with an invalid height, and snapshots that end within their state.
 const BROKEN: &str = "
 vram < word 201 | | 2 psxgpu: bad-snapshot at event 1 byte 8 word 00000201;
 play < word 200 | | 2 psxgpu: truncated at event 1 byte 16;
@@ -87,7 +87,7 @@ fn what_is_no_snapshot(rt: HostRuntime) -> Result<(), Fail> {
     Ok(())
 }
 
-/// A cut behind the last of seven events, and words that name no cut.
+/// A cut after the last of seven events, and arguments that name no cut.
 const UNCUT: &str = "
 cut 8 < gp0 e407ffff 20ffffff, stat, gp0 0 8 80000, stat | | 2 psxgpu: cut-past-end at event 8;
 cut < stat | | 1 psxgpu: usage;

@@ -6,17 +6,17 @@ use dev_io::MemSource;
 use std::alloc::Global;
 use std::test::Fail;
 
-/// A list that cuts a triangle in two, and reads of the status around it.
+/// A list that splits a triangle in two, with reads of the status around it.
 const RECORDS: &str = "gp0 e407ffff 20ffffff, stat, ram 100 1000200 0, ram 200 1ffffff 8, \
     dma 2 100 0 1000401, stat, gp0 80000, stat";
 
-/// What it writes.
+/// The output of these records.
 const LINES_OF_RECORDS: &[u8] = b"10802000\n10802000\n14802000\nstatus 14802000\n";
 
-/// Where each event is whole.
+/// The byte offset at which each event is complete.
 const EVENT_ENDS: [usize; 11] = [16, 20, 24, 36, 40, 52, 56, 72, 76, 84, 88];
 
-// How many of these ends lie at or before a place.
+// Returns how many of these ends are at or before `place`.
 fn ends_before(ends: &[usize], place: usize) -> u64 {
     let mut count = 0u64;
     for end in ends {
@@ -27,7 +27,7 @@ fn ends_before(ends: &[usize], place: usize) -> u64 {
     count
 }
 
-// The bytes of the lines of events that are whole at this place.
+// Returns the lines of the events that are complete at this offset.
 fn lines_before(place: usize) -> &'static [u8] {
     if place < 24 {
         b""
@@ -40,7 +40,7 @@ fn lines_before(place: usize) -> &'static [u8] {
     }
 }
 
-// The event at which a byte of the lines is due.
+// Returns the event to which a byte of the lines belongs.
 fn event_of(place: usize) -> u64 {
     if place < 9 {
         3
@@ -53,7 +53,7 @@ fn event_of(place: usize) -> u64 {
     }
 }
 
-// Whether the capture is refused as it should be where it breaks off at this place.
+// Whether a capture that ends at this offset is refused as expected.
 fn breaks_off(alloc: Global, bytes: &[u8], place: usize) -> Result<bool, Fail> {
     let mut source = MemSource::new(bytes.iter().take(place).copied().collect(alloc)?);
     let n = ends_before(&EVENT_ENDS, place).saturating_add(1);
@@ -61,7 +61,7 @@ fn breaks_off(alloc: Global, bytes: &[u8], place: usize) -> Result<bool, Fail> {
     Ok(ran(alloc, "play", &mut source, LINES)?.is(2, lines_before(place), line.as_bytes()))
 }
 
-// Whether it is refused as it should be where the call for the byte at this place fails.
+// Whether a failed read of the byte at this offset is reported as expected.
 fn starves(alloc: Global, bytes: &[u8], place: usize) -> Result<bool, Fail> {
     let mut source = bytewise(alloc, bytes, &[place as u64])?;
     let n = ends_before(&EVENT_ENDS, place).saturating_add(1);
@@ -102,7 +102,7 @@ fn each_write_fails_in_turn(rt: HostRuntime) -> Result<(), Fail> {
     Ok(())
 }
 
-// Whether bytes that are no capture, or none that is whole, are refused so.
+// Whether these bytes, no complete capture, are refused with `err`.
 fn ends_so(alloc: Global, bytes: &[u8], err: &[u8]) -> Result<bool, Fail> {
     let mut source = MemSource::new(bytes.to_vec(alloc)?);
     Ok(ran(alloc, "vram", &mut source, LINES)?.is(2, b"", err))

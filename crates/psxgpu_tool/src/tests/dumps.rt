@@ -6,7 +6,7 @@ use std::alloc::Global;
 use std::io;
 use std::test::Fail;
 
-/// The bytes of video memory of 512 rows, and of 1024.
+/// The size in bytes of video memory with 512 rows, and with 1024.
 const SHORT: usize = 1_048_576;
 
 const TALL: usize = 2_097_152;
@@ -16,8 +16,7 @@ const TRIANGLE: &str =
     "0-7=7fff 1024-1030=7fff 2048-2053=7fff 3072-3076=7fff 4096-4099=7fff 5120-5122=7fff
     6144-6145=7fff 7168-7168=7fff";
 
-/// What packets leave in video memory: records, a bar, and the runs of cells that are not 0, with a semicolon behind
-/// each case.
+/// What packets leave in video memory. Each case: records, a bar, the runs of cells that are not 0, a semicolon.
 const DUMPS: &str = "
 |;
 gp0 20000ff 11 10001 | 16-31=1f;
@@ -62,7 +61,7 @@ gp0 e407ffff 20ffffff 0 3ff 80000
     7168-7295=7fff;
 ";
 
-/// Cells from a first to a last one, which have all one value.
+/// Cells from `first` to `last`, all with one value.
 #[derive(Clone, Copy)]
 struct Run {
     first: usize,
@@ -70,7 +69,7 @@ struct Run {
     value: u16,
 }
 
-// A run, written as its first and its last cell in decimal and its value in hexadecimal.
+// Parses a run: its first and last cell in decimal, its value in hexadecimal.
 fn run_of(word: &str) -> Option<Run> {
     let (cells, value) = word.split_once('=')?;
     let (first, last) = cells.split_once('-')?;
@@ -81,7 +80,7 @@ fn run_of(word: &str) -> Option<Run> {
     })
 }
 
-// The runs of a text, and none where a word is no run.
+// Parses the runs of a text. Returns `None` if a word is not a run.
 fn runs_of(alloc: Global, text: &str) -> io::Result<Option<Vec<Run>>> {
     let mut runs = Vec::new(alloc);
     for word in text.split_whitespace() {
@@ -93,7 +92,7 @@ fn runs_of(alloc: Global, text: &str) -> io::Result<Option<Vec<Run>>> {
     Ok(Some(runs))
 }
 
-// The value of a cell: that of the run in which it lies, and 0 outside all.
+// Returns the value of a cell: that of the run that contains it, or 0.
 fn cell(runs: &[Run], place: usize) -> u16 {
     for run in runs {
         if run.first <= place && place <= run.last {
@@ -113,7 +112,7 @@ fn is_dump(bytes: &[u8], len: usize, runs: &[Run]) -> bool {
     bytes.len() == len
 }
 
-// Whether the dump behind these records has these runs of cells, and zeros elsewhere.
+// Whether the dump after these records has these runs of cells, and zeros elsewhere.
 fn is_met(alloc: Global, head: &[u8], records: &str, len: usize, runs: &str) -> Result<bool, Fail> {
     let runs = runs_of(alloc, runs)?.ok_or("no runs")?;
     let mut source = MemSource::new(capture(alloc, head, records)?);
@@ -143,7 +142,7 @@ fn heights_and_turns(rt: HostRuntime) -> Result<(), Fail> {
     Ok(())
 }
 
-// Whether the dump behind these records begins with these bytes.
+// Whether the dump after these records begins with these bytes.
 fn begins_with(alloc: Global, records: &str, cells: &[u8]) -> Result<bool, Fail> {
     let mut source = MemSource::new(capture(alloc, b"PSXGPUC1", records)?);
     let dump = ran(alloc, "vram", &mut source, SHORT)?;

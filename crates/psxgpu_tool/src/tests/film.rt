@@ -1,4 +1,4 @@
-// Pictures one after another, and their sums.
+// Series of pictures, and their sums.
 use crate::tests::LINES;
 use crate::tests::capture::capture;
 use crate::tests::runs::{is_refused_at, ran};
@@ -6,23 +6,23 @@ use dev_io::MemSource;
 use std::alloc::Global;
 use std::test::Fail;
 
-/// A screen of 4 by 1, whose picture is a head of 11 bytes and 12 bytes of pixels. A mark stands behind a red cell, a
-/// flip behind a green one, and at the end a third cell is blue.
+/// A screen of 4 by 1, whose picture has a header of 11 bytes and 12 bytes of pixels. A mark follows a red cell, a flip
+/// follows a green one, and at the end a third cell is blue.
 const RECORDS: &str =
     "gp1 8000000, gp1 6214200, gp1 7004410, gp0 e407ffff, gp0 600000ff 0 10001, gp1 3f000000, \
     gp0 6000ff00 1 10001, gp1 5000000, gp0 60ff0000 2 10001";
 
-/// The pictures at flips: the one behind the flip, and the one at the end.
+/// The pictures at flips: the one after the flip, and the one at the end.
 const FLIPS: &[u8] =
     b"P6\n4 1\n255\n\xff\0\0\0\xff\0\0\0\0\0\0\0P6\n4 1\n255\n\xff\0\0\0\xff\0\0\0\xff\0\0\0";
 
 /// The picture at the mark.
 const MARK: &[u8] = b"P6\n4 1\n255\n\xff\0\0\0\0\0\0\0\0\0\0\0";
 
-/// The bytes of a picture.
+/// The size in bytes of a picture.
 const PICTURE: usize = 23;
 
-/// The event that flips, and the one behind the last event.
+/// The number of the event that flips, and the number of events plus 1.
 const FLIP: u64 = 12;
 
 const END: u64 = 16;

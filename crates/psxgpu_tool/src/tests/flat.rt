@@ -6,8 +6,8 @@ use dev_io::{MemSource, Source};
 use std::alloc::Global;
 use std::test::Fail;
 
-/// A capture, and what is to come of it: the records of its flat capture, how many bytes of that are written, and what
-/// err says. Where it is whole, both show the same words.
+/// A capture and the expected result: the records of its flat capture, the number of bytes of that which are written,
+/// and the lines of `err`. If the flat capture is complete, both show the same words.
 #[derive(Clone, Copy)]
 struct Case {
     head: &'static [u8],
@@ -20,7 +20,7 @@ struct Case {
     shown: &'static str,
 }
 
-/// A triangle in the nodes of a list, behind the clear of an ordering table.
+/// A triangle in the nodes of a list, after the clear of an ordering table.
 const LIST: Case = Case {
     head: b"PSXGPUC1",
     records: "gp0 e407ffff, dma 6 10c 4 11000002, ram 200 4000104 20ffffff 0 8 80000, ram 108 200, dma 2 10c 0 1000401",
@@ -41,7 +41,7 @@ const READ_BACK: Case = Case {
     ..LIST
 };
 
-/// A list that never ends, behind one event.
+/// A list that never ends, after one event.
 const LIST_LOOP: Case = Case {
     records: "stat, ram 100 100, dma 2 100 0 1000401",
     flat: "stat",
@@ -51,7 +51,7 @@ const LIST_LOOP: Case = Case {
     ..LIST
 };
 
-/// A fault of the first event, in front of which nothing is due.
+/// A fault of the first event: nothing is written before it.
 const FIRST_FAULT: Case = Case {
     records: "dma 2 0 0 1000601",
     flat: "",
@@ -60,7 +60,7 @@ const FIRST_FAULT: Case = Case {
     ..LIST_LOOP
 };
 
-/// A capture of the tall profile, and one without an event.
+/// A capture with 1024 rows, and one without an event.
 const TALL: Case = Case {
     head: b"PSXGPUC3",
     records: "gp0 20000ff 2000000 10001",
@@ -84,7 +84,7 @@ const SNAPSHOT: Case = Case {
     ..FIRST_FAULT
 };
 
-// Whether a source is made flat as it should be.
+// Whether `flat` over the source gives the expected result.
 fn is_met<S: Source>(alloc: Global, case: &Case, source: &mut S) -> Result<bool, Fail> {
     let want = capture(alloc, case.flat_head, case.flat)?;
     let outcome = ran(alloc, "flat", source, LINES)?;
@@ -131,7 +131,7 @@ fn flat_captures(rt: HostRuntime) -> Result<(), Fail> {
     Ok(())
 }
 
-// The event at which a byte of the flat capture of the list is due.
+// Returns the event to which a byte of the flat capture of the list belongs.
 fn event_of(place: usize) -> u64 {
     if place < 16 {
         1

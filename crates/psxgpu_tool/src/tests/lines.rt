@@ -1,4 +1,4 @@
-// Commands that write lines, and what they say of captures that are refused.
+// Commands that write lines, and their output for captures that are refused.
 use crate::tests::rows::holds;
 use std::test::Fail;
 
@@ -42,7 +42,7 @@ report < gp0 e407ffff 20ffffff 0 8 80000 |;
     proved with rattle-kit-13b logic dac8208d650f15bf;
 ";
 
-/// Captures that are refused, words that name no command, and what lies beside them.
+/// Captures that are refused, and arguments that name no command, with valid neighbours.
 const REFUSALS: &str = "
 play < stat, ram 100 100, dma 2 100 0 1000401 | 14802000 | 2 psxgpu: list-loop at event 3 node 000100;
 list < ram 100 1000100 1f000000, dma 2 100 0 1000401 | | 2 psxgpu: list-loop at event 3 node 000100;
@@ -64,7 +64,7 @@ demo 007 < stat | | 1 psxgpu: usage;
 demo 100001 < stat | | 1 psxgpu: usage;
 ";
 
-/// Turns of a list, which stand in captures of version 2.
+/// Turns of a list, in captures of version 2.
 const TURNS: &str = "
 play < gp0 e407ffff, ram 100 2000200 20ffffff 0, ram 200 2ffffff 8 80000, begin 100 0 1000401, turn 1, stat,
     turn 1, stat

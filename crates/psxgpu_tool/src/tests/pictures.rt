@@ -1,4 +1,4 @@
-// Pictures of what is shown.
+// Shown pictures.
 use crate::tests::LINES;
 use crate::tests::capture::{capture, push_word};
 use crate::tests::runs::ran;
@@ -7,7 +7,7 @@ use std::alloc::Global;
 use std::io;
 use std::test::Fail;
 
-/// The head of a picture of 320 by 240, and its bytes.
+/// The header of a picture of 320 by 240, and the size in bytes of the picture.
 const HEAD: &[u8] = b"P6\n320 240\n255\n";
 
 const FRAME: usize = 230_415;
@@ -58,7 +58,7 @@ fn frame(alloc: Global) -> io::Result<Vec<u8>> {
     Ok(bytes)
 }
 
-// The pixel of the frame at a column and a row: red squares above, a white one below them, and blue elsewhere.
+// Returns the pixel of the frame at a column and a row: red squares above, a white one below them, and blue elsewhere.
 fn pixel(x: usize, y: usize) -> [u8; 3] {
     if y < 8 {
         [0xff, 0, 0]
@@ -94,7 +94,7 @@ fn a_frame_is_shown(rt: HostRuntime) -> Result<(), Fail> {
     Ok(())
 }
 
-// Whether the picture of 4 by 1 behind these records begins with these bytes.
+// Whether the picture of 4 by 1 after these records begins with these bytes.
 fn begins_with(alloc: Global, records: &str, start: &[u8]) -> Result<bool, Fail> {
     let mut source = MemSource::new(capture(alloc, b"PSXGPUC1", records)?);
     let shot = ran(alloc, "shot", &mut source, LINES)?;

@@ -1,4 +1,4 @@
-// Rows of tables.
+// Test cases as rows of a table.
 use crate::tests::LINES;
 use crate::tests::capture::{bytewise, capture};
 use crate::tests::runs::ran;
@@ -7,8 +7,8 @@ use std::alloc::Global;
 use std::io;
 use std::test::Fail;
 
-/// A command, and the records of a capture behind a "<"; behind a bar the lines that it writes, with slashes between
-/// them; behind a second bar, if it does not end well, the exit status and what err says.
+/// `COMMAND < RECORDS | LINES`, with slashes between the lines. For a failure, a second bar follows, the exit status
+/// and the lines of `err`.
 #[derive(Clone, Copy)]
 pub(crate) struct Row<'a> {
     pub(crate) words: &'a str,
@@ -18,7 +18,7 @@ pub(crate) struct Row<'a> {
     pub(crate) err: &'a str,
 }
 
-/// The row that a text is.
+/// Parses a row.
 pub(crate) fn row_of(text: &str) -> Option<Row<'_>> {
     let (words, behind) = text.split_once('<')?;
     let (records, lines) = behind.split_once('|')?;
@@ -33,7 +33,7 @@ pub(crate) fn row_of(text: &str) -> Option<Row<'_>> {
     })
 }
 
-/// The bytes of lines with slashes between them.
+/// Returns the bytes of lines with slashes between them.
 pub(crate) fn lines_of(alloc: Global, text: &str) -> io::Result<Vec<u8>> {
     let mut bytes = Vec::new(alloc);
     for line in text.split('/') {
@@ -46,7 +46,7 @@ pub(crate) fn lines_of(alloc: Global, text: &str) -> io::Result<Vec<u8>> {
     Ok(bytes)
 }
 
-/// Whether a row holds behind this head, over its whole capture and over one byte a call.
+/// Whether a row holds with this magic number, with the whole capture at once and with one byte per call.
 pub(crate) fn holds(alloc: Global, head: &[u8], row: &str) -> Result<bool, Fail> {
     let row = row_of(row).ok_or("no row")?;
     let bytes = capture(alloc, head, row.records)?;

@@ -1,10 +1,10 @@
-// Runs, and what they come to.
+// Runs and their outcomes.
 use crate::tests::{LINES, status_over};
 use dev_io::{FailSink, MemSink, MemSource, Source};
 use std::alloc::Global;
 use std::test::Fail;
 
-/// What a run came to.
+/// The outcome of a run.
 #[derive(Drop)]
 pub(crate) struct Outcome {
     pub(crate) status: u8,
@@ -13,13 +13,13 @@ pub(crate) struct Outcome {
 }
 
 impl Outcome {
-    /// Whether it ended with this status, and wrote these bytes to out and to err.
+    /// Whether it ended with this status, and wrote these bytes to `out` and to `err`.
     pub(crate) fn is(&self, status: u8, out: &[u8], err: &[u8]) -> bool {
         self.status == status && self.out.bytes() == out && self.err.bytes() == err
     }
 }
 
-/// A run without taps over a source. Its out has room for so many bytes.
+/// Runs a command without taps over a source. `room`: the capacity in bytes of `out`.
 pub(crate) fn ran<S: Source>(
     alloc: Global,
     words: &str,
@@ -32,8 +32,8 @@ pub(crate) fn ran<S: Source>(
     Ok(Outcome { status, out, err })
 }
 
-/// Whether a run over a capture, whose write of the byte at this place fails, has written those before it, and names
-/// the event at which the byte was due.
+/// Whether a run whose write of the byte at this offset fails has written the bytes before it, and names the event to
+/// which that byte belongs.
 pub(crate) fn is_refused_at(
     alloc: Global,
     words: &str,

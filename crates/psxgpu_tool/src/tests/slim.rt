@@ -6,8 +6,8 @@ use dev_io::{MemSource, Source};
 use std::alloc::Global;
 use std::test::Fail;
 
-/// A capture, and what is to come of it: the records that are left, how many bytes of them are written, and what err
-/// says.
+/// A capture and the expected result: the records that remain, the number of their bytes that are written, and the
+/// lines of `err`.
 #[derive(Clone, Copy)]
 struct Case {
     head: &'static [u8],
@@ -18,7 +18,7 @@ struct Case {
     err: &'static str,
 }
 
-/// A rectangle that a fill covers behind a read of the status word.
+/// A rectangle that a fill covers after a read of the status word.
 const COVERED: Case = Case {
     head: b"PSXGPUC2",
     records: "gp0 e407ffff, gp0 600000ff 4 20002, stat, gp0 2000000 0 80010",
@@ -28,7 +28,7 @@ const COVERED: Case = Case {
     err: "",
 };
 
-/// The same behind a read of the data port.
+/// The same after a read of the data port.
 const SEEN: Case = Case {
     records: "gp0 e407ffff, gp0 600000ff 4 20002, read 1, gp0 2000000 0 80010",
     slim: "gp0 e407ffff, gp0 600000ff, gp0 4, gp0 20002, read 1, gp0 2000000, gp0 0, gp0 80010",
@@ -36,7 +36,7 @@ const SEEN: Case = Case {
     ..COVERED
 };
 
-/// A word for main memory, which stands in no flat capture.
+/// A write to main memory, which no flat capture has.
 const NOT_FLAT: Case = Case {
     head: b"PSXGPUC1",
     records: "gp0 0, ram 0 0",
@@ -56,7 +56,7 @@ const SNAPSHOT: Case = Case {
     ..NOT_FLAT
 };
 
-// Whether a source loses its dead drawing as it should.
+// Whether `slim` over the source gives the expected result.
 fn is_met<S: Source>(alloc: Global, case: &Case, source: &mut S) -> Result<bool, Fail> {
     let want = capture(alloc, case.head, case.slim)?;
     let outcome = ran(alloc, "slim", source, LINES)?;
@@ -77,7 +77,7 @@ fn captures_without_dead_drawing(rt: HostRuntime) -> Result<(), Fail> {
     Ok(())
 }
 
-// The event whose record lacks this byte of what is left of the covered rectangle's capture.
+// Returns the event to which this byte of the covered rectangle's output belongs.
 fn event_of(place: usize) -> u64 {
     if place < 16 {
         1

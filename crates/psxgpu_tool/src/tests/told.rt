@@ -1,4 +1,4 @@
-// What the taps of the program tell.
+// What the program writes with its taps.
 use crate::tests::capture::{capture, push_word};
 use crate::tests::rows::{lines_of, row_of};
 use crate::tests::runs::{Outcome, ran};
@@ -9,7 +9,7 @@ use std::alloc::Global;
 use std::io;
 use std::test::Fail;
 
-// The taps of the program.
+// Returns the taps of the program.
 fn taps_of(alloc: Global) -> Result<Vec<Box<dyn Tap>>, Fail> {
     let trace = Trace::new(alloc)?;
     let mut taps: Vec<Box<dyn Tap>> = Vec::new(alloc);
@@ -19,7 +19,7 @@ fn taps_of(alloc: Global) -> Result<Vec<Box<dyn Tap>>, Fail> {
     Ok(taps)
 }
 
-// Whether a row holds with the taps of the program. A demo leaves its whole source.
+// Whether a row holds with the taps of the program. A demo reads nothing of its source.
 fn holds_with_taps(alloc: Global, row: &str) -> Result<bool, Fail> {
     let row = row_of(row).ok_or("no row")?;
     let bytes = capture(alloc, b"PSXGPUC1", row.records)?;
@@ -40,7 +40,7 @@ fn holds_with_taps(alloc: Global, row: &str) -> Result<bool, Fail> {
     )
 }
 
-/// What the taps tell behind a capture, behind a demo, and behind a fault.
+/// The output of the taps after a capture, after a demo, and after a fault.
 const TOLD: &str = "
 report < gp0 e407ffff 20ffffff 0 8 80000
     | tap 0 0 1 0 0 0 0 0 1 0 0 / tap 1 1 7 3825729535 5 1 553648127 / tap 2 1 81 81;
@@ -59,7 +59,7 @@ fn taps_are_told_of_notes(rt: HostRuntime) -> Result<(), Fail> {
     Ok(())
 }
 
-// A list of 1,000 empty nodes, each the next word, of which the last is linked to this address.
+// Returns a capture with a list of 1,000 empty nodes, each linked to the next word, the last to this address.
 fn long_list(alloc: Global, last: u32) -> io::Result<Vec<u8>> {
     let mut bytes = b"PSXGPUC1".to_vec(alloc)?;
     push_word(&mut bytes, 0x0100_03e8)?;
@@ -73,7 +73,7 @@ fn long_list(alloc: Global, last: u32) -> io::Result<Vec<u8>> {
     Ok(bytes)
 }
 
-// Whether a list whose last node has this link ends so.
+// Whether a list whose last node has this link ends with this status and these lines.
 fn walks(alloc: Global, last: u32, status: u8, err: &[u8]) -> Result<bool, Fail> {
     let mut source = MemSource::new(long_list(alloc, last)?);
     let walk = ran(alloc, "play", &mut source, LINES)?;

@@ -3,7 +3,7 @@ use Rattle.circular_buffer.specs.Buffer.{buffer}
 use Rattle.capture_slim.specs.Settling.{settled_by}
 use Rattle.capture_slim.proofs.settling.settle_all.Given as goal
 
--- those that are settled have gone to the end
+-- the updated slots are at the end
 abbrev pub invariant-loop-i : goal.invariant-loop-i
 invariant-loop-i l = record {
   slots : l.slots

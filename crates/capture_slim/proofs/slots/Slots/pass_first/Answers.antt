@@ -3,7 +3,7 @@ use Rattle.capture_slim.specs.Settling.{KeepsSlots}
 use Rattle.capture_slim.proofs.SettlingLemmas.{passes}
 use Rattle.capture_slim.proofs.slots.Slots.pass_first.Goals as goal
 
--- the slots with the first behind the settled ones passed
+-- the slots after the first recent one was moved
 passed : (c : goal.After-push_back)
     → KeepsSlots c.push_back.new.self c.pop_front.new.self
     × (c.push_back.new.self.items ++ c.pop_front.new.self.items
