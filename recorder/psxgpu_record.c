@@ -4,12 +4,12 @@
        PSXGPU_CAPTURE  the file to write (psxgpu.capture)
        PSXGPU_PLUGIN   the plugin that draws (/usr/lib/x86_64-linux-gnu/psemu/libDFXVideo.so)
        PSXGPU_DMA      flat: the words that DMA brings; ram: main memory and the starts of channel 2 (flat)
-       PSXGPU_FROM     behind how many frames the recording begins, with the state before it; `key`: not before the key
+       PSXGPU_FROM     the recording begins after this many frames, with the state before it; `key`: not before the key
                        or the signal (0)
-       PSXGPU_FRAMES   the emulator is ended (SIGINT) behind this many recorded frames; 0: never (0)
-       PSXGPU_SPLIT    behind this many MB a new file begins (NAME.2, NAME.3 ..), with the state before it; 0: never,
+       PSXGPU_FRAMES   the emulator is ended (SIGINT) after this many recorded frames; 0: never (0)
+       PSXGPU_SPLIT    after this many MB a new file begins (NAME.2, NAME.3 ..), with the state before it; 0: never,
                        and the recording ends where a player takes no more (1000)
-       PSXGPU_POLLS    of reads of the status word behind one another, keep this many (all)
+       PSXGPU_POLLS    of consecutive reads of the status word, keep this many (all)
        PSXGPU_CHECK    1: also write NAME.reads, what the program read, as `play` prints it, and NAME.vram, video memory
                        of the plugin that draws at the end, as `vram` writes it (0)
 

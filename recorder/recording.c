@@ -42,7 +42,7 @@ static int freeze_now(void) {
     return drawing.freeze(1, &frozen) != 0;
 }
 
-/* Behind the state stand the words of GP1 in force, and the interrupt, where it is one. */
+/* After the state: the words of GP1 in force, and the interrupt if there is one. */
 static void put_state(void) {
     static const unsigned char order[6] = {8, 6, 7, 5, 4, 3};
     uint32_t gp1[6];

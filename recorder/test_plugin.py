@@ -107,7 +107,7 @@ class Plugin(Emulated):
         self.assertIn('psxgpu_record: %s/a: 1 frames, ' % self.folder, self.errors)
 
     def test_no_file(self):
-        """The emulator is ended where it would record so many frames and no more, and goes on where not."""
+        """The emulator is ended if it would record this many frames and no more. Otherwise it continues."""
         for frames, said in ((0, '11110000\n'), (9, 'ended\n')):
             self.emulate('gp0 1; frame 1; read', capture='/nowhere/a', frames=frames)
             self.assertIn('psxgpu_record: failed: /nowhere/a: No such file or directory', self.errors)

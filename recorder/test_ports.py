@@ -55,7 +55,7 @@ class Ports(Emulated):
             self.assertEqual(self.answers(before, False), self.answers(state, True))
 
     def answers(self, found, without_marks):
-        """The status and the values of E2h to E5h behind events, as the player has them."""
+        """Returns the status and the values of E2h to E5h after events, as the player has them."""
         capture = Capture(2)
         for is_word, group in itertools.groupby(found, lambda event: isinstance(event, int)):
             if is_word:
