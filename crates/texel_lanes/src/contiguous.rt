@@ -75,9 +75,9 @@ pub(crate) fn read_contiguous<L: Ledger>(
     vram.load16(x, y, k, steps)
 }
 
-/// Returns the indexes of sixteen contiguous texels of four bits from column `u` of a page on. `page` is the column
-/// of the page's first cell, `y` the row in video memory. Sixteen cells from the first texel's cell on must not pass
-/// the end of the row. Costs at most one step.
+/// Returns the indexes of sixteen contiguous texels of four bits from column `u` of a page on, at most 255. `page` is
+/// the column of the page's first cell, `y` the row in video memory. Sixteen cells from the first texel's cell on
+/// must not pass the end of the row. Costs at most one step.
 #[inline(always)]
 pub fn sixteen_indexes<L: Ledger>(
     vram: &Vram,
@@ -98,9 +98,9 @@ pub fn sixteen_indexes<L: Ledger>(
     nibbles_from((u % 4) as u8, cells)
 }
 
-/// Returns the indexes of sixteen contiguous texels of eight bits from column `u` of a page on. `page` is the column
-/// of the page's first cell, `y` the row in video memory. Sixteen cells from the first texel's cell on must not pass
-/// the end of the row. Costs at most one step.
+/// Returns the indexes of sixteen contiguous texels of eight bits from column `u` of a page on, at most 255. `page`
+/// is the column of the page's first cell, `y` the row in video memory. Sixteen cells from the first texel's cell on
+/// must not pass the end of the row. Costs at most one step.
 #[inline(always)]
 pub fn sixteen_octets<L: Ledger>(
     vram: &Vram,
@@ -164,8 +164,9 @@ fn scattered_indexes<G: Gather, L: Ledger>(
     nibbles(places.across, halfwords)
 }
 
-/// Returns the indexes of the first `k` texels of four bits, 1 to 16, at coordinates `at`. Loads them all at once if
-/// `G` tests for it, `k` exceeds eight and the texels are contiguous. Costs at most `k` steps.
+/// Returns the indexes of the first `k` texels of four bits, 1 to 16, at coordinates `at`. The texture must have
+/// depth 0, and all rows of its page must be in video memory. Loads them all at once if `G` tests for it, `k` exceeds
+/// eight and the texels are contiguous. Costs at most `k` steps.
 #[inline(always)]
 pub fn indexes_of<G: Gather, L: Ledger>(
     vram: &Vram,

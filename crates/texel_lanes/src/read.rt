@@ -114,9 +114,9 @@ fn read_wholes<G: Gather, L: Ledger>(
     }
 }
 
-/// Returns the texels at the first `k` coordinates of `at`, 1 to 16. The other lanes have no specified value. All
-/// rows of the texture page must be in video memory. Costs at most `k` steps at depths 2 and 3, and twice as many at
-/// depths 0 and 1.
+/// Returns the texels at the first `k` coordinates of `at`, 1 to 16. The other lanes have no specified value. Page
+/// and window must be within their limits, and all rows of the page in video memory. Costs at most `k` steps at
+/// depths 2 and 3, and twice as many at depths 0 and 1.
 #[inline(always)]
 pub fn read_texels<G: Gather, L: Ledger>(
     vram: &Vram,

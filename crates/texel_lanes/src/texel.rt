@@ -21,8 +21,8 @@ fn palette_entry<L: Ledger>(vram: &Vram, cell: Cell, steps: &mut Steps<L>) -> u1
     vram.get(cell.x, cell.y, steps)
 }
 
-/// Returns the texel at column `u` and row `v` of the page. All rows of the texture page must be in video memory.
-/// Costs at most one step at depths 2 and 3, and two at depths 0 and 1.
+/// Returns the texel at column `u` and row `v` of the page. Page and window must be within their limits, and all rows
+/// of the page in video memory. Costs at most one step at depths 2 and 3, and two at depths 0 and 1.
 #[tactic(auto, unfolding(crate::specs::Texture::texel))]
 pub fn read_texel<L: Ledger>(
     vram: &Vram,
