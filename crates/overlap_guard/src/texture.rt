@@ -59,7 +59,7 @@ fn lies_before(cell: Cell, to: Cell, j: usize) -> bool
 }
 
 /// Returns whether some of the `n` lanes of a chunk from `to` on writes a cell of the palette. Returns false without
-/// a palette.
+/// a palette. `n` is at least 1, and `to.x + n` at most 1024.
 pub fn clut_hazard(clut: Option<Strip>, to: Cell, n: u8) -> bool
     requires some { 1 ≤ n }
     requires target { to.x + n ≤ 1024 }
